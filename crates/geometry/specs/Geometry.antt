@@ -1,0 +1,54 @@
+-- The numbers of a geometry, and document 01's table of levels. Definitions alone; assumes nothing.
+use Prim.Native.Nat.{ℕ, zero, suc, _+_, _-_, _*_, _/_}
+use mathlib.Core.Bool.{Bool, true, false}
+use mathlib.Core.List.{List, [], _∷_}
+use lib.Dec.{eqb, leb, ltb}
+use lib.ListN.{getD}
+use Rattle.geometry.specs.declared.Geometry.{Geometry}
+use Rattle.geometry.specs.Tests.{pick, _&_}
+
+-- the small-block chip: 32 pages of 512 main and 16 spare bytes, heights 1 to 5
+abbrev pub small : Geometry
+small = record { pages = 32; main = 512; spare = 16; top = 5; worn = 4294967000 }
+
+abbrev pub pageBytes : Geometry → ℕ
+pageBytes g = g .main + g .spare
+
+-- the byte at which page p begins
+unfoldable pub pageBase : Geometry → ℕ → ℕ
+pageBase g p = p * pageBytes g
+
+-- slots of 8 bytes
+abbrev pub slots : Geometry → ℕ
+slots g = g .main / 8
+
+-- columns "first slot" and "slots" of the table, levels 0 to 5
+abbrev pub smallFirst : List ℕ
+smallFirst = 0 ∷ 0 ∷ 32 ∷ 48 ∷ 56 ∷ 60 ∷ []
+
+abbrev pub smallSlots : List ℕ
+smallSlots = 0 ∷ 32 ∷ 16 ∷ 8 ∷ 4 ∷ 0 ∷ []
+
+-- the first slot of level l, by the table; `halving` (Shape.antt) is its rule
+unfoldable pub firstSlot : Geometry → ℕ → ℕ
+firstSlot g l = pick (eqb (g .main) 512) (getD smallFirst l 0) 0
+
+-- the slots c of a node at level l below the root
+unfoldable pub slotsOf : Geometry → ℕ → ℕ
+slotsOf g l = pick (eqb (g .main) 512) (getD smallSlots l 0) 0
+
+-- c/2; the slots are even (`Shape`), so c is 2 * half
+abbrev pub half : Geometry → ℕ → ℕ
+half g l = slotsOf g l / 2
+
+-- column "slots as root"
+unfoldable pub rootSlots : Geometry → ℕ → ℕ
+rootSlots g l = slots g - firstSlot g l
+
+-- column "most entries stored as root"
+unfoldable pub rootMost : Geometry → ℕ → ℕ
+rootMost g l = pick (ltb l (g .top)) (rootSlots g l - 1) (rootSlots g l)
+
+-- levels 1 to top
+unfoldable pub inTable : Geometry → ℕ → Bool
+inTable g l = leb 1 l & leb l (g .top)

@@ -1,0 +1,6 @@
+-- The geometry: its numbers, its tables, and the laws that hold of them.
+pub mod Tests
+pub mod Table
+pub mod Geometry
+pub mod Shape
+pub mod Laws

@@ -1,0 +1,94 @@
+-- "Answer numbers": the four calls on every image. Each gives its answer, address, counts and the image afterwards.
+-- Definitions alone; assumes nothing.
+use Prim.Native.Nat.{ℕ, zero, suc, _+_, _-_, _*_}
+use mathlib.Core.Bool.{Bool, true, false}
+use mathlib.Core.List.{List, [], _∷_}
+use mathlib.Core.Option.{Option, none, some}
+use lib.Dec.{eqb, leb, ltb}
+use lib.ListN.{length, take}
+use Rattle.geometry.specs.declared.Geometry.{Geometry}
+use Rattle.geometry.specs.Tests.{pick}
+use Rattle.model.specs.Image.{Chip, chipOf, pagesOf, blocksOf, goodLength, maxSeq}
+use Rattle.model.specs.Tree.{sought, livePages}
+use Rattle.model.specs.Rules.{verdict, isSound}
+use Rattle.model.specs.Stores.{Store, applyAll, programs, erases}
+use Rattle.model.specs.Update.{isNone, needs, tooHigh, insertStores, deleteStores, formatStores}
+
+pub record Outcome : Type 0 where
+  pub answer : ℕ
+  pub address : ℕ
+  pub programmed : ℕ
+  pub erased : ℕ
+  pub image : List ℕ
+
+-- DONE 0, LENGTH 1, DAMAGED 2, WORN 3, ABSENT 4, HEIGHT 5, ROOM 6, STOPPED 7.
+-- "Numbers 1 to 6 leave the image untouched"
+abbrev pub refused : ℕ → List ℕ → Outcome
+refused answer img = record { answer = answer; address = 0; programmed = 0; erased = 0; image = img }
+
+-- 0 with all stores made, or 7 with exactly the first `allowance` of them
+unfoldable pub made : Geometry → List Store → ℕ → List ℕ → Outcome
+made g stores allowance img = record {
+  answer = pick (leb (length stores) allowance) 0 7;
+  address = 0;
+  programmed = programs (take allowance stores);
+  erased = erases (take allowance stores);
+  image = applyAll g (take allowance stores) img;
+}
+
+-- LENGTH and DAMAGED come first
+unfoldable pub judged : Geometry → List ℕ → Outcome → Outcome
+judged g img rest =
+    pick (goodLength g img) (pick (isSound (verdict g (blocksOf g img) img)) rest (refused 2 img)) (refused 1 img)
+
+unfoldable pub answered : Option ℕ → List ℕ → Outcome
+answered none img = refused 4 img
+answered (some a) img = record { answer = 0; address = a; programmed = 0; erased = 0; image = img }
+
+unfoldable pub lookup : Geometry → List ℕ → ℕ → Outcome
+lookup g img k = judged g img (answered (sought (chipOf g (blocksOf g img) img) k) img)
+
+-- WORN: "largest sequence number above 4,294,967,000"
+unfoldable pub worn : Geometry → ℕ → List ℕ → Bool
+worn g n img = ltb (g .worn) (maxSeq g n img)
+
+-- ROOM: "T − L < 63 + k"
+unfoldable pub roomless : Geometry → ℕ → ℕ → Bool
+roomless g free k = ltb free (2 * g .pages - 1 + k)
+
+-- T − L
+abbrev pub freePages : Geometry → ℕ → Chip → ℕ
+freePages g n c = pagesOf g n - livePages (pagesOf g n) c
+
+-- the rest of an insert on a judged image of n blocks
+unfoldable pub insertRest : Geometry → ℕ → List ℕ → ℕ → ℕ → ℕ → Outcome
+insertRest g n img k a allowance =
+    pick (worn g n img) (refused 3 img) (
+    pick (tooHigh g (chipOf g n img) k) (refused 5 img) (
+    pick (roomless g (freePages g n (chipOf g n img)) (needs g (chipOf g n img) k)) (refused 6 img)
+    (made g (insertStores g n img k a) allowance img)))
+
+unfoldable pub insert : Geometry → List ℕ → ℕ → ℕ → ℕ → Outcome
+insert g img k a allowance = judged g img (insertRest g (blocksOf g img) img k a allowance)
+
+unfoldable pub deleteRest : Geometry → ℕ → List ℕ → ℕ → ℕ → Outcome
+deleteRest g n img k allowance =
+    pick (worn g n img) (refused 3 img) (
+    pick (isNone (sought (chipOf g n img) k)) (refused 4 img) (
+    pick (roomless g (freePages g n (chipOf g n img)) 1) (refused 6 img)
+    (made g (deleteStores g n img k) allowance img)))
+
+unfoldable pub delete : Geometry → List ℕ → ℕ → ℕ → Outcome
+delete g img k allowance = judged g img (deleteRest g (blocksOf g img) img k allowance)
+
+-- "Format gives 1 for a bad length; else its answer is 0 .. and reports 1 and B"
+unfoldable pub format : Geometry → List ℕ → Outcome
+format g img = pick (goodLength g img)
+    (record {
+      answer = 0;
+      address = 0;
+      programmed = 1;
+      erased = blocksOf g img;
+      image = applyAll g (formatStores g (blocksOf g img)) img;
+    })
+    (refused 1 img)

@@ -1,0 +1,76 @@
+-- The tree from the root down: its map, its live pages, descent. Level 0 is the pair itself. Definitions alone; assumes nothing.
+use Prim.Native.Nat.{ℕ, zero, suc, _+_, min}
+use mathlib.Core.Bool.{Bool, true, false}
+use mathlib.Core.List.{List, [], _∷_, _++_}
+use mathlib.Core.Option.{Option, none, some}
+use lib.Dec.{eqb, leb}
+use Rattle.geometry.specs.declared.Entry.{Entry}
+use Rattle.geometry.specs.Tests.{pick}
+use Rattle.model.specs.Count.{count}
+use Rattle.model.specs.Image.{Nodes, Chip, theRoot}
+
+unfoldable pub gather : {A : Type 0} → (Entry → List A) → List Entry → List A
+gather f [] = []
+gather f (e ∷ es) = f e ++ gather f es
+
+-- the pairs under an entry at level l, in rising order
+unfoldable pub under : Nodes → ℕ → Entry → List Entry
+under r zero e = e ∷ []
+under r (suc l) e = gather (under r l) (r (e .addr) (suc l))
+
+-- the map of an index: key in, address out
+abbrev pub mapOf : Chip → List Entry
+mapOf c = under (c .nodes) (suc (c .level)) (theRoot c)
+
+-- R6: "The root and each node it reaches are live, and so are their pages"
+pub record Place : Type 0 where
+  pub page : ℕ
+  pub level : ℕ
+
+unfoldable pub places : Nodes → ℕ → Entry → List Place
+places r zero e = []
+places r (suc l) e = record { page = e .addr; level = suc l } ∷ gather (places r l) (r (e .addr) (suc l))
+
+abbrev pub placesOf : Chip → List Place
+placesOf c = places (c .nodes) (suc (c .level)) (theRoot c)
+
+unfoldable pub live : List Place → ℕ → Bool
+live [] p = false
+live (x ∷ xs) p = pick (eqb (x .page) p) true (live xs p)
+
+-- the lowest level of a live node on page p; 0 if there is none
+unfoldable pub lowLevel : List Place → ℕ → ℕ
+lowLevel [] p = 0
+lowLevel (x ∷ xs) p = pick (eqb (x .page) p) (pick (live xs p) (min (x .level) (lowLevel xs p)) (x .level)) (lowLevel xs p)
+
+-- L
+abbrev pub livePages : ℕ → Chip → ℕ
+livePages t c = count t (live (placesOf c))
+
+-- F
+abbrev pub erasedPages : ℕ → Chip → ℕ
+erasedPages t c = count t (c .er)
+
+-- the key that follows: the next entry's, or the bound
+abbrev pub next : List Entry → ℕ → ℕ
+next [] hi = hi
+next (e ∷ es) hi = e .key
+
+-- "Descent takes the last entry whose key is not above K, or the first entry if there is none"
+abbrev pub chosen : ℕ → List Entry → Entry
+chosen k [] = record { key = 0; addr = 0 }
+chosen k (e ∷ []) = e
+chosen k (e ∷ x ∷ es) = pick (leb (x .key) k) (chosen k (x ∷ es)) e
+
+-- the leaf where descent from the entry e ends, l levels below it
+unfoldable pub leaf : Nodes → ℕ → ℕ → Entry → List Entry
+leaf r k zero e = r (e .addr) 1
+leaf r k (suc l) e = leaf r k l (chosen k (r (e .addr) (suc (suc l))))
+
+unfoldable pub find : ℕ → List Entry → Option ℕ
+find k [] = none
+find k (e ∷ es) = pick (eqb (e .key) k) (some (e .addr)) (find k es)
+
+-- what lookup finds of K
+abbrev pub sought : Chip → ℕ → Option ℕ
+sought c k = find k (leaf (c .nodes) k (c .level) (theRoot c))
