@@ -116,3 +116,11 @@ module _ (k a n : ℕ) (room : ℕ → ℕ) (r s : Nodes) (fit : ℕ → ℕ →
 
   pub move-list-like : (l hi : ℕ) (es : List Entry) → 0 < length es → k < hi → Rises (Ok fit room r l) hi es → MovMade r s k a n l (chosen k es) → Likes (Like r s l) es (splice (Mov l) k es)
   move-list-like l hi es c q h m = list-like l hi es c q h (λ y u v i. move-like l y (chosen k es) u i m)
+
+  pub move-root-like : (l hi : ℕ) (es : List Entry) → k < hi → Rises (Ok fit room r l) hi es → MovMade r s k a n l (chosen k es) → Likes (Like r s l) es (splice (Mov l) k es)
+  move-root-like l hi [] q h m = tt
+  move-root-like l hi (e ∷ es) q h m = move-list-like l hi (e ∷ es) (omega arith) q h m
+
+  -- a tree whose pages keep their content is like itself
+  pub root-like-same : (l hi : ℕ) (es : List Entry) → Rises (Ok fit room r l) hi es → Likes (Like r s l) es es
+  root-like-same l hi es h = likes-self (Ok fit room r l) (Like r s l) hi es h (λ y x i. like-same l y x i)

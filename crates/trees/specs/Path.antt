@@ -1,5 +1,5 @@
 -- The definitions' recursion, `edited` and `onPath`, is the one that the theorems are about, `edit`. Assumes nothing.
-use mathlib.Core.Path.{_≡_, refl, ap, subst, _∙_}
+use mathlib.Core.Path.{_≡_, refl, ap, sym, subst, _∙_}
 use mathlib.Core.List.{List, [], _∷_}
 use mathlib.Core.Bool.{Bool, true, false}
 use Prim.Native.Nat.{ℕ, zero, suc, _<_, _≤_}
@@ -11,7 +11,7 @@ use Rattle.geometry.specs.declared.Entry.{Entry}
 use Rattle.geometry.specs.Tests.{pick}
 use Rattle.model.specs.Image.{Nodes}
 use Rattle.model.specs.Tree.{next, chosen}
-use Rattle.model.specs.Edit.{splice, edited, onPath}
+use Rattle.model.specs.Edit.{splice, edited, onPath, same}
 use Rattle.trees.specs.Lists.{Rises, rises-map, split, splice-cong}
 use Rattle.trees.specs.Nodes.{Ok, the}
 use Rattle.trees.specs.Edit.{edit, atRoot, Made}
@@ -28,6 +28,15 @@ same-splice k (e ∷ x ∷ es) = go (leb (x .key) k) (same-splice k (x ∷ es))
     go : (t : Bool) → splice (λ e. e ∷ []) k (x ∷ es) ≡ x ∷ es → pick t (e ∷ splice (λ e. e ∷ []) k (x ∷ es)) (e ∷ x ∷ es) ≡ e ∷ x ∷ es
     go true i = ap (λ l. e ∷ l) i
     go false i = refl
+
+pub same-as : (k : ℕ) → AsSplice k same (λ e. e ∷ [])
+same-as k hi es c q h = sym (same-splice k es)
+
+-- at the root too a leaf that stays as it is is a splice
+pub same-root : (r : Nodes) (k : ℕ) (name : ℕ → Entry → List Entry → List Entry) (l : ℕ) (es : List Entry) → atRoot same (edit r k (λ e. e ∷ []) name l) k l es ≡ splice (edit r k (λ e. e ∷ []) name l) k es
+unfolding atRoot edit
+same-root r k name zero es = sym (same-splice k es)
+same-root r k name (suc l) es = refl
 
 module _ (fit : ℕ → ℕ → Type 0) (room : ℕ → ℕ) (r : Nodes) (k : ℕ) (leaf : List Entry → List Entry) (base : Entry → List Entry) (name : ℕ → Entry → List Entry → List Entry) (law : AsSplice k leaf base) where
   mutual-step : (l hi : ℕ) (es : List Entry) → 0 < length es → k < hi → Rises (Ok fit room r (suc l)) hi es

@@ -154,10 +154,14 @@ places-first fit room r (suc l) y top e q h = (
   gather-all (λ x. next (r (x .page) (x .level)) 0 < top) (places r l) (r (e .addr) (suc l)) (rises-all (Ok fit room r l) (λ x. All (λ x. next (r (x .page) (x .level)) 0 < top) (places r l x)) y (r (e .addr) (suc l)) (λ y′ x _ b i. places-first fit room r l y′ top x (omega arith) i) (h .4)),
 )
 
-root-first : (fit : ℕ → ℕ → Type 0) (room most : ℕ → ℕ) (r : Nodes) (l p top : ℕ) → Rooted fit room most top r l p → 0 < length (r p (suc l)) → All (λ x. next (r (x .page) (x .level)) 0 < top) (places r (suc l) (the p))
+first-any : (P : ℕ → Entry → Type 0) (y : ℕ) (es : List Entry) → 0 < y → Rises P y es → next es 0 < y
+first-any P y [] q h = q
+first-any P y (e ∷ es) q h = first-below P y (e ∷ es) (omega arith) h
+
+pub root-first : (fit : ℕ → ℕ → Type 0) (room most : ℕ → ℕ) (r : Nodes) (l p top : ℕ) → 0 < top → Rooted fit room most top r l p → All (λ x. next (r (x .page) (x .level)) 0 < top) (places r (suc l) (the p))
 unfolding places
-root-first fit room most r l p top h c = (
-  first-below (Ok fit room r l) top (r p (suc l)) c (h .rises),
+root-first fit room most r l p top q h = (
+  first-any (Ok fit room r l) top (r p (suc l)) q (h .rises),
   gather-all (λ x. next (r (x .page) (x .level)) 0 < top) (places r l) (r p (suc l)) (rises-all (Ok fit room r l) (λ x. All (λ x. next (r (x .page) (x .level)) 0 < top) (places r l x)) top (r p (suc l)) (λ y′ x _ b i. places-first fit room r l y′ top x b i) (h .rises)),
 )
 
@@ -186,7 +190,7 @@ module _ (p a n top : ℕ) (half most : ℕ → ℕ) (r s : Nodes) (fit fit′ :
   a-in = all-get (λ x. (1 ≤ x .level) × (x .level ≤ suc l)) (record { page = p; level = a }) pls (places-level r (suc l) (the p₀)) m
 
   k-top : 0 < length (r p₀ (suc l)) → k₁ < top
-  k-top c = all-get (λ x. next (r (x .page) (x .level)) 0 < top) (record { page = p; level = a }) pls (root-first fit rmm most r l p₀ top (h .rooted) c) m
+  k-top c = all-get (λ x. next (r (x .page) (x .level)) 0 < top) (record { page = p; level = a }) pls (root-first fit rmm most r l p₀ top (let z = first-below (Ok fit rmm r l) top (r p₀ (suc l)) c (h .rooted .rises) in omega (arith, z)) (h .rooted)) m
 
   not-same : (a : ℕ) → 1 ≤ a → fit a p → n ≡ p → ⊥
   not-same zero b f e = omega arith
