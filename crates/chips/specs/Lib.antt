@@ -7,3 +7,6 @@ pub mod Moves
 pub mod Sweep
 pub mod Erase
 pub mod Collect
+pub mod Pages
+pub mod Insertion
+pub mod Deletion

@@ -12,7 +12,7 @@ use Rattle.geometry.specs.Tests.{pick}
 use Rattle.model.specs.Image.{Nodes}
 use Rattle.model.specs.Tree.{gather, under, next, chosen}
 use Rattle.model.specs.Edit.{splice, remove, kept, Top, collapse}
-use Rattle.trees.specs.Lists.{All, In, Rises, append-nil, gather-eq, gather-one, rises-map, rises-all, splice-cong}
+use Rattle.trees.specs.Lists.{All, In, Rises, append-nil, gather-eq, gather-one, rises-map, rises-all, split, splice-cong}
 use Rattle.trees.specs.Nodes.{Ok, ok-more, ok-same, under-same, the, Rooted}
 use Rattle.trees.specs.Edit.{Local, splice-op, splice-length, splice-rises, edit, atRoot, Made, Out, edit-list, edit-list-ok}
 
@@ -50,7 +50,7 @@ DelHeld n s l e c = 1 ≤ length c → s n l ≡ c
 abbrev pub DelMade : Nodes → Nodes → ℕ → ℕ → ℕ → Entry → Type 0
 DelMade r s k n l e = Made r k (λ e. remove k (e ∷ [])) (kept n) (DelHeld n s) l e
 
-none-left : (es : List Entry) → length es ≤ 0 → es ≡ []
+pub none-left : (es : List Entry) → length es ≤ 0 → es ≡ []
 none-left [] h = refl
 none-left (e ∷ es) h = absurd (omega arith)
 
@@ -124,6 +124,21 @@ module _ (k n top : ℕ) (half most : ℕ → ℕ) (r s : Nodes) (fit fit′ : �
       let b = none-left (Del l (chosen k es)) (omega arith) in
       rw (splice-cong (Ok fit rm r l) (Del l) (λ _. []) k top es (omega arith) k-top h b)
       (splice-rises k (Ok fit rm r l) (Ok fit rm r l) (λ _. []) (λ z. z) (λ z. omega arith) (λ z i. omega arith) (λ y y′ x _ z i. ok-more fit rm r l y y′ x z i) top es (omega arith) k-top h (λ y a b i. (tt, omega arith)) .0)
+
+  -- where nothing is left of an entry, nothing is left of the path below it
+  pub none-made : (l hi : ℕ) (e : Entry) → k < hi → Ok fit rm r l hi e → Del l e ≡ [] → DMade l e
+  unfolding edit Made Ok
+  none-made zero hi e q h d = tt
+  none-made (suc l) hi e q h d =
+      let es = r (e .addr) (suc l) in
+      let z = emptied (splice (Del l) k es) d in
+      let sp = split (Ok fit rm r l) k hi es (h .1) q (h .4) in
+      let w = splice-length (Ok fit rm r l) (Del l) k hi es (h .1) q (h .4) in
+      ((λ i. absurd (omega (arith, i, z))), none-made l (next (sp .post) hi) (chosen k es) (sp .under) (sp .here) (none-left (Del l (chosen k es)) (omega (arith, w, z, h .1))))
+    where
+      emptied : (c : List Entry) → kept n (suc l) e c ≡ [] → length c ≡ 0
+      emptied [] i = refl
+      emptied (x ∷ c) i = absurd (omega (arith, ap length i))
 
   -- the collapse
   pub record Topped (l : ℕ) (c : List Entry) (t : Top) : Type 0 where
