@@ -19,12 +19,12 @@ use Rattle.model.specs.Collect.{livesIn, theVictim}
 use Rattle.trees.specs.Tests.{by-le, by-test, true-false, not-true}
 use Rattle.trees.specs.Lists.{all-map}
 use Rattle.trees.specs.Nodes.{the, fitOf}
-use Rattle.trees.specs.Sound.{root-fit}
+use Rattle.trees.specs.Proper.{root-fit}
 use Rattle.trees.specs.Live.{dead-live}
 use Rattle.chips.specs.Count.{count-drop, count-ext, count-zero}
 use Rattle.chips.specs.Next.{Least, least-is}
 use Rattle.chips.specs.Blocks.{Found, victim-is, dead-block}
-use Rattle.chips.specs.Good.{some-page, Good, Same, same-self, same-then}
+use Rattle.chips.specs.Whole.{some-page, Whole, Same, same-self, same-then}
 use Rattle.chips.specs.Sweep.{sweep, emptied}
 use Rattle.chips.specs.Erase.{eraseBlock, erased-good, erased-pairs, erased-places, erased-alike, erased-frees}
 
@@ -41,14 +41,14 @@ R7 g n c = (g .pages ≤ count (g .pages * n) (c .er)) ⊎ ((b : ℕ) × (b < n)
 
 -- what a round, and the collector, leave
 pub record Cleared (g : Geometry) (n : ℕ) (c c′ : Chip) : Type 0 where
-  pub good : Good g n c′
+  pub good : Whole g n c′
   pub pairs-are : under (c′ .nodes) (suc (c′ .level)) (the (c′ .root)) ≡ under (c .nodes) (suc (c .level)) (the (c .root))
   pub lives : count (g .pages * n) (live (placesOf c′)) ≤ count (g .pages * n) (live (placesOf c))
   pub alike : Same g c c′
 
 module _ (g : Geometry) (shape : Shape g) (n k : ℕ) where
 
-  module _ (c : Chip) (h : Good g n c) where
+  module _ (c : Chip) (h : Whole g n c) where
 
     -- a live page is not erased
     live-kept : (q : ℕ) → c .er q ≡ true → live (placesOf c) q ≡ false
@@ -145,7 +145,7 @@ module _ (g : Geometry) (shape : Shape g) (n k : ℕ) where
         go w = subst (λ o. Out (clear g n o c)) (sym (w .1)) (at (w .0) (w .2) (w .3) (w .4) (w .5))
 
   -- with at least (g .pages) pages erased and m rounds for what is lacking
-  more-rounds : (m : ℕ) (c : Chip) → Good g n c → g .pages ≤ count (g .pages * n) (c .er) → g .pages + k ≤ count (g .pages * n) (c .er) + m → count (g .pages * n) (live (placesOf c)) + (2 * g .pages + k) ≤ suc (g .pages * n)
+  more-rounds : (m : ℕ) (c : Chip) → Whole g n c → g .pages ≤ count (g .pages * n) (c .er) → g .pages + k ≤ count (g .pages * n) (c .er) + m → count (g .pages * n) (live (placesOf c)) + (2 * g .pages + k) ≤ suc (g .pages * n)
       → Cleared g n c (collect g n k m c) × (g .pages + k ≤ count (g .pages * n) (collect g n k m c .er))
   unfolding collect
   more-rounds zero c h a b room = (record { good = h; pairs-are = refl; lives = omega arith; alike = same-self g c }, omega arith)
@@ -154,7 +154,7 @@ module _ (g : Geometry) (shape : Shape g) (n k : ℕ) where
       c′ : Chip
       c′ = clear g n (theVictim (g .pages) n c) c
       go : (t : Bool) → ltb (count (g .pages * n) (c .er)) (g .pages + k) ≡ t
-          → (Good g n c′ → g .pages ≤ count (g .pages * n) (c′ .er) → g .pages + k ≤ count (g .pages * n) (c′ .er) + m → count (g .pages * n) (live (placesOf c′)) + (2 * g .pages + k) ≤ suc (g .pages * n) → Cleared g n c′ (collect g n k m c′) × (g .pages + k ≤ count (g .pages * n) (collect g n k m c′ .er)))
+          → (Whole g n c′ → g .pages ≤ count (g .pages * n) (c′ .er) → g .pages + k ≤ count (g .pages * n) (c′ .er) + m → count (g .pages * n) (live (placesOf c′)) + (2 * g .pages + k) ≤ suc (g .pages * n) → Cleared g n c′ (collect g n k m c′) × (g .pages + k ≤ count (g .pages * n) (collect g n k m c′ .er)))
           → Cleared g n c (pick t (collect g n k m c′) c) × (g .pages + k ≤ count (g .pages * n) (pick t (collect g n k m c′) c .er))
       go false e ih = (record { good = h; pairs-are = refl; lives = omega arith; alike = same-self g c }, ltb-false (count (g .pages * n) (c .er)) (g .pages + k) e)
       go true e ih =
@@ -163,7 +163,7 @@ module _ (g : Geometry) (shape : Shape g) (n k : ℕ) where
           (record { good = w .0 .good; pairs-are = w .0 .pairs-are ∙ r .0 .pairs-are; lives = omega (arith, w .0 .lives, r .0 .lives); alike = same-then g c c′ _ (r .0 .alike) (w .0 .alike) }, w .1)
 
   -- the collector: k + 1 rounds are enough
-  pub collected : (c : Chip) → Good g n c → R7 g n c → count (g .pages * n) (live (placesOf c)) + (2 * g .pages + k) ≤ suc (g .pages * n)
+  pub collected : (c : Chip) → Whole g n c → R7 g n c → count (g .pages * n) (live (placesOf c)) + (2 * g .pages + k) ≤ suc (g .pages * n)
       → Cleared g n c (collect g n k (suc k) c) × (g .pages + k ≤ count (g .pages * n) (collect g n k (suc k) c .er))
   unfolding collect
   collected c h r7 room = go (ltb (count (g .pages * n) (c .er)) (g .pages + k)) refl

@@ -22,17 +22,17 @@ use Rattle.trees.specs.Lists.{split}
 use Rattle.trees.specs.Nodes.{Ok, the, fitOf}
 use Rattle.trees.specs.Edit.{splice-length, atRoot}
 use Rattle.trees.specs.Delete.{remove-splice, deleted, DelMade, none-left, none-made}
-use Rattle.trees.specs.Sound.{Sound, delete-stay, delete-collapse}
+use Rattle.trees.specs.Proper.{Proper, delete-stay, delete-collapse}
 use Rattle.trees.specs.Path.{AsSplice, root-is, onPath-top, made-from}
 use Rattle.chips.specs.Next.{R2, step}
-use Rattle.chips.specs.Good.{some-page, Good, sought-map}
+use Rattle.chips.specs.Whole.{some-page, Whole, sought-map}
 use Rattle.chips.specs.Pages.{keep, fit-side, new-side}
 
 -- what N holds at level j
 abbrev pub leftList : Geometry → ℕ → Chip → ℕ → ℕ → List Entry
 leftList g n c k j = deletePart c k (sidePage g n c 1) j
 
-module _ (g : Geometry) (shape : Shape g) (n k : ℕ) (k-low : k < 4294967296) (c : Chip) (good : Good g n c) (present : isNone (sought c k) ≡ false) where
+module _ (g : Geometry) (shape : Shape g) (n k : ℕ) (k-low : k < 4294967296) (c : Chip) (good : Whole g n c) (present : isNone (sought c k) ≡ false) where
 
   abbrev r : Nodes
   r = c .nodes
@@ -113,7 +113,7 @@ module _ (g : Geometry) (shape : Shape g) (n k : ℕ) (k-low : k < 4294967296) (
     new-N l = new-side g shape n c (good .r2) 1 free 1 l (omega arith) (omega arith)
 
     abbrev Done : ℕ → Type 0
-    Done l = Good g n (record { er = taken (g .pages) n (c .er) 1; nodes = s; level = l; root = N }) × (under s (suc l) (the N) ≡ remove k (mapOf c))
+    Done l = Whole g n (record { er = taken (g .pages) n (c .er) 1; nodes = s; level = l; root = N }) × (under s (suc l) (the N) ≡ remove k (mapOf c))
 
     stay : Stays (c .level) (lists (suc (c .level))) → Done (c .level)
     unfolding deletePart deleteTop deleteList Stays
@@ -136,9 +136,9 @@ module _ (g : Geometry) (shape : Shape g) (n k : ℕ) (k-low : k < 4294967296) (
     wide j = let z = shape .fits j in let w = shape .even j in omega (arith, z, w)
 
     -- one entry is left of a root above level 1
-    drop : (lv : ℕ) (xs : List Entry) → Sound fit rm (rootMost g) 4294967296 r lv (c .root) → xs ≡ atRoot (remove k) (deleted r k N lv) k lv (r (c .root) (suc lv)) → 1 ≤ lv → length xs ≡ 1
+    drop : (lv : ℕ) (xs : List Entry) → Proper fit rm (rootMost g) 4294967296 r lv (c .root) → xs ≡ atRoot (remove k) (deleted r k N lv) k lv (r (c .root) (suc lv)) → 1 ≤ lv → length xs ≡ 1
         → s N (suc (collapse r lv xs .level)) ≡ collapse r lv xs .list
-        → Sound fit′ rm (rootMost g) 4294967296 s (collapse r lv xs .level) N × (under s (suc (collapse r lv xs .level)) (the N) ≡ remove k (under r (suc lv) (the (c .root))))
+        → Proper fit′ rm (rootMost g) 4294967296 s (collapse r lv xs .level) N × (under s (suc (collapse r lv xs .level)) (the N) ≡ remove k (under r (suc lv) (the (c .root))))
     unfolding atRoot
     drop zero xs h e i one at = absurd (omega arith)
     drop (suc l) xs h e i one at =
@@ -148,11 +148,11 @@ module _ (g : Geometry) (shape : Shape g) (n k : ℕ) (k-low : k < 4294967296) (
         let w = splice-length (Ok fit rm r (suc l)) (deleted r k N (suc l)) k 4294967296 ls (omega (arith, b)) k-low (h .rooted .rises) in
         let z = ap length e in
         let made : DelMade r s k N (suc l) (chosen k ls) = none-made k N 4294967296 (half g) (rootMost g) r s fit fit′ fit-N (keep g shape n c (good .r2) 1 free) stays k-low (suc l) (next (sp .post) 4294967296) (chosen k ls) (sp .under) (sp .here) (none-left (deleted r k N (suc l) (chosen k ls)) (omega (arith, w, z, one, b))) in
-        subst (λ (x : List Entry). s N (suc (collapse r (suc l) x .level)) ≡ collapse r (suc l) x .list → Sound fit′ rm (rootMost g) 4294967296 s (collapse r (suc l) x .level) N × (under s (suc (collapse r (suc l) x .level)) (the N) ≡ remove k (under r (suc (suc l)) (the (c .root))))) (sym e)
+        subst (λ (x : List Entry). s N (suc (collapse r (suc l) x .level)) ≡ collapse r (suc l) x .list → Proper fit′ rm (rootMost g) 4294967296 s (collapse r (suc l) x .level) N × (under s (suc (collapse r (suc l) x .level)) (the N) ≡ remove k (under r (suc (suc l)) (the (c .root))))) (sym e)
           (λ at. delete-collapse N 4294967296 (half g) (rootMost g) r s fit fit′ fit-N (keep g shape n c (good .r2) 1 free) stays new-N k k-low wide l (c .root) h made (omega (arith, z, one)) at) at
 
     -- a root above level 1 keeps an entry
-    some-left : (lv : ℕ) → Sound fit rm (rootMost g) 4294967296 r lv (c .root) → 1 ≤ lv → 1 ≤ length (atRoot (remove k) (deleted r k N lv) k lv (r (c .root) (suc lv)))
+    some-left : (lv : ℕ) → Proper fit rm (rootMost g) 4294967296 r lv (c .root) → 1 ≤ lv → 1 ≤ length (atRoot (remove k) (deleted r k N lv) k lv (r (c .root) (suc lv)))
     unfolding atRoot
     some-left zero h i = absurd (omega arith)
     some-left (suc l) h i =

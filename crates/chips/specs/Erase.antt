@@ -25,7 +25,7 @@ use Rattle.trees.specs.Like.{root-like-same}
 use Rattle.trees.specs.Live.{mem-live}
 use Rattle.chips.specs.Count.{count-ext, count-const, count-zero, sum-point, count-blocks}
 use Rattle.chips.specs.Next.{page-inj, R2}
-use Rattle.chips.specs.Good.{Good, sought-map, Same, same-like}
+use Rattle.chips.specs.Whole.{Whole, sought-map, Same, same-like}
 use Rattle.chips.specs.Sweep.{Sweeping}
 
 unfoldable pub inB : ℕ → ℕ → ℕ → Bool
@@ -113,7 +113,7 @@ module _ (g : Geometry) (shape : Shape g) (n : ℕ) (v : ℕ) (v-in : v < n) (c 
   rooted : Rooted fitz (λ l. 2 * half g l) (rootMost g) 4294967296 (c .nodes) (c .level) (c .root)
   rooted = rooted-with (fitOf (g .pages * n) (c .er)) (λ l. 2 * half g l) (rootMost g) 4294967296 (c .nodes) (λ l q. 1 ≤ l → inB (g .pages) v q ≡ true → ⊥) (c .level) (c .root) (λ a z. absurd (omega arith)) outside (sw .good .sound .rooted)
 
-  pub erased-good : Good g n c′
+  pub erased-good : Whole g n c′
   unfolding eraseBlock
   erased-good = record { r2 = r2′; sound = sound-same 4294967296 (λ l. 2 * half g l) (rootMost g) (c .nodes) (c′ .nodes) fitz (fitOf (g .pages * n) (c′ .er)) keep same (c .level) (c .root) (record { rooted = rooted; tied = sw .good .sound .tied }) }
 

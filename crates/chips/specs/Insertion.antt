@@ -23,11 +23,11 @@ use Rattle.trees.specs.Tests.{by-eq, by-test, true-false, bit-le}
 use Rattle.trees.specs.Nodes.{the, fitOf}
 use Rattle.trees.specs.Edit.{atRoot}
 use Rattle.trees.specs.Insert.{put-splice, inserted, InsMade}
-use Rattle.trees.specs.Sound.{insert-stay, insert-grow}
+use Rattle.trees.specs.Proper.{insert-stay, insert-grow}
 use Rattle.trees.specs.Path.{AsSplice, root-is, onPath-top, made-from}
 use Rattle.trees.specs.Splits.{root-size, all-below, splits-le, splits-are}
 use Rattle.chips.specs.Next.{R2, step}
-use Rattle.chips.specs.Good.{some-page, Good, sought-map}
+use Rattle.chips.specs.Whole.{some-page, Whole, sought-map}
 use Rattle.chips.specs.Pages.{side-inj, keep, fit-side, new-side}
 
 -- the other half of level j
@@ -39,7 +39,7 @@ sideList g n c k a j = pick (leb j (c .level)) (sideHalf k (half g j) (insertLis
 abbrev pub mainList : Geometry → ℕ → Chip → ℕ → ℕ → ℕ → List Entry
 mainList g n c k a j = insertPart g c k a (sidePage g n c (needs g c k)) (sidePage g n c) j
 
-module _ (g : Geometry) (shape : Shape g) (n k a : ℕ) (k-low : k < 4294967296) (c : Chip) (good : Good g n c) where
+module _ (g : Geometry) (shape : Shape g) (n k a : ℕ) (k-low : k < 4294967296) (c : Chip) (good : Whole g n c) where
 
   abbrev r : Nodes
   r = c .nodes
@@ -176,7 +176,7 @@ module _ (g : Geometry) (shape : Shape g) (n k a : ℕ) (k-low : k < 4294967296)
     after-r2 = step (g .pages) n (c .er) (some-page g shape) (good .r2) m free .r2
 
     abbrev Done : ℕ → Type 0
-    Done l = Good g n (record { er = taken (g .pages) n (c .er) m; nodes = s; level = l; root = N }) × (under s (suc l) (the N) ≡ put k a (mapOf c))
+    Done l = Whole g n (record { er = taken (g .pages) n (c .er) m; nodes = s; level = l; root = N }) × (under s (suc l) (the N) ≡ put k a (mapOf c))
 
     -- the root stays
     stay : tooHigh g c k ≡ false → grows ≡ false → Done (c .level)

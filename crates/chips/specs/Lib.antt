@@ -2,7 +2,7 @@
 pub mod Count
 pub mod Next
 pub mod Blocks
-pub mod Good
+pub mod Whole
 pub mod Moves
 pub mod Sweep
 pub mod Erase
@@ -10,3 +10,4 @@ pub mod Collect
 pub mod Pages
 pub mod Insertion
 pub mod Deletion
+pub mod Tests

@@ -22,13 +22,13 @@ use Rattle.trees.specs.Tests.{true-false}
 use Rattle.trees.specs.Lists.{All, Mem, all-get}
 use Rattle.trees.specs.Nodes.{the, fitOf}
 use Rattle.trees.specs.Move.{moved, MovMade}
-use Rattle.trees.specs.Sound.{places-level, root-first, root-fit, Moved, move-sound}
+use Rattle.trees.specs.Proper.{places-level, root-first, root-fit, Moved, move-sound}
 use Rattle.trees.specs.Path.{same-as, same-root, root-is, onPath-top, made-from}
 use Rattle.trees.specs.Like.{Likes, Like, move-root-like}
 use Rattle.trees.specs.Live.{dead-live, within-live, low-is}
 use Rattle.chips.specs.Count.{some-true, count-after, count-moved}
 use Rattle.chips.specs.Next.{in-range, by-block, next-erased, r2-next}
-use Rattle.chips.specs.Good.{some-page, Good, sought-map, Same, same-like}
+use Rattle.chips.specs.Whole.{some-page, Whole, sought-map, Same, same-like}
 
 -- the chip after page p has moved to page m
 unfoldable pub moveTo : Chip → ℕ → ℕ → Chip
@@ -36,7 +36,7 @@ moveTo c p m = record { er = after m (c .er); nodes = λ q j. pick (eqb q m) (mo
 
 -- what a move does: sound again, the same pairs, p dead, nothing else come alive but the new page, one page fewer erased
 pub record MoveStep (g : Geometry) (n : ℕ) (c c′ : Chip) (p new : ℕ) : Type 0 where
-  pub good : Good g n c′
+  pub good : Whole g n c′
   pub pairs-are : under (c′ .nodes) (suc (c′ .level)) (the (c′ .root)) ≡ under (c .nodes) (suc (c .level)) (the (c .root))
   pub was : c .er new ≡ true
   pub ers : (q : ℕ) → c .er q ≡ false → c′ .er q ≡ false
@@ -46,7 +46,7 @@ pub record MoveStep (g : Geometry) (n : ℕ) (c c′ : Chip) (p new : ℕ) : Typ
   pub alike : Same g c c′
   pub frees : count (g .pages * n) (c .er) ≡ suc (count (g .pages * n) (c′ .er))
 
-module _ (g : Geometry) (shape : Shape g) (n : ℕ) (c : Chip) (good : Good g n c) (p : ℕ) (alive : live (placesOf c) p ≡ true) (free : 1 ≤ count (g .pages * n) (c .er)) where
+module _ (g : Geometry) (shape : Shape g) (n : ℕ) (c : Chip) (good : Whole g n c) (p : ℕ) (alive : live (placesOf c) p ≡ true) (free : 1 ≤ count (g .pages * n) (c .er)) where
 
   abbrev new : ℕ
   new = nextPage (g .pages) n (c .er)
@@ -137,7 +137,7 @@ module _ (g : Geometry) (shape : Shape g) (n : ℕ) (c : Chip) (good : Good g n 
              ; alike = alike′
              ; frees = let u : bit (ltb new (g .pages * n)) ≡ 1 = rw (lt-ltb new (g .pages * n) new-in) refl in omega (arith, count-after (g .pages * n) new (c .er) (found .2), u) }
     where
-      good′ : Good g n c′
+      good′ : Whole g n c′
       good′ = record { r2 = r2-next (g .pages) n (c .er) (some-page g shape) (good .r2) (found .0) (found .1); sound = the-move .sound }
       alike′ : Same g c c′
       alike′ = same-like g (g .pages * n) (c .er) (c′ .er) (c .nodes) (c′ .nodes) (c .level) (c .root) new (good .sound .rooted)

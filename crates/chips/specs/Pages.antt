@@ -16,7 +16,7 @@ use Rattle.model.specs.Update.{sidePage}
 use Rattle.trees.specs.Tests.{by-eq, by-le, true-false}
 use Rattle.trees.specs.Nodes.{fitOf}
 use Rattle.chips.specs.Next.{least-is, R2, nth-erased, nth-apart}
-use Rattle.chips.specs.Good.{some-page}
+use Rattle.chips.specs.Whole.{some-page}
 
 pub taken-false : (p n m q : ℕ) (er : ℕ → Bool) → er q ≡ false → taken p n er m q ≡ false
 unfolding taken

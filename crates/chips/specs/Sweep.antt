@@ -14,7 +14,7 @@ use Rattle.model.specs.Collect.{livesIn}
 use Rattle.trees.specs.Tests.{by-eq, true-false}
 use Rattle.trees.specs.Nodes.{the}
 use Rattle.chips.specs.Count.{count-drop}
-use Rattle.chips.specs.Good.{Good, Same, same-self, same-then}
+use Rattle.chips.specs.Whole.{Whole, Same, same-self, same-then}
 use Rattle.chips.specs.Moves.{moveTo, MoveStep, move-step}
 
 bit-zero : (b c : Bool) → bit b ≤ bit c → c ≡ false → b ≡ false
@@ -28,7 +28,7 @@ sweep g n v (suc j) c = pick (live (placesOf c) (g .pages * v + (g .pages - suc 
 
 -- block v is full, has no more live pages than there are erased ones, and its first (g .pages) - j pages are dead
 pub record Sweeping (g : Geometry) (n : ℕ) (v j : ℕ) (c : Chip) : Type 0 where
-  pub good : Good g n c
+  pub good : Whole g n c
   pub full : (i : ℕ) → i < g .pages → c .er (g .pages * v + i) ≡ false
   pub few : livesIn (g .pages) v c ≤ count (g .pages * n) (c .er)
   pub dead : (i : ℕ) → i + j < g .pages → live (placesOf c) (g .pages * v + i) ≡ false
@@ -82,5 +82,5 @@ module _ (g : Geometry) (shape : Shape g) (n : ℕ) (v : ℕ) where
       go false e ih = ih c (record { good = h .good; full = h .full; few = h .few; dead = λ i w. by-eq i (g .pages - suc j) (λ z. rw z e) (λ z. h .dead i (omega arith)) })
 
   -- the whole block: all its pages are dead afterwards
-  pub emptied : (c : Chip) → Good g n c → ((i : ℕ) → i < g .pages → c .er (g .pages * v + i) ≡ false) → livesIn (g .pages) v c ≤ count (g .pages * n) (c .er) → Swept g n v c (sweep g n v (g .pages) c)
+  pub emptied : (c : Chip) → Whole g n c → ((i : ℕ) → i < g .pages → c .er (g .pages * v + i) ≡ false) → livesIn (g .pages) v c ≤ count (g .pages * n) (c .er) → Swept g n v c (sweep g n v (g .pages) c)
   emptied c h f e = swept (g .pages) c (omega arith) (record { good = h; full = f; few = e; dead = λ i w. absurd (omega arith) })

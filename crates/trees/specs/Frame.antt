@@ -9,7 +9,7 @@ use Rattle.model.specs.Tree.{gather, under, Place, places}
 use Rattle.trees.specs.Lists.{All, Rises, Some, all-map, all-both, gather-eq, rises-map, rises-all}
 use Rattle.trees.specs.Nodes.{Ok, ok-same, under-same, places-same, the, Rooted, rooted-with}
 use Rattle.trees.specs.Tied.{Tied}
-use Rattle.trees.specs.Sound.{Sound, root-fit}
+use Rattle.trees.specs.Proper.{Proper, root-fit}
 
 module _ (top : ℕ) (room most : ℕ → ℕ) (r s : Nodes) (fit fit′ : ℕ → ℕ → Type 0) (keep : (l b : ℕ) → fit l b → fit′ l b) (same : (q l : ℕ) → fit (suc l) q → s q (suc l) ≡ r q (suc l)) (l p : ℕ) where
   pub rooted-same : Rooted fit room most top r l p → Rooted fit′ room most top s l p
@@ -42,13 +42,13 @@ module _ (top : ℕ) (room most : ℕ → ℕ) (r s : Nodes) (fit fit′ : ℕ �
       (λ x h. rw (node-same (x .page) (x .level) (h .0 .0) (h .0 .1)) (h .1))
       (all-both (λ x. (1 ≤ x .level) × fit (x .level) (x .page)) (λ x. All (λ y. x .page ≡ y .page → y .level < x .level → Some (λ e. e .addr ≡ x .page) (r (x .page) (x .level))) pls) pls f t)
 
-  pub sound-same : Sound fit room most top r l p → Sound fit′ room most top s l p
+  pub sound-same : Proper fit room most top r l p → Proper fit′ room most top s l p
   sound-same h = record { rooted = rooted-same (h .rooted); tied = subst (Tied s) (sym (root-places-same (h .rooted))) (tied-same (places r (suc l) (the p)) (root-fit fit room most r l p top (h .rooted)) (h .tied)) }
 
 -- an erase: no live page is in the block
 pub erase-sound : (top : ℕ) (room most : ℕ → ℕ) (r s : Nodes) (fit fit′ : ℕ → ℕ → Type 0) (In : ℕ → Type 0)
     → ((l b : ℕ) → fit l b → (1 ≤ l → In b → ⊥) → fit′ l b) → ((q l : ℕ) → (In q → ⊥) → s q (suc l) ≡ r q (suc l))
-    → (l p : ℕ) → All (λ x. In (x .page) → ⊥) (places r (suc l) (the p)) → Sound fit room most top r l p → Sound fit′ room most top s l p
+    → (l p : ℕ) → All (λ x. In (x .page) → ⊥) (places r (suc l) (the p)) → Proper fit room most top r l p → Proper fit′ room most top s l p
 erase-sound top room most r s fit fit′ In keep same l p dead h =
     sound-same top room most r s (λ l b. fit l b × (1 ≤ l → In b → ⊥)) fit′ (λ l b i. keep l b (i .0) (i .1)) (λ q l i. same q l (i .1 (omega arith))) l p
     (record { rooted = rooted-with fit room most top r (λ l b. 1 ≤ l → In b → ⊥) l p (λ a z. absurd (omega arith)) (all-map (λ x. In (x .page) → ⊥) (λ x. 1 ≤ x .level → In (x .page) → ⊥) (places r (suc l) (the p)) (λ x i _. i) dead) (h .rooted); tied = h .tied })

@@ -9,7 +9,7 @@ pub mod Move
 pub mod Tied
 pub mod InsertPages
 pub mod DeletePages
-pub mod Sound
+pub mod Proper
 pub mod Frame
 pub mod Seek
 pub mod Path

@@ -12,7 +12,7 @@ use Rattle.model.specs.Edit.{gains, splits}
 use Rattle.model.specs.Update.{isNone, rootGains, needs, tooHigh}
 use Rattle.trees.specs.Lists.{Rises, split}
 use Rattle.trees.specs.Nodes.{Ok, Rooted, fitOf}
-use Rattle.trees.specs.Sound.{Sound}
+use Rattle.trees.specs.Proper.{Proper}
 use Rattle.trees.specs.Seek.{find-root, root-rises}
 use Rattle.trees.specs.Like.{Likes, Like, like-key, likes-length, likes-chosen, gains-like, splits-like}
 use Rattle.chips.specs.Next.{R2}
@@ -20,16 +20,16 @@ use Rattle.chips.specs.Next.{R2}
 pub some-page : (g : Geometry) → Shape g → 1 ≤ g .pages
 some-page g shape = let z = shape .pages-low in omega (arith, z)
 
-pub record Good (g : Geometry) (n : ℕ) (c : Chip) : Type 0 where
+pub record Whole (g : Geometry) (n : ℕ) (c : Chip) : Type 0 where
   pub r2 : R2 (g .pages) n (c .er)
-  pub sound : Sound (fitOf (g .pages * n) (c .er)) (λ l. 2 * half g l) (rootMost g) 4294967296 (c .nodes) (c .level) (c .root)
+  pub sound : Proper (fitOf (g .pages * n) (c .er)) (λ l. 2 * half g l) (rootMost g) 4294967296 (c .nodes) (c .level) (c .root)
 
 -- lookup answers as the map does
-pub sought-map : (g : Geometry) (n : ℕ) (c : Chip) → Good g n c → (k : ℕ) → k < 4294967296 → sought c k ≡ find k (mapOf c)
+pub sought-map : (g : Geometry) (n : ℕ) (c : Chip) → Whole g n c → (k : ℕ) → k < 4294967296 → sought c k ≡ find k (mapOf c)
 sought-map g n c h k q = find-root (fitOf (g .pages * n) (c .er)) (λ l. 2 * half g l) (c .nodes) k (rootMost g) 4294967296 (c .level) (c .root) q (h .sound .rooted)
 
 -- the keys of the map rise strictly
-pub map-rises : (g : Geometry) (n : ℕ) (c : Chip) → Good g n c → Rises (λ y x. Unit {0}) 4294967296 (mapOf c)
+pub map-rises : (g : Geometry) (n : ℕ) (c : Chip) → Whole g n c → Rises (λ y x. Unit {0}) 4294967296 (mapOf c)
 map-rises g n c h = root-rises (fitOf (g .pages * n) (c .er)) (λ l. 2 * half g l) (c .nodes) 0 (rootMost g) 4294967296 (c .level) (c .root) (h .sound .rooted)
 
 -- c′ needs as many pages as c, and is too high where c is

@@ -21,7 +21,7 @@ use Rattle.trees.specs.InsertPages.{stay-where, grow-where}
 use Rattle.trees.specs.DeletePages.{lowestOf, less-where, collapse-where}
 
 -- the tree with its root at page p, l levels above a leaf, keeps R5 and R6
-pub record Sound (fit : ℕ → ℕ → Type 0) (room most : ℕ → ℕ) (top : ℕ) (r : Nodes) (l p : ℕ) : Type 0 where
+pub record Proper (fit : ℕ → ℕ → Type 0) (room most : ℕ → ℕ) (top : ℕ) (r : Nodes) (l p : ℕ) : Type 0 where
   pub rooted : Rooted fit room most top r l p
   pub tied : Tied r (places r (suc l) (the p))
 
@@ -69,8 +69,8 @@ module _ (n top : ℕ) (half most : ℕ → ℕ) (r s : Nodes) (fit fit′ : ℕ
     abbrev rootList : ℕ → ℕ → List Entry
     rootList l p = atRoot (put k a) (inserted r k a n side half l) k l (r p (suc l))
 
-    pub insert-stay : (l p : ℕ) → Sound fit rm most top r l p → InsMade r s k a n side half fit′ Cut l (chosen k (r p (suc l))) → s n (suc l) ≡ rootList l p → length (rootList l p) ≤ most (suc l)
-        → Sound fit′ rm most top s l n × (under s (suc l) (the n) ≡ put k a (under r (suc l) (the p)))
+    pub insert-stay : (l p : ℕ) → Proper fit rm most top r l p → InsMade r s k a n side half fit′ Cut l (chosen k (r p (suc l))) → s n (suc l) ≡ rootList l p → length (rootList l p) ≤ most (suc l)
+        → Proper fit′ rm most top s l n × (under s (suc l) (the n) ≡ put k a (under r (suc l) (the p)))
     insert-stay l p h m e b =
         let pls = places r (suc l) (the p) in (
           record {
@@ -81,10 +81,10 @@ module _ (n top : ℕ) (half most : ℕ → ℕ) (r s : Nodes) (fit fit′ : ℕ
           stay-pairs k a n top side half most r s fit fit′ Cut fit-n fit-a keep same k-top l p (h .rooted) m e,
         )
 
-    pub insert-grow : (l p : ℕ) → Sound fit rm most top r l p → InsMade r s k a n side half fit′ Cut l (chosen k (r p (suc l)))
+    pub insert-grow : (l p : ℕ) → Proper fit rm most top r l p → InsMade r s k a n side half fit′ Cut l (chosen k (r p (suc l)))
         → Halves k n side s fit′ (suc l) (2 * half (suc l)) (rootList l p) → Cut (suc l) → s n (suc (suc l)) ≡ two k n (side (suc l)) (2 * half (suc l)) (next (rootList l p) 0) (rootList l p)
         → length (rootList l p) ≡ 4 * half (suc l) → 2 ≤ most (suc (suc l))
-        → Sound fit′ rm most top s (suc l) n × (under s (suc (suc l)) (the n) ≡ put k a (under r (suc l) (the p)))
+        → Proper fit′ rm most top s (suc l) n × (under s (suc (suc l)) (the n) ≡ put k a (under r (suc l) (the p)))
     insert-grow l p h m hs cut e len w =
         let pls = places r (suc l) (the p) in (
           record {
@@ -104,8 +104,8 @@ module _ (n top : ℕ) (half most : ℕ → ℕ) (r s : Nodes) (fit fit′ : ℕ
     less-is zero es c h = sym (remove-splice k top es c k-top (rises-map (Ok fit rm r 0) (λ y x. Unit {0}) top es (λ y x _ _ _. tt) h))
     less-is (suc l) es c h = refl
 
-    pub delete-stay : (l p : ℕ) → Sound fit rm most top r l p → 0 < length (r p (suc l)) → DelMade r s k n l (chosen k (r p (suc l))) → s n (suc l) ≡ rootLess l p → (1 ≤ l → 2 ≤ length (rootLess l p))
-        → Sound fit′ rm most top s l n × (under s (suc l) (the n) ≡ remove k (under r (suc l) (the p)))
+    pub delete-stay : (l p : ℕ) → Proper fit rm most top r l p → 0 < length (r p (suc l)) → DelMade r s k n l (chosen k (r p (suc l))) → s n (suc l) ≡ rootLess l p → (1 ≤ l → 2 ≤ length (rootLess l p))
+        → Proper fit′ rm most top s l n × (under s (suc l) (the n) ≡ remove k (under r (suc l) (the p)))
     delete-stay l p h c m e b =
         let pls = places r (suc l) (the p) in (
           record {
@@ -116,9 +116,9 @@ module _ (n top : ℕ) (half most : ℕ → ℕ) (r s : Nodes) (fit fit′ : ℕ
           less-pairs k n top half most r s fit fit′ fit-n keep same k-top l p (h .rooted) m e,
         )
 
-    pub delete-collapse : ((j : ℕ) → rm j ≤ most j) → (l p : ℕ) → Sound fit rm most top r (suc l) p → DelMade r s k n (suc l) (chosen k (r p (suc (suc l)))) → length (rootLess (suc l) p) ≡ 1
+    pub delete-collapse : ((j : ℕ) → rm j ≤ most j) → (l p : ℕ) → Proper fit rm most top r (suc l) p → DelMade r s k n (suc l) (chosen k (r p (suc (suc l)))) → length (rootLess (suc l) p) ≡ 1
         → s n (suc (collapse r (suc l) (rootLess (suc l) p) .level)) ≡ collapse r (suc l) (rootLess (suc l) p) .list
-        → Sound fit′ rm most top s (collapse r (suc l) (rootLess (suc l) p) .level) n × (under s (suc (collapse r (suc l) (rootLess (suc l) p) .level)) (the n) ≡ remove k (under r (suc (suc l)) (the p)))
+        → Proper fit′ rm most top s (collapse r (suc l) (rootLess (suc l) p) .level) n × (under s (suc (collapse r (suc l) (rootLess (suc l) p) .level)) (the n) ≡ remove k (under r (suc (suc l)) (the p)))
     delete-collapse wide l p h m one e =
         let pls = places r (suc (suc l)) (the p) in
         let t = collapse r (suc l) (rootLess (suc l) p) in
@@ -175,7 +175,7 @@ root-fit fit room most r l p top h = (
 -- a move of page p, whose lowest live level is a
 module _ (p a n top : ℕ) (half most : ℕ → ℕ) (r s : Nodes) (fit fit′ : ℕ → ℕ → Type 0) (fit-n : (l : ℕ) → fit′ (suc l) n)
     (keep : (l b : ℕ) → fit l b → fit′ l b) (same : (q l : ℕ) → fit (suc l) q → s q (suc l) ≡ r q (suc l)) (new-n : (l : ℕ) → fit (suc l) n → ⊥)
-    (l p₀ : ℕ) (h : Sound fit (λ l. 2 * half l) most top r l p₀) (m : Mem (record { page = p; level = a }) (places r (suc l) (the p₀)))
+    (l p₀ : ℕ) (h : Proper fit (λ l. 2 * half l) most top r l p₀) (m : Mem (record { page = p; level = a }) (places r (suc l) (the p₀)))
     (low : All (λ x. x .page ≡ p → a ≤ x .level) (places r (suc l) (the p₀))) where
   abbrev rmm : ℕ → ℕ
   rmm l = 2 * half l
@@ -206,7 +206,7 @@ module _ (p a n top : ℕ) (half most : ℕ → ℕ) (r s : Nodes) (fit fit′ :
   tied-root = rooted-with fitl rmm most top r (Tie r p a) l p₀ (λ _. tt) (tie-all r p a pls (h .tied) m low) (with-live fit rmm most top r l p₀ (h .rooted))
 
   pub record Moved : Type 0 where
-    pub sound : Sound fit′ rmm most top s l n
+    pub sound : Proper fit′ rmm most top s l n
     pub pairs-are : under s (suc l) (the n) ≡ under r (suc l) (the p₀)
     pub dead : All (λ x. x .page ≡ p → ⊥) (places s (suc l) (the n))
     pub within : All (λ x. (x .page ≡ n) ⊎ Mem x pls) (places s (suc l) (the n))
