@@ -4,3 +4,5 @@ pub mod Views
 pub mod Page
 pub mod Stores
 pub mod Small
+pub mod Held
+pub mod Writes

@@ -20,13 +20,13 @@ abbrev pub stop : List Entry → ℕ → ℕ → ℕ
 stop [] a b = a
 stop (x ∷ xs) a b = b
 
-unfoldable pub lowest : Nodes → ℕ → ℕ → ℕ → Entry → ℕ
-lowest r k n zero e = 1
-lowest r k n (suc l) e = stop (deleted r k n l (chosen k (r (e .addr) (suc l)))) (suc l) (lowest r k n l (chosen k (r (e .addr) (suc l))))
+unfoldable pub leftLow : Nodes → ℕ → ℕ → ℕ → Entry → ℕ
+leftLow r k n zero e = 1
+leftLow r k n (suc l) e = stop (deleted r k n l (chosen k (r (e .addr) (suc l)))) (suc l) (leftLow r k n l (chosen k (r (e .addr) (suc l))))
 
 -- the same at a list
-abbrev pub lowestOf : Nodes → ℕ → ℕ → ℕ → List Entry → ℕ
-lowestOf r k n l es = stop (deleted r k n l (chosen k es)) (suc l) (lowest r k n l (chosen k es))
+abbrev pub leftLowOf : Nodes → ℕ → ℕ → ℕ → List Entry → ℕ
+leftLowOf r k n l es = stop (deleted r k n l (chosen k es)) (suc l) (leftLow r k n l (chosen k es))
 
 module _ (k n top : ℕ) (half most : ℕ → ℕ) (r s : Nodes) (fit fit′ : ℕ → ℕ → Type 0)
     (keep : (l a : ℕ) → fit l a → fit′ l a) (same : (p l : ℕ) → fit (suc l) p → s p (suc l) ≡ r p (suc l)) (k-top : k < top) where
@@ -39,12 +39,12 @@ module _ (k n top : ℕ) (half most : ℕ → ℕ) (r s : Nodes) (fit fit′ : �
   abbrev Del : ℕ → Entry → List Entry
   Del = deleted r k n
 
-  low-le : (l : ℕ) (e : Entry) → lowest r k n l e ≤ suc l
-  unfolding lowest
+  low-le : (l : ℕ) (e : Entry) → leftLow r k n l e ≤ suc l
+  unfolding leftLow
   low-le zero e = omega arith
   low-le (suc l) e = go (Del l (chosen k (r (e .addr) (suc l)))) (low-le l (chosen k (r (e .addr) (suc l))))
     where
-      go : (ds : List Entry) → lowest r k n l (chosen k (r (e .addr) (suc l))) ≤ suc l → stop ds (suc l) (lowest r k n l (chosen k (r (e .addr) (suc l)))) ≤ suc (suc l)
+      go : (ds : List Entry) → leftLow r k n l (chosen k (r (e .addr) (suc l))) ≤ suc l → stop ds (suc l) (leftLow r k n l (chosen k (r (e .addr) (suc l)))) ≤ suc (suc l)
       go [] i = omega arith
       go (d ∷ ds) i = omega arith
 
@@ -60,8 +60,8 @@ module _ (k n top : ℕ) (half most : ℕ → ℕ) (r s : Nodes) (fit fit′ : �
       go [] i = absurd (omega (arith, ap length i))
       go (x ∷ c) i = inl refl
 
-  names-left : (l hi : ℕ) (es : List Entry) (d : Entry) (ds : List Entry) → 0 < length es → k < hi → Rises (Ok fit rm r l) hi es → Del l (chosen k es) ≡ d ∷ ds → lowest r k n l (chosen k es) < suc l → Some (λ e. e .addr ≡ n) (splice (Del l) k es)
-  unfolding lowest
+  names-left : (l hi : ℕ) (es : List Entry) (d : Entry) (ds : List Entry) → 0 < length es → k < hi → Rises (Ok fit rm r l) hi es → Del l (chosen k es) ≡ d ∷ ds → leftLow r k n l (chosen k es) < suc l → Some (λ e. e .addr ≡ n) (splice (Del l) k es)
+  unfolding leftLow
   names-left zero hi es d ds c q h i b = absurd (omega arith)
   names-left (suc l) hi es d ds c q h i b = splice-some (Ok fit rm r (suc l)) (λ e. e .addr ≡ n) (Del (suc l)) k hi es c q h (left-names l (chosen k es) d ds i)
 
@@ -70,14 +70,14 @@ module _ (k n top : ℕ) (half most : ℕ → ℕ) (r s : Nodes) (fit fit′ : �
   ListWhere l c low = All (DelWhere low) (gather (places s l) c) × (low ≤ suc l) × (low < suc l → Some (λ e. e .addr ≡ n) c)
 
   list-where : (l hi : ℕ) (es : List Entry) → 0 < length es → k < hi → Rises (Ok fit rm r l) hi es
-      → ((y : ℕ) → k < y → chosen k es .key < y → Ok fit rm r l y (chosen k es) → All (DelWhere (lowest r k n l (chosen k es))) (gather (places s l) (Del l (chosen k es))))
-      → ListWhere l (splice (Del l) k es) (lowestOf r k n l es)
+      → ((y : ℕ) → k < y → chosen k es .key < y → Ok fit rm r l y (chosen k es) → All (DelWhere (leftLow r k n l (chosen k es))) (gather (places s l) (Del l (chosen k es))))
+      → ListWhere l (splice (Del l) k es) (leftLowOf r k n l es)
   unfolding gather
   list-where l hi es c q h step = go (Del l (chosen k es)) refl
     where
-      go : (ds : List Entry) → Del l (chosen k es) ≡ ds → ListWhere l (splice (Del l) k es) (stop ds (suc l) (lowest r k n l (chosen k es)))
+      go : (ds : List Entry) → Del l (chosen k es) ≡ ds → ListWhere l (splice (Del l) k es) (stop ds (suc l) (leftLow r k n l (chosen k es)))
       go [] i = (list-places fit fit′ rm r s keep same k (λ e. remove k (e ∷ [])) (kept n) (DelHeld n s) (DelWhere (suc l)) (off-where (suc l)) l hi es c q h (λ y a b o. rw i tt), omega arith, λ b. absurd (omega arith))
-      go (d ∷ ds) i = (list-places fit fit′ rm r s keep same k (λ e. remove k (e ∷ [])) (kept n) (DelHeld n s) (DelWhere (lowest r k n l (chosen k es))) (off-where (lowest r k n l (chosen k es))) l hi es c q h step, low-le l (chosen k es), names-left l hi es d ds c q h i)
+      go (d ∷ ds) i = (list-places fit fit′ rm r s keep same k (λ e. remove k (e ∷ [])) (kept n) (DelHeld n s) (DelWhere (leftLow r k n l (chosen k es))) (off-where (leftLow r k n l (chosen k es))) l hi es c q h step, low-le l (chosen k es), names-left l hi es d ds c q h i)
 
   pub page-where : (W : Place → Type 0) (l z q : ℕ) (es : List Entry) → s q (suc l) ≡ es → W (record { page = q; level = suc l }) → All W (gather (places s l) es) → All W (places s (suc l) (record { key = z; addr = q }))
   unfolding places
@@ -91,15 +91,15 @@ module _ (k n top : ℕ) (half most : ℕ → ℕ) (r s : Nodes) (fit fit′ : �
   kept-where l low e [] m h = tt
   kept-where l low e (x ∷ c) m h = all-append (DelWhere low) (places s (suc l) (record { key = e .key; addr = n })) [] (node-where l (e .key) low (x ∷ c) (m (omega arith)) h) tt
 
-  pub edit-where : (l y : ℕ) (e : Entry) → k < y → e .key < y → Ok fit rm r l y e → DelMade r s k n l e → All (DelWhere (lowest r k n l e)) (gather (places s l) (Del l e))
-  unfolding edit Made Ok lowest
+  pub edit-where : (l y : ℕ) (e : Entry) → k < y → e .key < y → Ok fit rm r l y e → DelMade r s k n l e → All (DelWhere (leftLow r k n l e)) (gather (places s l) (Del l e))
+  unfolding edit Made Ok leftLow
   edit-where zero y e q b h m = no-places (DelWhere 1) s (remove k (e ∷ []))
-  edit-where (suc l) y e q b h m = let es = r (e .addr) (suc l) in kept-where l (lowestOf r k n l es) e (splice (Del l) k es) (m .0) (list-where l y es (h .1) q (h .4) (λ y a b i. edit-where l y (chosen k es) a b i (m .1)))
+  edit-where (suc l) y e q b h m = let es = r (e .addr) (suc l) in kept-where l (leftLowOf r k n l es) e (splice (Del l) k es) (m .0) (list-where l y es (h .1) q (h .4) (λ y a b i. edit-where l y (chosen k es) a b i (m .1)))
 
   -- the root stays at its level
   pub less-where : (l p : ℕ) → Rooted fit rm most top r l p → 0 < length (r p (suc l)) → DelMade r s k n l (chosen k (r p (suc l))) → s n (suc l) ≡ splice (Del l) k (r p (suc l))
-      → All (DelWhere (lowestOf r k n l (r p (suc l)))) (places s (suc l) (record { key = 0; addr = n }))
-  less-where l p h c m e = let es = r p (suc l) in node-where l 0 (lowestOf r k n l es) (splice (Del l) k es) e (list-where l top es c k-top (h .rises) (λ y a b i. edit-where l y (chosen k es) a b i m))
+      → All (DelWhere (leftLowOf r k n l (r p (suc l)))) (places s (suc l) (record { key = 0; addr = n }))
+  less-where l p h c m e = let es = r p (suc l) in node-where l 0 (leftLowOf r k n l es) (splice (Del l) k es) e (list-where l top es c k-top (h .rises) (λ y a b i. edit-where l y (chosen k es) a b i m))
 
   -- the root collapses to an old list, which then stands alone on n
   pub collapse-where : (l : ℕ) (c : List Entry) → Rises (Ok fit rm r l) top c → s n (suc l) ≡ c → All (DelWhere (suc l)) (places s (suc l) (record { key = 0; addr = n }))

@@ -18,7 +18,7 @@ use Rattle.trees.specs.Delete.{remove-splice, deleted, DelMade, less-pai
 use Rattle.trees.specs.Move.{moved, MovMade, move-pairs, move-ok, Tie, MoveWhere, moved-where, moved-dead}
 use Rattle.trees.specs.Tied.{Tied, tie-all, Where, tied-new, live-tied}
 use Rattle.trees.specs.InsertPages.{stay-where, grow-where}
-use Rattle.trees.specs.DeletePages.{lowestOf, less-where, collapse-where}
+use Rattle.trees.specs.DeletePages.{leftLowOf, less-where, collapse-where}
 
 -- the tree with its root at page p, l levels above a leaf, keeps R5 and R6
 pub record Proper (fit : ℕ → ℕ → Type 0) (room most : ℕ → ℕ) (top : ℕ) (r : Nodes) (l p : ℕ) : Type 0 where
@@ -110,7 +110,7 @@ module _ (n top : ℕ) (half most : ℕ → ℕ) (r s : Nodes) (fit fit′ : ℕ
         let pls = places r (suc l) (the p) in (
           record {
             rooted = less-ok k n top half most r s fit fit′ fit-n keep same k-top l p (h .rooted) m e b;
-            tied = retied (λ _. 0) (λ _. ⊥) (λ l z _. z) (λ i j z _ _. absurd z) (λ l j z _. z) pls (h .tied) (lowestOf r k n l (r p (suc l))) (places s (suc l) (the n))
+            tied = retied (λ _. 0) (λ _. ⊥) (λ l z _. z) (λ i j z _ _. absurd z) (λ l j z _. z) pls (h .tied) (leftLowOf r k n l (r p (suc l))) (places s (suc l) (the n))
                 (less-where k n top half most r s (λ j q. fit j q × LiveAt pls j q) fit′ (λ l b i. keep l b (i .0)) (λ q l i. same q l (i .0)) k-top l p (with-live fit rm most top r l p (h .rooted)) c m (e ∙ less-is l (r p (suc l)) c (h .rooted .rises)));
           },
           less-pairs k n top half most r s fit fit′ fit-n keep same k-top l p (h .rooted) m e,
@@ -172,7 +172,7 @@ root-fit fit room most r l p top h = (
   gather-all (λ x. (1 ≤ x .level) × fit (x .level) (x .page)) (places r l) (r p (suc l)) (rises-all (Ok fit room r l) (λ x. All (λ x. (1 ≤ x .level) × fit (x .level) (x .page)) (places r l x)) top (r p (suc l)) (λ y′ x _ b i. places-fit fit room r l y′ x i) (h .rises)),
 )
 
--- a move of page p, whose lowest live level is a
+-- a move of page p, whose leftLow live level is a
 module _ (p a n top : ℕ) (half most : ℕ → ℕ) (r s : Nodes) (fit fit′ : ℕ → ℕ → Type 0) (fit-n : (l : ℕ) → fit′ (suc l) n)
     (keep : (l b : ℕ) → fit l b → fit′ l b) (same : (q l : ℕ) → fit (suc l) q → s q (suc l) ≡ r q (suc l)) (new-n : (l : ℕ) → fit (suc l) n → ⊥)
     (l p₀ : ℕ) (h : Proper fit (λ l. 2 * half l) most top r l p₀) (m : Mem (record { page = p; level = a }) (places r (suc l) (the p₀)))
