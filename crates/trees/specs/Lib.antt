@@ -13,6 +13,7 @@ pub mod Proper
 pub mod Frame
 pub mod Seek
 pub mod Path
+pub mod Lengths
 pub mod Splits
 pub mod Like
 pub mod Live
