@@ -2,3 +2,4 @@
 pub mod Along
 pub mod Table
 pub mod Move
+pub mod Collector
