@@ -141,6 +141,13 @@ module _ (g : Geometry) (shape : Shape g) (n k a : ℕ) (k-low : k < 4294967296)
             (λ y. omega (arith, root-length, am, y, bit-le gained)))
           (λ z. omega (arith, root-length, am, ap bit z))
 
+  -- a level above a root that grows has room for two entries
+  pub two-root : suc (c .level) < g .top → 2 ≤ rootMost g (suc (suc (c .level)))
+  unfolding rootMost
+  two-root lo = by-test (ltb (suc (suc (c .level))) (g .top))
+      (λ x. let y = ltb-true (suc (suc (c .level))) (g .top) x in let d = shape .double (suc (suc (c .level))) (omega arith) y in let z = shape .some (suc (suc (c .level))) (omega arith) y in rw x (omega (arith, d, z)))
+      (λ x. let y : suc (suc (c .level)) ≡ g .top = omega (arith, lo, ltb-false (suc (suc (c .level))) (g .top) x) in let d = ap (rootSlots g) y in let z = shape .top-slots in rw x (omega (arith, d, z)))
+
   -- ---- the nodes s after the m pages
   module _ (free : m ≤ count (g .pages * n) (c .er)) (s : Nodes)
       (at-N : (j : ℕ) → 1 ≤ j → j ≤ g .top → s N j ≡ mainList g n c k a j) (at-side : (j : ℕ) → 1 ≤ j → j < m → s (side j) j ≡ sideList g n c k a j)
@@ -190,7 +197,7 @@ module _ (g : Geometry) (shape : Shape g) (n k a : ℕ) (k-low : k < 4294967296)
 
     -- the root grows
     grow : grows ≡ true → Done (suc (c .level))
-    unfolding insertPart crownPart sideList rootMost
+    unfolding insertPart crownPart sideList
     grow e =
         let l = c .level in
         let h = half g (suc l) in
@@ -205,13 +212,8 @@ module _ (g : Geometry) (shape : Shape g) (n k a : ℕ) (k-low : k < 4294967296)
               at-N (suc (suc l)) (omega arith) (omega (arith, u .0)) ∙ rw (none, e, ne, eq-eqb (suc (suc l)) (suc (suc l)) refl) (ap (λ x. two k N (side (suc l)) (2 * h) (next x 0) x) root-list) in
         let w = insert-grow N 4294967296 (half g) (rootMost g) r s fit fit′ (λ l. fit-side g shape n c (good .r2) m free m (suc l) some-m (omega arith)) (keep g shape n c (good .r2) m free) stays (λ l. new-side g shape n c (good .r2) m free m l some-m (omega arith))
               k a side Cut tt k-low apart inj (λ l j h. new-side g shape n c (good .r2) m free l j (h .0) (omega (arith, h .1)))
-              l (c .root) (good .sound) made (path, other, fit-side g shape n c (good .r2) m free (suc l) (suc l) (omega arith) (omega (arith, lt))) (omega arith, lt) crown (sym (ap length root-list) ∙ u .1) (two-most (u .0)) in
+              l (c .root) (good .sound) made (path, other, fit-side g shape n c (good .r2) m free (suc l) (suc l) (omega arith) (omega (arith, lt))) (omega arith, lt) crown (sym (ap length root-list) ∙ u .1) (two-root (u .0)) in
         (record { r2 = after-r2; sound = w .0 }, w .1)
-      where
-        two-most : suc (c .level) < g .top → 2 ≤ pick (ltb (suc (suc (c .level))) (g .top)) (rootSlots g (suc (suc (c .level))) - 1) (rootSlots g (suc (suc (c .level))))
-        two-most lo = by-test (ltb (suc (suc (c .level))) (g .top))
-            (λ x. let y = ltb-true (suc (suc (c .level))) (g .top) x in let d = shape .double (suc (suc (c .level))) (omega arith) y in let z = shape .some (suc (suc (c .level))) (omega arith) y in rw x (omega (arith, d, z)))
-            (λ x. let y : suc (suc (c .level)) ≡ g .top = omega (arith, lo, ltb-false (suc (suc (c .level))) (g .top) x) in let d = ap (rootSlots g) y in let z = shape .top-slots in rw x (omega (arith, d, z)))
 
     pub insert-done : tooHigh g c k ≡ false → Done (crownHeight g (suc (c .level)) (lists (suc (c .level))) - 1)
     unfolding crownHeight

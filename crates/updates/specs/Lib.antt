@@ -3,3 +3,4 @@ pub mod Along
 pub mod Table
 pub mod Move
 pub mod Collector
+pub mod Contents
