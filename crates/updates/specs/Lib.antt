@@ -4,3 +4,5 @@ pub mod Table
 pub mod Move
 pub mod Collector
 pub mod Contents
+pub mod Updated
+pub mod Insertion

@@ -1,0 +1,71 @@
+-- An update's stores: a run that keeps the old map, then one page with a root, after which the new one stands. Assumes nothing.
+use mathlib.Core.Path.{_≡_, refl, ap, sym, subst, _∙_}
+use mathlib.Core.List.{List, [], _∷_, _++_, append-assoc}
+use mathlib.Core.Logic.{inl}
+use Prim.Native.Nat.{ℕ, suc, _+_, _<_, _≤_}
+use native.Mathlib.Omega.{arith}
+use Rattle.geometry.specs.declared.Geometry.{Geometry}
+use Rattle.geometry.specs.declared.Entry.{Entry}
+use Rattle.geometry.specs.Shape.{Shape}
+use Rattle.model.specs.Count.{count}
+use Rattle.model.specs.Image.{pagesOf, maxSeq, Chip, chipOf}
+use Rattle.model.specs.Tree.{mapOf}
+use Rattle.model.specs.Next.{nextPage}
+use Rattle.model.specs.Stores.{Store, applyStore, applyAll, programs, erases}
+use Rattle.chips.specs.Whole.{Whole}
+use Rattle.images.specs.Views.{rooted}
+use Rattle.images.specs.Page.{Parts, builtView}
+use Rattle.images.specs.Writes.{nextStore, Legal, put-legal, root-chip, root-held, root-frees}
+use Rattle.updates.specs.Along.{Along, along-append, apply-append, programs-append, erases-append, Keeps, Runs, runs-end}
+
+pub record Updated (g : Geometry) (n : ℕ) (old new : List Entry) (img : List ℕ) (ss : List Store) (b e : ℕ) : Type 0 where
+  pub init : List Store
+  pub last : Store
+  pub list-is : ss ≡ init ++ (last ∷ [])
+  pub along : Along g n (Keeps g n old) img init
+  pub legal : Legal g n (applyAll g init img) last
+  pub end : Keeps g n new (applyAll g ss img)
+  pub programmed : programs ss ≤ b
+  pub wiped : erases ss ≤ e
+
+-- the last store: of the chip after it is known that it is whole and holds the new map
+pub updated : (g : Geometry) → Shape g → (n : ℕ) (old new : List Entry) (img : List ℕ) (ss : List Store) (d : Chip) (b e h : ℕ) (parts : ℕ → List Entry) (s : Store) → Runs g n old img ss d b e
+    → g .pages + 1 ≤ count (pagesOf g n) (d .er) → suc (maxSeq g n (applyAll g ss img)) < 4294967295 → Parts g parts → 1 ≤ h → h ≤ g .top → s ≡ nextStore g n h parts (applyAll g ss img)
+    → ((q : ℕ) → Whole g n (rooted d (nextPage (g .pages) n (d .er)) (builtView g q h parts)) × (mapOf (rooted d (nextPage (g .pages) n (d .er)) (builtView g q h parts)) ≡ new))
+    → Updated g n old new img (ss ++ (s ∷ [])) (b + 1) e
+unfolding applyAll programs erases nextStore
+updated g shape n old new img ss d b e h parts s r f low ok i k se good =
+    let x = applyAll g ss img in
+    let t = pagesOf g n in
+    let z = runs-end g n old img ss d b e r in
+    let ci = r .chip-is in
+    let many : g .pages + 1 ≤ count t (chipOf g n x .er) = subst (λ (y : Chip). g .pages + 1 ≤ count t (y .er)) (sym ci) f in
+    let free : 1 ≤ count t (chipOf g n x .er) = omega (arith, many) in
+    let q = suc (maxSeq g n x) in
+    let rc = root-chip g shape n x (z .held) free parts ok low h k i in
+    let ge = subst (λ (y : Chip). Whole g n (rooted y (nextPage (g .pages) n (y .er)) (builtView g q h parts)) × (mapOf (rooted y (nextPage (g .pages) n (y .er)) (builtView g q h parts)) ≡ new)) (sym ci) (good q) in
+    let fr = root-frees g shape n x (z .held) free parts ok low h k i in
+    let done : Keeps g n new (applyStore g (nextStore g n h parts x) x) = record { held = root-held g shape n x (z .held) free parts ok low h k i (ge .0); r7 = inl (omega (arith, fr, many)); map-is = ap mapOf rc ∙ ge .1 } in
+    record {
+      init = ss;
+      last = s;
+      list-is = refl;
+      along = r .along;
+      legal = subst (Legal g n x) (sym se) (put-legal g shape n x (z .held) free parts ok low h k);
+      end = subst (Keeps g n new) (sym (apply-append g ss (s ∷ []) img)) (subst (λ (u : Store). Keeps g n new (applyStore g u x)) (sym se) done);
+      programmed = let w = programs-append ss (s ∷ []) in let v = ap (λ (u : Store). programs (u ∷ [])) se in omega (arith, w, v, r .programmed);
+      wiped = let w = erases-append ss (s ∷ []) in let v = ap (λ (u : Store). erases (u ∷ [])) se in omega (arith, w, v, r .wiped);
+    }
+
+-- an update after a run that keeps the map
+pub updated-after : (g : Geometry) (n : ℕ) (old new : List Entry) (img : List ℕ) (ss ts : List Store) (d : Chip) (a b e f : ℕ) → Runs g n old img ss d a e → Updated g n old new (applyAll g ss img) ts b f → Updated g n old new img (ss ++ ts) (a + b) (e + f)
+updated-after g n old new img ss ts d a b e f r u = record {
+  init = ss ++ u .init;
+  last = u .last;
+  list-is = ap (λ m. ss ++ m) (u .list-is) ∙ sym (append-assoc ss (u .init) (u .last ∷ []));
+  along = along-append g n (Keeps g n old) img ss (u .init) (r .along) (u .along);
+  legal = subst (λ x. Legal g n x (u .last)) (sym (apply-append g ss (u .init) img)) (u .legal);
+  end = subst (Keeps g n new) (sym (apply-append g ss ts img)) (u .end);
+  programmed = let w = programs-append ss ts in omega (arith, w, r .programmed, u .programmed);
+  wiped = let w = erases-append ss ts in omega (arith, w, r .wiped, u .wiped);
+}
