@@ -1,8 +1,8 @@
 -- An insertion's own stores on bytes: the other halves, lower level first, then N. Assumes nothing.
 use mathlib.Core.Path.{_≡_, refl, ap, sym, subst, _∙_}
-use mathlib.Core.List.{List, [], _∷_, _++_}
+use mathlib.Core.List.{List, [], _∷_, _++_, append-assoc}
 use mathlib.Core.Bool.{Bool, true, false}
-use Prim.Native.Nat.{ℕ, zero, suc, _+_, _*_, _<_, _≤_, min}
+use Prim.Native.Nat.{ℕ, zero, suc, _+_, _-_, _*_, _<_, _≤_, min}
 use native.Mathlib.Omega.{arith}
 use lib.ListN.{length}
 use lib.Dec.{leb}
@@ -14,27 +14,28 @@ use Rattle.geometry.specs.Geometry.{half}
 use Rattle.geometry.specs.Shape.{Shape}
 use Rattle.model.specs.Count.{count}
 use Rattle.model.specs.Image.{pagesOf, maxSeq, Chip, chipOf}
-use Rattle.model.specs.Tree.{chosen, sought}
+use Rattle.model.specs.Tree.{mapOf, chosen, sought}
 use Rattle.model.specs.Next.{nextPage, after, taken}
 use Rattle.model.specs.Page.{built, only}
 use Rattle.model.specs.Stores.{Store, program, applyStore, applyAll}
-use Rattle.model.specs.Edit.{sideHalf, splits}
-use Rattle.model.specs.Update.{isNone, rootNode, fills, needs, tooHigh, insertList, sideStore, splitStore, sideStores, crownStore, sidePage}
+use Rattle.model.specs.Edit.{put, sideHalf, splits}
+use Rattle.model.specs.Update.{isNone, rootNode, fills, needs, tooHigh, insertList, sideStore, splitStore, sideStores, crownStore, crownHeight, sidePage, ownStores}
 use Rattle.trees.specs.Tests.{by-eq, by-le, by-test, bit-le}
 use Rattle.trees.specs.Lists.{All, append-nil}
 use Rattle.trees.specs.Nodes.{fitOf}
 use Rattle.chips.specs.Next.{step}
 use Rattle.chips.specs.Whole.{some-page, Whole}
 use Rattle.chips.specs.Pages.{side-erased, side-inj, new-side}
-use Rattle.chips.specs.Insertion.{sideList, cut-levels, needs-is, cuts-le, grow-all}
+use Rattle.chips.specs.Insertion.{sideList, mainList, cut-levels, needs-is, cuts-le, grow-all, insert-done}
 use Rattle.images.specs.Bytes.{Fits}
-use Rattle.images.specs.Views.{beside}
+use Rattle.images.specs.Views.{rooted, beside}
 use Rattle.images.specs.Page.{in-table, builtView}
 use Rattle.images.specs.Small.{node-fits}
 use Rattle.images.specs.Held.{height-most}
 use Rattle.images.specs.Writes.{nextStore, put-max}
 use Rattle.updates.specs.Along.{apply-append, Keeps, Runs, runs-end, runs-none, runs-then, runs-as, side-runs}
-use Rattle.updates.specs.Contents.{side-parts}
+use Rattle.updates.specs.Contents.{side-parts, main-parts}
+use Rattle.updates.specs.Updated.{Updated, updated}
 
 -- the chip d after the other halves of levels 1 to i, from the chip c
 pub record Laid (g : Geometry) (n : ℕ) (c : Chip) (k a i : ℕ) (d : Chip) : Type 0 where
@@ -221,3 +222,72 @@ module _ (g : Geometry) (shape : Shape g) (n : ℕ) (few : pagesOf g n + g .page
       stayed : grows ≡ false → Sided g n base img k a (cuts + bit grows) (sideStores g seq k side lists (c .level) ++ pick grows (sideStore g seq side (suc (c .level)) (sideHalf k (2 * half g (suc (c .level))) (lists (suc (c .level)))) ∷ []) [])
       stayed e = let x : min (c .level) cuts ≡ cuts + 0 = omega (arith, cut-le) in
           rw (e, append-nil (sideStores g seq k side lists (c .level))) (subst (λ j. Sided g n base img k a j (sideStores g seq k side lists (c .level))) x s)
+  -- ---- N
+  abbrev height : ℕ
+  height = crownHeight g (suc (c .level)) (lists (suc (c .level)))
+
+  height-in : (1 ≤ height) × (height ≤ g .top)
+  unfolding crownHeight
+  height-in = by-test grows (λ e. let u = grow-all g shape n k a k-low c whole e in rw e (omega arith, omega (arith, u .0))) (λ e. rw e (omega arith, high))
+
+  module _ (d : Chip) (laid : Laid g n c k a (cuts + bit grows) d) (q : ℕ) where
+
+    abbrev P : ℕ
+    P = nextPage (g .pages) n (d .er)
+
+    abbrev e′ : Chip
+    e′ = rooted d P (builtView g q height (mainList g n c k a))
+
+    page-is : P ≡ N
+    page-is = ap (nextPage (g .pages) n) (laid .er-is) ∙ sym (ap side m-is)
+
+    er-is : after P (d .er) ≡ taken (g .pages) n (c .er) m
+    unfolding taken
+    er-is = ap (λ (x : ℕ → Bool). after (nextPage (g .pages) n x) x) (laid .er-is) ∙ sym (ap (taken (g .pages) n (c .er)) m-is)
+
+    at-N : (j : ℕ) → 1 ≤ j → j ≤ g .top → e′ .nodes N j ≡ mainList g n c k a j
+    unfolding rooted
+    at-N j b h = rw (eq-eqb N P (sym page-is), in-table g j b h) refl
+
+    elsewhere : (p j : ℕ) → (p ≡ N → ⊥) → e′ .nodes p j ≡ d .nodes p j
+    unfolding rooted
+    elsewhere p j h = rw (ne-eqb p P (λ z. h (z ∙ page-is))) refl
+
+    at-side : (j : ℕ) → 1 ≤ j → j < m → e′ .nodes (side j) j ≡ sideList g n c k a j
+    at-side j b h = elsewhere (side j) j (λ z. let w = side-inj g shape n c (whole .r2) m free j m b (omega (arith, h)) (omega (arith, m-is)) (omega arith) z in omega (arith, w, h)) ∙ laid .sides j b (omega (arith, h, m-is))
+
+    stays : (p l : ℕ) → fitOf t (c .er) (suc l) p → e′ .nodes p (suc l) ≡ c .nodes p (suc l)
+    stays p l h = elsewhere p (suc l) (λ z. new-side g shape n c (whole .r2) m free m l (omega (arith, m-is)) (omega arith) (subst (fitOf t (c .er) (suc l)) z h)) ∙ laid .stays p l h
+
+    final-is : e′ ≡ record { er = taken (g .pages) n (c .er) m; nodes = e′ .nodes; level = height - 1; root = N }
+    unfolding rooted
+    final-is = λ i. record { er = er-is i; nodes = e′ .nodes; level = height - 1; root = page-is i }
+
+    pub final-done : Whole g n e′ × (mapOf e′ ≡ put k a (mapOf c))
+    final-done =
+        let w = insert-done g shape n k a k-low c whole free (e′ .nodes) at-N at-side stays high not-high in
+        (subst (Whole g n) (sym final-is) (w .0), ap mapOf final-is ∙ w .1)
+
+  -- the insertion's own stores: m programs
+  pub own-updated : Updated g n base (put k a base) img (ownStores g n seq c m k a) m 0
+  unfolding ownStores
+  own-updated =
+      let s = all-sided in
+      let i = cuts + bit grows in
+      let ss = halves in
+      let x = applyAll g ss img in
+      let ci = s .runs .chip-is in
+      let lf = left i (omega (arith, m-is)) in
+      let cnt : count t (s .chip .er) ≡ count t (taken (g .pages) n (c .er) i) = ap (count t) (s .laid .er-is) in
+      let page : nextPage (g .pages) n (chipOf g n x .er) ≡ N = ap (λ (y : Chip). nextPage (g .pages) n (y .er)) ci ∙ page-is (s .chip) (s .laid) 0 in
+      let st = program N (built g (seq + m) height (mainList g n c k a)) in
+      let e = next-is height m (mainList g n c k a) x page (omega (arith, s .max-is, m-is)) in
+      let u = updated g shape n base (put k a base) img ss (s .chip) i 0 height (mainList g n c k a) st (s .runs) (omega (arith, cnt, lf, room, m-is)) (omega (arith, s .max-is, low, m-is))
+            (main-parts g shape n few k a k-low a-low c whole all-fit high not-high) (height-in .0) (height-in .1) e
+            (λ q. let w = final-done (s .chip) (s .laid) q in (w .0, w .1 ∙ ap (put k a) (keeps .map-is))) in
+      let z : i + 1 ≡ m = omega (arith, m-is) in
+      subst (λ j. Updated g n base (put k a base) img (sideStores g seq k side lists (c .level) ++ (crownStore g seq k side (suc (c .level)) (lists (suc (c .level))) ++ (st ∷ []))) j 0) z
+        (subst (λ (y : List Store). Updated g n base (put k a base) img y (i + 1) 0) (append-assoc (sideStores g seq k side lists (c .level)) (crownStore g seq k side (suc (c .level)) (lists (suc (c .level)))) (st ∷ [])) u)
+
+  pub needs-most : m ≤ g .top
+  needs-most = by-test grows (λ e. let u = grow-all g shape n k a k-low c whole e in omega (arith, m-is, u .0, u .2, ap bit e)) (λ e. omega (arith, m-is, cut-le, high, ap bit e))
