@@ -5,10 +5,11 @@ use mathlib.Core.Bool.{true, false}
 use Prim.Native.Nat.{ℕ, zero, suc, _*_, _<_, _≤_}
 use native.Mathlib.Omega.{arith}
 use lib.ListN.{length}
+use lib.Dec.{eqb}
 use borrow.Author.Tests.{le-leb, eq-eqb, ne-eqb}
 use Rattle.geometry.specs.declared.Geometry.{Geometry}
 use Rattle.geometry.specs.declared.Entry.{Entry}
-use Rattle.geometry.specs.Tests.{and-true}
+use Rattle.geometry.specs.Tests.{pick, and-true}
 use Rattle.geometry.specs.Geometry.{half, rootMost}
 use Rattle.geometry.specs.Shape.{Shape}
 use Rattle.model.specs.Count.{count}
@@ -181,3 +182,19 @@ module _ (g : Geometry) (shape : Shape g) (n k : ℕ) (k-low : k < 4294967296) (
             let x = top-low in
             let w = drop (c .level) (lists (suc (c .level))) (good .sound) root-list i (omega (arith, q, z, y)) (at-N (suc (t .level)) (omega arith) (omega (arith, x, high)) ∙ rw (eq-eqb (suc (t .level)) (suc (t .level)) refl) refl) in
             (record { r2 = after-r2; sound = w .0 }, w .1)
+
+  -- the root that is left is within the table: by the nodes that are the old ones but for N
+  module _ (free : 1 ≤ count (g .pages * n) (c .er)) (high : suc (c .level) ≤ g .top) where
+
+    abbrev s : Nodes
+    s q j = pick (eqb q N) (leftList g n c k j) (r q j)
+
+    s-N : (j : ℕ) → s N j ≡ leftList g n c k j
+    s-N j = rw (eq-eqb N N refl) refl
+
+    pub top-most : length (top .list) ≤ rootMost g (suc (top .level))
+    unfolding deletePart
+    top-most =
+        let w = delete-done free s (λ j _ _. s-N j) (λ q l h. rw (ne-eqb q N (λ z. new-side g shape n c (good .r2) 1 free 1 l (omega arith) (omega arith) (subst (fit (suc l)) z h))) refl) high .0 .sound .rooted .atmost in
+        let e : s N (suc (top .level)) ≡ top .list = s-N (suc (top .level)) ∙ rw (eq-eqb (suc (top .level)) (suc (top .level)) refl) refl in
+        subst (λ (x : List Entry). length x ≤ rootMost g (suc (top .level))) e w

@@ -121,6 +121,10 @@ module _ (g : Geometry) (shape : Shape g) (n k a : ℕ) (k-low : k < 4294967296)
       let am = rw (lt-ltb (suc (c .level)) (g .top) lo) at (good .sound .rooted .atmost) in
       (lo, len ∙ d, all-below k a N side (half g) r fit absent (c .level) (chosen k es) (by-test gained (λ z. z) (λ z. absurd (omega (arith, root-length, len, d, s, am, ap bit z)))))
 
+  -- own pages: 1 + splits + grow
+  pub needs-top : suc (c .level) ≤ g .top → m ≤ g .top
+  needs-top hi = by-test grows (λ e. let u = grow-all e in omega (arith, needs-is, u .0, u .2, ap bit e)) (λ e. omega (arith, needs-is, cuts-le, hi, ap bit e))
+
   -- a root that does not grow stays within the table, unless it is too high
   pub stay-most : suc (c .level) ≤ g .top → tooHigh g c k ≡ false → grows ≡ false → length (lists (suc (c .level))) ≤ rootMost g (suc (c .level))
   unfolding fills rootMost tooHigh rootGains

@@ -288,6 +288,3 @@ module _ (g : Geometry) (shape : Shape g) (n : ℕ) (few : pagesOf g n + g .page
       let z : i + 1 ≡ m = omega (arith, m-is) in
       subst (λ j. Updated g n base (put k a base) img (sideStores g seq k side lists (c .level) ++ (crownStore g seq k side (suc (c .level)) (lists (suc (c .level))) ++ (st ∷ []))) j 0) z
         (subst (λ (y : List Store). Updated g n base (put k a base) img y (i + 1) 0) (append-assoc (sideStores g seq k side lists (c .level)) (crownStore g seq k side (suc (c .level)) (lists (suc (c .level)))) (st ∷ [])) u)
-
-  pub needs-most : m ≤ g .top
-  needs-most = by-test grows (λ e. let u = grow-all g shape n k a k-low c whole e in omega (arith, m-is, u .0, u .2, ap bit e)) (λ e. omega (arith, m-is, cut-le, high, ap bit e))

@@ -6,3 +6,4 @@ pub mod Collector
 pub mod Contents
 pub mod Updated
 pub mod Insertion
+pub mod Deletion

@@ -1,0 +1,184 @@
+-- A deletion's own store on bytes. Assumes nothing.
+use mathlib.Core.Path.{_≡_, refl, ap, sym, subst, _∙_}
+use mathlib.Core.List.{List, [], _∷_}
+use mathlib.Core.Bool.{Bool, true, false}
+use Prim.Native.Nat.{ℕ, zero, suc, _+_, _-_, _*_, _<_, _≤_}
+use native.Mathlib.Omega.{arith}
+use lib.ListN.{length}
+use lib.Dec.{eqb, leb}
+use borrow.Author.Tests.{lt-leb, eq-eqb, ne-eqb}
+use Rattle.geometry.specs.declared.Geometry.{Geometry}
+use Rattle.geometry.specs.declared.Entry.{Entry}
+use Rattle.geometry.specs.Tests.{pick, _&_, and-true, and-false}
+use Rattle.geometry.specs.Geometry.{slotsOf, half}
+use Rattle.geometry.specs.Shape.{Shape}
+use Rattle.model.specs.Count.{count}
+use Rattle.model.specs.Image.{pagesOf, maxSeq, Nodes, Chip, chipOf, theRoot}
+use Rattle.model.specs.Tree.{mapOf, sought}
+use Rattle.model.specs.Next.{nextPage, after, taken}
+use Rattle.model.specs.Stores.{applyAll}
+use Rattle.model.specs.Edit.{remove, kept, Top, collapse}
+use Rattle.model.specs.Update.{isNone, sidePage, deleteList, deleteTop, deletePart, deleteStore}
+use Rattle.trees.specs.Tests.{by-eq}
+use Rattle.trees.specs.Lists.{All}
+use Rattle.trees.specs.Nodes.{fitOf}
+use Rattle.trees.specs.Lengths.{path-all, path-most}
+use Rattle.chips.specs.Whole.{Whole}
+use Rattle.chips.specs.Pages.{side-erased, new-side}
+use Rattle.chips.specs.Deletion.{leftList, top-low, delete-done, top-most}
+use Rattle.images.specs.Bytes.{Fits}
+use Rattle.images.specs.Views.{rooted}
+use Rattle.images.specs.Page.{in-table, Parts, builtView}
+use Rattle.images.specs.Small.{node-fits}
+use Rattle.images.specs.Held.{height-most}
+use Rattle.images.specs.Writes.{nextStore}
+use Rattle.updates.specs.Along.{Keeps, runs-none}
+use Rattle.updates.specs.Table.{parts-most}
+use Rattle.updates.specs.Updated.{Updated, updated}
+
+remove-fits : (k : ℕ) (es : List Entry) → All Fits es → All Fits (remove k es)
+remove-fits k [] h = tt
+remove-fits k (e ∷ es) h = go (eqb (e .key) k) (remove-fits k es (h .1))
+  where
+    go : (t : Bool) → All Fits (remove k es) → All Fits (pick t es (e ∷ remove k es))
+    go true i = h .1
+    go false i = (h .0, i)
+
+remove-most : (k : ℕ) (es : List Entry) → length (remove k es) ≤ length es + 0
+remove-most k [] = omega arith
+remove-most k (e ∷ es) = go (eqb (e .key) k) (remove-most k es)
+  where
+    go : (t : Bool) → length (remove k es) ≤ length es + 0 → length (pick t es (e ∷ remove k es)) ≤ suc (length es) + 0
+    go true i = omega arith
+    go false i = omega (arith, i)
+
+kept-fits : (n : ℕ) → n < 4294967296 → (l : ℕ) (e : Entry) (c : List Entry) → Fits e → All Fits c → All Fits (kept n l e c)
+kept-fits n q l e [] f h = tt
+kept-fits n q l e (x ∷ c) f h = ((f .0, q), tt)
+
+kept-most : (n l : ℕ) (e : Entry) (c : List Entry) → length (kept n l e c) ≤ 1
+kept-most n l e [] = omega arith
+kept-most n l e (x ∷ c) = omega arith
+
+-- the collapsed root is a node or the list itself
+collapse-all : (P : Entry → Type 0) (r : Nodes) → ((q l : ℕ) → All P (r q l)) → (l : ℕ) (c : List Entry) → All P c → All P (collapse r l c .list)
+unfolding collapse
+collapse-all P r all zero c h = h
+collapse-all P r all (suc l) [] h = h
+collapse-all P r all (suc l) (x ∷ []) h = collapse-all P r all l (r (x .addr) (suc l)) (all (x .addr) (suc l))
+collapse-all P r all (suc l) (x ∷ y ∷ c) h = h
+
+module _ (g : Geometry) (shape : Shape g) (n : ℕ) (few : pagesOf g n + g .pages < 4294967296) (k : ℕ) (k-low : k < 4294967296)
+    (base : List Entry) (img : List ℕ) (keeps : Keeps g n base img) (present : isNone (sought (chipOf g n img) k) ≡ false)
+    (room : g .pages + 1 ≤ count (pagesOf g n) (chipOf g n img .er)) (low : maxSeq g n img + 1 < 4294967295) where
+
+  abbrev c : Chip
+  c = chipOf g n img
+
+  abbrev t : ℕ
+  t = pagesOf g n
+
+  abbrev N : ℕ
+  N = sidePage g n c 1
+
+  abbrev whole : Whole g n c
+  whole = keeps .held .whole
+
+  abbrev lists : ℕ → List Entry
+  lists = deleteList c k N
+
+  abbrev top : Top
+  top = deleteTop c k N
+
+  free : 1 ≤ count t (c .er)
+  free = omega (arith, room)
+
+  N-in : N < t
+  N-in = side-erased g shape n c (whole .r2) 1 free 1 (omega arith) (omega arith) .1
+
+  high : suc (c .level) ≤ g .top
+  high = height-most g shape n img (omega (arith, N-in)) (keeps .held)
+
+  all-fit : (q l : ℕ) → All Fits (c .nodes q l)
+  all-fit = node-fits g img (keeps .held .bytes)
+
+  lists-fit : (j : ℕ) → All Fits (lists j)
+  unfolding deleteList
+  lists-fit j = path-all (c .nodes) k (remove k) (kept N) Fits (remove-fits k) (kept-fits N (omega (arith, N-in, few))) all-fit (c .level) (theRoot c) j
+
+  lists-most : (j : ℕ) → 1 ≤ j → j ≤ c .level → length (lists j) ≤ slotsOf g j
+  unfolding deleteList
+  lists-most j b d =
+      let w = path-most (c .nodes) k (remove k) (kept N) 0 (remove-most k) (kept-most N) (fitOf t (c .er)) (λ l. 2 * half g l) (c .level) 4294967296 (theRoot c) (λ i. let z = whole .sound .rooted .least i in omega (arith, z)) (whole .sound .rooted .rises) j b d in
+      let e = shape .even j in
+      omega (arith, w, e)
+
+  lower : top .level ≤ c .level
+  lower = top-low g shape n k k-low c whole present
+
+  top-fits : All Fits (top .list)
+  unfolding deleteTop
+  top-fits = collapse-all Fits (c .nodes) all-fit (c .level) (lists (suc (c .level))) (lists-fit (suc (c .level)))
+
+  parts : Parts g (leftList g n c k)
+  unfolding deletePart
+  parts = parts-most g shape (suc (top .level)) (leftList g n c k) (omega arith) (omega (arith, lower, high)) (λ l _ _. fits l (eqb l (suc (top .level))) (eqb (top .level) (c .level) & leb l (c .level)))
+      (λ l b q. rw (ne-eqb l (suc (top .level)) (λ z. omega (arith, z, q))) (within l b (omega (arith, q, lower)) (eqb (top .level) (c .level) & leb l (c .level))))
+      (rw (eq-eqb (suc (top .level)) (suc (top .level)) refl) (top-most g shape n k k-low c whole present free high))
+      (λ l q. rw (ne-eqb l (suc (top .level)) (λ z. omega (arith, z, q))) (none l q))
+    where
+      fits : (l : ℕ) (x y : Bool) → All Fits (pick x (top .list) (pick y (lists l) []))
+      fits l true y = top-fits
+      fits l false true = lists-fit l
+      fits l false false = tt
+      within : (l : ℕ) → 1 ≤ l → l ≤ c .level → (y : Bool) → length (pick y (lists l) []) ≤ slotsOf g l
+      within l b d true = lists-most l b d
+      within l b d false = omega arith
+      none : (l : ℕ) → suc (top .level) < l → pick (eqb (top .level) (c .level) & leb l (c .level)) (lists l) [] ≡ []
+      none l q = by-eq (top .level) (c .level)
+          (λ e. rw (eq-eqb (top .level) (c .level) e, lt-leb l (c .level) (omega (arith, e, q)), and-true false) refl)
+          (λ e. rw (ne-eqb (top .level) (c .level) e, and-false (leb l (c .level))) refl)
+
+  abbrev height : ℕ
+  height = suc (top .level)
+
+  module _ (q : ℕ) where
+
+    abbrev e′ : Chip
+    e′ = rooted c (nextPage (g .pages) n (c .er)) (builtView g q height (leftList g n c k))
+
+    page-is : nextPage (g .pages) n (c .er) ≡ N
+    unfolding taken
+    page-is = refl
+
+    er-is : after N (c .er) ≡ taken (g .pages) n (c .er) 1
+    unfolding taken
+    er-is = refl
+
+    at-N : (j : ℕ) → 1 ≤ j → j ≤ g .top → e′ .nodes N j ≡ leftList g n c k j
+    unfolding rooted taken
+    at-N j b h = rw (eq-eqb N N refl, in-table g j b h) refl
+
+    stays : (p l : ℕ) → fitOf t (c .er) (suc l) p → e′ .nodes p (suc l) ≡ c .nodes p (suc l)
+    unfolding rooted taken
+    stays p l h = rw (ne-eqb p N (λ z. new-side g shape n c (whole .r2) 1 free 1 l (omega arith) (omega arith) (subst (fitOf t (c .er) (suc l)) z h))) refl
+
+    final-is : e′ ≡ record { er = taken (g .pages) n (c .er) 1; nodes = e′ .nodes; level = top .level; root = N }
+    unfolding rooted taken
+    final-is = let z : height - 1 ≡ top .level = omega arith in λ i. record { er = after N (c .er); nodes = e′ .nodes; level = z i; root = N }
+
+    final-done : Whole g n e′ × (mapOf e′ ≡ remove k (mapOf c))
+    final-done =
+        let w = delete-done g shape n k k-low c whole present free (e′ .nodes) at-N stays high in
+        (subst (Whole g n) (sym final-is) (w .0), ap mapOf final-is ∙ w .1)
+
+  store-is : deleteStore g n (maxSeq g n img) c k ≡ nextStore g n height (leftList g n c k) img
+  unfolding deleteStore nextStore taken
+  store-is = refl
+
+  -- the deletion's own store
+  pub delete-own : Updated g n base (remove k base) img (deleteStore g n (maxSeq g n img) c k ∷ []) 1 0
+  unfolding applyAll
+  delete-own =
+      updated g shape n base (remove k base) img [] c 0 0 height (leftList g n c k) (deleteStore g n (maxSeq g n img) c k) (runs-none g n base img 0 0 keeps) room (omega (arith, low)) parts (omega arith) (omega (arith, lower, high)) store-is
+        (λ q. (final-done q .0, final-done q .1 ∙ ap (remove k) (keeps .map-is)))
