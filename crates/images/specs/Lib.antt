@@ -6,3 +6,4 @@ pub mod Stores
 pub mod Small
 pub mod Held
 pub mod Writes
+pub mod Lengths

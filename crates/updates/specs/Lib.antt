@@ -7,3 +7,4 @@ pub mod Contents
 pub mod Updated
 pub mod Insertion
 pub mod Deletion
+pub mod Lists

@@ -1,0 +1,123 @@
+-- The whole lists: collection, then the update's own pages. Assumes nothing.
+use mathlib.Core.Path.{_≡_, ap, sym, subst, _∙_}
+use mathlib.Core.List.{List, [], _∷_, _++_}
+use mathlib.Core.Bool.{false}
+use Prim.Native.Nat.{ℕ, suc, _+_, _-_, _*_, _<_, _≤_}
+use native.Mathlib.Omega.{arith}
+use native.Mathlib.Nat.{mul-le-mul-left, mul-le-mul-right}
+use borrow.Author.Tests.{ltb-false}
+use Rattle.geometry.specs.declared.Geometry.{Geometry}
+use Rattle.geometry.specs.declared.Entry.{Entry}
+use Rattle.geometry.specs.Shape.{Shape}
+use Rattle.model.specs.Count.{count}
+use Rattle.model.specs.Image.{pagesOf, maxSeq, Chip, chipOf}
+use Rattle.model.specs.Tree.{placesOf, live, find, sought}
+use Rattle.model.specs.Stores.{applyAll}
+use Rattle.model.specs.Edit.{put, remove}
+use Rattle.model.specs.Collect.{collectStores}
+use Rattle.model.specs.Update.{isNone, needs, tooHigh, ownStores, deleteStore, insertStores, deleteStores}
+use Rattle.model.specs.Calls.{roomless, freePages}
+use Rattle.chips.specs.Whole.{some-page, sought-map}
+use Rattle.chips.specs.Collect.{collect}
+use Rattle.chips.specs.Insertion.{needs-is, needs-top}
+use Rattle.images.specs.Held.{height-most}
+use Rattle.updates.specs.Along.{Keeps}
+use Rattle.updates.specs.Collector.{Collected, collect-done}
+use Rattle.updates.specs.Updated.{Updated, updated-after}
+use Rattle.updates.specs.Insertion.{own-updated}
+use Rattle.updates.specs.Deletion.{delete-own}
+
+-- programs of a list of at most k + 1 rounds and k own pages
+abbrev pub programMost : Geometry → ℕ → ℕ
+programMost g k = suc k * (g .pages - 1) + k
+
+module _ (g : Geometry) (shape : Shape g) (n : ℕ) (few : pagesOf g n + g .pages < 4294967296) (base : List Entry) (img : List ℕ) (keeps : Keeps g n base img) (not-worn : maxSeq g n img ≤ g .worn) where
+
+  abbrev c : Chip
+  c = chipOf g n img
+
+  abbrev t : ℕ
+  t = pagesOf g n
+
+  -- an image that is not WORN has numbers left for k + 1 rounds and k own pages
+  numbers : (k : ℕ) → k ≤ g .top → (maxSeq g n img + suc k * g .pages < 4294967295) × (maxSeq g n img + (suc k * (g .pages - 1) + k) < 4294967295)
+  numbers k h =
+      let a : suc k * g .pages ≤ (g .top + 1) * g .pages = mul-le-mul-right (g .pages) (let z : suc k ≤ g .top + 1 = omega (arith, h) in z) in
+      let b : suc k * (g .pages - 1) ≤ suc k * g .pages = mul-le-mul-left (suc k) (let z : g .pages - 1 ≤ g .pages = omega arith in z) in
+      let w = shape .worn-low in
+      (omega (arith, a, w, not-worn), omega (arith, a, b, w, h, not-worn))
+
+  -- not ROOM
+  roomy : (k : ℕ) → 1 ≤ k → roomless g (freePages g n c) k ≡ false → count t (live (placesOf c)) + (2 * g .pages + k) ≤ suc t
+  unfolding roomless
+  roomy k h r = let z = ltb-false (freePages g n c) (2 * g .pages - 1 + k) r in let p = some-page g shape in omega (arith, z, p, h)
+
+  height-ok : (q : ℕ) → q < t → suc (c .level) ≤ g .top
+  height-ok q h = height-most g shape n img (omega (arith, h)) (keeps .held)
+
+  -- an insertion
+  module _ (some-pages : 1 ≤ t) (k a : ℕ) (k-low : k < 4294967296) (a-low : a < 4294967296) (not-high : tooHigh g c k ≡ false) (not-room : roomless g (freePages g n c) (needs g c k) ≡ false) where
+
+    abbrev m : ℕ
+    m = needs g c k
+
+    pub m-top : m ≤ g .top
+    m-top = needs-top g shape n k a k-low c (keeps .held .whole) (height-most g shape n img some-pages (keeps .held))
+
+    m-some : 1 ≤ m
+    m-some = let z = needs-is g shape n k a k-low c (keeps .held .whole) in omega (arith, z)
+
+    after-collect : Collected g shape n few base m img
+    after-collect = collect-done g shape n few base m img keeps (roomy m m-some not-room) (numbers m m-top .0)
+
+    abbrev then : List ℕ
+    then = applyAll g (collectStores g n m (suc m) img) img
+
+    same-m : needs g (chipOf g n then) k ≡ m
+    same-m = after-collect .alike .needs-is k k-low
+
+    then-low : maxSeq g n then + needs g (chipOf g n then) k < 4294967295
+    then-low =
+        let x = after-collect .runs .grows in
+        let y = after-collect .runs .programmed in
+        let z = numbers m m-top .1 in
+        omega (arith, x, y, z, same-m)
+
+    own : Updated g n base (put k a base) then (ownStores g n (maxSeq g n then) (chipOf g n then) (needs g (chipOf g n then) k) k a) (needs g (chipOf g n then) k) 0
+    own = own-updated g shape n few k a k-low a-low base then (after-collect .keeps) (after-collect .alike .high-is k k-low ∙ not-high) (let z = after-collect .room in omega (arith, z, same-m)) then-low
+
+    pub insert-updated : Updated g n base (put k a base) img (insertStores g n img k a) (programMost g m) (suc m)
+    unfolding insertStores
+    insert-updated =
+        let u = subst (λ j. Updated g n base (put k a base) then (ownStores g n (maxSeq g n then) (chipOf g n then) j k a) j 0) same-m own in
+        let w = updated-after g n base (put k a base) img (collectStores g n m (suc m) img) (ownStores g n (maxSeq g n then) (chipOf g n then) m k a) (collect g n m (suc m) c) (suc m * (g .pages - 1)) m (suc m) 0 (after-collect .runs) u in
+        let z : suc m + 0 ≡ suc m = omega arith in
+        subst (λ j. Updated g n base (put k a base) img (collectStores g n m (suc m) img ++ ownStores g n (maxSeq g n then) (chipOf g n then) m k a) (programMost g m) j) z w
+
+  -- a deletion
+  module _ (some-pages : 1 ≤ t) (k : ℕ) (k-low : k < 4294967296) (present : isNone (sought c k) ≡ false) (not-room : roomless g (freePages g n c) 1 ≡ false) where
+
+    one-top : 1 ≤ g .top
+    one-top = let z = shape .top-low in omega (arith, z)
+
+    collected-one : Collected g shape n few base 1 img
+    collected-one = collect-done g shape n few base 1 img keeps (roomy 1 (omega arith) not-room) (numbers 1 one-top .0)
+
+    abbrev left : List ℕ
+    left = applyAll g (collectStores g n 1 2 img) img
+
+    still : isNone (sought (chipOf g n left) k) ≡ false
+    still = ap isNone (sought-map g n (chipOf g n left) (collected-one .keeps .held .whole) k k-low ∙ ap (find k) (collected-one .keeps .map-is ∙ sym (keeps .map-is)) ∙ sym (sought-map g n c (keeps .held .whole) k k-low)) ∙ present
+
+    left-low : maxSeq g n left + 1 < 4294967295
+    left-low =
+        let x = collected-one .runs .grows in
+        let y = collected-one .runs .programmed in
+        let z = numbers 1 one-top .1 in
+        omega (arith, x, y, z)
+
+    pub delete-updated : Updated g n base (remove k base) img (deleteStores g n img k) (programMost g 1) 2
+    unfolding deleteStores
+    delete-updated =
+        updated-after g n base (remove k base) img (collectStores g n 1 2 img) (deleteStore g n (maxSeq g n left) (chipOf g n left) k ∷ []) (collect g n 1 2 c) (2 * (g .pages - 1)) 1 2 0 (collected-one .runs)
+          (delete-own g shape n few k k-low base left (collected-one .keeps) still (collected-one .room) left-low)
