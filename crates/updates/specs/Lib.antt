@@ -8,3 +8,4 @@ pub mod Updated
 pub mod Insertion
 pub mod Deletion
 pub mod Lists
+pub mod Format
