@@ -24,7 +24,7 @@ use Rattle.trees.specs.Seek.{find-list}
 use Rattle.trees.specs.Path.{AsSplice, below-is, onPath-top, onPath-below}
 
 -- K is above nothing of a list that begins above it
-above-none : (k hi : ℕ) (es : List Entry) → k < next es hi → Rises (λ y x. Unit {0}) hi es → find k es ≡ none
+pub above-none : (k hi : ℕ) (es : List Entry) → k < next es hi → Rises (λ y x. Unit {0}) hi es → find k es ≡ none
 unfolding find
 above-none k hi [] q h = refl
 above-none k hi (e ∷ es) q h = rw (ne-eqb (e .key) k (λ z. omega arith)) (above-none k hi es (omega (arith, h .0)) (h .2))

@@ -17,7 +17,7 @@ use Rattle.model.specs.Image.{pagesOf, maxSeq, Chip, chipOf}
 use Rattle.model.specs.Tree.{mapOf, chosen, sought}
 use Rattle.model.specs.Next.{nextPage, after, taken}
 use Rattle.model.specs.Page.{built, only}
-use Rattle.model.specs.Stores.{Store, program, applyStore, applyAll}
+use Rattle.model.specs.Stores.{Store, program, applyStore, applyAll, programs}
 use Rattle.model.specs.Edit.{put, sideHalf, splits}
 use Rattle.model.specs.Update.{isNone, rootNode, fills, needs, tooHigh, insertList, sideStore, splitStore, sideStores, crownStore, crownHeight, sidePage, ownStores}
 use Rattle.trees.specs.Tests.{by-eq, by-le, by-test, bit-le}
@@ -33,7 +33,7 @@ use Rattle.images.specs.Page.{in-table, builtView}
 use Rattle.images.specs.Small.{node-fits}
 use Rattle.images.specs.Held.{height-most}
 use Rattle.images.specs.Writes.{nextStore, put-max}
-use Rattle.updates.specs.Along.{apply-append, Keeps, Runs, runs-end, runs-none, runs-then, runs-as, side-runs}
+use Rattle.updates.specs.Along.{apply-append, programs-append, Keeps, Runs, runs-end, runs-none, runs-then, runs-as, side-runs}
 use Rattle.updates.specs.Contents.{side-parts, main-parts}
 use Rattle.updates.specs.Updated.{Updated, updated}
 
@@ -288,3 +288,16 @@ module _ (g : Geometry) (shape : Shape g) (n : ℕ) (few : pagesOf g n + g .page
       let z : i + 1 ≡ m = omega (arith, m-is) in
       subst (λ j. Updated g n base (put k a base) img (sideStores g seq k side lists (c .level) ++ (crownStore g seq k side (suc (c .level)) (lists (suc (c .level))) ++ (st ∷ []))) j 0) z
         (subst (λ (y : List Store). Updated g n base (put k a base) img y (i + 1) 0) (append-assoc (sideStores g seq k side lists (c .level)) (crownStore g seq k side (suc (c .level)) (lists (suc (c .level)))) (st ∷ [])) u)
+
+  -- they are m programs and no erase
+  pub own-programs : programs (ownStores g n seq c m k a) ≡ m
+  unfolding ownStores programs
+  own-programs =
+      let s = all-sided in
+      let A = sideStores g seq k side lists (c .level) in
+      let B = crownStore g seq k side (suc (c .level)) (lists (suc (c .level))) in
+      let C : List Store = program N (built g (seq + m) height (mainList g n c k a)) ∷ [] in
+      let x = programs-append A B in
+      let y = programs-append A (B ++ C) in
+      let z = programs-append B C in
+      omega (arith, x, y, z, s .max-is, s .runs .grows, s .runs .programmed, m-is)

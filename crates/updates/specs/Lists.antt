@@ -12,7 +12,7 @@ use Rattle.geometry.specs.Shape.{Shape}
 use Rattle.model.specs.Count.{count}
 use Rattle.model.specs.Image.{pagesOf, maxSeq, Chip, chipOf}
 use Rattle.model.specs.Tree.{placesOf, live, find, sought}
-use Rattle.model.specs.Stores.{applyAll}
+use Rattle.model.specs.Stores.{applyAll, programs}
 use Rattle.model.specs.Edit.{put, remove}
 use Rattle.model.specs.Collect.{collectStores}
 use Rattle.model.specs.Update.{isNone, needs, tooHigh, ownStores, deleteStore, insertStores, deleteStores}
@@ -24,7 +24,7 @@ use Rattle.images.specs.Held.{height-most}
 use Rattle.updates.specs.Along.{Keeps}
 use Rattle.updates.specs.Collector.{Collected, collect-done}
 use Rattle.updates.specs.Updated.{Updated, updated-after}
-use Rattle.updates.specs.Insertion.{own-updated}
+use Rattle.updates.specs.Insertion.{own-updated, own-programs}
 use Rattle.updates.specs.Deletion.{delete-own}
 
 -- programs of a list of at most k + 1 rounds and k own pages
@@ -85,6 +85,11 @@ module _ (g : Geometry) (shape : Shape g) (n : ℕ) (few : pagesOf g n + g .page
 
     own : Updated g n base (put k a base) then (ownStores g n (maxSeq g n then) (chipOf g n then) (needs g (chipOf g n then) k) k a) (needs g (chipOf g n then) k) 0
     own = own-updated g shape n few k a k-low a-low base then (after-collect .keeps) (after-collect .alike .high-is k k-low ∙ not-high) (let z = after-collect .room in omega (arith, z, same-m)) then-low
+
+    -- the own pages are 1 + splits + grow
+    pub insert-own : programs (ownStores g n (maxSeq g n then) (chipOf g n then) m k a) ≡ m
+    insert-own = subst (λ j. programs (ownStores g n (maxSeq g n then) (chipOf g n then) j k a) ≡ j) same-m
+        (own-programs g shape n few k a k-low a-low base then (after-collect .keeps) (after-collect .alike .high-is k k-low ∙ not-high) (let z = after-collect .room in omega (arith, z, same-m)) then-low)
 
     pub insert-updated : Updated g n base (put k a base) img (insertStores g n img k a) (programMost g m) (suc m)
     unfolding insertStores

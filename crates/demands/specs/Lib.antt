@@ -1,0 +1,3 @@
+-- Demands 1, 2 and 3 of the definitions: read Words, then Demands. The other files are their proofs.
+pub mod Words
+pub mod Maps

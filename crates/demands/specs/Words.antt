@@ -1,0 +1,53 @@
+-- The words that the demands are stated in. Definitions alone; assumes nothing.
+use mathlib.Core.Path.{_≡_}
+use mathlib.Core.List.{List, [], _∷_}
+use mathlib.Core.Bool.{true}
+use mathlib.Core.Logic.{_⊎_}
+use Prim.Native.Nat.{ℕ, _+_, _-_, _*_, _<_, _≤_}
+use lib.ListN.{length, take}
+use Rattle.geometry.specs.declared.Geometry.{Geometry}
+use Rattle.geometry.specs.declared.Entry.{Entry}
+use Rattle.geometry.specs.declared.Verdict.the-variants.{Sound}
+use Rattle.model.specs.Bytes.{byteAt}
+use Rattle.model.specs.Image.{blocksOf, goodLength, chipOf}
+use Rattle.model.specs.Tree.{mapOf}
+use Rattle.model.specs.Rules.{verdict}
+use Rattle.model.specs.Stores.{Store, applyStore, applyAll, programs, erases}
+use Rattle.model.specs.Calls.{Outcome}
+use Rattle.images.specs.Writes.{Legal}
+
+-- a sound image: its length, its rules, and bytes that are bytes
+pub record Ready (g : Geometry) (img : List ℕ) : Type 0 where
+  pub length-good : goodLength g img ≡ true
+  pub is-sound : verdict g (blocksOf g img) img ≡ Sound
+  pub bytes : (i : ℕ) → byteAt img i < 256
+
+-- the map of an image
+abbrev pub mapAt : Geometry → List ℕ → List Entry
+mapAt g img = mapOf (chipOf g (blocksOf g img) img)
+
+-- a sound image that holds this map
+pub record Holds (g : Geometry) (map : List Entry) (img : List ℕ) : Type 0 where
+  pub ready : Ready g img
+  pub map-is : mapAt g img ≡ map
+
+-- every store of the list is legal on the image as it then stands. `Legal`: a program fills the next page, which is erased,
+-- and carries the largest number plus 1; an erase takes a block without live pages
+unfoldable pub Lawful : Geometry → ℕ → List ℕ → List Store → Type 0
+Lawful g n img [] = Unit {0}
+Lawful g n img (s ∷ ss) = Legal g n img s × Lawful g n (applyStore g s img) ss
+
+-- demand 3 of a list of stores that leads from the map old to the map new
+pub record Kept (g : Geometry) (old new : List Entry) (img : List ℕ) (ss : List Store) : Type 0 where
+  pub lawful : Lawful g (blocksOf g img) img ss
+  -- after each beginning of the list, the whole list left out: sound, and the old map
+  pub before : (j : ℕ) → j < length ss → Holds g old (applyAll g (take j ss) img)
+  -- after the whole list: sound, and the new map
+  pub end : Holds g new (applyAll g ss img)
+  -- at most 191 programs and 6 erases
+  pub programmed : programs ss ≤ (g .top + 1) * (g .pages - 1) + g .top
+  pub wiped : erases ss ≤ g .top + 1
+
+-- the answer of an update that has begun
+abbrev pub Began : Outcome → Type 0
+Began o = (o .answer ≡ 0) ⊎ (o .answer ≡ 7)
