@@ -1,3 +1,7 @@
 -- Demands 1, 2 and 3 of the definitions: read Words, then Demands. The other files are their proofs.
 pub mod Words
 pub mod Maps
+pub mod Bridges
+pub mod Calls
+pub mod Proofs
+pub mod Demands

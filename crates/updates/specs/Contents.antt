@@ -46,14 +46,15 @@ half-most k m r c a b = go (turn k m c)
   where
     lt : length (take m c) ≤ r
     lt = omega (arith, length-take m c)
+
     ld : length (drop m c) ≤ r
     ld = omega (arith, length-drop m c, b)
+
     go : (t : Bool) → (length (pick t (drop m c) (take m c)) ≤ r) × (length (pick t (take m c) (drop m c)) ≤ r)
     go true = (ld, lt)
     go false = (lt, ld)
 
 module _ (k a : ℕ) (k-fits : k < 4294967296) (a-fits : a < 4294967296) where
-
   put-fits : (es : List Entry) → All Fits es → All Fits (put k a es)
   put-fits [] h = ((k-fits, a-fits), tt)
   put-fits (e ∷ es) h = go (ltb (e .key) k) (eqb (e .key) k) (put-fits es (h .1))
@@ -73,12 +74,12 @@ module _ (k a : ℕ) (k-fits : k < 4294967296) (a-fits : a < 4294967296) where
       go false false i = omega arith
 
   module _ (n : ℕ) (side half : ℕ → ℕ) (n-fits : n < 4294967296) (side-fits : (l : ℕ) → side l < 4294967296) where
-
     pub two-fits : (l m z : ℕ) (c : List Entry) → z < 4294967296 → All Fits c → All Fits (two k n (side l) m z c)
     two-fits l m z c f h = go (turn k m c)
       where
         next-low : next (drop m c) 0 < 4294967296
         next-low = next-fits (drop m c) (all-drop Fits m c h)
+
         go : (t : Bool) → All Fits (record { key = z; addr = pick t (side l) n } ∷ record { key = next (drop m c) 0; addr = pick t n (side l) } ∷ [])
         go true = ((f, side-fits l), ((next-low, n-fits), tt))
         go false = ((f, n-fits), ((next-low, side-fits l), tt))
@@ -88,6 +89,7 @@ module _ (k a : ℕ) (k-fits : k < 4294967296) (a-fits : a < 4294967296) where
       where
         low : min (e .key) k < 4294967296
         low = let z = f .0 in omega (arith, z)
+
         go : (t : Bool) → All Fits (pick t (record { key = min (e .key) k; addr = n } ∷ []) (two k n (side l) (half l) (min (e .key) k) c))
         go true = ((low, n-fits), tt)
         go false = two-fits l (half l) (min (e .key) k) c low h
@@ -101,7 +103,6 @@ module _ (k a : ℕ) (k-fits : k < 4294967296) (a-fits : a < 4294967296) where
 
 module _ (g : Geometry) (shape : Shape g) (n : ℕ) (few : pagesOf g n + g .pages < 4294967296) (k a : ℕ) (k-low : k < 4294967296) (a-low : a < 4294967296)
     (c : Chip) (whole : Whole g n c) (all-fit : (q l : ℕ) → All Fits (c .nodes q l)) (high : suc (c .level) ≤ g .top) (not-high : tooHigh g c k ≡ false) where
-
   abbrev m : ℕ
   m = needs g c k
 
@@ -159,20 +160,27 @@ module _ (g : Geometry) (shape : Shape g) (n : ℕ) (few : pagesOf g n + g .page
     where
       X : List Entry
       X = pick (leb j (c .level)) (sideHalf k (half g j) (lists j)) (sideHalf k (2 * half g j) (lists j))
+
       is : m ≡ suc (splits (c .nodes) k (half g) (isNone (sought c k)) (c .level) (chosen k (rootNode c)) + bit grows)
       is = needs-is g shape n k a k-low c whole
+
       cut : splits (c .nodes) k (half g) (isNone (sought c k)) (c .level) (chosen k (rootNode c)) ≤ c .level
       cut = cuts-le g shape n k a k-low c whole
+
       -- either below the root, or the root's, which grows
       cases : {C : Type 0} → (j ≤ c .level → C) → (j ≡ suc (c .level) → grows ≡ true → C) → C
       cases f h = by-le j (c .level) f (λ z. by-test grows (λ e. h (omega (arith, z, d, is, cut, bit-le grows)) e) (λ e. absurd (omega (arith, z, d, is, cut, ap bit e))))
+
       top : j ≤ g .top
       top = cases (λ z. omega (arith, z, high)) (λ z e. omega (arith, z, high))
+
       len : length X ≤ 2 * half g j
       len = cases (λ z. rw (le-leb j (c .level) z) (cut-most j b z .1)) (λ z e. rw (lt-leb j (c .level) (omega (arith, z)), z) (crown-most e .1))
+
       fit : (t : Bool) → All Fits (pick t (sideHalf k (half g j) (lists j)) (sideHalf k (2 * half g j) (lists j)))
       fit true = half-fits k (half g j) (lists j) (lists-fit j) .1
       fit false = half-fits k (2 * half g j) (lists j) (lists-fit j) .1
+
       all : (t : Bool) → All Fits (pick t X [])
       all true = fit (leb j (c .level))
       all false = tt
@@ -184,10 +192,13 @@ module _ (g : Geometry) (shape : Shape g) (n : ℕ) (few : pagesOf g n + g .page
     where
       l : ℕ
       l = c .level
+
       X : List Entry
       X = lists (suc (c .level))
+
       first-low : next (lists (suc (c .level))) 0 < 4294967296
       first-low = next-fits (lists (suc (c .level))) (lists-fit (suc (c .level)))
+
       crown-fits : (j : ℕ) (t u v w : Bool) → All Fits (pick t (pathPart k (half g) j (lists j)) (pick u (pick v (pathHalf k (2 * half g (suc (c .level))) (lists (suc (c .level)))) (pick w (two k N (side (suc (c .level))) (2 * half g (suc (c .level))) (next (lists (suc (c .level))) 0) (lists (suc (c .level)))) [])) (pick v (lists (suc (c .level))) [])))
       crown-fits j true u v w = path-part-fits j
       crown-fits j false true true w = half-fits k (2 * half g (suc (c .level))) (lists (suc (c .level))) (lists-fit (suc (c .level))) .0
@@ -195,19 +206,22 @@ module _ (g : Geometry) (shape : Shape g) (n : ℕ) (few : pagesOf g n + g .page
       crown-fits j false true false false = tt
       crown-fits j false false true w = lists-fit (suc (c .level))
       crown-fits j false false false w = tt
+
       fits : (j : ℕ) → 1 ≤ j → j ≤ g .top → All Fits (mainList g n c k a j)
       fits j _ _ = crown-fits j (leb j (c .level)) grows (eqb j (suc (c .level))) (eqb j (suc (suc (c .level))))
+
       grown : grows ≡ true → Parts g (mainList g n c k a)
       grown e =
           let u = grow-all g shape n k a k-low c whole e in
           parts-most g shape (suc (suc (c .level))) (mainList g n c k a) (omega arith) (omega (arith, u .0)) fits
-            (λ j b q. by-le j (c .level) (λ z. rw (le-leb j (c .level) z) (path-part-most j b z))
-              (λ z. let y : j ≡ suc (c .level) = omega (arith, z, q) in rw (lt-leb j (c .level) z, e, eq-eqb j (suc (c .level)) y, y) (let w = crown-most e .0 in let s = shape .even (suc (c .level)) in omega (arith, w, s))))
-            (rw (lt-leb (suc (suc (c .level))) (c .level) (omega arith), e, ne-eqb (suc (suc (c .level))) (suc (c .level)) (λ z. omega (arith, z)), eq-eqb (suc (suc (c .level))) (suc (suc (c .level))) refl) (two-root g shape n k a k-low c whole (u .0)))
-            (λ j q. rw (lt-leb j (c .level) (omega (arith, q)), e, ne-eqb j (suc (c .level)) (λ z. omega (arith, z, q)), ne-eqb j (suc (suc (c .level))) (λ z. omega (arith, z, q))) refl)
+          (λ j b q. by-le j (c .level) (λ z. rw (le-leb j (c .level) z) (path-part-most j b z))
+          (λ z. let y : j ≡ suc (c .level) = omega (arith, z, q) in rw (lt-leb j (c .level) z, e, eq-eqb j (suc (c .level)) y, y) (let w = crown-most e .0 in let s = shape .even (suc (c .level)) in omega (arith, w, s))))
+          (rw (lt-leb (suc (suc (c .level))) (c .level) (omega arith), e, ne-eqb (suc (suc (c .level))) (suc (c .level)) (λ z. omega (arith, z)), eq-eqb (suc (suc (c .level))) (suc (suc (c .level))) refl) (two-root g shape n k a k-low c whole (u .0)))
+          (λ j q. rw (lt-leb j (c .level) (omega (arith, q)), e, ne-eqb j (suc (c .level)) (λ z. omega (arith, z, q)), ne-eqb j (suc (suc (c .level))) (λ z. omega (arith, z, q))) refl)
+
       stayed : grows ≡ false → Parts g (mainList g n c k a)
       stayed e =
           parts-most g shape (suc (c .level)) (mainList g n c k a) (omega arith) high fits
-            (λ j b q. rw (le-leb j (c .level) (omega (arith, q))) (path-part-most j b (omega (arith, q))))
-            (rw (lt-leb (suc (c .level)) (c .level) (omega arith), e, eq-eqb (suc (c .level)) (suc (c .level)) refl) (stay-most g shape n k a k-low c whole high not-high e))
-            (λ j q. rw (lt-leb j (c .level) (omega (arith, q)), e, ne-eqb j (suc (c .level)) (λ z. omega (arith, z, q))) refl)
+          (λ j b q. rw (le-leb j (c .level) (omega (arith, q))) (path-part-most j b (omega (arith, q))))
+          (rw (lt-leb (suc (c .level)) (c .level) (omega arith), e, eq-eqb (suc (c .level)) (suc (c .level)) refl) (stay-most g shape n k a k-low c whole high not-high e))
+          (λ j q. rw (lt-leb j (c .level) (omega (arith, q)), e, ne-eqb j (suc (c .level)) (λ z. omega (arith, z, q))) refl)

@@ -71,7 +71,6 @@ collapse-all P r all (suc l) (x ∷ y ∷ c) h = h
 module _ (g : Geometry) (shape : Shape g) (n : ℕ) (few : pagesOf g n + g .pages < 4294967296) (k : ℕ) (k-low : k < 4294967296)
     (base : List Entry) (img : List ℕ) (keeps : Keeps g n base img) (present : isNone (sought (chipOf g n img) k) ≡ false)
     (room : g .pages + 1 ≤ count (pagesOf g n) (chipOf g n img .er)) (low : maxSeq g n img + 1 < 4294967295) where
-
   abbrev c : Chip
   c = chipOf g n img
 
@@ -131,9 +130,11 @@ module _ (g : Geometry) (shape : Shape g) (n : ℕ) (few : pagesOf g n + g .page
       fits l true y = top-fits
       fits l false true = lists-fit l
       fits l false false = tt
+
       within : (l : ℕ) → 1 ≤ l → l ≤ c .level → (y : Bool) → length (pick y (lists l) []) ≤ slotsOf g l
       within l b d true = lists-most l b d
       within l b d false = omega arith
+
       none : (l : ℕ) → suc (top .level) < l → pick (eqb (top .level) (c .level) & leb l (c .level)) (lists l) [] ≡ []
       none l q = by-eq (top .level) (c .level)
           (λ e. rw (eq-eqb (top .level) (c .level) e, lt-leb l (c .level) (omega (arith, e, q)), and-true false) refl)
@@ -143,7 +144,6 @@ module _ (g : Geometry) (shape : Shape g) (n : ℕ) (few : pagesOf g n + g .page
   height = suc (top .level)
 
   module _ (q : ℕ) where
-
     abbrev e′ : Chip
     e′ = rooted c (nextPage (g .pages) n (c .er)) (builtView g q height (leftList g n c k))
 
@@ -181,4 +181,4 @@ module _ (g : Geometry) (shape : Shape g) (n : ℕ) (few : pagesOf g n + g .page
   unfolding applyAll
   delete-own =
       updated g shape n base (remove k base) img [] c 0 0 height (leftList g n c k) (deleteStore g n (maxSeq g n img) c k) (runs-none g n base img 0 0 keeps) room (omega (arith, low)) parts (omega arith) (omega (arith, lower, high)) store-is
-        (λ q. (final-done q .0, final-done q .1 ∙ ap (remove k) (keeps .map-is)))
+      (λ q. (final-done q .0, final-done q .1 ∙ ap (remove k) (keeps .map-is)))

@@ -46,12 +46,15 @@ fresh-r2 p n er pos h = record { mono = mono; one = λ b c hb hc x y. page-inj p
   where
     not-first : (q : ℕ) → q < p * n → (q ≡ 0 → ⊥) → er q ≡ true
     not-first q i d = h q i ∙ rw (ne-eqb q 0 d) refl
+
     is-first : (q : ℕ) → q < p * n → q ≡ 0 → er q ≡ false
     is-first q i d = h q i ∙ rw (eq-eqb q 0 d) refl
+
     mono : (b i j : ℕ) → b < n → i ≤ j → j < p → er (p * b + i) ≡ true → er (p * b + j) ≡ true
     mono b i j hb q hj e = by-eq (p * b + j) 0
         (λ z. absurd (true-false (er (p * b + i)) e (is-first (p * b + i) (in-range p n b i hb (omega arith)) (omega (arith, z, q)))))
         (λ z. not-first (p * b + j) (in-range p n b j hb hj) z)
+
     first : (b : ℕ) → b < n → mixed p er b ≡ true → p * b + 0 ≡ 0
     first b hb x = by-eq (p * b + 0) 0 (λ z. z) (λ z. absurd (true-false (mixed p er b) x (rw (not-first (p * b + 0) (in-range p n b 0 hb (omega arith)) z) refl)))
 
@@ -71,7 +74,6 @@ count-one (suc s) = by-eq 0 s (λ e. let z : count s (λ q. pick (eqb 0 q) true 
     (λ e. rw (ne-eqb 0 s e) (omega (arith, count-one s)))
 
 module _ (g : Geometry) (shape : Shape g) (n : ℕ) (three : 3 ≤ n) (img : List ℕ) (image : Image g n img) (bytes : Small img) where
-
   abbrev t : ℕ
   t = pagesOf g n
 
@@ -103,6 +105,7 @@ module _ (g : Geometry) (shape : Shape g) (n : ℕ) (three : 3 ≤ n) (img : Lis
     where
       before : inB (g .pages) m q ≡ false → q < g .pages * m
       before e = by-le (suc q) (g .pages * m) (λ z. z) (λ z. absurd (true-false (inB (g .pages) m q) (within (g .pages) m q (omega (arith, z)) (omega (arith, i, mul-suc (g .pages) m))) e))
+
       go : (u : Bool) → inB (g .pages) m q ≡ u → (q < g .pages * m → views g (wiped m) q ≡ noView g) → pick u (noView g) (views g (wiped m) q) ≡ noView g
       go true e ih = refl
       go false e ih = ih (before e)

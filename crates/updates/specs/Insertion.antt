@@ -53,7 +53,6 @@ pub record Sided (g : Geometry) (n : ℕ) (base : List Entry) (img : List ℕ) (
 module _ (g : Geometry) (shape : Shape g) (n : ℕ) (few : pagesOf g n + g .pages < 4294967296) (k a : ℕ) (k-low : k < 4294967296) (a-low : a < 4294967296)
     (base : List Entry) (img : List ℕ) (keeps : Keeps g n base img) (not-high : tooHigh g (chipOf g n img) k ≡ false)
     (room : g .pages + needs g (chipOf g n img) k ≤ count (pagesOf g n) (chipOf g n img .er)) (low : maxSeq g n img + needs g (chipOf g n img) k < 4294967295) where
-
   abbrev c : Chip
   c = chipOf g n img
 
@@ -101,7 +100,6 @@ module _ (g : Geometry) (shape : Shape g) (n : ℕ) (few : pagesOf g n + g .page
 
   -- ---- one other half more
   module _ (i : ℕ) (lt : suc i < m) (d : Chip) (laid : Laid g n c k a i d) (s : ℕ) where
-
     abbrev parts : ℕ → List Entry
     parts = only (suc i) (sideList g n c k a (suc i))
 
@@ -184,6 +182,7 @@ module _ (g : Geometry) (shape : Shape g) (n : ℕ) (few : pagesOf g n + g .page
     where
       Goal : Type 0
       Goal = Sided g n base img k a (min (suc i) cuts) (sideStores g seq k side lists i ++ pick (leb (length (lists (suc i))) (2 * half g (suc i))) [] (sideStore g seq side (suc i) (sideHalf k (half g (suc i)) (lists (suc i))) ∷ []))
+
       more : Sided g n base img k a (min i cuts) (sideStores g seq k side lists i) → suc i ≤ cuts → Goal
       more s q =
           let long = cut-levels g shape n k a k-low c whole (suc i) (omega arith) b .1 q in
@@ -191,9 +190,10 @@ module _ (g : Geometry) (shape : Shape g) (n : ℕ) (few : pagesOf g n + g .page
           let f : suc i ≡ min (suc i) cuts = omega (arith, q) in
           let z : sideList g n c k a (suc i) ≡ sideHalf k (half g (suc i)) (lists (suc i)) = rw (le-leb (suc i) (c .level) b) refl in
           rw (lt-leb (length (lists (suc i))) (2 * half g (suc i)) long)
-            (subst (λ j. Sided g n base img k a j (sideStores g seq k side lists i ++ (sideStore g seq side (suc i) (sideHalf k (half g (suc i)) (lists (suc i))) ∷ []))) f
-              (subst (λ (x : List Entry). Sided g n base img k a (suc i) (sideStores g seq k side lists i ++ (sideStore g seq side (suc i) x ∷ []))) z
-                (side-step i (sideStores g seq k side lists i) (omega (arith, m-is, q)) (subst (λ j. Sided g n base img k a j (sideStores g seq k side lists i)) e s))))
+          (subst (λ j. Sided g n base img k a j (sideStores g seq k side lists i ++ (sideStore g seq side (suc i) (sideHalf k (half g (suc i)) (lists (suc i))) ∷ []))) f
+          (subst (λ (x : List Entry). Sided g n base img k a (suc i) (sideStores g seq k side lists i ++ (sideStore g seq side (suc i) x ∷ []))) z
+          (side-step i (sideStores g seq k side lists i) (omega (arith, m-is, q)) (subst (λ j. Sided g n base img k a j (sideStores g seq k side lists i)) e s))))
+
       stop : Sided g n base img k a (min i cuts) (sideStores g seq k side lists i) → cuts < suc i → Goal
       stop s q =
           let short : length (lists (suc i)) ≤ 2 * half g (suc i) = by-le (length (lists (suc i))) (2 * half g (suc i)) (λ z. z) (λ z. absurd (omega (arith, q, cut-levels g shape n k a k-low c whole (suc i) (omega arith) b .0 z))) in
@@ -210,6 +210,7 @@ module _ (g : Geometry) (shape : Shape g) (n : ℕ) (few : pagesOf g n + g .page
     where
       s : Sided g n base img k a (min (c .level) cuts) (sideStores g seq k side lists (c .level))
       s = below-sided (c .level) (omega arith)
+
       grown : grows ≡ true → Sided g n base img k a (cuts + bit grows) (sideStores g seq k side lists (c .level) ++ pick grows (sideStore g seq side (suc (c .level)) (sideHalf k (2 * half g (suc (c .level))) (lists (suc (c .level)))) ∷ []) [])
       grown e =
           let u = grow-all g shape n k a k-low c whole e in
@@ -217,11 +218,13 @@ module _ (g : Geometry) (shape : Shape g) (n : ℕ) (few : pagesOf g n + g .page
           let y : suc (c .level) ≡ cuts + 1 = omega (arith, u .2) in
           let z : sideList g n c k a (suc (c .level)) ≡ sideHalf k (2 * half g (suc (c .level))) (lists (suc (c .level))) = rw (lt-leb (suc (c .level)) (c .level) (omega arith)) refl in
           rw e (subst (λ j. Sided g n base img k a j (sideStores g seq k side lists (c .level) ++ (sideStore g seq side (suc (c .level)) (sideHalf k (2 * half g (suc (c .level))) (lists (suc (c .level)))) ∷ []))) y
-            (subst (λ (w : List Entry). Sided g n base img k a (suc (c .level)) (sideStores g seq k side lists (c .level) ++ (sideStore g seq side (suc (c .level)) w ∷ []))) z
-              (side-step (c .level) (sideStores g seq k side lists (c .level)) (omega (arith, m-is, u .2, ap bit e)) (subst (λ j. Sided g n base img k a j (sideStores g seq k side lists (c .level))) x s))))
+          (subst (λ (w : List Entry). Sided g n base img k a (suc (c .level)) (sideStores g seq k side lists (c .level) ++ (sideStore g seq side (suc (c .level)) w ∷ []))) z
+          (side-step (c .level) (sideStores g seq k side lists (c .level)) (omega (arith, m-is, u .2, ap bit e)) (subst (λ j. Sided g n base img k a j (sideStores g seq k side lists (c .level))) x s))))
+
       stayed : grows ≡ false → Sided g n base img k a (cuts + bit grows) (sideStores g seq k side lists (c .level) ++ pick grows (sideStore g seq side (suc (c .level)) (sideHalf k (2 * half g (suc (c .level))) (lists (suc (c .level)))) ∷ []) [])
       stayed e = let x : min (c .level) cuts ≡ cuts + 0 = omega (arith, cut-le) in
           rw (e, append-nil (sideStores g seq k side lists (c .level))) (subst (λ j. Sided g n base img k a j (sideStores g seq k side lists (c .level))) x s)
+
   -- ---- N
   abbrev height : ℕ
   height = crownHeight g (suc (c .level)) (lists (suc (c .level)))
@@ -231,7 +234,6 @@ module _ (g : Geometry) (shape : Shape g) (n : ℕ) (few : pagesOf g n + g .page
   height-in = by-test grows (λ e. let u = grow-all g shape n k a k-low c whole e in rw e (omega arith, omega (arith, u .0))) (λ e. rw e (omega arith, high))
 
   module _ (d : Chip) (laid : Laid g n c k a (cuts + bit grows) d) (q : ℕ) where
-
     abbrev P : ℕ
     P = nextPage (g .pages) n (d .er)
 
@@ -283,11 +285,11 @@ module _ (g : Geometry) (shape : Shape g) (n : ℕ) (few : pagesOf g n + g .page
       let st = program N (built g (seq + m) height (mainList g n c k a)) in
       let e = next-is height m (mainList g n c k a) x page (omega (arith, s .max-is, m-is)) in
       let u = updated g shape n base (put k a base) img ss (s .chip) i 0 height (mainList g n c k a) st (s .runs) (omega (arith, cnt, lf, room, m-is)) (omega (arith, s .max-is, low, m-is))
-            (main-parts g shape n few k a k-low a-low c whole all-fit high not-high) (height-in .0) (height-in .1) e
-            (λ q. let w = final-done (s .chip) (s .laid) q in (w .0, w .1 ∙ ap (put k a) (keeps .map-is))) in
+      (main-parts g shape n few k a k-low a-low c whole all-fit high not-high) (height-in .0) (height-in .1) e
+      (λ q. let w = final-done (s .chip) (s .laid) q in (w .0, w .1 ∙ ap (put k a) (keeps .map-is))) in
       let z : i + 1 ≡ m = omega (arith, m-is) in
       subst (λ j. Updated g n base (put k a base) img (sideStores g seq k side lists (c .level) ++ (crownStore g seq k side (suc (c .level)) (lists (suc (c .level))) ++ (st ∷ []))) j 0) z
-        (subst (λ (y : List Store). Updated g n base (put k a base) img y (i + 1) 0) (append-assoc (sideStores g seq k side lists (c .level)) (crownStore g seq k side (suc (c .level)) (lists (suc (c .level)))) (st ∷ [])) u)
+      (subst (λ (y : List Store). Updated g n base (put k a base) img y (i + 1) 0) (append-assoc (sideStores g seq k side lists (c .level)) (crownStore g seq k side (suc (c .level)) (lists (suc (c .level)))) (st ∷ [])) u)
 
   -- they are m programs and no erase
   pub own-programs : programs (ownStores g n seq c m k a) ≡ m

@@ -32,7 +32,6 @@ abbrev pub programMost : Geometry → ℕ → ℕ
 programMost g k = suc k * (g .pages - 1) + k
 
 module _ (g : Geometry) (shape : Shape g) (n : ℕ) (few : pagesOf g n + g .pages < 4294967296) (base : List Entry) (img : List ℕ) (keeps : Keeps g n base img) (not-worn : maxSeq g n img ≤ g .worn) where
-
   abbrev c : Chip
   c = chipOf g n img
 
@@ -57,7 +56,6 @@ module _ (g : Geometry) (shape : Shape g) (n : ℕ) (few : pagesOf g n + g .page
 
   -- an insertion
   module _ (some-pages : 1 ≤ t) (k a : ℕ) (k-low : k < 4294967296) (a-low : a < 4294967296) (not-high : tooHigh g c k ≡ false) (not-room : roomless g (freePages g n c) (needs g c k) ≡ false) where
-
     abbrev m : ℕ
     m = needs g c k
 
@@ -101,7 +99,6 @@ module _ (g : Geometry) (shape : Shape g) (n : ℕ) (few : pagesOf g n + g .page
 
   -- a deletion
   module _ (some-pages : 1 ≤ t) (k : ℕ) (k-low : k < 4294967296) (present : isNone (sought c k) ≡ false) (not-room : roomless g (freePages g n c) 1 ≡ false) where
-
     one-top : 1 ≤ g .top
     one-top = let z = shape .top-low in omega (arith, z)
 
@@ -125,4 +122,4 @@ module _ (g : Geometry) (shape : Shape g) (n : ℕ) (few : pagesOf g n + g .page
     unfolding deleteStores
     delete-updated =
         updated-after g n base (remove k base) img (collectStores g n 1 2 img) (deleteStore g n (maxSeq g n left) (chipOf g n left) k ∷ []) (collect g n 1 2 c) (2 * (g .pages - 1)) 1 2 0 (collected-one .runs)
-          (delete-own g shape n few k k-low base left (collected-one .keeps) still (collected-one .room) left-low)
+        (delete-own g shape n few k k-low base left (collected-one .keeps) still (collected-one .room) left-low)

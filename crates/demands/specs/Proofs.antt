@@ -1,0 +1,157 @@
+-- The demands' proofs, from the tests that an answer stands for. Assumes nothing.
+use mathlib.Core.Path.{_≡_, refl, ap, sym, subst, _∙_}
+use mathlib.Core.List.{List, [], _∷_, _++_}
+use mathlib.Core.Bool.{Bool, true, false}
+use mathlib.Core.Logic.{_⊎_, inl, inr}
+use mathlib.Core.Option.{Option, none, some}
+use Prim.Native.Nat.{ℕ, zero, suc, _<_, _≤_}
+use native.Mathlib.Omega.{arith}
+use lib.ListN.{length}
+use lib.Dec.{leb}
+use Rattle.geometry.specs.declared.Geometry.{Geometry}
+use Rattle.geometry.specs.declared.Entry.{Entry}
+use Rattle.geometry.specs.Tests.{pick, and-right}
+use Rattle.geometry.specs.Geometry.{half}
+use Rattle.geometry.specs.Shape.{Shape}
+use Rattle.model.specs.Image.{blocksOf, goodLength, Nodes, Chip, chipOf}
+use Rattle.model.specs.Tree.{chosen, find, sought}
+use Rattle.model.specs.Rules.{verdict, isSound}
+use Rattle.model.specs.Stores.{Store, programs}
+use Rattle.model.specs.Edit.{put, gains, remove}
+use Rattle.model.specs.Collect.{collectStores}
+use Rattle.model.specs.Update.{isNone, rootNode, rootGains, needs, tooHigh, insertStores, deleteStores}
+use Rattle.model.specs.Calls.{Outcome, refused, made, judged, answered, lookup, worn, roomless, freePages, insert, delete}
+use Rattle.trees.specs.Tests.{true-false}
+use Rattle.chips.specs.Whole.{sought-map}
+use Rattle.updates.specs.Along.{Keeps}
+use Rattle.updates.specs.Lists.{m-top, insert-own, insert-updated, delete-updated}
+use Rattle.demands.specs.Words.{Ready, mapAt, Kept, Began}
+use Rattle.demands.specs.Bridges.{few, some-pages, ready-keeps, updated-kept}
+use Rattle.demands.specs.Calls.{insert-is, delete-is, insert-passed, delete-passed, not-worn}
+
+pub lookup-image : (g : Geometry) (img : List ℕ) (k : ℕ) → lookup g img k .image ≡ img
+unfolding lookup judged answered
+lookup-image g img k = go (goodLength g img) (isSound (verdict g (blocksOf g img) img)) (sought (chipOf g (blocksOf g img) img) k)
+  where
+    go : (x y : Bool) (o : Option ℕ) → pick x (pick y (answered o img) (refused 2 img)) (refused 1 img) .image ≡ img
+    go true true none = refl
+    go true true (some a) = refl
+    go true false o = refl
+    go false y o = refl
+
+none-is : (o : Option ℕ) → isNone o ≡ true → o ≡ none
+none-is none h = refl
+none-is (some a) h = absurd (true-false false h refl)
+
+-- an entry gains only where K is absent
+gains-absent : (r : Nodes) (k : ℕ) (half : ℕ → ℕ) (absent : Bool) (l : ℕ) (e : Entry) → gains r k half absent l e ≡ true → absent ≡ true
+unfolding gains
+gains-absent r k half absent zero e h = h
+gains-absent r k half absent (suc l) e h = gains-absent r k half absent l (chosen k (r (e .addr) (suc l))) (and-right _ _ h)
+
+-- one of a list of numbers
+abbrev pub OneOf : ℕ → List ℕ → Type 0
+OneOf x [] = ⊥
+OneOf x (y ∷ ys) = (x ≡ y) ⊎ OneOf x ys
+
+-- the collection's stores, then m own ones
+pub record Own (g : Geometry) (n : ℕ) (img : List ℕ) (k a : ℕ) : Type 0 where
+  pub own : List Store
+  pub list-is : insertStores g n img k a ≡ collectStores g n (needs g (chipOf g n img) k) (suc (needs g (chipOf g n img) k)) img ++ own
+  pub programs-are : programs own ≡ needs g (chipOf g n img) k
+  pub atmost : needs g (chipOf g n img) k ≤ g .top
+
+module _ (g : Geometry) (shape : Shape g) (img : List ℕ) (ready : Ready g img) (k : ℕ) where
+  abbrev n : ℕ
+  n = blocksOf g img
+
+  abbrev c : Chip
+  c = chipOf g n img
+
+  abbrev keeps : Keeps g n (mapAt g img) img
+  keeps = ready-keeps g shape img ready
+
+  -- the answer of three tests and the stores
+  three : (x y z : Bool) (i j l : ℕ) (o : Outcome) → (o .answer ≡ 0) ⊎ (o .answer ≡ 7) → OneOf (pick x (refused i img) (pick y (refused j img) (pick z (refused l img) o)) .answer) (0 ∷ i ∷ j ∷ l ∷ 7 ∷ [])
+  three true y z i j l o h = inr (inl refl)
+  three false true z i j l o h = inr (inr (inl refl))
+  three false false true i j l o h = inr (inr (inr (inl refl)))
+  three false false false i j l o (inl h) = inl h
+  three false false false i j l o (inr h) = inr (inr (inr (inr (inl h))))
+
+  made-began : (ss : List Store) (al : ℕ) → Began (made g ss al img)
+  unfolding made
+  made-began ss al = go (leb (length ss) al)
+    where
+      go : (x : Bool) → (pick {A = ℕ} x 0 7 ≡ 0) ⊎ (pick {A = ℕ} x 0 7 ≡ 7)
+      go true = inl refl
+      go false = inr refl
+
+  pub insert-one : (a al : ℕ) → OneOf (insert g img k a al .answer) (0 ∷ 3 ∷ 5 ∷ 6 ∷ 7 ∷ [])
+  insert-one a al = subst (λ (o : Outcome). OneOf (o .answer) (0 ∷ 3 ∷ 5 ∷ 6 ∷ 7 ∷ [])) (sym (insert-is g img k a al ready))
+      (three (worn g n img) (tooHigh g c k) (roomless g (freePages g n c) (needs g c k)) 3 5 6 (made g (insertStores g n img k a) al img) (made-began (insertStores g n img k a) al))
+
+  pub delete-one : (al : ℕ) → OneOf (delete g img k al .answer) (0 ∷ 3 ∷ 4 ∷ 6 ∷ 7 ∷ [])
+  delete-one al = subst (λ (o : Outcome). OneOf (o .answer) (0 ∷ 3 ∷ 4 ∷ 6 ∷ 7 ∷ [])) (sym (delete-is g img k 0 al ready))
+      (three (worn g n img) (isNone (sought c k)) (roomless g (freePages g n c) 1) 3 4 6 (made g (deleteStores g n img k) al img) (made-began (deleteStores g n img k) al))
+
+  module _ (k-low : k < 4294967296) where
+    pub found : sought c k ≡ find k (mapAt g img)
+    found = sought-map g n c (keeps .held .whole) k k-low
+
+    -- the second of the three tests is what its answer stands for
+    second : (x y z : Bool) (i j l : ℕ) (o : Outcome) → Began o → (i ≡ j → ⊥) → (l ≡ j → ⊥) → (j ≡ 0 → ⊥) → (j ≡ 7 → ⊥) → pick x (refused i img) (pick y (refused j img) (pick z (refused l img) o)) .answer ≡ j → y ≡ true
+    second true y z i j l o b d e f h p = absurd (d p)
+    second false true z i j l o b d e f h p = refl
+    second false false true i j l o b d e f h p = absurd (e p)
+    second false false false i j l o (inl b) d e f h p = absurd (f (sym p ∙ b))
+    second false false false i j l o (inr b) d e f h p = absurd (h (sym p ∙ b))
+
+    pub absent-answer : (al : ℕ) → delete g img k al .answer ≡ 4 → find k (mapAt g img) ≡ none
+    absent-answer al h = sym found ∙ none-is (sought c k)
+        (second (worn g n img) (isNone (sought c k)) (roomless g (freePages g n c) 1) 3 4 6 (made g (deleteStores g n img k) al img) (made-began (deleteStores g n img k) al) (λ z. omega (arith, z)) (λ z. omega (arith, z)) (λ z. omega (arith, z)) (λ z. omega (arith, z))
+        (sym (ap (λ (o : Outcome). o .answer) (delete-is g img k 0 al ready)) ∙ h))
+
+    pub answer-absent : (al : ℕ) → find k (mapAt g img) ≡ none → (delete g img k al .answer ≡ 3) ⊎ (delete g img k al .answer ≡ 4)
+    answer-absent al h = subst (λ (o : Outcome). (o .answer ≡ 3) ⊎ (o .answer ≡ 4)) (sym (delete-is g img k 0 al ready)) (go (worn g n img) (isNone (sought c k)) (ap isNone (found ∙ h)))
+      where
+        go : (x y : Bool) → y ≡ true → (pick x (refused 3 img) (pick y (refused 4 img) (pick (roomless g (freePages g n c) 1) (refused 6 img) (made g (deleteStores g n img k) al img))) .answer ≡ 3) ⊎ (pick x (refused 3 img) (pick y (refused 4 img) (pick (roomless g (freePages g n c) 1) (refused 6 img) (made g (deleteStores g n img k) al img))) .answer ≡ 4)
+        go true y e = inl refl
+        go false true e = inr refl
+        go false false e = absurd (true-false false e refl)
+
+    pub height-absent : (a al : ℕ) → insert g img k a al .answer ≡ 5 → find k (mapAt g img) ≡ none
+    unfolding tooHigh rootGains
+    height-absent a al h = sym found ∙ none-is (sought c k) (gains-absent (c .nodes) k (half g) (isNone (sought c k)) (c .level) (chosen k (rootNode c)) (and-right _ _
+        (second (worn g n img) (tooHigh g c k) (roomless g (freePages g n c) (needs g c k)) 3 5 6 (made g (insertStores g n img k a) al img) (made-began (insertStores g n img k a) al) (λ z. omega (arith, z)) (λ z. omega (arith, z)) (λ z. omega (arith, z)) (λ z. omega (arith, z))
+        (sym (ap (λ (o : Outcome). o .answer) (insert-is g img k a al ready)) ∙ h))))
+
+    pub insert-kept : (a al : ℕ) → a < 4294967296 → Began (insert g img k a al) → Kept g (mapAt g img) (put k a (mapAt g img)) img (insertStores g n img k a)
+    insert-kept a al a-low b =
+        let p = insert-passed g img k a al ready b in
+        let f = few g shape img ready in
+        let s = some-pages g shape img ready in
+        let w = not-worn g n img (p .first) in
+        updated-kept g shape img ready (mapAt g img) (put k a (mapAt g img)) (insertStores g n img k a) (needs g c k)
+        (m-top g shape n f (mapAt g img) img keeps w s k a k-low a-low (p .second) (p .third))
+        (insert-updated g shape n f (mapAt g img) img keeps w s k a k-low a-low (p .second) (p .third))
+
+    pub own-pages : (a al : ℕ) → a < 4294967296 → Began (insert g img k a al) → Own g n img k a
+    unfolding insertStores
+    own-pages a al a-low b =
+        let p = insert-passed g img k a al ready b in
+        let f = few g shape img ready in
+        let s = some-pages g shape img ready in
+        let w = not-worn g n img (p .first) in
+        record {
+          own = _;
+          list-is = refl;
+          programs-are = insert-own g shape n f (mapAt g img) img keeps w s k a k-low a-low (p .second) (p .third);
+          atmost = m-top g shape n f (mapAt g img) img keeps w s k a k-low a-low (p .second) (p .third);
+        }
+
+    pub delete-kept : (al : ℕ) → Began (delete g img k al) → Kept g (mapAt g img) (remove k (mapAt g img)) img (deleteStores g n img k)
+    delete-kept al b =
+        let p = delete-passed g img k 0 al ready b in
+        updated-kept g shape img ready (mapAt g img) (remove k (mapAt g img)) (deleteStores g n img k) 1 (let z = shape .top-low in omega (arith, z))
+        (delete-updated g shape n (few g shape img ready) (mapAt g img) img keeps (not-worn g n img (p .first)) (some-pages g shape img ready) k k-low (p .second) (p .third))
