@@ -5,3 +5,4 @@ pub mod Bridges
 pub mod Calls
 pub mod Proofs
 pub mod Demands
+pub mod Builds

@@ -79,7 +79,7 @@ module _ (g : Geometry) (shape : Shape g) (img : List ℕ) (ready : Ready g img)
   three false false false i j l o (inl h) = inl h
   three false false false i j l o (inr h) = inr (inr (inr (inr (inl h))))
 
-  made-began : (ss : List Store) (al : ℕ) → Began (made g ss al img)
+  pub made-began : (ss : List Store) (al : ℕ) → Began (made g ss al img)
   unfolding made
   made-began ss al = go (leb (length ss) al)
     where
