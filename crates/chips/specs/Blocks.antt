@@ -1,4 +1,5 @@
--- The collector's counting: pages by blocks, the victim, why there is one. Assumes nothing.
+-- The collector's counting: pages by blocks, the victim, why there is one. g is a block's pages.
+-- Assumes nothing.
 use mathlib.Core.Path.{_≡_, refl, ap}
 use mathlib.Core.Bool.{Bool, true, false}
 use mathlib.Core.Logic.{_⊎_, inl, inr}

@@ -1,6 +1,6 @@
 -- The collector: rounds until enough pages are erased. Assumes nothing.
 use mathlib.Core.Path.{_≡_, refl, ap, sym, subst, _∙_}
-use mathlib.Core.Bool.{Bool, true, false, not}
+use mathlib.Core.Bool.{Bool, true, false}
 use mathlib.Core.Logic.{_⊎_, inl, inr}
 use mathlib.Core.Option.{Option, none, some}
 use Prim.Native.Nat.{ℕ, zero, suc, _+_, _-_, _*_, _<_, _≤_}
@@ -16,7 +16,7 @@ use Rattle.model.specs.Image.{Chip}
 use Rattle.model.specs.Tree.{under, placesOf, live}
 use Rattle.model.specs.Next.{mixed, full, inBlock}
 use Rattle.model.specs.Collect.{livesIn, theVictim}
-use Rattle.trees.specs.Tests.{by-le, by-test, true-false, not-true}
+use Rattle.trees.specs.Tests.{by-le, by-test, true-false, not-true, not-not}
 use Rattle.trees.specs.Lists.{all-map}
 use Rattle.trees.specs.Nodes.{the, fitOf}
 use Rattle.trees.specs.Proper.{root-fit}
@@ -99,13 +99,9 @@ module _ (g : Geometry) (shape : Shape g) (n k : ℕ) where
     unfolding deadP
     clean b q f d = by-test (c .er (g .pages * b + 0))
         (λ i. count-ext (g .pages) (λ j. deadP (g .pages * b + j)) (λ _. false) (λ j w. rw (h .r2 .mono b 0 j q (omega arith) w i) refl) ∙ count-zero (g .pages))
-        (λ i. let z : mixed (g .pages) (c .er) b ≡ true = rw (i, last (c .er (g .pages * b + (g .pages - 1))) f) refl in
+        (λ i. let z : mixed (g .pages) (c .er) b ≡ true = rw (i, not-not (c .er (g .pages * b + (g .pages - 1))) f) refl in
         let w : mx < n = by-le mx b (λ y. omega (arith, q, y)) (λ y. absurd (true-false (mixed (g .pages) (c .er) b) z (mx-is .before b y))) in
         absurd (d (h .r2 .one b mx q w z (mx-is .hit w))))
-      where
-        last : (t : Bool) → not t ≡ false → t ≡ true
-        last true i = refl
-        last false i = absurd (true-false true refl i)
 
     -- the victim of a round
     pub round-victim : R7 g n c → count (g .pages * n) (live (placesOf c)) + (2 * g .pages + k) ≤ suc (g .pages * n) → count (g .pages * n) (c .er) < g .pages + k

@@ -29,6 +29,14 @@ use Rattle.chips.specs.Next.{R2, step}
 use Rattle.chips.specs.Whole.{some-page, Whole, sought-map}
 use Rattle.chips.specs.Pages.{keep, fit-side, new-side}
 
+-- the root that is left is no higher
+collapse-low : (r : Nodes) (l : ℕ) (cs : List Entry) → collapse r l cs .level ≤ l
+unfolding collapse
+collapse-low r zero cs = omega arith
+collapse-low r (suc l) [] = omega arith
+collapse-low r (suc l) (x ∷ []) = omega (arith, collapse-low r l (r (x .addr) (suc l)))
+collapse-low r (suc l) (x ∷ y ∷ cs) = omega arith
+
 -- what N holds at level j
 abbrev pub leftList : Geometry → ℕ → Chip → ℕ → ℕ → List Entry
 leftList g n c k j = deletePart c k (sidePage g n c 1) j
@@ -87,14 +95,8 @@ module _ (g : Geometry) (shape : Shape g) (n k : ℕ) (k-low : k < 4294967296) (
   stays-top (suc l) (x ∷ y ∷ cs) h = refl
 
   pub top-low : top .level ≤ c .level
-  unfolding deleteTop collapse
-  top-low = low (c .level) (lists (suc (c .level)))
-    where
-      low : (l : ℕ) (cs : List Entry) → collapse r l cs .level ≤ l
-      low zero cs = omega arith
-      low (suc l) [] = omega arith
-      low (suc l) (x ∷ []) = omega (arith, low l (r (x .addr) (suc l)))
-      low (suc l) (x ∷ y ∷ cs) = omega arith
+  unfolding deleteTop
+  top-low = collapse-low r (c .level) (lists (suc (c .level)))
 
   module _ (free : 1 ≤ count (g .pages * n) (c .er)) (s : Nodes)
       (at-N : (j : ℕ) → 1 ≤ j → j ≤ g .top → s N j ≡ leftList g n c k j)

@@ -1,4 +1,5 @@
--- The next page: R2 is kept, and there is one while a page is erased. Assumes nothing.
+-- The next page: R2 is kept, and there is one while a page is erased. g is a block's pages.
+-- Assumes nothing.
 use mathlib.Core.Path.{_≡_, refl, ap, sym, _∙_}
 use mathlib.Core.Bool.{Bool, true, false}
 use Prim.Native.Nat.{ℕ, zero, suc, _+_, _-_, _*_, _<_, _≤_}

@@ -14,7 +14,7 @@ use Rattle.model.specs.Image.{Chip}
 use Rattle.model.specs.Tree.{placesOf, live}
 use Rattle.model.specs.Rules.{inOrder, secondMixed, r2, spareRoom, r7}
 use Rattle.model.specs.Next.{mixed, full, firstIn, inBlock}
-use Rattle.trees.specs.Tests.{by-eq, by-le, by-test, true-false, not-true, not-false}
+use Rattle.trees.specs.Tests.{by-eq, by-le, by-test, true-false, not-true, not-false, not-not}
 use Rattle.trees.specs.Judge.{unless-good, good-unless}
 use Rattle.chips.specs.Next.{least-is, R2}
 use Rattle.chips.specs.Collect.{R7}
@@ -34,10 +34,6 @@ none-any n f h = le-ltb (least n f) n (none-least n f h)
 
 pub any-one : (n i : ℕ) (f : ℕ → Bool) → i < n → f i ≡ true → any n f ≡ true
 any-one n i f q h = by-test (any n f) (λ z. z) (λ z. absurd (true-false (f i) h (any-none n f z i q)))
-
-not-not : (t : Bool) → not t ≡ false → t ≡ true
-not-not true h = refl
-not-not false h = absurd (true-false true refl h)
 
 -- ---- R2
 module _ (p n : ℕ) (er : ℕ → Bool) where

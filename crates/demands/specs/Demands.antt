@@ -1,30 +1,32 @@
 -- The demands, about the definitions. g is any geometry with `Shape g`; k and a are 32-bit numbers, al is the allowance.
--- `Words` has the words: Ready (a sound image), mapAt, Holds, Lawful, Kept, Began. Assumes nothing.
-use mathlib.Core.Path.{_≡_, ap, sym, subst, _∙_}
+-- `Words` has the words: Ready (a sound image), mapAt, Holds, Lawful, Kept, Began, Own. Assumes nothing.
+use mathlib.Core.Path.{_≡_}
 use mathlib.Core.List.{List, [], _∷_}
-use mathlib.Core.Logic.{_⊎_, inl, inr}
-use mathlib.Core.Option.{Option, none, some}
+use mathlib.Core.Logic.{_⊎_}
+use mathlib.Core.Option.{none, some}
 use Prim.Native.Nat.{ℕ, _<_, _≤_}
 use Rattle.geometry.specs.declared.Geometry.{Geometry}
 use Rattle.geometry.specs.Shape.{Shape}
 use Rattle.model.specs.Image.{blocksOf, chipOf}
-use Rattle.model.specs.Tree.{find, sought}
+use Rattle.model.specs.Tree.{find}
 use Rattle.model.specs.Edit.{put, remove}
 use Rattle.model.specs.Update.{insertStores, deleteStores}
-use Rattle.model.specs.Calls.{Outcome, made, answered, lookup, insert, delete}
+use Rattle.model.specs.Calls.{made, answered, lookup, insert, delete}
 use Rattle.trees.specs.Lists.{Rises}
 use Rattle.chips.specs.Whole.{map-rises}
-use Rattle.demands.specs.Words.{Ready, mapAt, Holds, Kept, Began}
+use Rattle.demands.specs.Words.{Ready, mapAt, Holds, Kept, Began, OneOf, Own}
 use Rattle.demands.specs.Maps.{find-put, find-put-other, find-remove, find-remove-other}
 use Rattle.demands.specs.Bridges.{ready-keeps}
-use Rattle.demands.specs.Calls.{judged-ready, insert-untouched, delete-untouched, insert-passed, delete-passed, made-done, made-stopped, made-image}
-use Rattle.demands.specs.Proofs.{lookup-image, OneOf, Own, insert-one, delete-one, found, absent-answer, answer-absent, height-absent, insert-kept, own-pages, delete-kept}
+use Rattle.demands.specs.Calls.{insert-untouched, delete-untouched, insert-passed, delete-passed}
+use Rattle.demands.specs.Proofs.{lookup-image, insert-one, delete-one, absent-answer, answer-absent, height-absent, insert-kept, own-pages, delete-kept, insert-ends, delete-ends, insert-stops, delete-stops, lookup-is}
 
 -- ---- Demand 1: answers 1 to 6 leave the image as it was, for every image and geometry; a lookup always does
-pub insert-refused : (g : Geometry) (img : List ℕ) (k a al : ℕ) → 1 ≤ insert g img k a al .answer → insert g img k a al .answer ≤ 6 → insert g img k a al .image ≡ img
+pub insert-refused : (g : Geometry) (img : List ℕ) (k a al : ℕ)
+    → 1 ≤ insert g img k a al .answer → insert g img k a al .answer ≤ 6 → insert g img k a al .image ≡ img
 insert-refused g img k a al = insert-untouched g img k a al
 
-pub delete-refused : (g : Geometry) (img : List ℕ) (k al : ℕ) → 1 ≤ delete g img k al .answer → delete g img k al .answer ≤ 6 → delete g img k al .image ≡ img
+pub delete-refused : (g : Geometry) (img : List ℕ) (k al : ℕ)
+    → 1 ≤ delete g img k al .answer → delete g img k al .answer ≤ 6 → delete g img k al .image ≡ img
 delete-refused g img k al = delete-untouched g img k 0 al
 
 pub lookup-reads : (g : Geometry) (img : List ℕ) (k : ℕ) → lookup g img k .image ≡ img
@@ -37,39 +39,31 @@ module _ (g : Geometry) (shape : Shape g) (img : List ℕ) (ready : Ready g img)
 
   -- lookup: 0 and the address, or 4
   pub lookup-answers : lookup g img k ≡ answered (find k (mapAt g img)) img
-  unfolding lookup
-  lookup-answers = judged-ready g img (answered (sought (chipOf g (blocksOf g img) img) k) img) ready ∙ ap (λ (o : Option ℕ). answered o img) (found g shape img ready k k-low)
+  lookup-answers = lookup-is g shape img ready k k-low
 
-  -- a deletion finds no key exactly where the map has none
+  -- insert answers 0, 3, 5, 6 or 7, and 5 for an absent key only
+  pub insert-answers : (a al : ℕ) → OneOf (insert g img k a al .answer) (0 ∷ 3 ∷ 5 ∷ 6 ∷ 7 ∷ [])
+  insert-answers a al = insert-one g shape img ready k a al
+
+  pub insert-height : (a al : ℕ) → insert g img k a al .answer ≡ 5 → find k (mapAt g img) ≡ none
+  insert-height a al h = height-absent g shape img ready k k-low a al h
+
+  -- delete answers 0, 3, 4, 6 or 7, and 4 exactly for an absent key, unless the chip is worn
+  pub delete-answers : (al : ℕ) → OneOf (delete g img k al .answer) (0 ∷ 3 ∷ 4 ∷ 6 ∷ 7 ∷ [])
+  delete-answers al = delete-one g shape img ready k al
+
   pub delete-absent : (al : ℕ) → delete g img k al .answer ≡ 4 → find k (mapAt g img) ≡ none
   delete-absent al h = absent-answer g shape img ready k k-low al h
 
   pub absent-delete : (al : ℕ) → find k (mapAt g img) ≡ none → (delete g img k al .answer ≡ 3) ⊎ (delete g img k al .answer ≡ 4)
   absent-delete al h = answer-absent g shape img ready k k-low al h
 
-  -- HEIGHT is given for an absent key only
-  pub insert-height : (a al : ℕ) → insert g img k a al .answer ≡ 5 → find k (mapAt g img) ≡ none
-  insert-height a al h = height-absent g shape img ready k k-low a al h
-
-  -- else insert answers 0, 3, 6 or 7 and delete 0, 3, 6 or 7
-  pub insert-answers : (a al : ℕ) → OneOf (insert g img k a al .answer) (0 ∷ 3 ∷ 5 ∷ 6 ∷ 7 ∷ [])
-  insert-answers a al = insert-one g shape img ready k a al
-
-  pub delete-answers : (al : ℕ) → OneOf (delete g img k al .answer) (0 ∷ 3 ∷ 4 ∷ 6 ∷ 7 ∷ [])
-  delete-answers al = delete-one g shape img ready k al
-
-  -- a finished update: a sound image, the map changed at K only
+  -- a finished update leaves a sound image, its map changed at K only
   pub insert-done : (a al : ℕ) → a < 4294967296 → insert g img k a al .answer ≡ 0 → Holds g (put k a (mapAt g img)) (insert g img k a al .image)
-  insert-done a al a-low h =
-      let p = insert-passed g img k a al ready (inl h) in
-      subst (Holds g (put k a (mapAt g img))) (sym (ap (λ (o : Outcome). o .image) (p .is) ∙ made-done g (insertStores g (blocksOf g img) img k a) al img (sym (ap (λ (o : Outcome). o .answer) (p .is)) ∙ h)))
-      (insert-kept g shape img ready k k-low a al a-low (inl h) .end)
+  insert-done a al a-low h = insert-ends g shape img ready k k-low a al a-low h
 
   pub delete-done : (al : ℕ) → delete g img k al .answer ≡ 0 → Holds g (remove k (mapAt g img)) (delete g img k al .image)
-  delete-done al h =
-      let p = delete-passed g img k 0 al ready (inl h) in
-      subst (Holds g (remove k (mapAt g img))) (sym (ap (λ (o : Outcome). o .image) (p .is) ∙ made-done g (deleteStores g (blocksOf g img) img k) al img (sym (ap (λ (o : Outcome). o .answer) (p .is)) ∙ h)))
-      (delete-kept g shape img ready k k-low al (inl h) .end)
+  delete-done al h = delete-ends g shape img ready k k-low al h
 
   pub put-finds : (a : ℕ) → find k (put k a (mapAt g img)) ≡ some a
   put-finds a = find-put k a (mapAt g img)
@@ -83,12 +77,14 @@ module _ (g : Geometry) (shape : Shape g) (img : List ℕ) (ready : Ready g img)
   pub remove-others : (j : ℕ) → (j ≡ k → ⊥) → find j (remove k (mapAt g img)) ≡ find j (mapAt g img)
   remove-others j d = find-remove-other k j (mapAt g img) d
 
-  -- ---- Demand 3: the stores of an update that begins: each legal; after each of them a sound image that holds the old map,
-  -- or the new one once the last store is done; at most 191 programs and 6 erases
-  pub insert-stores : (a al : ℕ) → a < 4294967296 → Began (insert g img k a al) → Kept g (mapAt g img) (put k a (mapAt g img)) img (insertStores g (blocksOf g img) img k a)
+  -- ---- Demand 3: the stores of an update that begins are each legal; after each of them stands a sound image that holds the
+  -- old map, or the new one once the last store is done; at most 191 programs and 6 erases
+  pub insert-stores : (a al : ℕ) → a < 4294967296 → Began (insert g img k a al)
+      → Kept g (mapAt g img) (put k a (mapAt g img)) img (insertStores g (blocksOf g img) img k a)
   insert-stores a al a-low b = insert-kept g shape img ready k k-low a al a-low b
 
-  pub delete-stores : (al : ℕ) → Began (delete g img k al) → Kept g (mapAt g img) (remove k (mapAt g img)) img (deleteStores g (blocksOf g img) img k)
+  pub delete-stores : (al : ℕ) → Began (delete g img k al)
+      → Kept g (mapAt g img) (remove k (mapAt g img)) img (deleteStores g (blocksOf g img) img k)
   delete-stores al b = delete-kept g shape img ready k k-low al b
 
   -- the call's image and counts are those of the list, cut at the allowance
@@ -100,19 +96,11 @@ module _ (g : Geometry) (shape : Shape g) (img : List ℕ) (ready : Ready g img)
 
   -- so a stopped update leaves a sound image with the old map
   pub insert-stopped : (a al : ℕ) → a < 4294967296 → insert g img k a al .answer ≡ 7 → Holds g (mapAt g img) (insert g img k a al .image)
-  insert-stopped a al a-low h =
-      let p = insert-passed g img k a al ready (inr h) in
-      let ss = insertStores g (blocksOf g img) img k a in
-      subst (Holds g (mapAt g img)) (sym (ap (λ (o : Outcome). o .image) (p .is) ∙ made-image g ss al img))
-      (insert-stores a al a-low (inr h) .before al (made-stopped g ss al img (sym (ap (λ (o : Outcome). o .answer) (p .is)) ∙ h)))
+  insert-stopped a al a-low h = insert-stops g shape img ready k k-low a al a-low h
 
   pub delete-stopped : (al : ℕ) → delete g img k al .answer ≡ 7 → Holds g (mapAt g img) (delete g img k al .image)
-  delete-stopped al h =
-      let p = delete-passed g img k 0 al ready (inr h) in
-      let ss = deleteStores g (blocksOf g img) img k in
-      subst (Holds g (mapAt g img)) (sym (ap (λ (o : Outcome). o .image) (p .is) ∙ made-image g ss al img))
-      (delete-stores al (inr h) .before al (made-stopped g ss al img (sym (ap (λ (o : Outcome). o .answer) (p .is)) ∙ h)))
+  delete-stopped al h = delete-stops g shape img ready k k-low al h
 
-  -- an insertion's own pages: 1 + splits + grow, at most `top`; they follow the collection
+  -- own pages
   pub insert-own : (a al : ℕ) → a < 4294967296 → Began (insert g img k a al) → Own g (blocksOf g img) img k a
   insert-own a al a-low b = own-pages g shape img ready k k-low a al a-low b

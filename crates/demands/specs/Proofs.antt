@@ -1,10 +1,10 @@
 -- The demands' proofs, from the tests that an answer stands for. Assumes nothing.
 use mathlib.Core.Path.{_≡_, refl, ap, sym, subst, _∙_}
-use mathlib.Core.List.{List, [], _∷_, _++_}
+use mathlib.Core.List.{List, [], _∷_}
 use mathlib.Core.Bool.{Bool, true, false}
 use mathlib.Core.Logic.{_⊎_, inl, inr}
 use mathlib.Core.Option.{Option, none, some}
-use Prim.Native.Nat.{ℕ, zero, suc, _<_, _≤_}
+use Prim.Native.Nat.{ℕ, zero, suc, _<_}
 use native.Mathlib.Omega.{arith}
 use lib.ListN.{length}
 use lib.Dec.{leb}
@@ -16,18 +16,17 @@ use Rattle.geometry.specs.Shape.{Shape}
 use Rattle.model.specs.Image.{blocksOf, goodLength, Nodes, Chip, chipOf}
 use Rattle.model.specs.Tree.{chosen, find, sought}
 use Rattle.model.specs.Rules.{verdict, isSound}
-use Rattle.model.specs.Stores.{Store, programs}
+use Rattle.model.specs.Stores.{Store}
 use Rattle.model.specs.Edit.{put, gains, remove}
-use Rattle.model.specs.Collect.{collectStores}
 use Rattle.model.specs.Update.{isNone, rootNode, rootGains, needs, tooHigh, insertStores, deleteStores}
 use Rattle.model.specs.Calls.{Outcome, refused, made, judged, answered, lookup, worn, roomless, freePages, insert, delete}
 use Rattle.trees.specs.Tests.{true-false}
 use Rattle.chips.specs.Whole.{sought-map}
 use Rattle.updates.specs.Along.{Keeps}
-use Rattle.updates.specs.Lists.{m-top, insert-own, insert-updated, delete-updated}
-use Rattle.demands.specs.Words.{Ready, mapAt, Kept, Began}
+use Rattle.updates.specs.Lists.{m-top, insert-own, insert-programs-only, insert-updated, delete-updated}
+use Rattle.demands.specs.Words.{Ready, mapAt, Holds, Kept, Began, OneOf, Own}
 use Rattle.demands.specs.Bridges.{few, some-pages, ready-keeps, updated-kept}
-use Rattle.demands.specs.Calls.{insert-is, delete-is, insert-passed, delete-passed, not-worn}
+use Rattle.demands.specs.Calls.{judged-ready, insert-is, delete-is, insert-passed, delete-passed, not-worn, made-done, made-stopped, made-image}
 
 pub lookup-image : (g : Geometry) (img : List ℕ) (k : ℕ) → lookup g img k .image ≡ img
 unfolding lookup judged answered
@@ -48,18 +47,6 @@ gains-absent : (r : Nodes) (k : ℕ) (half : ℕ → ℕ) (absent : Bool) (l : �
 unfolding gains
 gains-absent r k half absent zero e h = h
 gains-absent r k half absent (suc l) e h = gains-absent r k half absent l (chosen k (r (e .addr) (suc l))) (and-right _ _ h)
-
--- one of a list of numbers
-abbrev pub OneOf : ℕ → List ℕ → Type 0
-OneOf x [] = ⊥
-OneOf x (y ∷ ys) = (x ≡ y) ⊎ OneOf x ys
-
--- the collection's stores, then m own ones
-pub record Own (g : Geometry) (n : ℕ) (img : List ℕ) (k a : ℕ) : Type 0 where
-  pub own : List Store
-  pub list-is : insertStores g n img k a ≡ collectStores g n (needs g (chipOf g n img) k) (suc (needs g (chipOf g n img) k)) img ++ own
-  pub programs-are : programs own ≡ needs g (chipOf g n img) k
-  pub atmost : needs g (chipOf g n img) k ≤ g .top
 
 module _ (g : Geometry) (shape : Shape g) (img : List ℕ) (ready : Ready g img) (k : ℕ) where
   abbrev n : ℕ
@@ -147,6 +134,7 @@ module _ (g : Geometry) (shape : Shape g) (img : List ℕ) (ready : Ready g img)
           own = _;
           list-is = refl;
           programs-are = insert-own g shape n f (mapAt g img) img keeps w s k a k-low a-low (p .second) (p .third);
+          no-erase = insert-programs-only g shape n f (mapAt g img) img keeps w s k a k-low a-low (p .second) (p .third);
           atmost = m-top g shape n f (mapAt g img) img keeps w s k a k-low a-low (p .second) (p .third);
         }
 
@@ -155,3 +143,36 @@ module _ (g : Geometry) (shape : Shape g) (img : List ℕ) (ready : Ready g img)
         let p = delete-passed g img k 0 al ready b in
         updated-kept g shape img ready (mapAt g img) (remove k (mapAt g img)) (deleteStores g n img k) 1 (let z = shape .top-low in omega (arith, z))
         (delete-updated g shape n (few g shape img ready) (mapAt g img) img keeps (not-worn g n img (p .first)) (some-pages g shape img ready) k k-low (p .second) (p .third))
+
+    -- the image of a finished call, and of a stopped one
+    pub insert-ends : (a al : ℕ) → a < 4294967296 → insert g img k a al .answer ≡ 0 → Holds g (put k a (mapAt g img)) (insert g img k a al .image)
+    insert-ends a al a-low h =
+        let p = insert-passed g img k a al ready (inl h) in
+        let ss = insertStores g n img k a in
+        let e = ap (λ (o : Outcome). o .image) (p .is) ∙ made-done g ss al img (sym (ap (λ (o : Outcome). o .answer) (p .is)) ∙ h) in
+        subst (Holds g (put k a (mapAt g img))) (sym e) (insert-kept a al a-low (inl h) .end)
+
+    pub delete-ends : (al : ℕ) → delete g img k al .answer ≡ 0 → Holds g (remove k (mapAt g img)) (delete g img k al .image)
+    delete-ends al h =
+        let p = delete-passed g img k 0 al ready (inl h) in
+        let ss = deleteStores g n img k in
+        let e = ap (λ (o : Outcome). o .image) (p .is) ∙ made-done g ss al img (sym (ap (λ (o : Outcome). o .answer) (p .is)) ∙ h) in
+        subst (Holds g (remove k (mapAt g img))) (sym e) (delete-kept al (inl h) .end)
+
+    pub insert-stops : (a al : ℕ) → a < 4294967296 → insert g img k a al .answer ≡ 7 → Holds g (mapAt g img) (insert g img k a al .image)
+    insert-stops a al a-low h =
+        let p = insert-passed g img k a al ready (inr h) in
+        let ss = insertStores g n img k a in
+        let e = ap (λ (o : Outcome). o .image) (p .is) ∙ made-image g ss al img in
+        subst (Holds g (mapAt g img)) (sym e) (insert-kept a al a-low (inr h) .before al (made-stopped g ss al img (sym (ap (λ (o : Outcome). o .answer) (p .is)) ∙ h)))
+
+    pub delete-stops : (al : ℕ) → delete g img k al .answer ≡ 7 → Holds g (mapAt g img) (delete g img k al .image)
+    delete-stops al h =
+        let p = delete-passed g img k 0 al ready (inr h) in
+        let ss = deleteStores g n img k in
+        let e = ap (λ (o : Outcome). o .image) (p .is) ∙ made-image g ss al img in
+        subst (Holds g (mapAt g img)) (sym e) (delete-kept al (inr h) .before al (made-stopped g ss al img (sym (ap (λ (o : Outcome). o .answer) (p .is)) ∙ h)))
+
+    pub lookup-is : lookup g img k ≡ answered (find k (mapAt g img)) img
+    unfolding lookup
+    lookup-is = judged-ready g img (answered (sought c k) img) ready ∙ ap (λ (o : Option ℕ). answered o img) found

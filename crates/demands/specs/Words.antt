@@ -1,9 +1,9 @@
 -- The words that the demands are stated in. Definitions alone; assumes nothing.
 use mathlib.Core.Path.{_≡_}
-use mathlib.Core.List.{List, [], _∷_}
+use mathlib.Core.List.{List, [], _∷_, _++_}
 use mathlib.Core.Bool.{true}
 use mathlib.Core.Logic.{_⊎_}
-use Prim.Native.Nat.{ℕ, _+_, _-_, _*_, _<_, _≤_}
+use Prim.Native.Nat.{ℕ, suc, _+_, _-_, _*_, _<_, _≤_}
 use lib.ListN.{length, take}
 use Rattle.geometry.specs.declared.Geometry.{Geometry}
 use Rattle.geometry.specs.declared.Entry.{Entry}
@@ -13,6 +13,8 @@ use Rattle.model.specs.Image.{blocksOf, goodLength, chipOf}
 use Rattle.model.specs.Tree.{mapOf}
 use Rattle.model.specs.Rules.{verdict}
 use Rattle.model.specs.Stores.{Store, applyStore, applyAll, programs, erases}
+use Rattle.model.specs.Collect.{collectStores}
+use Rattle.model.specs.Update.{needs, insertStores}
 use Rattle.model.specs.Calls.{Outcome}
 use Rattle.images.specs.Writes.{Legal}
 
@@ -51,3 +53,16 @@ pub record Kept (g : Geometry) (old new : List Entry) (img : List ℕ) (ss : Lis
 -- the answer of an update that has begun
 abbrev pub Began : Outcome → Type 0
 Began o = (o .answer ≡ 0) ⊎ (o .answer ≡ 7)
+
+-- one of a list of numbers
+abbrev pub OneOf : ℕ → List ℕ → Type 0
+OneOf x [] = ⊥
+OneOf x (y ∷ ys) = (x ≡ y) ⊎ OneOf x ys
+
+-- own pages: the list is the collection's stores, then stores with as many programs as `needs` counts, 1 + splits + grow, at most 5
+pub record Own (g : Geometry) (n : ℕ) (img : List ℕ) (k a : ℕ) : Type 0 where
+  pub own : List Store
+  pub list-is : insertStores g n img k a ≡ collectStores g n (needs g (chipOf g n img) k) (suc (needs g (chipOf g n img) k)) img ++ own
+  pub programs-are : programs own ≡ needs g (chipOf g n img) k
+  pub no-erase : erases own ≡ 0
+  pub atmost : needs g (chipOf g n img) k ≤ g .top

@@ -20,7 +20,7 @@ use Rattle.model.specs.Count.{least, any}
 use Rattle.model.specs.Image.{pagesOf, seqOf, heightOf, rootScore, rootOf, chipOf}
 use Rattle.model.specs.Tree.{placesOf}
 use Rattle.model.specs.Rules.{lowest, wellFormed, r1, repeated, r3, r4, orElse, verdict}
-use Rattle.trees.specs.Tests.{by-eq, by-le, true-false, not-false}
+use Rattle.trees.specs.Tests.{by-eq, by-le, true-false, not-false, not-not}
 use Rattle.trees.specs.Lists.{all-map}
 use Rattle.trees.specs.Nodes.{fitOf}
 use Rattle.trees.specs.Proper.{root-fit}
@@ -53,10 +53,6 @@ lowest-none t f h = any-none t f (go (any t f) h)
 none-lowest : (t : ℕ) (f : ℕ → Bool) → ((p : ℕ) → p < t → f p ≡ false) → lowest t f ≡ Good
 unfolding lowest
 none-lowest t f h = rw (none-any t f h) refl
-
-not-not : (t : Bool) → not t ≡ false → t ≡ true
-not-not true h = refl
-not-not false h = absurd (true-false true refl h)
 
 module _ (g : Geometry) (n : ℕ) (img : List ℕ) where
   abbrev t : ℕ

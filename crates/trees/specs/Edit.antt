@@ -105,23 +105,6 @@ module _ (k : ℕ) (P : ℕ → Entry → Type 0) (f : Entry → List Entry) (W 
       go s = rw (s .spliced f) (all-append W (s .pre) (f (chosen k es) ++ s .post) (pre-off (chosen k es .key) (s .pre) (s .upto) (s .before))
           (all-append W (f (chosen k es)) (s .post) (step (next (s .post) hi) (s .under) (s .up) (s .here)) (post-off hi (s .post) (s .under) (s .rest))))
 
--- the same for a key k′ of the chosen entry's range
-module _ (k k′ : ℕ) (P : ℕ → Entry → Type 0) (f : Entry → List Entry) (W : Entry → Type 0)
-    (off : (y : ℕ) (x : Entry) → x .key < y → P y x → ((y ≤ k′) ⊎ (k′ < x .key)) → W x) where
-  post-at : (hi : ℕ) (post : List Entry) → k′ < next post hi → Rises P hi post → All W post
-  post-at hi [] q h = tt
-  post-at hi (e ∷ es) q h = (off (next es hi) e (h .0) (h .1) (inr q), post-at hi es (omega arith) (h .2))
-
-  pub splice-each-at : (hi : ℕ) (es : List Entry) → 0 < length es → k < hi → Rises P hi es
-      → ((y : ℕ) → k < y → chosen k es .key < y → P y (chosen k es) → All W (f (chosen k es)) × (chosen k es .key ≤ k′) × (k′ < y))
-      → All W (splice f k es)
-  splice-each-at hi es n q h step = go (split P k hi es n q h)
-    where
-      go : Split P k hi es (chosen k es) (λ f. splice f k es) → All W (splice f k es)
-      go s = let st = step (next (s .post) hi) (s .under) (s .up) (s .here) in
-          rw (s .spliced f) (all-append W (s .pre) (f (chosen k es) ++ s .post) (rises-all P W (chosen k es .key) (s .pre) (λ y x q c i. off y x q i (inl (omega (arith, st .1, c)))) (s .before))
-          (all-append W (f (chosen k es)) (s .post) (st .0) (post-at hi (s .post) (st .2) (s .rest))))
-
 pub splice-some : (P : ℕ → Entry → Type 0) (Z : Entry → Type 0) (f : Entry → List Entry) (k hi : ℕ) (es : List Entry) → 0 < length es → k < hi → Rises P hi es → Some Z (f (chosen k es)) → Some Z (splice f k es)
 splice-some P Z f k hi es n q h i = go (split P k hi es n q h)
   where

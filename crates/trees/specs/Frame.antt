@@ -7,7 +7,7 @@ use Rattle.geometry.specs.declared.Entry.{Entry}
 use Rattle.model.specs.Image.{Nodes}
 use Rattle.model.specs.Tree.{gather, under, Place, places}
 use Rattle.trees.specs.Lists.{All, Rises, Some, all-map, all-both, gather-eq, rises-map, rises-all}
-use Rattle.trees.specs.Nodes.{Ok, ok-same, under-same, places-same, the, Rooted, rooted-with}
+use Rattle.trees.specs.Nodes.{Ok, ok-same, under-same, places-same, the, Rooted}
 use Rattle.trees.specs.Tied.{Tied}
 use Rattle.trees.specs.Proper.{Proper, root-fit}
 
@@ -44,11 +44,3 @@ module _ (top : ℕ) (room most : ℕ → ℕ) (r s : Nodes) (fit fit′ : ℕ �
 
   pub sound-same : Proper fit room most top r l p → Proper fit′ room most top s l p
   sound-same h = record { rooted = rooted-same (h .rooted); tied = subst (Tied s) (sym (root-places-same (h .rooted))) (tied-same (places r (suc l) (the p)) (root-fit fit room most r l p top (h .rooted)) (h .tied)) }
-
--- an erase: no live page is in the block
-pub erase-sound : (top : ℕ) (room most : ℕ → ℕ) (r s : Nodes) (fit fit′ : ℕ → ℕ → Type 0) (In : ℕ → Type 0)
-    → ((l b : ℕ) → fit l b → (1 ≤ l → In b → ⊥) → fit′ l b) → ((q l : ℕ) → (In q → ⊥) → s q (suc l) ≡ r q (suc l))
-    → (l p : ℕ) → All (λ x. In (x .page) → ⊥) (places r (suc l) (the p)) → Proper fit room most top r l p → Proper fit′ room most top s l p
-erase-sound top room most r s fit fit′ In keep same l p dead h =
-    sound-same top room most r s (λ l b. fit l b × (1 ≤ l → In b → ⊥)) fit′ (λ l b i. keep l b (i .0) (i .1)) (λ q l i. same q l (i .1 (omega arith))) l p
-    (record { rooted = rooted-with fit room most top r (λ l b. 1 ≤ l → In b → ⊥) l p (λ a z. absurd (omega arith)) (all-map (λ x. In (x .page) → ⊥) (λ x. 1 ≤ x .level → In (x .page) → ⊥) (places r (suc l) (the p)) (λ x i _. i) dead) (h .rooted); tied = h .tied })

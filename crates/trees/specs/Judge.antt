@@ -18,7 +18,7 @@ use Rattle.geometry.specs.Shape.{Shape}
 use Rattle.model.specs.Image.{Nodes, Chip}
 use Rattle.model.specs.Tree.{Place, placesOf, lowLevel, next}
 use Rattle.model.specs.Rules.{unless, first, names, rising, own, ownRoot, judgeEntries, judgeNode, r5, namesPage, loose, lowestPage, r6}
-use Rattle.trees.specs.Tests.{true-false, and-pick, not-true, not-false}
+use Rattle.trees.specs.Tests.{true-false, and-pick, not-true, not-false, not-not}
 use Rattle.trees.specs.Lists.{All, Rises, Some, Mem, all-map, all-both, all-get, all-mem, next-le, rises-map}
 use Rattle.trees.specs.Nodes.{Ok, ok-fit, Rooted, fitOf}
 use Rattle.trees.specs.Tied.{Tied}
@@ -239,11 +239,7 @@ module _ (t : ℕ) (c : Chip) where
   strict x y m e b h =
       let w = low-is pls (x .page) (rw e (mem-live y pls m)) in
       let v = all-get (λ z. z .page ≡ x .page → lowLevel pls (x .page) ≤ z .level) y pls (w .1) m (sym e) in
-      names-some (x .page) (c .nodes (x .page) (x .level)) (go (namesPage (x .page) (c .nodes (x .page) (x .level))) (rw (lt-ltb (lowLevel pls (x .page)) (x .level) (omega (arith, v, b)), and-true (not (namesPage (x .page) (c .nodes (x .page) (x .level))))) at h))
-    where
-      go : (u : Bool) → not u ≡ false → u ≡ true
-      go true i = refl
-      go false i = absurd (true-false true refl i)
+      names-some (x .page) (c .nodes (x .page) (x .level)) (not-not (namesPage (x .page) (c .nodes (x .page) (x .level))) (rw (lt-ltb (lowLevel pls (x .page)) (x .level) (omega (arith, v, b)), and-true (not (namesPage (x .page) (c .nodes (x .page) (x .level))))) at h))
 
   pub r6-tied : All (λ x. x .page < t) pls → r6 t c ≡ Good → Tied (c .nodes) pls
   unfolding r6

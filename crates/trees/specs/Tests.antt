@@ -43,3 +43,7 @@ not-true false h = refl
 
 pub not-false : (t : Bool) → t ≡ false → not t ≡ true
 not-false t h = ap not h
+
+pub not-not : (t : Bool) → not t ≡ false → t ≡ true
+not-not true h = refl
+not-not false h = absurd (true-false true refl h)

@@ -12,7 +12,7 @@ use Rattle.geometry.specs.Shape.{Shape}
 use Rattle.model.specs.Count.{count}
 use Rattle.model.specs.Image.{pagesOf, maxSeq, Chip, chipOf}
 use Rattle.model.specs.Tree.{placesOf, live, find, sought}
-use Rattle.model.specs.Stores.{applyAll, programs}
+use Rattle.model.specs.Stores.{applyAll, programs, erases}
 use Rattle.model.specs.Edit.{put, remove}
 use Rattle.model.specs.Collect.{collectStores}
 use Rattle.model.specs.Update.{isNone, needs, tooHigh, ownStores, deleteStore, insertStores, deleteStores}
@@ -51,9 +51,6 @@ module _ (g : Geometry) (shape : Shape g) (n : ℕ) (few : pagesOf g n + g .page
   unfolding roomless
   roomy k h r = let z = ltb-false (freePages g n c) (2 * g .pages - 1 + k) r in let p = some-page g shape in omega (arith, z, p, h)
 
-  height-ok : (q : ℕ) → q < t → suc (c .level) ≤ g .top
-  height-ok q h = height-most g shape n img (omega (arith, h)) (keeps .held)
-
   -- an insertion
   module _ (some-pages : 1 ≤ t) (k a : ℕ) (k-low : k < 4294967296) (a-low : a < 4294967296) (not-high : tooHigh g c k ≡ false) (not-room : roomless g (freePages g n c) (needs g c k) ≡ false) where
     abbrev m : ℕ
@@ -88,6 +85,9 @@ module _ (g : Geometry) (shape : Shape g) (n : ℕ) (few : pagesOf g n + g .page
     pub insert-own : programs (ownStores g n (maxSeq g n then) (chipOf g n then) m k a) ≡ m
     insert-own = subst (λ j. programs (ownStores g n (maxSeq g n then) (chipOf g n then) j k a) ≡ j) same-m
         (own-programs g shape n few k a k-low a-low base then (after-collect .keeps) (after-collect .alike .high-is k k-low ∙ not-high) (let z = after-collect .room in omega (arith, z, same-m)) then-low)
+
+    pub insert-programs-only : erases (ownStores g n (maxSeq g n then) (chipOf g n then) m k a) ≡ 0
+    insert-programs-only = let z = subst (λ j. erases (ownStores g n (maxSeq g n then) (chipOf g n then) j k a) ≤ 0) same-m (own .wiped) in omega (arith, z)
 
     pub insert-updated : Updated g n base (put k a base) img (insertStores g n img k a) (programMost g m) (suc m)
     unfolding insertStores
