@@ -30,7 +30,8 @@ taken-false p n (suc m) q er h = go (eqb q (nth p n er m)) (taken-false p n m q 
 taken-nth : (p n m i : ℕ) (er : ℕ → Bool) → i < m → taken p n er m (nth p n er i) ≡ false
 unfolding taken
 taken-nth p n zero i er h = absurd (omega arith)
-taken-nth p n (suc m) i er h = by-eq i m (λ e. rw (e, eq-eqb (nth p n er m) (nth p n er m) refl) refl) (λ e. go (eqb (nth p n er i) (nth p n er m)) (taken-nth p n m i er (omega arith)))
+taken-nth p n (suc m) i er h = by-eq i m (λ e. rw (e, eq-eqb (nth p n er m) (nth p n er m) refl) refl)
+    (λ e. go (eqb (nth p n er i) (nth p n er m)) (taken-nth p n m i er (omega arith)))
   where
     go : (t : Bool) → taken p n er m (nth p n er i) ≡ false → pick t false (taken p n er m (nth p n er i)) ≡ false
     go true z = refl
@@ -39,7 +40,8 @@ taken-nth p n (suc m) i er h = by-eq i m (λ e. rw (e, eq-eqb (nth p n er m) (nt
 -- wherever it is asked, the next page is at most T + p
 pub next-most : (p n : ℕ) (er : ℕ → Bool) → nextPage p n er ≤ p * n + p
 unfolding nextBlock
-next-most p n er = let b = least-is p (λ j. er (p * nextBlock p n er + j)) .upto in let w = mul-le-mul-left p (block (ltb (least n (mixed p er)) n)) in omega (arith, b, w)
+next-most p n er = let b = least-is p (λ j. er (p * nextBlock p n er + j)) .upto in let w = mul-le-mul-left p (block (ltb (least n (mixed p er)) n))
+    in omega (arith, b, w)
   where
     block : (t : Bool) → pick t (least n (mixed p er)) (least n (λ b. er (p * b + 0))) ≤ n
     block true = least-is n (mixed p er) .upto

@@ -53,19 +53,22 @@ module _ (g : Geometry) (shape : Shape g) (img : List ℕ) (ready : Ready g img)
   abbrev c : Chip
   c = chipOf g n img
 
-  enough : (ss : List Store) (al : ℕ) → programs ss ≤ (g .top + 1) * (g .pages - 1) + g .top → erases ss ≤ g .top + 1 → storesMost g ≤ al → made g ss al img .answer ≡ 0
+  enough : (ss : List Store) (al : ℕ) → programs ss ≤ (g .top + 1) * (g .pages - 1) + g .top → erases ss ≤ g .top + 1 → storesMost g ≤ al
+      → made g ss al img .answer ≡ 0
   unfolding made
   enough ss al p e h = rw (le-leb (length ss) al (omega (arith, stores-length ss, p, e, h))) refl
 
   -- with room and 197 stores allowed an insertion is DONE; ROOM looks at live pages alone, so dead ones are used again
-  pub insert-finishes : (a al : ℕ) → a < 4294967296 → storesMost g ≤ al → worn g n img ≡ false → tooHigh g c k ≡ false → roomless g (freePages g n c) (needs g c k) ≡ false → insert g img k a al .answer ≡ 0
+  pub insert-finishes : (a al : ℕ) → a < 4294967296 → storesMost g ≤ al → worn g n img ≡ false → tooHigh g c k ≡ false
+      → roomless g (freePages g n c) (needs g c k) ≡ false → insert g img k a al .answer ≡ 0
   insert-finishes a al a-low h x y z =
       let ss = insertStores g n img k a in
       let e : insert g img k a al ≡ made g ss al img = insert-is g img k a al ready ∙ rw (x, y, z) refl in
       let kept = insert-kept g shape img ready k k-low a al a-low (subst Began (sym e) (made-began g shape img ready k ss al)) in
       ap (λ (o : Outcome). o .answer) e ∙ enough ss al (kept .programmed) (kept .wiped) h
 
-  pub delete-finishes : (al : ℕ) → storesMost g ≤ al → worn g n img ≡ false → isNone (find k (mapAt g img)) ≡ false → roomless g (freePages g n c) 1 ≡ false → delete g img k al .answer ≡ 0
+  pub delete-finishes : (al : ℕ) → storesMost g ≤ al → worn g n img ≡ false → isNone (find k (mapAt g img)) ≡ false
+      → roomless g (freePages g n c) 1 ≡ false → delete g img k al .answer ≡ 0
   delete-finishes al h x y z =
       let ss = deleteStores g n img k in
       let y′ : isNone (sought c k) ≡ false = ap isNone (found g shape img ready k k-low) ∙ y in
@@ -74,7 +77,8 @@ module _ (g : Geometry) (shape : Shape g) (img : List ℕ) (ready : Ready g img)
       ap (λ (o : Outcome). o .answer) e ∙ enough ss al (kept .programmed) (kept .wiped) h
 
 -- ---- a formatted image
-module _ (g : Geometry) (shape : Shape g) (some-worn : 1 ≤ g .worn) (img : List ℕ) (length-good : goodLength g img ≡ true) (bytes : (i : ℕ) → byteAt img i < 256) where
+module _ (g : Geometry) (shape : Shape g) (some-worn : 1 ≤ g .worn) (img : List ℕ) (length-good : goodLength g img ≡ true)
+    (bytes : (i : ℕ) → byteAt img i < 256) where
   abbrev new : List ℕ
   new = format g img .image
 
@@ -130,28 +134,39 @@ module _ (g : Geometry) (shape : Shape g) (some-worn : 1 ≤ g .worn) (img : Lis
     root-is = ap (λ (x : List ℕ). rootNode (chipOf g b x)) new-is ∙ formatted-root g shape b (good .least) img (good .image) bytes
 
     lives-are : livePages (pagesOf g b) fresh ≤ 1
-    lives-are = let e = ap (λ (x : List ℕ). livePages (pagesOf g b) (chipOf g b x)) new-is in let z = formatted-lives g shape b (good .least) img (good .image) bytes in omega (arith, e, z)
+    lives-are = let e = ap (λ (x : List ℕ). livePages (pagesOf g b) (chipOf g b x)) new-is in let z = formatted-lives g shape b (good .least) img
+        (good .image) bytes in omega (arith, e, z)
 
     not-worn-new : worn g b new ≡ false
     unfolding worn
-    not-worn-new = let e = ap (maxSeq g b) new-is in let z = formatted-max g shape b (good .least) img (good .image) bytes in le-ltb (g .worn) (maxSeq g b new) (omega (arith, e, z, some-worn))
+    not-worn-new = let e = ap (maxSeq g b) new-is in let z = formatted-max g shape b (good .least) img (good .image) bytes in le-ltb (g .worn)
+        (maxSeq g b new) (omega (arith, e, z, some-worn))
 
     not-high-new : tooHigh g fresh k ≡ false
     unfolding tooHigh
-    not-high-new = let t = shape .top-low in rw (ne-eqb (suc (fresh .level)) (g .top) (λ z. omega (arith, z, level-is, t)), and-false (eqb (length (rootNode fresh)) (rootSlots g (suc (fresh .level)))), and-false (rootGains g fresh k)) refl
+    not-high-new = let t = shape .top-low in rw (
+      ne-eqb (suc (fresh .level)) (g .top) (λ z. omega (arith, z, level-is, t)),
+      and-false
+          (eqb (length (rootNode fresh)) (rootSlots g (suc (fresh .level)))),
+      and-false (rootGains g fresh k),
+    ) refl
 
     needs-one : needs g fresh k ≡ 1
     unfolding needs fills
     needs-one =
-        let s = splits-le k a 0 (λ l. 0) (half g) (fresh .nodes) (λ l q. Unit {0}) (isNone (sought fresh k)) (fresh .level) (chosen k (rootNode fresh)) in
+        let s = splits-le k a 0 (λ l. 0) (half g) (fresh .nodes) (λ l q. Unit {0}) (isNone (sought fresh k)) (fresh .level)
+        (chosen k (rootNode fresh)) in
         let t = shape .top-low in
         let one : suc (fresh .level) ≡ 1 = omega (arith, level-is) in
         let r = ap (rootSlots g) one in
         let dd = shape .double 1 (omega arith) (omega (arith, t)) in
         let ss = shape .some 1 (omega arith) (omega (arith, t)) in
         let l = ap length root-is in
-        let f : eqb (length (rootNode fresh) + bit (rootGains g fresh k)) (rootSlots g (suc (fresh .level))) ≡ false = ne-eqb (length (rootNode fresh) + bit (rootGains g fresh k)) (rootSlots g (suc (fresh .level))) (λ z. let y = bit-le (rootGains g fresh k) in omega (arith, z, y, l, r, dd, ss)) in
-        let h : (ltb (suc (fresh .level)) (g .top) & eqb (length (rootNode fresh) + bit (rootGains g fresh k)) (rootSlots g (suc (fresh .level)))) ≡ false = rw (lt-ltb (suc (fresh .level)) (g .top) (omega (arith, one, t)), f, and-true false) refl in
+        let f : eqb (length (rootNode fresh) + bit (rootGains g fresh k)) (rootSlots g (suc (fresh .level))) ≡ false = ne-eqb
+        (length (rootNode fresh) + bit (rootGains g fresh k)) (rootSlots g (suc (fresh .level)))
+        (λ z. let y = bit-le (rootGains g fresh k) in omega (arith, z, y, l, r, dd, ss)) in
+        let h : (ltb (suc (fresh .level)) (g .top) & eqb (length (rootNode fresh) + bit (rootGains g fresh k))
+        (rootSlots g (suc (fresh .level)))) ≡ false = rw (lt-ltb (suc (fresh .level)) (g .top) (omega (arith, one, t)), f, and-true false) refl in
         let z = ap bit h in
         omega (arith, s, level-is, z)
 
@@ -171,14 +186,17 @@ module _ (g : Geometry) (shape : Shape g) (some-worn : 1 ≤ g .worn) (img : Lis
 
     -- and has written: the map is the one pair, and a lookup finds it
     pub first-map : Holds g (record { key = k; addr = a } ∷ []) (insert g new k a al .image)
-    first-map = subst (λ (m : List Entry). Holds g (put k a m) (insert g new k a al .image)) (format-holds .map-is) (insert-done g shape new new-ready k k-low a al a-low first-insert)
+    first-map = subst (λ (m : List Entry). Holds g (put k a m) (insert g new k a al .image)) (format-holds .map-is)
+        (insert-done g shape new new-ready k k-low a al a-low first-insert)
 
     pub second-lookup : lookup g (insert g new k a al .image) k ≡ answered (some a) (insert g new k a al .image)
-    second-lookup = lookup-answers g shape (insert g new k a al .image) (first-map .ready) k k-low ∙ ap (λ (o : Option ℕ). answered o (insert g new k a al .image)) (ap (find k) (first-map .map-is) ∙ find-put k a [])
+    second-lookup = lookup-answers g shape (insert g new k a al .image) (first-map .ready) k k-low
+        ∙ ap (λ (o : Option ℕ). answered o (insert g new k a al .image)) (ap (find k) (first-map .map-is) ∙ find-put k a [])
 
 -- ---- the small geometry: 5 own pages, 191 programs, 6 erases
 pub small-bounds : (img : List ℕ) → Ready small img → (k a al : ℕ) → k < 4294967296 → a < 4294967296 → Began (insert small img k a al)
-    → (programs (insertStores small (blocksOf small img) img k a) ≤ 191) × (erases (insertStores small (blocksOf small img) img k a) ≤ 6) × (needs small (chipOf small (blocksOf small img) img) k ≤ 5)
+    → (programs (insertStores small (blocksOf small img) img k a) ≤ 191) × (erases (insertStores small (blocksOf small img) img k a) ≤ 6) ×
+    (needs small (chipOf small (blocksOf small img) img) k ≤ 5)
 small-bounds img ready k a al k-low a-low b =
     let h = insert-stores small small-shape img ready k k-low a al a-low b in
     let o = insert-own small small-shape img ready k k-low a al a-low b in

@@ -48,7 +48,8 @@ made-untouched g ss al img = go (leb (length ss) al)
 abbrev tested : List ℕ → Bool → ℕ → Bool → ℕ → Bool → ℕ → Outcome → Outcome
 tested img x i y j z l o = pick x (refused i img) (pick y (refused j img) (pick z (refused l img) o))
 
-tested-untouched : (img : List ℕ) (x : Bool) (i : ℕ) (y : Bool) (j : ℕ) (z : Bool) (l : ℕ) (o : Outcome) → Untouched img o → Untouched img (tested img x i y j z l o)
+tested-untouched : (img : List ℕ) (x : Bool) (i : ℕ) (y : Bool) (j : ℕ) (z : Bool) (l : ℕ) (o : Outcome) → Untouched img o
+    → Untouched img (tested img x i y j z l o)
 tested-untouched img true i y j z l o h = λ p q. refl
 tested-untouched img false i true j z l o h = λ p q. refl
 tested-untouched img false i false j true l o h = λ p q. refl
@@ -61,7 +62,8 @@ pub record Passed (x y z : Bool) (o p : Outcome) : Type 0 where
   pub third : z ≡ false
   pub is : o ≡ p
 
-tested-passed : (img : List ℕ) (x : Bool) (i : ℕ) (y : Bool) (j : ℕ) (z : Bool) (l : ℕ) (o : Outcome) → 1 ≤ i → i ≤ 6 → 1 ≤ j → j ≤ 6 → 1 ≤ l → l ≤ 6 → Began (tested img x i y j z l o) → Passed x y z (tested img x i y j z l o) o
+tested-passed : (img : List ℕ) (x : Bool) (i : ℕ) (y : Bool) (j : ℕ) (z : Bool) (l : ℕ) (o : Outcome) → 1 ≤ i → i ≤ 6 → 1 ≤ j → j ≤ 6 → 1 ≤ l → l ≤ 6
+    → Began (tested img x i y j z l o) → Passed x y z (tested img x i y j z l o) o
 tested-passed img true i y j z l o a a′ b b′ c c′ (inl h) = absurd (omega (arith, h))
 tested-passed img true i y j z l o a a′ b b′ c c′ (inr h) = absurd (omega (arith, h))
 tested-passed img false i true j z l o a a′ b b′ c c′ (inl h) = absurd (omega (arith, h))
@@ -94,11 +96,15 @@ module _ (g : Geometry) (img : List ℕ) (k a al : ℕ) where
 
   pub insert-untouched : Untouched img (insert g img k a al)
   unfolding insert
-  insert-untouched = judged-untouched g img (insertRest g n img k a al) (subst (Untouched img) (sym insert-rest) (tested-untouched img (worn g n img) 3 (tooHigh g c k) 5 (roomless g (freePages g n c) (needs g c k)) 6 ins (made-untouched g (insertStores g n img k a) al img)))
+  insert-untouched = judged-untouched g img (insertRest g n img k a al) (subst (Untouched img) (sym insert-rest)
+      (tested-untouched img (worn g n img) 3 (tooHigh g c k) 5 (roomless g (freePages g n c) (needs g c k)) 6 ins
+      (made-untouched g (insertStores g n img k a) al img)))
 
   pub delete-untouched : Untouched img (delete g img k al)
   unfolding delete
-  delete-untouched = judged-untouched g img (deleteRest g n img k al) (subst (Untouched img) (sym delete-rest) (tested-untouched img (worn g n img) 3 (isNone (sought c k)) 4 (roomless g (freePages g n c) 1) 6 del (made-untouched g (deleteStores g n img k) al img)))
+  delete-untouched = judged-untouched g img (deleteRest g n img k al) (subst (Untouched img) (sym delete-rest)
+      (tested-untouched img (worn g n img) 3 (isNone (sought c k)) 4 (roomless g (freePages g n c) 1) 6 del
+      (made-untouched g (deleteStores g n img k) al img)))
 
   module _ (ready : Ready g img) where
     pub insert-is : insert g img k a al ≡ tested img (worn g n img) 3 (tooHigh g c k) 5 (roomless g (freePages g n c) (needs g c k)) 6 ins
@@ -109,14 +115,18 @@ module _ (g : Geometry) (img : List ℕ) (k a al : ℕ) where
     unfolding delete
     delete-is = judged-ready g img (deleteRest g n img k al) ready ∙ delete-rest
 
-    pub insert-passed : Began (insert g img k a al) → Passed (worn g n img) (tooHigh g c k) (roomless g (freePages g n c) (needs g c k)) (insert g img k a al) ins
+    pub insert-passed : Began (insert g img k a al)
+        → Passed (worn g n img) (tooHigh g c k) (roomless g (freePages g n c) (needs g c k)) (insert g img k a al) ins
     insert-passed b =
-        let p = tested-passed img (worn g n img) 3 (tooHigh g c k) 5 (roomless g (freePages g n c) (needs g c k)) 6 ins (omega arith) (omega arith) (omega arith) (omega arith) (omega arith) (omega arith) (subst Began insert-is b) in
+        let p = tested-passed img (worn g n img) 3 (tooHigh g c k) 5 (roomless g (freePages g n c) (needs g c k)) 6 ins (omega arith) (omega arith)
+        (omega arith) (omega arith) (omega arith) (omega arith) (subst Began insert-is b) in
         record { first = p .first; second = p .second; third = p .third; is = insert-is ∙ p .is }
 
-    pub delete-passed : Began (delete g img k al) → Passed (worn g n img) (isNone (sought c k)) (roomless g (freePages g n c) 1) (delete g img k al) del
+    pub delete-passed : Began (delete g img k al)
+        → Passed (worn g n img) (isNone (sought c k)) (roomless g (freePages g n c) 1) (delete g img k al) del
     delete-passed b =
-        let p = tested-passed img (worn g n img) 3 (isNone (sought c k)) 4 (roomless g (freePages g n c) 1) 6 del (omega arith) (omega arith) (omega arith) (omega arith) (omega arith) (omega arith) (subst Began delete-is b) in
+        let p = tested-passed img (worn g n img) 3 (isNone (sought c k)) 4 (roomless g (freePages g n c) 1) 6 del (omega arith) (omega arith)
+        (omega arith) (omega arith) (omega arith) (omega arith) (subst Began delete-is b) in
         record { first = p .first; second = p .second; third = p .third; is = delete-is ∙ p .is }
 
 pub not-worn : (g : Geometry) (n : ℕ) (img : List ℕ) → worn g n img ≡ false → maxSeq g n img ≤ g .worn

@@ -19,7 +19,8 @@ unfolding find
 find-put k a [] = rw (eq-eqb k k refl) refl
 find-put k a (e ∷ es) = go (ltb (e .key) k) refl (find-put k a es)
   where
-    go : (t : Bool) → ltb (e .key) k ≡ t → find k (put k a es) ≡ some a → find k (pick t (e ∷ put k a es) (record { key = k; addr = a } ∷ pick (eqb (e .key) k) es (e ∷ es))) ≡ some a
+    go : (t : Bool) → ltb (e .key) k ≡ t → find k (put k a es) ≡ some a
+        → find k (pick t (e ∷ put k a es) (record { key = k; addr = a } ∷ pick (eqb (e .key) k) es (e ∷ es))) ≡ some a
     go true z i = rw (ne-eqb (e .key) k (λ y. omega (arith, ltb-true (e .key) k z, y))) i
     go false z i = rw (eq-eqb k k refl) refl
 
@@ -28,7 +29,8 @@ unfolding find
 find-put-other k a j [] d = rw (ne-eqb k j (λ z. d (sym z))) refl
 find-put-other k a j (e ∷ es) d = go (ltb (e .key) k) (eqb (e .key) k) refl (find-put-other k a j es d)
   where
-    go : (t u : Bool) → eqb (e .key) k ≡ u → find j (put k a es) ≡ find j es → find j (pick t (e ∷ put k a es) (record { key = k; addr = a } ∷ pick u es (e ∷ es))) ≡ pick (eqb (e .key) j) (some (e .addr)) (find j es)
+    go : (t u : Bool) → eqb (e .key) k ≡ u → find j (put k a es) ≡ find j es
+        → find j (pick t (e ∷ put k a es) (record { key = k; addr = a } ∷ pick u es (e ∷ es))) ≡ pick (eqb (e .key) j) (some (e .addr)) (find j es)
     go true u z i = rw i refl
     go false true z i = rw (ne-eqb k j (λ y. d (sym y)), ne-eqb (e .key) j (λ y. d (sym y ∙ eqb-true (e .key) k z))) refl
     go false false z i = rw (ne-eqb k j (λ y. d (sym y))) refl
@@ -47,6 +49,7 @@ unfolding find
 find-remove-other k j [] d = refl
 find-remove-other k j (e ∷ es) d = go (eqb (e .key) k) refl (find-remove-other k j es d)
   where
-    go : (t : Bool) → eqb (e .key) k ≡ t → find j (remove k es) ≡ find j es → find j (pick t es (e ∷ remove k es)) ≡ pick (eqb (e .key) j) (some (e .addr)) (find j es)
+    go : (t : Bool) → eqb (e .key) k ≡ t → find j (remove k es) ≡ find j es
+        → find j (pick t es (e ∷ remove k es)) ≡ pick (eqb (e .key) j) (some (e .addr)) (find j es)
     go true z i = rw (ne-eqb (e .key) j (λ y. d (sym y ∙ eqb-true (e .key) k z))) refl
     go false z i = rw i refl

@@ -59,7 +59,8 @@ module _ (g : Geometry) (shape : Shape g) (img : List ℕ) (ready : Ready g img)
   keeps = ready-keeps g shape img ready
 
   -- the answer of three tests and the stores
-  three : (x y z : Bool) (i j l : ℕ) (o : Outcome) → (o .answer ≡ 0) ⊎ (o .answer ≡ 7) → OneOf (pick x (refused i img) (pick y (refused j img) (pick z (refused l img) o)) .answer) (0 ∷ i ∷ j ∷ l ∷ 7 ∷ [])
+  three : (x y z : Bool) (i j l : ℕ) (o : Outcome) → (o .answer ≡ 0) ⊎ (o .answer ≡ 7)
+      → OneOf (pick x (refused i img) (pick y (refused j img) (pick z (refused l img) o)) .answer) (0 ∷ i ∷ j ∷ l ∷ 7 ∷ [])
   three true y z i j l o h = inr (inl refl)
   three false true z i j l o h = inr (inr (inl refl))
   three false false true i j l o h = inr (inr (inr (inl refl)))
@@ -76,18 +77,21 @@ module _ (g : Geometry) (shape : Shape g) (img : List ℕ) (ready : Ready g img)
 
   pub insert-one : (a al : ℕ) → OneOf (insert g img k a al .answer) (0 ∷ 3 ∷ 5 ∷ 6 ∷ 7 ∷ [])
   insert-one a al = subst (λ (o : Outcome). OneOf (o .answer) (0 ∷ 3 ∷ 5 ∷ 6 ∷ 7 ∷ [])) (sym (insert-is g img k a al ready))
-      (three (worn g n img) (tooHigh g c k) (roomless g (freePages g n c) (needs g c k)) 3 5 6 (made g (insertStores g n img k a) al img) (made-began (insertStores g n img k a) al))
+      (three (worn g n img) (tooHigh g c k) (roomless g (freePages g n c) (needs g c k)) 3 5 6 (made g (insertStores g n img k a) al img)
+      (made-began (insertStores g n img k a) al))
 
   pub delete-one : (al : ℕ) → OneOf (delete g img k al .answer) (0 ∷ 3 ∷ 4 ∷ 6 ∷ 7 ∷ [])
   delete-one al = subst (λ (o : Outcome). OneOf (o .answer) (0 ∷ 3 ∷ 4 ∷ 6 ∷ 7 ∷ [])) (sym (delete-is g img k 0 al ready))
-      (three (worn g n img) (isNone (sought c k)) (roomless g (freePages g n c) 1) 3 4 6 (made g (deleteStores g n img k) al img) (made-began (deleteStores g n img k) al))
+      (three (worn g n img) (isNone (sought c k)) (roomless g (freePages g n c) 1) 3 4 6 (made g (deleteStores g n img k) al img)
+      (made-began (deleteStores g n img k) al))
 
   module _ (k-low : k < 4294967296) where
     pub found : sought c k ≡ find k (mapAt g img)
     found = sought-map g n c (keeps .held .whole) k k-low
 
     -- the second of the three tests is what its answer stands for
-    second : (x y z : Bool) (i j l : ℕ) (o : Outcome) → Began o → (i ≡ j → ⊥) → (l ≡ j → ⊥) → (j ≡ 0 → ⊥) → (j ≡ 7 → ⊥) → pick x (refused i img) (pick y (refused j img) (pick z (refused l img) o)) .answer ≡ j → y ≡ true
+    second : (x y z : Bool) (i j l : ℕ) (o : Outcome) → Began o → (i ≡ j → ⊥) → (l ≡ j → ⊥) → (j ≡ 0 → ⊥) → (j ≡ 7 → ⊥)
+        → pick x (refused i img) (pick y (refused j img) (pick z (refused l img) o)) .answer ≡ j → y ≡ true
     second true y z i j l o b d e f h p = absurd (d p)
     second false true z i j l o b d e f h p = refl
     second false false true i j l o b d e f h p = absurd (e p)
@@ -96,24 +100,32 @@ module _ (g : Geometry) (shape : Shape g) (img : List ℕ) (ready : Ready g img)
 
     pub absent-answer : (al : ℕ) → delete g img k al .answer ≡ 4 → find k (mapAt g img) ≡ none
     absent-answer al h = sym found ∙ none-is (sought c k)
-        (second (worn g n img) (isNone (sought c k)) (roomless g (freePages g n c) 1) 3 4 6 (made g (deleteStores g n img k) al img) (made-began (deleteStores g n img k) al) (λ z. omega (arith, z)) (λ z. omega (arith, z)) (λ z. omega (arith, z)) (λ z. omega (arith, z))
+        (second (worn g n img) (isNone (sought c k)) (roomless g (freePages g n c) 1) 3 4 6 (made g (deleteStores g n img k) al img)
+        (made-began (deleteStores g n img k) al) (λ z. omega (arith, z)) (λ z. omega (arith, z)) (λ z. omega (arith, z)) (λ z. omega (arith, z))
         (sym (ap (λ (o : Outcome). o .answer) (delete-is g img k 0 al ready)) ∙ h))
 
     pub answer-absent : (al : ℕ) → find k (mapAt g img) ≡ none → (delete g img k al .answer ≡ 3) ⊎ (delete g img k al .answer ≡ 4)
-    answer-absent al h = subst (λ (o : Outcome). (o .answer ≡ 3) ⊎ (o .answer ≡ 4)) (sym (delete-is g img k 0 al ready)) (go (worn g n img) (isNone (sought c k)) (ap isNone (found ∙ h)))
+    answer-absent al h = subst (λ (o : Outcome). (o .answer ≡ 3) ⊎ (o .answer ≡ 4)) (sym (delete-is g img k 0 al ready))
+        (go (worn g n img) (isNone (sought c k)) (ap isNone (found ∙ h)))
       where
-        go : (x y : Bool) → y ≡ true → (pick x (refused 3 img) (pick y (refused 4 img) (pick (roomless g (freePages g n c) 1) (refused 6 img) (made g (deleteStores g n img k) al img))) .answer ≡ 3) ⊎ (pick x (refused 3 img) (pick y (refused 4 img) (pick (roomless g (freePages g n c) 1) (refused 6 img) (made g (deleteStores g n img k) al img))) .answer ≡ 4)
+        go : (x y : Bool) → y ≡ true
+            → (pick x (refused 3 img) (pick y (refused 4 img) (pick (roomless g (freePages g n c) 1) (refused 6 img)
+            (made g (deleteStores g n img k) al img))) .answer ≡ 3) ⊎ (pick x (refused 3 img) (pick y (refused 4 img) (pick
+            (roomless g (freePages g n c) 1) (refused 6 img) (made g (deleteStores g n img k) al img))) .answer ≡ 4)
         go true y e = inl refl
         go false true e = inr refl
         go false false e = absurd (true-false false e refl)
 
     pub height-absent : (a al : ℕ) → insert g img k a al .answer ≡ 5 → find k (mapAt g img) ≡ none
     unfolding tooHigh rootGains
-    height-absent a al h = sym found ∙ none-is (sought c k) (gains-absent (c .nodes) k (half g) (isNone (sought c k)) (c .level) (chosen k (rootNode c)) (and-right _ _
-        (second (worn g n img) (tooHigh g c k) (roomless g (freePages g n c) (needs g c k)) 3 5 6 (made g (insertStores g n img k a) al img) (made-began (insertStores g n img k a) al) (λ z. omega (arith, z)) (λ z. omega (arith, z)) (λ z. omega (arith, z)) (λ z. omega (arith, z))
+    height-absent a al h = sym found ∙ none-is (sought c k) (gains-absent (c .nodes) k (half g) (isNone (sought c k)) (c .level)
+        (chosen k (rootNode c)) (and-right _ _
+        (second (worn g n img) (tooHigh g c k) (roomless g (freePages g n c) (needs g c k)) 3 5 6 (made g (insertStores g n img k a) al img)
+        (made-began (insertStores g n img k a) al) (λ z. omega (arith, z)) (λ z. omega (arith, z)) (λ z. omega (arith, z)) (λ z. omega (arith, z))
         (sym (ap (λ (o : Outcome). o .answer) (insert-is g img k a al ready)) ∙ h))))
 
-    pub insert-kept : (a al : ℕ) → a < 4294967296 → Began (insert g img k a al) → Kept g (mapAt g img) (put k a (mapAt g img)) img (insertStores g n img k a)
+    pub insert-kept : (a al : ℕ) → a < 4294967296 → Began (insert g img k a al)
+        → Kept g (mapAt g img) (put k a (mapAt g img)) img (insertStores g n img k a)
     insert-kept a al a-low b =
         let p = insert-passed g img k a al ready b in
         let f = few g shape img ready in
@@ -142,7 +154,8 @@ module _ (g : Geometry) (shape : Shape g) (img : List ℕ) (ready : Ready g img)
     delete-kept al b =
         let p = delete-passed g img k 0 al ready b in
         updated-kept g shape img ready (mapAt g img) (remove k (mapAt g img)) (deleteStores g n img k) 1 (let z = shape .top-low in omega (arith, z))
-        (delete-updated g shape n (few g shape img ready) (mapAt g img) img keeps (not-worn g n img (p .first)) (some-pages g shape img ready) k k-low (p .second) (p .third))
+        (delete-updated g shape n (few g shape img ready) (mapAt g img) img keeps (not-worn g n img (p .first)) (some-pages g shape img ready) k k-low
+        (p .second) (p .third))
 
     -- the image of a finished call, and of a stopped one
     pub insert-ends : (a al : ℕ) → a < 4294967296 → insert g img k a al .answer ≡ 0 → Holds g (put k a (mapAt g img)) (insert g img k a al .image)
@@ -164,14 +177,16 @@ module _ (g : Geometry) (shape : Shape g) (img : List ℕ) (ready : Ready g img)
         let p = insert-passed g img k a al ready (inr h) in
         let ss = insertStores g n img k a in
         let e = ap (λ (o : Outcome). o .image) (p .is) ∙ made-image g ss al img in
-        subst (Holds g (mapAt g img)) (sym e) (insert-kept a al a-low (inr h) .before al (made-stopped g ss al img (sym (ap (λ (o : Outcome). o .answer) (p .is)) ∙ h)))
+        subst (Holds g (mapAt g img)) (sym e) (insert-kept a al a-low (inr h) .before al
+        (made-stopped g ss al img (sym (ap (λ (o : Outcome). o .answer) (p .is)) ∙ h)))
 
     pub delete-stops : (al : ℕ) → delete g img k al .answer ≡ 7 → Holds g (mapAt g img) (delete g img k al .image)
     delete-stops al h =
         let p = delete-passed g img k 0 al ready (inr h) in
         let ss = deleteStores g n img k in
         let e = ap (λ (o : Outcome). o .image) (p .is) ∙ made-image g ss al img in
-        subst (Holds g (mapAt g img)) (sym e) (delete-kept al (inr h) .before al (made-stopped g ss al img (sym (ap (λ (o : Outcome). o .answer) (p .is)) ∙ h)))
+        subst (Holds g (mapAt g img)) (sym e) (delete-kept al (inr h) .before al
+        (made-stopped g ss al img (sym (ap (λ (o : Outcome). o .answer) (p .is)) ∙ h)))
 
     pub lookup-is : lookup g img k ≡ answered (find k (mapAt g img)) img
     unfolding lookup

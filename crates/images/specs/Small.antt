@@ -48,7 +48,8 @@ unfolding written
 written-small l at f zero s h = s
 written-small l at f (suc n) s h = set-small (written l at f n) (at + n) (f n) (written-small l at f n s h) (h n)
 
-four-small : (b : List ℕ) (i w x y z : ℕ) → Small b → w < 256 → x < 256 → y < 256 → z < 256 → Small (set (set (set (set b i w) (i + 1) x) (i + 2) y) (i + 3) z)
+four-small : (b : List ℕ) (i w x y z : ℕ) → Small b → w < 256 → x < 256 → y < 256 → z < 256
+    → Small (set (set (set (set b i w) (i + 1) x) (i + 2) y) (i + 3) z)
 four-small b i w x y z s hw hx hy hz =
     let s₁ = set-small b i w s hw in
     let s₂ = set-small (set b i w) (i + 1) x s₁ hx in
@@ -57,17 +58,21 @@ four-small b i w x y z s hw hx hy hz =
 
 word-small : (b : List ℕ) (i v : ℕ) → Small b → Small (putU32 b i v)
 unfolding putU32
-word-small b i v s = four-small b i (v % 256) (v / 256 % 256) (v / 65536 % 256) (v / 16777216 % 256) s (omega arith) (omega arith) (omega arith) (omega arith)
+word-small b i v s = four-small b i (v % 256) (v / 256 % 256) (v / 65536 % 256) (v / 16777216 % 256) s (omega arith) (omega arith) (omega arith)
+    (omega arith)
 
 entries-small : (b : List ℕ) (at : ℕ) (es : List Entry) → Small b → Small (putEntries b at es)
 unfolding putEntries putEntry
 entries-small b at [] s = s
-entries-small b at (e ∷ es) s = entries-small (putEntry b at e) (at + 8) es (word-small (putU32 b at (e .key)) (at + 4) (e .addr) (word-small b at (e .key) s))
+entries-small b at (e ∷ es) s = entries-small (putEntry b at e) (at + 8) es (word-small (putU32 b at (e .key)) (at + 4) (e .addr)
+    (word-small b at (e .key) s))
 
 levels-small : (g : Geometry) (parts : ℕ → List Entry) (n : ℕ) (b : List ℕ) → Small b → Small (putLevels g parts n b)
 unfolding putLevels putLevel
 levels-small g parts zero b s = s
-levels-small g parts (suc n) b s = set-small (putEntries (putLevels g parts n b) (8 * firstSlot g (suc n)) (parts (suc n))) (g .main + 4 + suc n) (length (parts (suc n)) % 256) (entries-small (putLevels g parts n b) (8 * firstSlot g (suc n)) (parts (suc n)) (levels-small g parts n b s)) (omega arith)
+levels-small g parts (suc n) b s = set-small (putEntries (putLevels g parts n b) (8 * firstSlot g (suc n)) (parts (suc n))) (g .main + 4 + suc n)
+    (length (parts (suc n)) % 256) (entries-small (putLevels g parts n b) (8 * firstSlot g (suc n)) (parts (suc n)) (levels-small g parts n b s))
+    (omega arith)
 
 blank-small : (n : ℕ) → Small (replicate n 255)
 blank-small n i = go (ltb i n) refl
@@ -83,7 +88,8 @@ pub built-small : (g : Geometry) (seq h : ℕ) (parts : ℕ → List Entry) → 
 unfolding built sealed
 built-small g seq h parts =
     let lev = putLevels g parts (g .top) (replicate (pageBytes g) 255) in
-    set-small (putU32 lev (g .main) seq) (g .main + 4) (h % 256) (word-small lev (g .main) seq (levels-small g parts (g .top) (replicate (pageBytes g) 255) (blank-small (pageBytes g)))) (omega arith)
+    set-small (putU32 lev (g .main) seq) (g .main + 4) (h % 256) (word-small lev (g .main) seq
+    (levels-small g parts (g .top) (replicate (pageBytes g) 255) (blank-small (pageBytes g)))) (omega arith)
 
 abbrev pub SmallStore : Store → Type 0
 SmallStore (program p bs) = Small bs

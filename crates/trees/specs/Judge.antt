@@ -86,16 +86,19 @@ module _ (ok : ℕ → Bool) where
   unfolding rising
   up-rising [] lo hi h f = refl
   up-rising (e ∷ es) lo hi h f =
-      and-both _ _ (and-both _ _ (and-both _ _ (le-leb lo (e .key) (f (omega arith))) (lt-ltb (e .key) hi (omega (arith, h .0, next-le May hi es (h .2))))) (h .1))
+      and-both _ _ (and-both _ _ (and-both _ _ (le-leb lo (e .key) (f (omega arith)))
+      (lt-ltb (e .key) hi (omega (arith, h .0, next-le May hi es (h .2))))) (h .1))
       (up-rising es (e .key + 1) hi (h .2) (λ _. omega (arith, h .0)))
 
-entries-good : (ok : ℕ → Bool) (sub : ℕ → ℕ → ℕ → Finding) (es : List Entry) (hi : ℕ) → Rises (λ y x. ok (x .addr) ≡ true) hi es → judgeEntries sub es hi ≡ Good
+entries-good : (ok : ℕ → Bool) (sub : ℕ → ℕ → ℕ → Finding) (es : List Entry) (hi : ℕ) → Rises (λ y x. ok (x .addr) ≡ true) hi es
+    → judgeEntries sub es hi ≡ Good
     → Rises (λ y x. (ok (x .addr) ≡ true) × (sub (x .addr) (x .key) y ≡ Good)) hi es
 unfolding judgeEntries
 entries-good ok sub [] hi h j = tt
 entries-good ok sub (e ∷ es) hi h j = (h .0, (h .1, first-left _ _ j), entries-good ok sub es hi (h .2) (first-right _ _ j))
 
-good-entries : (sub : ℕ → ℕ → ℕ → Finding) (es : List Entry) (hi : ℕ) → Rises (λ y x. sub (x .addr) (x .key) y ≡ Good) hi es → judgeEntries sub es hi ≡ Good
+good-entries : (sub : ℕ → ℕ → ℕ → Finding) (es : List Entry) (hi : ℕ) → Rises (λ y x. sub (x .addr) (x .key) y ≡ Good) hi es
+    → judgeEntries sub es hi ≡ Good
 unfolding judgeEntries first
 good-entries sub [] hi h = refl
 good-entries sub (e ∷ es) hi h = rw (h .1) (good-entries sub es hi (h .2))
@@ -126,11 +129,13 @@ module _ (g : Geometry) (shape : Shape g) (er : ℕ → Bool) (r : Nodes) (t : �
         omega (arith, most, shape .even (suc l)),
         up .1 one,
         rises-map (λ y x. (names er t (suc l) (x .addr) ≡ true) × (judge l (x .addr) (x .key) y ≡ Good)) (Fine l) y es
-            (λ y x _ _ i. entry-ok l y x (names-fit er t l (x .addr) (i .0)) (i .1)) (entries-good (names er t (suc l)) (judge l) es y (up .0) (u .1)),
+            (λ y x _ _ i. entry-ok l y x (names-fit er t l (x .addr) (i .0)) (i .1))
+            (entries-good (names er t (suc l)) (judge l) es y (up .0) (u .1)),
       )
 
   may-all : (l hi : ℕ) (es : List Entry) → Rises (Fine l) hi es → Rises (λ y x. names er t (suc l) (x .addr) ≡ true) hi es
-  may-all l hi es h = rises-map (Fine l) (λ y x. names er t (suc l) (x .addr) ≡ true) hi es (λ y x _ _ i. fit-names er t l (x .addr) (ok-fit (fitOf t er) room r l y x i)) h
+  may-all l hi es h = rises-map (Fine l) (λ y x. names er t (suc l) (x .addr) ≡ true) hi es
+      (λ y x _ _ i. fit-names er t l (x .addr) (ok-fit (fitOf t er) room r l y x i)) h
 
   ok-entry : (l y : ℕ) (x : Entry) → Fine l y x → judge l (x .addr) (x .key) y ≡ Good
   unfolding judgeNode own Ok
@@ -169,7 +174,8 @@ module _ (g : Geometry) (shape : Shape g) (t : ℕ) (c : Chip) where
         fits = f;
         least = least-of l (length es) (and-left _ _ a);
         atmost = leb-true (length es) (rootMost g (suc l)) (and-right _ _ a);
-        rises = rises-map (λ y x. (names (c .er) t (suc l) (x .addr) ≡ true) × (judgeNode g (c .er) (c .nodes) t l (x .addr) (x .key) y ≡ Good)) (Ok (fitOf t (c .er)) (λ l. 2 * half g l) (c .nodes) l) 4294967296 es
+        rises = rises-map (λ y x. (names (c .er) t (suc l) (x .addr) ≡ true) × (judgeNode g (c .er) (c .nodes) t l (x .addr) (x .key) y ≡ Good))
+            (Ok (fitOf t (c .er)) (λ l. 2 * half g l) (c .nodes) l) 4294967296 es
             (λ y x _ _ i. entry-ok g shape (c .er) (c .nodes) t l y x (names-fit (c .er) t l (x .addr) (i .0)) (i .1))
             (entries-good (names (c .er) t (suc l)) (judgeNode g (c .er) (c .nodes) t l) es 4294967296 (up .0) (u .1));
       }
@@ -183,7 +189,8 @@ module _ (g : Geometry) (shape : Shape g) (t : ℕ) (c : Chip) where
       (and-both _ _ (and-both _ _ (of-least l (length es) (h .least)) (le-leb (length es) (rootMost g (suc l)) (h .atmost)))
       (up-rising (names (c .er) t (suc l)) es 0 4294967296 (may-all g shape (c .er) (c .nodes) t l 4294967296 es (h .rises)) (λ _. omega arith)))
       (good-entries (judgeNode g (c .er) (c .nodes) t l) es 4294967296
-      (rises-map (Ok (fitOf t (c .er)) (λ l. 2 * half g l) (c .nodes) l) (λ y x. judgeNode g (c .er) (c .nodes) t l (x .addr) (x .key) y ≡ Good) 4294967296 es (λ y x _ _ i. ok-entry g shape (c .er) (c .nodes) t l y x i) (h .rises)))
+      (rises-map (Ok (fitOf t (c .er)) (λ l. 2 * half g l) (c .nodes) l) (λ y x. judgeNode g (c .er) (c .nodes) t l (x .addr) (x .key) y ≡ Good)
+      4294967296 es (λ y x _ _ i. ok-entry g shape (c .er) (c .nodes) t l y x i) (h .rises)))
 
 -- ---- R6
 pub names-some : (p : ℕ) (es : List Entry) → namesPage p es ≡ true → Some (λ e. e .addr ≡ p) es
@@ -191,7 +198,8 @@ unfolding namesPage
 names-some p [] h = true-false false h refl
 names-some p (e ∷ es) h = go (eqb (e .addr) p) refl h (names-some p es)
   where
-    go : (b : Bool) → eqb (e .addr) p ≡ b → pick b true (namesPage p es) ≡ true → (namesPage p es ≡ true → Some (λ e. e .addr ≡ p) es) → Some (λ e. e .addr ≡ p) (e ∷ es)
+    go : (b : Bool) → eqb (e .addr) p ≡ b → pick b true (namesPage p es) ≡ true → (namesPage p es ≡ true → Some (λ e. e .addr ≡ p) es)
+        → Some (λ e. e .addr ≡ p) (e ∷ es)
     go true z i f = inl (eqb-true (e .addr) p z)
     go false z i f = inr (f i)
 
@@ -219,10 +227,12 @@ unfolding lowestPage
 none-lower f [] t h = tt
 none-lower f (x ∷ xs) t h = go (f x) (ltb (x .page) t) refl refl (and-pick (f x) (ltb (x .page) t)) h (none-lower f xs)
   where
-    go : (a b : Bool) → f x ≡ a → ltb (x .page) t ≡ b → (f x & ltb (x .page) t) ≡ pick (f x) (ltb (x .page) t) false → t ≤ lowestPage f xs (pick (f x & ltb (x .page) t) (x .page) t)
+    go : (a b : Bool) → f x ≡ a → ltb (x .page) t ≡ b → (f x & ltb (x .page) t) ≡ pick (f x) (ltb (x .page) t) false
+        → t ≤ lowestPage f xs (pick (f x & ltb (x .page) t) (x .page) t)
         → ((u : ℕ) → u ≤ lowestPage f xs u → All (λ x. x .page < u → f x ≡ false) xs) → All (λ x. x .page < t → f x ≡ false) (x ∷ xs)
     go false b d e w i k = ((λ _. d), k t (rw (w, d) at i))
-    go true true d e w i k = let z : t ≤ lowestPage f xs (x .page) = rw (w, d, e) at i in absurd (omega (arith, z, lowest-le f xs (x .page), ltb-true (x .page) t e))
+    go true true d e w i k = let z : t ≤ lowestPage f xs (x .page) = rw (w, d, e) at i in
+        absurd (omega (arith, z, lowest-le f xs (x .page), ltb-true (x .page) t e))
     go true false d e w i k = ((λ q. absurd (omega (arith, q, ltb-false (x .page) t e))), k t (rw (w, d, e) at i))
 
 lower-none : (f : Place → Bool) (xs : List Place) (t : ℕ) → All (λ x. f x ≡ false) xs → lowestPage f xs t ≡ t
@@ -234,36 +244,45 @@ module _ (t : ℕ) (c : Chip) where
   abbrev pls : List Place
   pls = placesOf c
 
-  strict : (x y : Place) → Mem y pls → x .page ≡ y .page → y .level < x .level → loose (c .nodes) pls x ≡ false → Some (λ e. e .addr ≡ x .page) (c .nodes (x .page) (x .level))
+  strict : (x y : Place) → Mem y pls → x .page ≡ y .page → y .level < x .level → loose (c .nodes) pls x ≡ false
+      → Some (λ e. e .addr ≡ x .page) (c .nodes (x .page) (x .level))
   unfolding loose
   strict x y m e b h =
       let w = low-is pls (x .page) (rw e (mem-live y pls m)) in
       let v = all-get (λ z. z .page ≡ x .page → lowLevel pls (x .page) ≤ z .level) y pls (w .1) m (sym e) in
-      names-some (x .page) (c .nodes (x .page) (x .level)) (not-not (namesPage (x .page) (c .nodes (x .page) (x .level))) (rw (lt-ltb (lowLevel pls (x .page)) (x .level) (omega (arith, v, b)), and-true (not (namesPage (x .page) (c .nodes (x .page) (x .level))))) at h))
+      names-some (x .page) (c .nodes (x .page) (x .level)) (not-not (namesPage (x .page) (c .nodes (x .page) (x .level)))
+      (rw (lt-ltb (lowLevel pls (x .page)) (x .level) (omega (arith, v, b)), and-true (not (namesPage (x .page) (c .nodes (x .page) (x .level)))))
+      at h))
 
   pub r6-tied : All (λ x. x .page < t) pls → r6 t c ≡ Good → Tied (c .nodes) pls
   unfolding r6
   r6-tied in-t h =
       let u = unless-good _ _ _ h in
       let a = none-lower (loose (c .nodes) pls) pls t (leb-true t (lowestPage (loose (c .nodes) pls) pls t) (u .0)) in
-      all-map (λ x. (x .page < t → loose (c .nodes) pls x ≡ false) × (x .page < t)) (λ x. All (λ y. x .page ≡ y .page → y .level < x .level → Some (λ e. e .addr ≡ x .page) (c .nodes (x .page) (x .level))) pls) pls
-      (λ x i. all-map (λ y. Mem y pls) (λ y. x .page ≡ y .page → y .level < x .level → Some (λ e. e .addr ≡ x .page) (c .nodes (x .page) (x .level))) pls (λ y m e b. strict x y m e b (i .0 (i .1))) (all-mem pls))
+      all-map (λ x. (x .page < t → loose (c .nodes) pls x ≡ false) × (x .page < t))
+      (λ x. All (λ y. x .page ≡ y .page → y .level < x .level → Some (λ e. e .addr ≡ x .page) (c .nodes (x .page) (x .level))) pls) pls
+      (λ x i. all-map (λ y. Mem y pls) (λ y. x .page ≡ y .page → y .level < x .level → Some (λ e. e .addr ≡ x .page) (c .nodes (x .page) (x .level)))
+      pls (λ y m e b. strict x y m e b (i .0 (i .1))) (all-mem pls))
       (all-both (λ x. x .page < t → loose (c .nodes) pls x ≡ false) (λ x. x .page < t) pls a in-t)
 
   pub tied-r6 : Tied (c .nodes) pls → r6 t c ≡ Good
   unfolding r6 loose
   tied-r6 h =
       let z : lowestPage (loose (c .nodes) pls) pls t ≡ t = lower-none (loose (c .nodes) pls) pls t
-      (all-map (λ x. All (λ y. x .page ≡ y .page → y .level < x .level → Some (λ e. e .addr ≡ x .page) (c .nodes (x .page) (x .level))) pls × Mem x pls) (λ x. loose (c .nodes) pls x ≡ false) pls (λ x i. fast x (i .0) (i .1))
-      (all-both (λ x. All (λ y. x .page ≡ y .page → y .level < x .level → Some (λ e. e .addr ≡ x .page) (c .nodes (x .page) (x .level))) pls) (λ x. Mem x pls) pls h (all-mem pls))) in
+      (all-map (λ x. All (λ y. x .page ≡ y .page → y .level < x .level → Some (λ e. e .addr ≡ x .page) (c .nodes (x .page) (x .level))) pls
+      × Mem x pls) (λ x. loose (c .nodes) pls x ≡ false) pls (λ x i. fast x (i .0) (i .1))
+      (all-both (λ x. All (λ y. x .page ≡ y .page → y .level < x .level → Some (λ e. e .addr ≡ x .page) (c .nodes (x .page) (x .level))) pls)
+      (λ x. Mem x pls) pls h (all-mem pls))) in
       good-unless _ _ _ (rw z (le-leb t t (omega arith))) refl
     where
-      fast : (x : Place) → All (λ y. x .page ≡ y .page → y .level < x .level → Some (λ e. e .addr ≡ x .page) (c .nodes (x .page) (x .level))) pls → Mem x pls → loose (c .nodes) pls x ≡ false
+      fast : (x : Place) → All (λ y. x .page ≡ y .page → y .level < x .level → Some (λ e. e .addr ≡ x .page) (c .nodes (x .page) (x .level))) pls
+          → Mem x pls → loose (c .nodes) pls x ≡ false
       fast x i m = go (ltb (lowLevel pls (x .page)) (x .level)) refl
         where
           go : (u : Bool) → ltb (lowLevel pls (x .page)) (x .level) ≡ u → (u & not (namesPage (x .page) (c .nodes (x .page) (x .level)))) ≡ false
           go false e = and-false (not (namesPage (x .page) (c .nodes (x .page) (x .level))))
           go true e =
               let w = low-is pls (x .page) (mem-live x pls m) in
-              let s = all-get (λ y. x .page ≡ y .page → y .level < x .level → Some (λ e. e .addr ≡ x .page) (c .nodes (x .page) (x .level))) (record { page = x .page; level = lowLevel pls (x .page) }) pls i (w .0) refl (ltb-true (lowLevel pls (x .page)) (x .level) e) in
+              let s = all-get (λ y. x .page ≡ y .page → y .level < x .level → Some (λ e. e .addr ≡ x .page) (c .nodes (x .page) (x .level)))
+              (record { page = x .page; level = lowLevel pls (x .page) }) pls i (w .0) refl (ltb-true (lowLevel pls (x .page)) (x .level) e) in
               rw (and-true (not (namesPage (x .page) (c .nodes (x .page) (x .level)))), some-names (x .page) (c .nodes (x .page) (x .level)) s) refl

@@ -124,30 +124,36 @@ pub next-le : (P : ℕ → Entry → Type 0) (hi : ℕ) (es : List Entry) → Ri
 next-le P hi [] h = omega arith
 next-le P hi (e ∷ es) h = let i = next-le P hi es (h .2) in omega arith
 
-pub rises-map : (P Q : ℕ → Entry → Type 0) (hi : ℕ) (es : List Entry) → ((y : ℕ) (x : Entry) → x .key < y → y ≤ hi → P y x → Q y x) → Rises P hi es → Rises Q hi es
+pub rises-map : (P Q : ℕ → Entry → Type 0) (hi : ℕ) (es : List Entry) → ((y : ℕ) (x : Entry) → x .key < y → y ≤ hi → P y x → Q y x) → Rises P hi es
+    → Rises Q hi es
 rises-map P Q hi [] s h = tt
 rises-map P Q hi (e ∷ es) s h = (h .0, s (next es hi) e (h .0) (next-le P hi es (h .2)) (h .1), rises-map P Q hi es s (h .2))
 
-pub rises-all : (P : ℕ → Entry → Type 0) (Z : Entry → Type 0) (hi : ℕ) (es : List Entry) → ((y : ℕ) (x : Entry) → x .key < y → y ≤ hi → P y x → Z x) → Rises P hi es → All Z es
+pub rises-all : (P : ℕ → Entry → Type 0) (Z : Entry → Type 0) (hi : ℕ) (es : List Entry) → ((y : ℕ) (x : Entry) → x .key < y → y ≤ hi → P y x → Z x)
+    → Rises P hi es → All Z es
 rises-all P Z hi [] s h = tt
 rises-all P Z hi (e ∷ es) s h = (s (next es hi) e (h .0) (next-le P hi es (h .2)) (h .1), rises-all P Z hi es s (h .2))
 
-pub rises-both : (P : ℕ → Entry → Type 0) (Z : Entry → Type 0) (hi : ℕ) (es : List Entry) → Rises P hi es → All Z es → Rises (λ y x. P y x × Z x) hi es
+pub rises-both : (P : ℕ → Entry → Type 0) (Z : Entry → Type 0) (hi : ℕ) (es : List Entry) → Rises P hi es → All Z es
+    → Rises (λ y x. P y x × Z x) hi es
 rises-both P Z hi [] h i = tt
 rises-both P Z hi (e ∷ es) h i = (h .0, (h .1, i .0), rises-both P Z hi es (h .2) (i .1))
 
 -- a higher bound: what held of the last entry must hold with the higher one too
-pub rises-more : (P Q : ℕ → Entry → Type 0) (hi hi′ : ℕ) (es : List Entry) → hi ≤ hi′ → ((y y′ : ℕ) (x : Entry) → x .key < y → y ≤ y′ → P y x → Q y′ x) → Rises P hi es → Rises Q hi′ es
+pub rises-more : (P Q : ℕ → Entry → Type 0) (hi hi′ : ℕ) (es : List Entry) → hi ≤ hi′
+    → ((y y′ : ℕ) (x : Entry) → x .key < y → y ≤ y′ → P y x → Q y′ x) → Rises P hi es → Rises Q hi′ es
 rises-more P Q hi hi′ [] q s h = tt
 rises-more P Q hi hi′ (e ∷ []) q s h = (omega arith, s hi hi′ e (h .0) q (h .1), tt)
 rises-more P Q hi hi′ (e ∷ g ∷ es) q s h = (h .0, s (g .key) (g .key) e (h .0) (omega arith) (h .1), rises-more P Q hi hi′ (g ∷ es) q s (h .2))
 
 -- what starts at lo or later has every key at lo or later
-pub rises-floor : (P : ℕ → Entry → Type 0) (lo hi : ℕ) (es : List Entry) → lo ≤ next es hi → Rises P hi es → Rises (λ y x. P y x × (lo ≤ x .key)) hi es
+pub rises-floor : (P : ℕ → Entry → Type 0) (lo hi : ℕ) (es : List Entry) → lo ≤ next es hi → Rises P hi es
+    → Rises (λ y x. P y x × (lo ≤ x .key)) hi es
 rises-floor P lo hi [] q h = tt
 rises-floor P lo hi (e ∷ es) q h = (h .0, (h .1, q), rises-floor P lo hi es (omega arith) (h .2))
 
-pub gather-in : (d : Entry → List Entry) (lo hi : ℕ) (es : List Entry) → lo ≤ next es hi → Rises (λ y x. All (In (x .key) y) (d x)) hi es → All (In lo hi) (gather d es)
+pub gather-in : (d : Entry → List Entry) (lo hi : ℕ) (es : List Entry) → lo ≤ next es hi → Rises (λ y x. All (In (x .key) y) (d x)) hi es
+    → All (In lo hi) (gather d es)
 unfolding gather
 gather-in d lo hi [] q h = tt
 gather-in d lo hi (e ∷ es) q h =
@@ -169,9 +175,22 @@ pub record Split (P : ℕ → Entry → Type 0) (k hi : ℕ) (es : List Entry) (
   pub here : P (next post hi) x
   pub rest : Rises P hi post
 
-pub split : (P : ℕ → Entry → Type 0) (k hi : ℕ) (es : List Entry) → 0 < length es → k < hi → Rises P hi es → Split P k hi es (chosen k es) (λ f. splice f k es)
+pub split : (P : ℕ → Entry → Type 0) (k hi : ℕ) (es : List Entry) → 0 < length es → k < hi → Rises P hi es
+    → Split P k hi es (chosen k es) (λ f. splice f k es)
 split P k hi [] n q h = absurd (omega arith)
-split P k hi (e ∷ []) n q h = record { pre = []; post = []; whole = refl; spliced = λ f. sym (append-nil (f e)); before = tt; upto = λ z. absurd (omega arith); under = q; up = h .0; here = h .1; rest = tt }
+split P k hi (e ∷ []) n q h = record {
+  pre = [];
+  post = [];
+  whole = refl;
+  spliced = λ f. sym (append-nil (f e));
+  before = tt;
+  upto =
+      λ z. absurd (omega arith);
+  under = q;
+  up = h .0;
+  here = h .1;
+  rest = tt;
+}
 split P k hi (e ∷ g ∷ es) n q h = go (leb (g .key) k) refl (split P k hi (g ∷ es) (omega arith) q (h .2))
   where
     first : (pre : List Entry) (x : Entry) (post : List Entry) → g ∷ es ≡ pre ++ (x ∷ post) → g .key ≡ next pre (x .key)
@@ -181,7 +200,8 @@ split P k hi (e ∷ g ∷ es) n q h = go (leb (g .key) k) refl (split P k hi (g 
     low [] x r u b w = omega arith
     low (y ∷ pre) x r u b w = u (omega arith)
 
-    go : (t : Bool) → leb (g .key) k ≡ t → Split P k hi (g ∷ es) (chosen k (g ∷ es)) (λ f. splice f k (g ∷ es)) → Split P k hi (e ∷ g ∷ es) (pick t (chosen k (g ∷ es)) e) (λ f. pick t (e ∷ splice f k (g ∷ es)) (f e ++ (g ∷ es)))
+    go : (t : Bool) → leb (g .key) k ≡ t → Split P k hi (g ∷ es) (chosen k (g ∷ es)) (λ f. splice f k (g ∷ es))
+        → Split P k hi (e ∷ g ∷ es) (pick t (chosen k (g ∷ es)) e) (λ f. pick t (e ∷ splice f k (g ∷ es)) (f e ++ (g ∷ es)))
     go true b s =
         let x = chosen k (g ∷ es) in
         let w = first (s .pre) x (s .post) (s .whole) in
@@ -197,10 +217,23 @@ split P k hi (e ∷ g ∷ es) n q h = go (leb (g .key) k) refl (split P k hi (g 
           here = s .here;
           rest = s .rest;
         }
-    go false b s = record { pre = []; post = g ∷ es; whole = refl; spliced = λ f. refl; before = tt; upto = λ z. absurd (omega arith); under = leb-false (g .key) k b; up = h .0; here = h .1; rest = h .2 }
+    go false b s = record {
+      pre = [];
+      post = g ∷ es;
+      whole = refl;
+      spliced = λ f. refl;
+      before = tt;
+      upto = λ z. absurd (omega arith);
+      under =
+          leb-false (g .key) k b;
+      up = h .0;
+      here = h .1;
+      rest = h .2;
+    }
 
 -- a splice hangs on what it makes of the chosen entry alone
-pub splice-cong : (P : ℕ → Entry → Type 0) (f g : Entry → List Entry) (k hi : ℕ) (es : List Entry) → 0 < length es → k < hi → Rises P hi es → f (chosen k es) ≡ g (chosen k es) → splice f k es ≡ splice g k es
+pub splice-cong : (P : ℕ → Entry → Type 0) (f g : Entry → List Entry) (k hi : ℕ) (es : List Entry) → 0 < length es → k < hi → Rises P hi es
+    → f (chosen k es) ≡ g (chosen k es) → splice f k es ≡ splice g k es
 splice-cong P f g k hi es n q h e = go (split P k hi es n q h)
   where
     go : Split P k hi es (chosen k es) (λ f. splice f k es) → splice f k es ≡ splice g k es

@@ -42,9 +42,11 @@ module _ (fit : ℕ → ℕ → Type 0) (room : ℕ → ℕ) (r : Nodes) (k : �
   pre-in : (l z : ℕ) (pre : List Entry) → ((0 < length pre) → z ≤ k) → Rises (Ok fit room r l) z pre → All (In 0 k) (gather (under r l) pre)
   unfolding gather
   pre-in l z [] u h = tt
-  pre-in l z (e ∷ pre) u h = let b = u (omega arith) in all-map (In 0 z) (In 0 k) (gather (under r l) (e ∷ pre)) (λ x i. omega (arith, i, b)) (gather-in (under r l) 0 z (e ∷ pre) (omega arith) (ranges l z (e ∷ pre) h))
+  pre-in l z (e ∷ pre) u h = let b = u (omega arith) in all-map (In 0 z) (In 0 k) (gather (under r l) (e ∷ pre)) (λ x i. omega (arith, i, b))
+      (gather-in (under r l) 0 z (e ∷ pre) (omega arith) (ranges l z (e ∷ pre) h))
 
-  pub find-list : (l hi : ℕ) (es : List Entry) → 0 < length es → k < hi → Rises (Ok fit room r l) hi es → find k (gather (under r l) es) ≡ find k (under r l (chosen k es))
+  pub find-list : (l hi : ℕ) (es : List Entry) → 0 < length es → k < hi → Rises (Ok fit room r l) hi es
+      → find k (gather (under r l) es) ≡ find k (under r l (chosen k es))
   unfolding gather
   find-list l hi es n q h = go (split (Ok fit room r l) k hi es n q h)
     where
@@ -52,11 +54,15 @@ module _ (fit : ℕ → ℕ → Type 0) (room : ℕ → ℕ) (r : Nodes) (k : �
       go s =
           let x = chosen k es in
           ap (λ m. find k (gather (under r l) m)) (s .whole) ∙ ap (find k) (gather-append (under r l) (s .pre) (x ∷ s .post))
-          ∙ find-after k 0 (gather (under r l) (s .pre)) (under r l x ++ gather (under r l) (s .post)) (pre-in l (x .key) (s .pre) (s .upto) (s .before))
-          ∙ find-before k (next (s .post) hi) hi (under r l x) (gather (under r l) (s .post)) (s .under) (gather-in (under r l) (next (s .post) hi) hi (s .post) (omega arith) (ranges l hi (s .post) (s .rest)))
+          ∙ find-after k 0 (gather (under r l) (s .pre)) (under r l x ++ gather (under r l) (s .post))
+          (pre-in l (x .key) (s .pre) (s .upto) (s .before))
+          ∙ find-before k (next (s .post) hi) hi (under r l x) (gather (under r l) (s .post)) (s .under)
+          (gather-in (under r l) (next (s .post) hi) hi (s .post) (omega arith) (ranges l hi (s .post) (s .rest)))
 
   -- joined lists that rise each in its range
-  gather-rises : (l hi : ℕ) (es : List Entry) → Rises (Ok fit room r l) hi es → ((y : ℕ) (x : Entry) → x .key < y → Ok fit room r l y x → Rises (λ y x. Unit {0}) y (under r l x)) → Rises (λ y x. Unit {0}) hi (gather (under r l) es)
+  gather-rises : (l hi : ℕ) (es : List Entry) → Rises (Ok fit room r l) hi es
+      → ((y : ℕ) (x : Entry) → x .key < y → Ok fit room r l y x → Rises (λ y x. Unit {0}) y (under r l x))
+      → Rises (λ y x. Unit {0}) hi (gather (under r l) es)
   unfolding gather
   gather-rises l hi [] h step = tt
   gather-rises l hi (e ∷ es) h step =
@@ -82,7 +88,8 @@ module _ (fit : ℕ → ℕ → Type 0) (room : ℕ → ℕ) (r : Nodes) (k : �
       find-list (suc l) hi es (h .1) q (h .4) ∙ find-leaf l (next (s .post) hi) (chosen k es) (s .under) (s .here)
 
   -- lookup answers as the map does
-  pub find-root : (most : ℕ → ℕ) (top l p : ℕ) → k < top → Rooted fit room most top r l p → find k (leaf r k l (the p)) ≡ find k (under r (suc l) (the p))
+  pub find-root : (most : ℕ → ℕ) (top l p : ℕ) → k < top → Rooted fit room most top r l p
+      → find k (leaf r k l (the p)) ≡ find k (under r (suc l) (the p))
   unfolding under leaf
   find-root most top zero p q h = ap (find k) (sym (gather-one (r p 1)))
   find-root most top (suc l) p q h =

@@ -24,12 +24,14 @@ unfoldable pub Along : Geometry → ℕ → (List ℕ → Type 0) → List ℕ �
 Along g n P img [] = P img
 Along g n P img (s ∷ ss) = P img × Legal g n img s × Along g n P (applyStore g s img) ss
 
-pub along-append : (g : Geometry) (n : ℕ) (P : List ℕ → Type 0) (img : List ℕ) (ss ts : List Store) → Along g n P img ss → Along g n P (applyAll g ss img) ts → Along g n P img (ss ++ ts)
+pub along-append : (g : Geometry) (n : ℕ) (P : List ℕ → Type 0) (img : List ℕ) (ss ts : List Store) → Along g n P img ss
+    → Along g n P (applyAll g ss img) ts → Along g n P img (ss ++ ts)
 unfolding Along applyAll
 along-append g n P img [] ts h k = k
 along-append g n P img (s ∷ ss) ts h k = (h .0, h .1, along-append g n P (applyStore g s img) ss ts (h .2) k)
 
-pub along-map : (g : Geometry) (n : ℕ) (P Q : List ℕ → Type 0) (img : List ℕ) (ss : List Store) → ((i : List ℕ) → P i → Q i) → Along g n P img ss → Along g n Q img ss
+pub along-map : (g : Geometry) (n : ℕ) (P Q : List ℕ → Type 0) (img : List ℕ) (ss : List Store) → ((i : List ℕ) → P i → Q i) → Along g n P img ss
+    → Along g n Q img ss
 unfolding Along
 along-map g n P Q img [] f h = f img h
 along-map g n P Q img (s ∷ ss) f h = (f img (h .0), h .1, along-map g n P Q (applyStore g s img) ss f (h .2))
@@ -40,7 +42,8 @@ along-end g n P img [] h = h
 along-end g n P img (s ∷ ss) h = along-end g n P (applyStore g s img) ss (h .2)
 
 -- so after each beginning of the list
-pub along-take : (g : Geometry) (n : ℕ) (P : List ℕ → Type 0) (img : List ℕ) (ss : List Store) (m : ℕ) → Along g n P img ss → P (applyAll g (take m ss) img)
+pub along-take : (g : Geometry) (n : ℕ) (P : List ℕ → Type 0) (img : List ℕ) (ss : List Store) (m : ℕ) → Along g n P img ss
+    → P (applyAll g (take m ss) img)
 unfolding Along applyAll
 along-take g n P img [] zero h = h
 along-take g n P img [] (suc m) h = h
@@ -86,7 +89,8 @@ module _ (g : Geometry) (n : ℕ) (base : List Entry) where
   unfolding Along applyAll programs erases
   runs-none img b e h = record { along = h; chip-is = refl; grows = omega arith; programmed = omega arith; wiped = omega arith }
 
-  pub runs-then : (img : List ℕ) (ss ts : List Store) (c d : Chip) (a b e f : ℕ) → Runs g n base img ss c a e → Runs g n base (applyAll g ss img) ts d b f → Runs g n base img (ss ++ ts) d (a + b) (e + f)
+  pub runs-then : (img : List ℕ) (ss ts : List Store) (c d : Chip) (a b e f : ℕ) → Runs g n base img ss c a e
+      → Runs g n base (applyAll g ss img) ts d b f → Runs g n base img (ss ++ ts) d (a + b) (e + f)
   runs-then img ss ts c d a b e f h k = record {
     along = along-append g n (Keeps g n base) img ss ts (h .along) (k .along);
     chip-is = rw (apply-append g ss ts img) (k .chip-is);
@@ -95,12 +99,22 @@ module _ (g : Geometry) (n : ℕ) (base : List Entry) where
     wiped = omega (arith, erases-append ss ts, h .wiped, k .wiped);
   }
 
-  pub runs-as : (img : List ℕ) (ss : List Store) (c d : Chip) (a b e f : ℕ) → c ≡ d → a ≤ b → e ≤ f → Runs g n base img ss c a e → Runs g n base img ss d b f
-  runs-as img ss c d a b e f z p q r = record { along = r .along; chip-is = r .chip-is ∙ z; grows = r .grows; programmed = omega (arith, r .programmed, p); wiped = omega (arith, r .wiped, q) }
+  pub runs-as : (img : List ℕ) (ss : List Store) (c d : Chip) (a b e f : ℕ) → c ≡ d → a ≤ b → e ≤ f → Runs g n base img ss c a e
+      → Runs g n base img ss d b f
+  runs-as img ss c d a b e f z p q r = record {
+    along = r .along;
+    chip-is = r .chip-is ∙ z;
+    grows = r .grows;
+    programmed =
+        omega (arith, r .programmed, p);
+    wiped = omega (arith, r .wiped, q);
+  }
 
   -- one page without a root
-  pub side-runs : Shape g → (img : List ℕ) → Keeps g n base img → (parts : ℕ → List Entry) → Parts g parts → g .pages + 1 ≤ count (pagesOf g n) (chipOf g n img .er) → suc (maxSeq g n img) < 4294967295
-      → Runs g n base img (nextStore g n 0 parts img ∷ []) (beside (chipOf g n img) (nextPage (g .pages) n (chipOf g n img .er)) (builtView g (suc (maxSeq g n img)) 0 parts)) 1 0
+  pub side-runs : Shape g → (img : List ℕ) → Keeps g n base img → (parts : ℕ → List Entry) → Parts g parts
+      → g .pages + 1 ≤ count (pagesOf g n) (chipOf g n img .er) → suc (maxSeq g n img) < 4294967295
+      → Runs g n base img (nextStore g n 0 parts img ∷ [])
+      (beside (chipOf g n img) (nextPage (g .pages) n (chipOf g n img .er)) (builtView g (suc (maxSeq g n img)) 0 parts)) 1 0
   unfolding Along applyAll programs erases nextStore
   side-runs shape img h parts ok f low =
       let free : 1 ≤ count (pagesOf g n) (chipOf g n img .er) = omega (arith, f) in

@@ -68,7 +68,8 @@ module _ (k a : ℕ) (k-fits : k < 4294967296) (a-fits : a < 4294967296) where
   put-most [] = omega arith
   put-most (e ∷ es) = go (ltb (e .key) k) (eqb (e .key) k) (put-most es)
     where
-      go : (t u : Bool) → length (put k a es) ≤ length es + 1 → length (pick t (e ∷ put k a es) (record { key = k; addr = a } ∷ pick u es (e ∷ es))) ≤ suc (length es) + 1
+      go : (t u : Bool) → length (put k a es) ≤ length es + 1
+          → length (pick t (e ∷ put k a es) (record { key = k; addr = a } ∷ pick u es (e ∷ es))) ≤ suc (length es) + 1
       go true u i = omega (arith, i)
       go false true i = omega arith
       go false false i = omega arith
@@ -101,8 +102,10 @@ module _ (k a : ℕ) (k-fits : k < 4294967296) (a-fits : a < 4294967296) where
         go true = omega arith
         go false = omega arith
 
-module _ (g : Geometry) (shape : Shape g) (n : ℕ) (few : pagesOf g n + g .pages < 4294967296) (k a : ℕ) (k-low : k < 4294967296) (a-low : a < 4294967296)
-    (c : Chip) (whole : Whole g n c) (all-fit : (q l : ℕ) → All Fits (c .nodes q l)) (high : suc (c .level) ≤ g .top) (not-high : tooHigh g c k ≡ false) where
+module _ (g : Geometry) (shape : Shape g) (n : ℕ) (few : pagesOf g n + g .pages < 4294967296) (k a : ℕ) (k-low : k < 4294967296)
+    (a-low : a < 4294967296)
+    (c : Chip) (whole : Whole g n c) (all-fit : (q l : ℕ) → All Fits (c .nodes q l)) (high : suc (c .level) ≤ g .top)
+    (not-high : tooHigh g c k ≡ false) where
   abbrev m : ℕ
   m = needs g c k
 
@@ -126,19 +129,27 @@ module _ (g : Geometry) (shape : Shape g) (n : ℕ) (few : pagesOf g n + g .page
 
   lists-fit : (j : ℕ) → All Fits (lists j)
   unfolding insertList
-  lists-fit j = path-all (c .nodes) k (put k a) (named k N side (half g)) Fits (put-fits k a k-low a-low) (named-fits k a k-low a-low N side (half g) (side-low m) side-low) all-fit (c .level) (theRoot c) j
+  lists-fit j = path-all (c .nodes) k (put k a) (named k N side (half g)) Fits (put-fits k a k-low a-low)
+      (named-fits k a k-low a-low N side (half g) (side-low m) side-low) all-fit (c .level) (theRoot c) j
 
   lists-most : (j : ℕ) → 1 ≤ j → j ≤ c .level → length (lists j) ≤ 2 * half g j + 1
   unfolding insertList
-  lists-most j b d = path-most (c .nodes) k (put k a) (named k N side (half g)) 1 (put-most k a k-low a-low) (named-most k a k-low a-low N side (half g) (side-low m) side-low) (fitOf (pagesOf g n) (c .er)) (λ l. 2 * half g l) (c .level) 4294967296 (theRoot c)
+  lists-most j b d = path-most (c .nodes) k (put k a) (named k N side (half g)) 1 (put-most k a k-low a-low)
+      (named-most k a k-low a-low N side (half g) (side-low m) side-low) (fitOf (pagesOf g n) (c .er)) (λ l. 2 * half g l) (c .level) 4294967296
+      (theRoot c)
       (λ i. let z = whole .sound .rooted .least i in omega (arith, z)) (whole .sound .rooted .rises) j b d
 
   -- the halves of a level below the root
-  cut-most : (j : ℕ) → 1 ≤ j → j ≤ c .level → (length (pathHalf k (half g j) (lists j)) ≤ 2 * half g j) × (length (sideHalf k (half g j) (lists j)) ≤ 2 * half g j)
-  cut-most j b d = let s = shape .some j b (omega (arith, d, high)) in let w = lists-most j b d in half-most k (half g j) (2 * half g j) (lists j) (omega arith) (omega (arith, w, s))
+  cut-most : (j : ℕ) → 1 ≤ j → j ≤ c .level
+      → (length (pathHalf k (half g j) (lists j)) ≤ 2 * half g j) × (length (sideHalf k (half g j) (lists j)) ≤ 2 * half g j)
+  cut-most j b d = let s = shape .some j b (omega (arith, d, high)) in let w = lists-most j b d in half-most k (half g j) (2 * half g j) (lists j)
+      (omega arith) (omega (arith, w, s))
 
-  crown-most : grows ≡ true → (length (pathHalf k (2 * half g (suc (c .level))) (lists (suc (c .level)))) ≤ 2 * half g (suc (c .level))) × (length (sideHalf k (2 * half g (suc (c .level))) (lists (suc (c .level)))) ≤ 2 * half g (suc (c .level)))
-  crown-most e = let u = grow-all g shape n k a k-low c whole e in half-most k (2 * half g (suc (c .level))) (2 * half g (suc (c .level))) (lists (suc (c .level))) (omega arith) (omega (arith, u .1))
+  crown-most : grows ≡ true
+      → (length (pathHalf k (2 * half g (suc (c .level))) (lists (suc (c .level)))) ≤ 2 * half g (suc (c .level))) ×
+      (length (sideHalf k (2 * half g (suc (c .level))) (lists (suc (c .level)))) ≤ 2 * half g (suc (c .level)))
+  crown-most e = let u = grow-all g shape n k a k-low c whole e in half-most k (2 * half g (suc (c .level))) (2 * half g (suc (c .level)))
+      (lists (suc (c .level))) (omega arith) (omega (arith, u .1))
 
   path-part-most : (j : ℕ) → 1 ≤ j → j ≤ c .level → length (pathPart k (half g) j (lists j)) ≤ slotsOf g j
   path-part-most j b d = by-test (leb (length (lists j)) (2 * half g j))
@@ -156,7 +167,8 @@ module _ (g : Geometry) (shape : Shape g) (n : ℕ) (few : pagesOf g n + g .page
   pub side-parts : (j : ℕ) → 1 ≤ j → j < m → Parts g (only j (sideList g n c k a j))
   unfolding sideList
   side-parts j b d = parts-most g shape j (only j X) b top
-      (λ l _ _. all (eqb l j)) (λ l _ q. rw (ne-eqb l j (λ z. omega (arith, z, q))) (omega arith)) (rw (eq-eqb j j refl) (omega (arith, len, shape .even j, shape .fits j))) (λ l q. rw (ne-eqb l j (λ z. omega (arith, z, q))) refl)
+      (λ l _ _. all (eqb l j)) (λ l _ q. rw (ne-eqb l j (λ z. omega (arith, z, q))) (omega arith))
+      (rw (eq-eqb j j refl) (omega (arith, len, shape .even j, shape .fits j))) (λ l q. rw (ne-eqb l j (λ z. omega (arith, z, q))) refl)
     where
       X : List Entry
       X = pick (leb j (c .level)) (sideHalf k (half g j) (lists j)) (sideHalf k (2 * half g j) (lists j))
@@ -169,7 +181,8 @@ module _ (g : Geometry) (shape : Shape g) (n : ℕ) (few : pagesOf g n + g .page
 
       -- either below the root, or the root's, which grows
       cases : {C : Type 0} → (j ≤ c .level → C) → (j ≡ suc (c .level) → grows ≡ true → C) → C
-      cases f h = by-le j (c .level) f (λ z. by-test grows (λ e. h (omega (arith, z, d, is, cut, bit-le grows)) e) (λ e. absurd (omega (arith, z, d, is, cut, ap bit e))))
+      cases f h = by-le j (c .level) f (λ z. by-test grows (λ e. h (omega (arith, z, d, is, cut, bit-le grows)) e)
+          (λ e. absurd (omega (arith, z, d, is, cut, ap bit e))))
 
       top : j ≤ g .top
       top = cases (λ z. omega (arith, z, high)) (λ z e. omega (arith, z, high))
@@ -199,10 +212,15 @@ module _ (g : Geometry) (shape : Shape g) (n : ℕ) (few : pagesOf g n + g .page
       first-low : next (lists (suc (c .level))) 0 < 4294967296
       first-low = next-fits (lists (suc (c .level))) (lists-fit (suc (c .level)))
 
-      crown-fits : (j : ℕ) (t u v w : Bool) → All Fits (pick t (pathPart k (half g) j (lists j)) (pick u (pick v (pathHalf k (2 * half g (suc (c .level))) (lists (suc (c .level)))) (pick w (two k N (side (suc (c .level))) (2 * half g (suc (c .level))) (next (lists (suc (c .level))) 0) (lists (suc (c .level)))) [])) (pick v (lists (suc (c .level))) [])))
+      crown-fits : (j : ℕ) (t u v w : Bool)
+          → All Fits
+          (pick t (pathPart k (half g) j (lists j)) (pick u (pick v (pathHalf k (2 * half g (suc (c .level))) (lists (suc (c .level))))
+          (pick w (two k N (side (suc (c .level))) (2 * half g (suc (c .level))) (next (lists (suc (c .level))) 0) (lists (suc (c .level))))
+          [])) (pick v (lists (suc (c .level))) [])))
       crown-fits j true u v w = path-part-fits j
       crown-fits j false true true w = half-fits k (2 * half g (suc (c .level))) (lists (suc (c .level))) (lists-fit (suc (c .level))) .0
-      crown-fits j false true false true = two-fits k a k-low a-low N side (half g) (side-low m) side-low (suc (c .level)) (2 * half g (suc (c .level))) (next (lists (suc (c .level))) 0) (lists (suc (c .level))) first-low (lists-fit (suc (c .level)))
+      crown-fits j false true false true = two-fits k a k-low a-low N side (half g) (side-low m) side-low (suc (c .level))
+          (2 * half g (suc (c .level))) (next (lists (suc (c .level))) 0) (lists (suc (c .level))) first-low (lists-fit (suc (c .level)))
       crown-fits j false true false false = tt
       crown-fits j false false true w = lists-fit (suc (c .level))
       crown-fits j false false false w = tt
@@ -215,13 +233,26 @@ module _ (g : Geometry) (shape : Shape g) (n : ℕ) (few : pagesOf g n + g .page
           let u = grow-all g shape n k a k-low c whole e in
           parts-most g shape (suc (suc (c .level))) (mainList g n c k a) (omega arith) (omega (arith, u .0)) fits
           (λ j b q. by-le j (c .level) (λ z. rw (le-leb j (c .level) z) (path-part-most j b z))
-          (λ z. let y : j ≡ suc (c .level) = omega (arith, z, q) in rw (lt-leb j (c .level) z, e, eq-eqb j (suc (c .level)) y, y) (let w = crown-most e .0 in let s = shape .even (suc (c .level)) in omega (arith, w, s))))
-          (rw (lt-leb (suc (suc (c .level))) (c .level) (omega arith), e, ne-eqb (suc (suc (c .level))) (suc (c .level)) (λ z. omega (arith, z)), eq-eqb (suc (suc (c .level))) (suc (suc (c .level))) refl) (two-root g shape n k a k-low c whole (u .0)))
-          (λ j q. rw (lt-leb j (c .level) (omega (arith, q)), e, ne-eqb j (suc (c .level)) (λ z. omega (arith, z, q)), ne-eqb j (suc (suc (c .level))) (λ z. omega (arith, z, q))) refl)
+          (λ z. let y : j ≡ suc (c .level) = omega (arith, z, q) in rw (lt-leb j (c .level) z, e, eq-eqb j (suc (c .level)) y, y)
+          (let w = crown-most e .0 in let s = shape .even (suc (c .level)) in omega (arith, w, s))))
+          (rw (
+            lt-leb (suc (suc (c .level))) (c .level) (omega arith),
+            e,
+            ne-eqb (suc (suc (c .level))) (suc (c .level)) (λ z. omega (arith, z)),
+            eq-eqb (suc (suc (c .level))) (suc (suc (c .level))) refl,
+          ) (two-root g shape n k a k-low c whole (u .0)))
+          (λ j q. rw (
+            lt-leb j (c .level) (omega (arith, q)),
+            e,
+            ne-eqb j (suc (c .level)) (λ z. omega (arith, z, q)),
+            ne-eqb j (suc (suc (c .level)))
+                (λ z. omega (arith, z, q)),
+          ) refl)
 
       stayed : grows ≡ false → Parts g (mainList g n c k a)
       stayed e =
           parts-most g shape (suc (c .level)) (mainList g n c k a) (omega arith) high fits
           (λ j b q. rw (le-leb j (c .level) (omega (arith, q))) (path-part-most j b (omega (arith, q))))
-          (rw (lt-leb (suc (c .level)) (c .level) (omega arith), e, eq-eqb (suc (c .level)) (suc (c .level)) refl) (stay-most g shape n k a k-low c whole high not-high e))
+          (rw (lt-leb (suc (c .level)) (c .level) (omega arith), e, eq-eqb (suc (c .level)) (suc (c .level)) refl)
+          (stay-most g shape n k a k-low c whole high not-high e))
           (λ j q. rw (lt-leb j (c .level) (omega (arith, q)), e, ne-eqb j (suc (c .level)) (λ z. omega (arith, z, q))) refl)

@@ -103,12 +103,14 @@ module _ (g : Geometry) (shape : Shape g) (n : ℕ) (few : pagesOf g n + g .page
 
   lists-fit : (j : ℕ) → All Fits (lists j)
   unfolding deleteList
-  lists-fit j = path-all (c .nodes) k (remove k) (kept N) Fits (remove-fits k) (kept-fits N (omega (arith, N-in, few))) all-fit (c .level) (theRoot c) j
+  lists-fit j = path-all (c .nodes) k (remove k) (kept N) Fits (remove-fits k) (kept-fits N (omega (arith, N-in, few))) all-fit (c .level)
+      (theRoot c) j
 
   lists-most : (j : ℕ) → 1 ≤ j → j ≤ c .level → length (lists j) ≤ slotsOf g j
   unfolding deleteList
   lists-most j b d =
-      let w = path-most (c .nodes) k (remove k) (kept N) 0 (remove-most k) (kept-most N) (fitOf t (c .er)) (λ l. 2 * half g l) (c .level) 4294967296 (theRoot c) (λ i. let z = whole .sound .rooted .least i in omega (arith, z)) (whole .sound .rooted .rises) j b d in
+      let w = path-most (c .nodes) k (remove k) (kept N) 0 (remove-most k) (kept-most N) (fitOf t (c .er)) (λ l. 2 * half g l) (c .level) 4294967296
+      (theRoot c) (λ i. let z = whole .sound .rooted .least i in omega (arith, z)) (whole .sound .rooted .rises) j b d in
       let e = shape .even j in
       omega (arith, w, e)
 
@@ -121,8 +123,10 @@ module _ (g : Geometry) (shape : Shape g) (n : ℕ) (few : pagesOf g n + g .page
 
   parts : Parts g (leftList g n c k)
   unfolding deletePart
-  parts = parts-most g shape (suc (top .level)) (leftList g n c k) (omega arith) (omega (arith, lower, high)) (λ l _ _. fits l (eqb l (suc (top .level))) (eqb (top .level) (c .level) & leb l (c .level)))
-      (λ l b q. rw (ne-eqb l (suc (top .level)) (λ z. omega (arith, z, q))) (within l b (omega (arith, q, lower)) (eqb (top .level) (c .level) & leb l (c .level))))
+  parts = parts-most g shape (suc (top .level)) (leftList g n c k) (omega arith) (omega (arith, lower, high))
+      (λ l _ _. fits l (eqb l (suc (top .level))) (eqb (top .level) (c .level) & leb l (c .level)))
+      (λ l b q. rw (ne-eqb l (suc (top .level)) (λ z. omega (arith, z, q))) (within l b (omega (arith, q, lower))
+      (eqb (top .level) (c .level) & leb l (c .level))))
       (rw (eq-eqb (suc (top .level)) (suc (top .level)) refl) (top-most g shape n k k-low c whole present free high))
       (λ l q. rw (ne-eqb l (suc (top .level)) (λ z. omega (arith, z, q))) (none l q))
     where
@@ -161,7 +165,8 @@ module _ (g : Geometry) (shape : Shape g) (n : ℕ) (few : pagesOf g n + g .page
 
     stays : (p l : ℕ) → fitOf t (c .er) (suc l) p → e′ .nodes p (suc l) ≡ c .nodes p (suc l)
     unfolding rooted taken
-    stays p l h = rw (ne-eqb p N (λ z. new-side g shape n c (whole .r2) 1 free 1 l (omega arith) (omega arith) (subst (fitOf t (c .er) (suc l)) z h))) refl
+    stays p l h = rw (ne-eqb p N (λ z. new-side g shape n c (whole .r2) 1 free 1 l (omega arith) (omega arith)
+        (subst (fitOf t (c .er) (suc l)) z h))) refl
 
     final-is : e′ ≡ record { er = taken (g .pages) n (c .er) 1; nodes = e′ .nodes; level = top .level; root = N }
     unfolding rooted taken
@@ -180,5 +185,6 @@ module _ (g : Geometry) (shape : Shape g) (n : ℕ) (few : pagesOf g n + g .page
   pub delete-own : Updated g n base (remove k base) img (deleteStore g n (maxSeq g n img) c k ∷ []) 1 0
   unfolding applyAll
   delete-own =
-      updated g shape n base (remove k base) img [] c 0 0 height (leftList g n c k) (deleteStore g n (maxSeq g n img) c k) (runs-none g n base img 0 0 keeps) room (omega (arith, low)) parts (omega arith) (omega (arith, lower, high)) store-is
+      updated g shape n base (remove k base) img [] c 0 0 height (leftList g n c k) (deleteStore g n (maxSeq g n img) c k)
+      (runs-none g n base img 0 0 keeps) room (omega (arith, low)) parts (omega arith) (omega (arith, lower, high)) store-is
       (λ q. (final-done q .0, final-done q .1 ∙ ap (remove k) (keeps .map-is)))

@@ -42,7 +42,11 @@ nothing l = []
 
 -- one programmed page, the first
 fresh-r2 : (p n : ℕ) (er : ℕ → Bool) → 1 ≤ p → ((q : ℕ) → q < p * n → er q ≡ after 0 (λ _. true) q) → R2 p n er
-fresh-r2 p n er pos h = record { mono = mono; one = λ b c hb hc x y. page-inj p b c 0 0 (omega arith) (omega arith) (first b hb x ∙ sym (first c hc y)) .0 }
+fresh-r2 p n er pos h = record {
+  mono = mono;
+  one = λ b c hb hc x y. page-inj p b c 0 0 (omega arith) (omega arith)
+      (first b hb x ∙ sym (first c hc y)) .0;
+}
   where
     not-first : (q : ℕ) → q < p * n → (q ≡ 0 → ⊥) → er q ≡ true
     not-first q i d = h q i ∙ rw (ne-eqb q 0 d) refl
@@ -56,21 +60,25 @@ fresh-r2 p n er pos h = record { mono = mono; one = λ b c hb hc x y. page-inj p
         (λ z. not-first (p * b + j) (in-range p n b j hb hj) z)
 
     first : (b : ℕ) → b < n → mixed p er b ≡ true → p * b + 0 ≡ 0
-    first b hb x = by-eq (p * b + 0) 0 (λ z. z) (λ z. absurd (true-false (mixed p er b) x (rw (not-first (p * b + 0) (in-range p n b 0 hb (omega arith)) z) refl)))
+    first b hb x = by-eq (p * b + 0) 0 (λ z. z) (λ z. absurd (true-false (mixed p er b) x
+        (rw (not-first (p * b + 0) (in-range p n b 0 hb (omega arith)) z) refl)))
 
 -- an empty root on it
-fresh-sound : (t : ℕ) (er : ℕ → Bool) (room most : ℕ → ℕ) (top : ℕ) (r : Nodes) → 0 < t → er 0 ≡ false → ((l : ℕ) → r 0 l ≡ []) → Proper (fitOf t er) room most top r 0 0
+fresh-sound : (t : ℕ) (er : ℕ → Bool) (room most : ℕ → ℕ) (top : ℕ) (r : Nodes) → 0 < t → er 0 ≡ false → ((l : ℕ) → r 0 l ≡ [])
+    → Proper (fitOf t er) room most top r 0 0
 unfolding places gather
 fresh-sound t er room most top r i e empty = record {
   rooted = record { fits = (i, e); least = λ z. absurd (omega (arith, z)); atmost = rw (empty 1) (omega arith); rises = rw (empty 1) tt };
-  tied = subst (λ (es : List Entry). Tied r (record { page = 0; level = 1 } ∷ gather (places r 0) es)) (sym (empty 1)) (((λ _ q. absurd (omega (arith, q))), tt), tt);
+  tied = subst (λ (es : List Entry). Tied r (record { page = 0; level = 1 } ∷ gather (places r 0) es)) (sym (empty 1))
+      (((λ _ q. absurd (omega (arith, q))), tt), tt);
 }
 
 -- one page is live
 count-one : (s : ℕ) → count s (λ q. pick (eqb 0 q) true false) ≤ 1
 unfolding count
 count-one zero = omega arith
-count-one (suc s) = by-eq 0 s (λ e. let z : count s (λ q. pick (eqb 0 q) true false) ≡ 0 = subst (λ m. count m (λ q. pick (eqb 0 q) true false) ≡ 0) e refl in let b = bit-le (pick (eqb 0 s) true false) in omega (arith, z, b))
+count-one (suc s) = by-eq 0 s (λ e. let z : count s (λ q. pick (eqb 0 q) true false) ≡ 0 =
+    subst (λ m. count m (λ q. pick (eqb 0 q) true false) ≡ 0) e refl in let b = bit-le (pick (eqb 0 s) true false) in omega (arith, z, b))
     (λ e. rw (ne-eqb 0 s e) (omega (arith, count-one s)))
 
 module _ (g : Geometry) (shape : Shape g) (n : ℕ) (three : 3 ≤ n) (img : List ℕ) (image : Image g n img) (bytes : Small img) where
@@ -101,12 +109,16 @@ module _ (g : Geometry) (shape : Shape g) (n : ℕ) (three : 3 ≤ n) (img : Lis
   wiped-none : (m : ℕ) → m ≤ n → (q : ℕ) → q < g .pages * m → views g (wiped m) q ≡ noView g
   wiped-none zero h q i = absurd (omega (arith, i, mul-zero (g .pages)))
   wiped-none (suc m) h q i =
-      ap (λ (x : List ℕ). views g x q) (wiped-more m) ∙ ap (λ (v : Views). v q) (views-erase g shape (wiped m) m (block-room g shape (wiped m) n (wiped-image m) m h)) ∙ go (inB (g .pages) m q) refl (wiped-none m (omega arith) q)
+      ap (λ (x : List ℕ). views g x q) (wiped-more m) ∙ ap (λ (v : Views). v q)
+      (views-erase g shape (wiped m) m (block-room g shape (wiped m) n (wiped-image m) m h)) ∙ go (inB (g .pages) m q) refl
+      (wiped-none m (omega arith) q)
     where
       before : inB (g .pages) m q ≡ false → q < g .pages * m
-      before e = by-le (suc q) (g .pages * m) (λ z. z) (λ z. absurd (true-false (inB (g .pages) m q) (within (g .pages) m q (omega (arith, z)) (omega (arith, i, mul-suc (g .pages) m))) e))
+      before e = by-le (suc q) (g .pages * m) (λ z. z) (λ z. absurd (true-false (inB (g .pages) m q)
+          (within (g .pages) m q (omega (arith, z)) (omega (arith, i, mul-suc (g .pages) m))) e))
 
-      go : (u : Bool) → inB (g .pages) m q ≡ u → (q < g .pages * m → views g (wiped m) q ≡ noView g) → pick u (noView g) (views g (wiped m) q) ≡ noView g
+      go : (u : Bool) → inB (g .pages) m q ≡ u → (q < g .pages * m → views g (wiped m) q ≡ noView g)
+          → pick u (noView g) (views g (wiped m) q) ≡ noView g
       go true e ih = refl
       go false e ih = ih (before e)
 
@@ -118,10 +130,12 @@ module _ (g : Geometry) (shape : Shape g) (n : ℕ) (three : 3 ≤ n) (img : Lis
 
   max-none : topOf t (views g bare) ≡ 0
   unfolding topOf
-  max-none = let w = peak-least t (λ q. views g bare q .seq) 0 (λ i h. let e = ap (λ (x : View). x .seq) (none-at i h) in omega (arith, e)) in omega (arith, w)
+  max-none = let w = peak-least t (λ q. views g bare q .seq) 0 (λ i h. let e = ap (λ (x : View). x .seq) (none-at i h) in omega (arith, e)) in
+      omega (arith, w)
 
   parts : Parts g nothing
-  parts = parts-table g shape 0 nothing (λ l _ _. tt) (λ l a b. omega arith) (λ h. let w = shape .room 0 h in omega (arith, w)) (λ l a. refl) (λ l _ _. omega arith)
+  parts = parts-table g shape 0 nothing (λ l _ _. tt) (λ l a b. omega arith) (λ h. let w = shape .room 0 h in omega (arith, w)) (λ l a. refl)
+      (λ l _ _. omega arith)
 
   abbrev w : View
   w = builtView g 1 1 nothing
@@ -152,20 +166,28 @@ module _ (g : Geometry) (shape : Shape g) (n : ℕ) (three : 3 ≤ n) (img : Lis
   seq-is = ap suc (sym max-none)
 
   pub formatted-chip : chipOf g n formatted ≡ d
-  formatted-chip = ap (chipOf g n) formatted-is ∙ program-root g shape bare n (wiped-image n) 0 pos 1 1 nothing parts (omega arith) (omega arith) (omega arith) seq-is
+  formatted-chip = ap (chipOf g n) formatted-is ∙ program-root g shape bare n (wiped-image n) 0 pos 1 1 nothing parts (omega arith) (omega arith)
+      (omega arith) seq-is
 
   whole : Whole g n d
   unfolding rooted
-  whole = record { r2 = fresh-r2 (g .pages) n (d .er) (some-page g shape) er-is; sound = fresh-sound t (d .er) (λ l. 2 * half g l) (rootMost g) 4294967296 (d .nodes) pos (er-is 0 pos) nodes-none }
+  whole = record {
+    r2 = fresh-r2 (g .pages) n (d .er) (some-page g shape) er-is;
+    sound = fresh-sound t (d .er) (λ l. 2 * half g l)
+        (rootMost g) 4294967296 (d .nodes) pos (er-is 0 pos) nodes-none;
+  }
 
   formatted-held : Held g n formatted
   formatted-held = subst (Held g n) (sym formatted-is) (record {
     image = length-store g (program 0 (built g 1 1 nothing)) bare ∙ wiped-image n;
     bytes = store-small g (program 0 (built g 1 1 nothing)) bare (built-small g 1 1 nothing) (wiped-small n);
-    r1 = program-r1 g shape bare n (wiped-image n) 0 pos 1 1 nothing parts (omega arith) (omega arith) (let z = shape .top-low in omega (arith, z)) (omega arith) (λ q h. rw (none-at q h) (record { high = omega arith; rest = refl; some = λ e. absurd (true-false true refl e) }));
-    r3 = program-r3 g shape bare n (wiped-image n) 0 pos 1 1 nothing parts (omega arith) (omega arith) seq-is (record { differ = λ p q hp hq ep eq e. absurd (true-false true refl (sym (ap (λ (x : View). x .er) (none-at p hp)) ∙ ep)) });
+    r1 = program-r1 g shape bare n (wiped-image n) 0 pos 1 1 nothing parts (omega arith) (omega arith) (let z = shape .top-low in omega (arith, z))
+        (omega arith) (λ q h. rw (none-at q h) (record { high = omega arith; rest = refl; some = λ e. absurd (true-false true refl e) }));
+    r3 = program-r3 g shape bare n (wiped-image n) 0 pos 1 1 nothing parts (omega arith) (omega arith) seq-is
+        (record { differ = λ p q hp hq ep eq e. absurd (true-false true refl (sym (ap (λ (x : View). x .er) (none-at p hp)) ∙ ep)) });
     r4 = program-r4 g shape bare n (wiped-image n) 0 pos 1 1 nothing parts (omega arith) (omega arith) (omega arith) seq-is;
-    whole = subst (Whole g n) (sym (program-root g shape bare n (wiped-image n) 0 pos 1 1 nothing parts (omega arith) (omega arith) (omega arith) seq-is)) whole;
+    whole = subst (Whole g n) (sym (program-root g shape bare n (wiped-image n) 0 pos 1 1 nothing parts (omega arith) (omega arith)
+        (omega arith) seq-is)) whole;
   })
 
   pub formatted-frees : count t (chipOf g n formatted .er) + 1 ≡ t
@@ -183,7 +205,12 @@ module _ (g : Geometry) (shape : Shape g) (n : ℕ) (three : 3 ≤ n) (img : Lis
 
   -- held, R7, the map empty
   pub formatted-keeps : Keeps g n [] formatted
-  formatted-keeps = record { held = formatted-held; r7 = inl (let z = some-page g shape in omega (arith, formatted-frees, big, z)); map-is = ap mapOf formatted-chip ∙ map-none }
+  formatted-keeps = record {
+    held = formatted-held;
+    r7 = inl (let z = some-page g shape in omega (arith, formatted-frees, big, z));
+    map-is =
+        ap mapOf formatted-chip ∙ map-none;
+  }
 
   pub formatted-max : maxSeq g n formatted ≤ 1
   formatted-max =
@@ -205,6 +232,7 @@ module _ (g : Geometry) (shape : Shape g) (n : ℕ) (three : 3 ≤ n) (img : Lis
   unfolding rooted places gather live
   formatted-lives =
       let e = ap (λ (x : Chip). livePages t x) formatted-chip in
-      let z : placesOf d ≡ record { page = 0; level = 1 } ∷ [] = ap (λ (es : List Entry). record { page = 0; level = 1 } ∷ gather (places (d .nodes) 0) es) (nodes-none 1) in
+      let z : placesOf d ≡ record { page = 0; level = 1 } ∷ [] = ap (λ (es : List Entry). record { page = 0; level = 1 } ∷ gather
+      (places (d .nodes) 0) es) (nodes-none 1) in
       let l = ap (λ (pls : List Place). count t (live pls)) z in
       omega (arith, e, l, count-one t)

@@ -50,9 +50,11 @@ pub record Sided (g : Geometry) (n : ℕ) (base : List Entry) (img : List ℕ) (
   pub laid : Laid g n (chipOf g n img) k a i chip
   pub max-is : maxSeq g n (applyAll g ss img) ≡ maxSeq g n img + i
 
-module _ (g : Geometry) (shape : Shape g) (n : ℕ) (few : pagesOf g n + g .pages < 4294967296) (k a : ℕ) (k-low : k < 4294967296) (a-low : a < 4294967296)
+module _ (g : Geometry) (shape : Shape g) (n : ℕ) (few : pagesOf g n + g .pages < 4294967296) (k a : ℕ) (k-low : k < 4294967296)
+    (a-low : a < 4294967296)
     (base : List Entry) (img : List ℕ) (keeps : Keeps g n base img) (not-high : tooHigh g (chipOf g n img) k ≡ false)
-    (room : g .pages + needs g (chipOf g n img) k ≤ count (pagesOf g n) (chipOf g n img .er)) (low : maxSeq g n img + needs g (chipOf g n img) k < 4294967295) where
+    (room : g .pages + needs g (chipOf g n img) k ≤ count (pagesOf g n) (chipOf g n img .er))
+    (low : maxSeq g n img + needs g (chipOf g n img) k < 4294967295) where
   abbrev c : Chip
   c = chipOf g n img
 
@@ -93,7 +95,8 @@ module _ (g : Geometry) (shape : Shape g) (n : ℕ) (few : pagesOf g n + g .page
   free = omega (arith, room)
 
   high : suc (c .level) ≤ g .top
-  high = height-most g shape n img (let z = side-erased g shape n c (whole .r2) m free m (omega (arith, m-is)) (omega arith) .1 in omega (arith, z)) (keeps .held)
+  high = height-most g shape n img (let z = side-erased g shape n c (whole .r2) m free m (omega (arith, m-is)) (omega arith) .1 in omega (arith, z))
+      (keeps .held)
 
   all-fit : (q l : ℕ) → All Fits (c .nodes q l)
   all-fit = node-fits g img (keeps .held .bytes)
@@ -110,11 +113,17 @@ module _ (g : Geometry) (shape : Shape g) (n : ℕ) (few : pagesOf g n + g .page
     next-side = ap (nextPage (g .pages) n) (laid .er-is)
 
     top : suc i ≤ g .top
-    top = by-test grows (λ e. let u = grow-all g shape n k a k-low c whole e in omega (arith, lt, m-is, cut-le, u .0, bit-le grows)) (λ e. omega (arith, lt, m-is, cut-le, high, ap bit e))
+    top = by-test grows (λ e. let u = grow-all g shape n k a k-low c whole e in omega (arith, lt, m-is, cut-le, u .0, bit-le grows))
+        (λ e. omega (arith, lt, m-is, cut-le, high, ap bit e))
 
     here : (q : ℕ) → q ≡ side (suc i) → d′ .nodes q (suc i) ≡ sideList g n c k a (suc i)
     unfolding beside
-    here q e = rw (eq-eqb q (nextPage (g .pages) n (d .er)) (e ∙ sym next-side), in-table g (suc i) (omega arith) top, eq-eqb (suc i) (suc i) refl) refl
+    here q e = rw (
+      eq-eqb q (nextPage (g .pages) n (d .er)) (e ∙ sym next-side),
+      in-table g (suc i) (omega arith) top,
+      eq-eqb (suc i)
+          (suc i) refl,
+    ) refl
 
     there : (q j : ℕ) → (q ≡ side (suc i) → ⊥) → d′ .nodes q j ≡ d .nodes q j
     unfolding beside
@@ -125,19 +134,24 @@ module _ (g : Geometry) (shape : Shape g) (n : ℕ) (few : pagesOf g n + g .page
     laid-more = record {
       er-is = ap (λ (x : ℕ → Bool). after (nextPage (g .pages) n x) x) (laid .er-is);
       sides = λ j b q. by-eq j (suc i) (λ e. rw e (here (side (suc i)) refl))
-          (λ e. there (side j) j (λ z. e (side-inj g shape n c (whole .r2) m free j (suc i) b (omega (arith, q, lt)) (omega arith) (omega (arith, lt)) z)) ∙ laid .sides j b (omega (arith, q, e)));
-      stays = λ q l h. there q (suc l) (λ z. new-side g shape n c (whole .r2) m free (suc i) l (omega arith) (omega (arith, lt)) (subst (fitOf (g .pages * n) (c .er) (suc l)) z h)) ∙ laid .stays q l h;
+          (λ e. there (side j) j (λ z. e (side-inj g shape n c (whole .r2) m free j (suc i) b (omega (arith, q, lt)) (omega arith)
+          (omega (arith, lt)) z)) ∙ laid .sides j b (omega (arith, q, e)));
+      stays = λ q l h. there q (suc l) (λ z. new-side g shape n c (whole .r2) m free (suc i) l (omega arith) (omega (arith, lt))
+          (subst (fitOf (g .pages * n) (c .er) (suc l)) z h)) ∙ laid .stays q l h;
     }
 
   -- the pages left after i are taken
   left : (i : ℕ) → i ≤ m → count t (taken (g .pages) n (c .er) i) + i ≡ count t (c .er)
   left i q = let z = step (g .pages) n (c .er) (some-page g shape) (whole .r2) i (omega (arith, q, free)) .left in omega (arith, z)
 
-  next-is : (h l : ℕ) (parts : ℕ → List Entry) (x : List ℕ) → nextPage (g .pages) n (chipOf g n x .er) ≡ side l → suc (maxSeq g n x) ≡ seq + l → program (side l) (built g (seq + l) h parts) ≡ nextStore g n h parts x
+  next-is : (h l : ℕ) (parts : ℕ → List Entry) (x : List ℕ) → nextPage (g .pages) n (chipOf g n x .er) ≡ side l → suc (maxSeq g n x) ≡ seq + l
+      → program (side l) (built g (seq + l) h parts) ≡ nextStore g n h parts x
   unfolding nextStore
-  next-is h l parts x e f = ap (λ p. program p (built g (seq + l) h parts)) (sym e) ∙ ap (λ q. program (nextPage (g .pages) n (chipOf g n x .er)) (built g q h parts)) (sym f)
+  next-is h l parts x e f = ap (λ p. program p (built g (seq + l) h parts)) (sym e)
+      ∙ ap (λ q. program (nextPage (g .pages) n (chipOf g n x .er)) (built g q h parts)) (sym f)
 
-  side-step : (i : ℕ) (ss : List Store) → suc i < m → Sided g n base img k a i ss → Sided g n base img k a (suc i) (ss ++ (sideStore g seq side (suc i) (sideList g n c k a (suc i)) ∷ []))
+  side-step : (i : ℕ) (ss : List Store) → suc i < m → Sided g n base img k a i ss
+      → Sided g n base img k a (suc i) (ss ++ (sideStore g seq side (suc i) (sideList g n c k a (suc i)) ∷ []))
   unfolding sideStore applyAll
   side-step i ss lt s =
       let x = applyAll g ss img in
@@ -145,24 +159,30 @@ module _ (g : Geometry) (shape : Shape g) (n : ℕ) (few : pagesOf g n + g .page
       let z = runs-end g n base img ss (s .chip) i 0 (s .runs) in
       let ci = s .runs .chip-is in
       let ok = side-parts g shape n few k a k-low a-low c whole all-fit high not-high (suc i) (omega arith) lt in
-      let cnt : count t (chipOf g n x .er) ≡ count t (taken (g .pages) n (c .er) i) = ap (λ (y : Chip). count t (y .er)) ci ∙ ap (count t) (s .laid .er-is) in
+      let cnt : count t (chipOf g n x .er) ≡ count t (taken (g .pages) n (c .er) i) = ap (λ (y : Chip). count t (y .er)) ci ∙ ap (count t)
+      (s .laid .er-is) in
       let l = left i (omega (arith, lt)) in
       let few′ : g .pages + 1 ≤ count t (chipOf g n x .er) = omega (arith, cnt, l, room, lt) in
       let low′ : suc (maxSeq g n x) < 4294967295 = omega (arith, s .max-is, low, lt) in
-      let page : nextPage (g .pages) n (chipOf g n x .er) ≡ side (suc i) = ap (λ (y : Chip). nextPage (g .pages) n (y .er)) ci ∙ next-side i lt (s .chip) (s .laid) 0 in
+      let page : nextPage (g .pages) n (chipOf g n x .er) ≡ side (suc i) = ap (λ (y : Chip). nextPage (g .pages) n (y .er)) ci ∙ next-side i lt
+      (s .chip) (s .laid) 0 in
       let e = next-is 0 (suc i) p x page (omega (arith, s .max-is)) in
       let r = side-runs g n base shape x z p ok few′ low′ in
       let mx = put-max g shape n x (z .held) (omega (arith, few′)) p ok low′ 0 (omega arith) in
       let q = suc (maxSeq g n x) in
       let st = program (side (suc i)) (built g (seq + suc i) 0 p) in
-      let r′ = subst (λ (u : Store). Runs g n base x (u ∷ []) (beside (chipOf g n x) (nextPage (g .pages) n (chipOf g n x .er)) (builtView g q 0 p)) 1 0) (sym e) r in
-      let all = runs-then g n base img ss (st ∷ []) (s .chip) (beside (chipOf g n x) (nextPage (g .pages) n (chipOf g n x .er)) (builtView g q 0 p)) i 1 0 0 (s .runs) r′ in
+      let r′ = subst (λ (u : Store). Runs g n base x (u ∷ []) (beside (chipOf g n x) (nextPage (g .pages) n (chipOf g n x .er)) (builtView g q 0 p)) 1
+      0) (sym e) r in
+      let all = runs-then g n base img ss (st ∷ []) (s .chip) (beside (chipOf g n x) (nextPage (g .pages) n (chipOf g n x .er))
+      (builtView g q 0 p)) i 1 0 0 (s .runs) r′ in
       record {
         chip = beside (s .chip) (nextPage (g .pages) n (s .chip .er)) (builtView g q 0 p);
-        runs = runs-as g n base img (ss ++ (st ∷ [])) (beside (chipOf g n x) (nextPage (g .pages) n (chipOf g n x .er)) (builtView g q 0 p)) (beside (s .chip) (nextPage (g .pages) n (s .chip .er)) (builtView g q 0 p)) (i + 1) (suc i) (0 + 0) 0
+        runs = runs-as g n base img (ss ++ (st ∷ [])) (beside (chipOf g n x) (nextPage (g .pages) n (chipOf g n x .er)) (builtView g q 0 p))
+            (beside (s .chip) (nextPage (g .pages) n (s .chip .er)) (builtView g q 0 p)) (i + 1) (suc i) (0 + 0) 0
             (ap (λ (y : Chip). beside y (nextPage (g .pages) n (y .er)) (builtView g q 0 p)) ci) (omega arith) (omega arith) all;
         laid = laid-more i lt (s .chip) (s .laid) q;
-        max-is = ap (maxSeq g n) (apply-append g ss (st ∷ []) img) ∙ ap (λ (u : Store). maxSeq g n (applyStore g u x)) e ∙ mx ∙ (let w : suc (maxSeq g n x) ≡ seq + suc i = omega (arith, s .max-is) in w);
+        max-is = ap (maxSeq g n) (apply-append g ss (st ∷ []) img) ∙ ap (λ (u : Store). maxSeq g n (applyStore g u x)) e ∙ mx ∙
+            (let w : suc (maxSeq g n x) ≡ seq + suc i = omega (arith, s .max-is) in w);
       }
 
   -- ---- the levels below the root
@@ -181,7 +201,8 @@ module _ (g : Geometry) (shape : Shape g) (n : ℕ) (few : pagesOf g n + g .page
   below-sided (suc i) b = by-le (suc i) cuts (more (below-sided i (omega arith))) (stop (below-sided i (omega arith)))
     where
       Goal : Type 0
-      Goal = Sided g n base img k a (min (suc i) cuts) (sideStores g seq k side lists i ++ pick (leb (length (lists (suc i))) (2 * half g (suc i))) [] (sideStore g seq side (suc i) (sideHalf k (half g (suc i)) (lists (suc i))) ∷ []))
+      Goal = Sided g n base img k a (min (suc i) cuts) (sideStores g seq k side lists i ++ pick (leb (length (lists (suc i))) (2 * half g (suc i))) []
+          (sideStore g seq side (suc i) (sideHalf k (half g (suc i)) (lists (suc i))) ∷ []))
 
       more : Sided g n base img k a (min i cuts) (sideStores g seq k side lists i) → suc i ≤ cuts → Goal
       more s q =
@@ -190,15 +211,19 @@ module _ (g : Geometry) (shape : Shape g) (n : ℕ) (few : pagesOf g n + g .page
           let f : suc i ≡ min (suc i) cuts = omega (arith, q) in
           let z : sideList g n c k a (suc i) ≡ sideHalf k (half g (suc i)) (lists (suc i)) = rw (le-leb (suc i) (c .level) b) refl in
           rw (lt-leb (length (lists (suc i))) (2 * half g (suc i)) long)
-          (subst (λ j. Sided g n base img k a j (sideStores g seq k side lists i ++ (sideStore g seq side (suc i) (sideHalf k (half g (suc i)) (lists (suc i))) ∷ []))) f
+          (subst (λ j. Sided g n base img k a j (sideStores g seq k side lists i ++
+          (sideStore g seq side (suc i) (sideHalf k (half g (suc i)) (lists (suc i))) ∷ []))) f
           (subst (λ (x : List Entry). Sided g n base img k a (suc i) (sideStores g seq k side lists i ++ (sideStore g seq side (suc i) x ∷ []))) z
-          (side-step i (sideStores g seq k side lists i) (omega (arith, m-is, q)) (subst (λ j. Sided g n base img k a j (sideStores g seq k side lists i)) e s))))
+          (side-step i (sideStores g seq k side lists i) (omega (arith, m-is, q))
+          (subst (λ j. Sided g n base img k a j (sideStores g seq k side lists i)) e s))))
 
       stop : Sided g n base img k a (min i cuts) (sideStores g seq k side lists i) → cuts < suc i → Goal
       stop s q =
-          let short : length (lists (suc i)) ≤ 2 * half g (suc i) = by-le (length (lists (suc i))) (2 * half g (suc i)) (λ z. z) (λ z. absurd (omega (arith, q, cut-levels g shape n k a k-low c whole (suc i) (omega arith) b .0 z))) in
+          let short : length (lists (suc i)) ≤ 2 * half g (suc i) = by-le (length (lists (suc i))) (2 * half g (suc i)) (λ z. z)
+          (λ z. absurd (omega (arith, q, cut-levels g shape n k a k-low c whole (suc i) (omega arith) b .0 z))) in
           let f : min i cuts ≡ min (suc i) cuts = omega (arith, q) in
-          rw (le-leb (length (lists (suc i))) (2 * half g (suc i)) short, append-nil (sideStores g seq k side lists i)) (subst (λ j. Sided g n base img k a j (sideStores g seq k side lists i)) f s)
+          rw (le-leb (length (lists (suc i))) (2 * half g (suc i)) short, append-nil (sideStores g seq k side lists i))
+          (subst (λ j. Sided g n base img k a j (sideStores g seq k side lists i)) f s)
 
   -- ---- the root's other half
   abbrev halves : List Store
@@ -211,19 +236,30 @@ module _ (g : Geometry) (shape : Shape g) (n : ℕ) (few : pagesOf g n + g .page
       s : Sided g n base img k a (min (c .level) cuts) (sideStores g seq k side lists (c .level))
       s = below-sided (c .level) (omega arith)
 
-      grown : grows ≡ true → Sided g n base img k a (cuts + bit grows) (sideStores g seq k side lists (c .level) ++ pick grows (sideStore g seq side (suc (c .level)) (sideHalf k (2 * half g (suc (c .level))) (lists (suc (c .level)))) ∷ []) [])
+      grown : grows ≡ true
+          → Sided g n base img k a (cuts + bit grows)
+          (sideStores g seq k side lists (c .level) ++ pick grows (sideStore g seq side (suc (c .level))
+          (sideHalf k (2 * half g (suc (c .level))) (lists (suc (c .level)))) ∷ []) [])
       grown e =
           let u = grow-all g shape n k a k-low c whole e in
           let x : min (c .level) cuts ≡ c .level = omega (arith, u .2) in
           let y : suc (c .level) ≡ cuts + 1 = omega (arith, u .2) in
-          let z : sideList g n c k a (suc (c .level)) ≡ sideHalf k (2 * half g (suc (c .level))) (lists (suc (c .level))) = rw (lt-leb (suc (c .level)) (c .level) (omega arith)) refl in
-          rw e (subst (λ j. Sided g n base img k a j (sideStores g seq k side lists (c .level) ++ (sideStore g seq side (suc (c .level)) (sideHalf k (2 * half g (suc (c .level))) (lists (suc (c .level)))) ∷ []))) y
-          (subst (λ (w : List Entry). Sided g n base img k a (suc (c .level)) (sideStores g seq k side lists (c .level) ++ (sideStore g seq side (suc (c .level)) w ∷ []))) z
-          (side-step (c .level) (sideStores g seq k side lists (c .level)) (omega (arith, m-is, u .2, ap bit e)) (subst (λ j. Sided g n base img k a j (sideStores g seq k side lists (c .level))) x s))))
+          let z : sideList g n c k a (suc (c .level)) ≡ sideHalf k (2 * half g (suc (c .level))) (lists (suc (c .level))) =
+          rw (lt-leb (suc (c .level)) (c .level) (omega arith)) refl in
+          rw e (subst (λ j. Sided g n base img k a j (sideStores g seq k side lists (c .level) ++
+          (sideStore g seq side (suc (c .level)) (sideHalf k (2 * half g (suc (c .level))) (lists (suc (c .level)))) ∷ []))) y
+          (subst (λ (w : List Entry). Sided g n base img k a (suc (c .level))
+          (sideStores g seq k side lists (c .level) ++ (sideStore g seq side (suc (c .level)) w ∷ []))) z
+          (side-step (c .level) (sideStores g seq k side lists (c .level)) (omega (arith, m-is, u .2, ap bit e))
+          (subst (λ j. Sided g n base img k a j (sideStores g seq k side lists (c .level))) x s))))
 
-      stayed : grows ≡ false → Sided g n base img k a (cuts + bit grows) (sideStores g seq k side lists (c .level) ++ pick grows (sideStore g seq side (suc (c .level)) (sideHalf k (2 * half g (suc (c .level))) (lists (suc (c .level)))) ∷ []) [])
+      stayed : grows ≡ false
+          → Sided g n base img k a (cuts + bit grows)
+          (sideStores g seq k side lists (c .level) ++ pick grows (sideStore g seq side (suc (c .level))
+          (sideHalf k (2 * half g (suc (c .level))) (lists (suc (c .level)))) ∷ []) [])
       stayed e = let x : min (c .level) cuts ≡ cuts + 0 = omega (arith, cut-le) in
-          rw (e, append-nil (sideStores g seq k side lists (c .level))) (subst (λ j. Sided g n base img k a j (sideStores g seq k side lists (c .level))) x s)
+          rw (e, append-nil (sideStores g seq k side lists (c .level))) (subst (λ j. Sided g n base img k a j
+          (sideStores g seq k side lists (c .level))) x s)
 
   -- ---- N
   abbrev height : ℕ
@@ -231,7 +267,8 @@ module _ (g : Geometry) (shape : Shape g) (n : ℕ) (few : pagesOf g n + g .page
 
   height-in : (1 ≤ height) × (height ≤ g .top)
   unfolding crownHeight
-  height-in = by-test grows (λ e. let u = grow-all g shape n k a k-low c whole e in rw e (omega arith, omega (arith, u .0))) (λ e. rw e (omega arith, high))
+  height-in = by-test grows (λ e. let u = grow-all g shape n k a k-low c whole e in rw e (omega arith, omega (arith, u .0)))
+      (λ e. rw e (omega arith, high))
 
   module _ (d : Chip) (laid : Laid g n c k a (cuts + bit grows) d) (q : ℕ) where
     abbrev P : ℕ
@@ -256,10 +293,12 @@ module _ (g : Geometry) (shape : Shape g) (n : ℕ) (few : pagesOf g n + g .page
     elsewhere p j h = rw (ne-eqb p P (λ z. h (z ∙ page-is))) refl
 
     at-side : (j : ℕ) → 1 ≤ j → j < m → e′ .nodes (side j) j ≡ sideList g n c k a j
-    at-side j b h = elsewhere (side j) j (λ z. let w = side-inj g shape n c (whole .r2) m free j m b (omega (arith, h)) (omega (arith, m-is)) (omega arith) z in omega (arith, w, h)) ∙ laid .sides j b (omega (arith, h, m-is))
+    at-side j b h = elsewhere (side j) j (λ z. let w = side-inj g shape n c (whole .r2) m free j m b (omega (arith, h)) (omega (arith, m-is))
+        (omega arith) z in omega (arith, w, h)) ∙ laid .sides j b (omega (arith, h, m-is))
 
     stays : (p l : ℕ) → fitOf t (c .er) (suc l) p → e′ .nodes p (suc l) ≡ c .nodes p (suc l)
-    stays p l h = elsewhere p (suc l) (λ z. new-side g shape n c (whole .r2) m free m l (omega (arith, m-is)) (omega arith) (subst (fitOf t (c .er) (suc l)) z h)) ∙ laid .stays p l h
+    stays p l h = elsewhere p (suc l) (λ z. new-side g shape n c (whole .r2) m free m l (omega (arith, m-is)) (omega arith)
+        (subst (fitOf t (c .er) (suc l)) z h)) ∙ laid .stays p l h
 
     final-is : e′ ≡ record { er = taken (g .pages) n (c .er) m; nodes = e′ .nodes; level = height - 1; root = N }
     unfolding rooted
@@ -284,12 +323,15 @@ module _ (g : Geometry) (shape : Shape g) (n : ℕ) (few : pagesOf g n + g .page
       let page : nextPage (g .pages) n (chipOf g n x .er) ≡ N = ap (λ (y : Chip). nextPage (g .pages) n (y .er)) ci ∙ page-is (s .chip) (s .laid) 0 in
       let st = program N (built g (seq + m) height (mainList g n c k a)) in
       let e = next-is height m (mainList g n c k a) x page (omega (arith, s .max-is, m-is)) in
-      let u = updated g shape n base (put k a base) img ss (s .chip) i 0 height (mainList g n c k a) st (s .runs) (omega (arith, cnt, lf, room, m-is)) (omega (arith, s .max-is, low, m-is))
+      let u = updated g shape n base (put k a base) img ss (s .chip) i 0 height (mainList g n c k a) st (s .runs) (omega (arith, cnt, lf, room, m-is))
+      (omega (arith, s .max-is, low, m-is))
       (main-parts g shape n few k a k-low a-low c whole all-fit high not-high) (height-in .0) (height-in .1) e
       (λ q. let w = final-done (s .chip) (s .laid) q in (w .0, w .1 ∙ ap (put k a) (keeps .map-is))) in
       let z : i + 1 ≡ m = omega (arith, m-is) in
-      subst (λ j. Updated g n base (put k a base) img (sideStores g seq k side lists (c .level) ++ (crownStore g seq k side (suc (c .level)) (lists (suc (c .level))) ++ (st ∷ []))) j 0) z
-      (subst (λ (y : List Store). Updated g n base (put k a base) img y (i + 1) 0) (append-assoc (sideStores g seq k side lists (c .level)) (crownStore g seq k side (suc (c .level)) (lists (suc (c .level)))) (st ∷ [])) u)
+      subst (λ j. Updated g n base (put k a base) img (sideStores g seq k side lists (c .level) ++
+      (crownStore g seq k side (suc (c .level)) (lists (suc (c .level))) ++ (st ∷ []))) j 0) z
+      (subst (λ (y : List Store). Updated g n base (put k a base) img y (i + 1) 0)
+      (append-assoc (sideStores g seq k side lists (c .level)) (crownStore g seq k side (suc (c .level)) (lists (suc (c .level)))) (st ∷ [])) u)
 
   -- they are m programs and no erase
   pub own-programs : programs (ownStores g n seq c m k a) ≡ m

@@ -31,7 +31,8 @@ use Rattle.updates.specs.Deletion.{delete-own}
 abbrev pub programMost : Geometry → ℕ → ℕ
 programMost g k = suc k * (g .pages - 1) + k
 
-module _ (g : Geometry) (shape : Shape g) (n : ℕ) (few : pagesOf g n + g .pages < 4294967296) (base : List Entry) (img : List ℕ) (keeps : Keeps g n base img) (not-worn : maxSeq g n img ≤ g .worn) where
+module _ (g : Geometry) (shape : Shape g) (n : ℕ) (few : pagesOf g n + g .pages < 4294967296) (base : List Entry) (img : List ℕ)
+    (keeps : Keeps g n base img) (not-worn : maxSeq g n img ≤ g .worn) where
   abbrev c : Chip
   c = chipOf g n img
 
@@ -52,7 +53,8 @@ module _ (g : Geometry) (shape : Shape g) (n : ℕ) (few : pagesOf g n + g .page
   roomy k h r = let z = ltb-false (freePages g n c) (2 * g .pages - 1 + k) r in let p = some-page g shape in omega (arith, z, p, h)
 
   -- an insertion
-  module _ (some-pages : 1 ≤ t) (k a : ℕ) (k-low : k < 4294967296) (a-low : a < 4294967296) (not-high : tooHigh g c k ≡ false) (not-room : roomless g (freePages g n c) (needs g c k) ≡ false) where
+  module _ (some-pages : 1 ≤ t) (k a : ℕ) (k-low : k < 4294967296) (a-low : a < 4294967296) (not-high : tooHigh g c k ≡ false)
+      (not-room : roomless g (freePages g n c) (needs g c k) ≡ false) where
     abbrev m : ℕ
     m = needs g c k
 
@@ -78,27 +80,34 @@ module _ (g : Geometry) (shape : Shape g) (n : ℕ) (few : pagesOf g n + g .page
         let z = numbers m m-top .1 in
         omega (arith, x, y, z, same-m)
 
-    own : Updated g n base (put k a base) then (ownStores g n (maxSeq g n then) (chipOf g n then) (needs g (chipOf g n then) k) k a) (needs g (chipOf g n then) k) 0
-    own = own-updated g shape n few k a k-low a-low base then (after-collect .keeps) (after-collect .alike .high-is k k-low ∙ not-high) (let z = after-collect .room in omega (arith, z, same-m)) then-low
+    own : Updated g n base (put k a base) then (ownStores g n (maxSeq g n then) (chipOf g n then) (needs g (chipOf g n then) k) k a)
+        (needs g (chipOf g n then) k) 0
+    own = own-updated g shape n few k a k-low a-low base then (after-collect .keeps) (after-collect .alike .high-is k k-low ∙ not-high)
+        (let z = after-collect .room in omega (arith, z, same-m)) then-low
 
     -- the own pages are 1 + splits + grow
     pub insert-own : programs (ownStores g n (maxSeq g n then) (chipOf g n then) m k a) ≡ m
     insert-own = subst (λ j. programs (ownStores g n (maxSeq g n then) (chipOf g n then) j k a) ≡ j) same-m
-        (own-programs g shape n few k a k-low a-low base then (after-collect .keeps) (after-collect .alike .high-is k k-low ∙ not-high) (let z = after-collect .room in omega (arith, z, same-m)) then-low)
+        (own-programs g shape n few k a k-low a-low base then (after-collect .keeps) (after-collect .alike .high-is k k-low ∙ not-high)
+        (let z = after-collect .room in omega (arith, z, same-m)) then-low)
 
     pub insert-programs-only : erases (ownStores g n (maxSeq g n then) (chipOf g n then) m k a) ≡ 0
-    insert-programs-only = let z = subst (λ j. erases (ownStores g n (maxSeq g n then) (chipOf g n then) j k a) ≤ 0) same-m (own .wiped) in omega (arith, z)
+    insert-programs-only = let z = subst (λ j. erases (ownStores g n (maxSeq g n then) (chipOf g n then) j k a) ≤ 0) same-m (own .wiped) in
+        omega (arith, z)
 
     pub insert-updated : Updated g n base (put k a base) img (insertStores g n img k a) (programMost g m) (suc m)
     unfolding insertStores
     insert-updated =
         let u = subst (λ j. Updated g n base (put k a base) then (ownStores g n (maxSeq g n then) (chipOf g n then) j k a) j 0) same-m own in
-        let w = updated-after g n base (put k a base) img (collectStores g n m (suc m) img) (ownStores g n (maxSeq g n then) (chipOf g n then) m k a) (collect g n m (suc m) c) (suc m * (g .pages - 1)) m (suc m) 0 (after-collect .runs) u in
+        let w = updated-after g n base (put k a base) img (collectStores g n m (suc m) img) (ownStores g n (maxSeq g n then) (chipOf g n then) m k a)
+        (collect g n m (suc m) c) (suc m * (g .pages - 1)) m (suc m) 0 (after-collect .runs) u in
         let z : suc m + 0 ≡ suc m = omega arith in
-        subst (λ j. Updated g n base (put k a base) img (collectStores g n m (suc m) img ++ ownStores g n (maxSeq g n then) (chipOf g n then) m k a) (programMost g m) j) z w
+        subst (λ j. Updated g n base (put k a base) img (collectStores g n m (suc m) img ++ ownStores g n (maxSeq g n then) (chipOf g n then) m k a)
+        (programMost g m) j) z w
 
   -- a deletion
-  module _ (some-pages : 1 ≤ t) (k : ℕ) (k-low : k < 4294967296) (present : isNone (sought c k) ≡ false) (not-room : roomless g (freePages g n c) 1 ≡ false) where
+  module _ (some-pages : 1 ≤ t) (k : ℕ) (k-low : k < 4294967296) (present : isNone (sought c k) ≡ false)
+      (not-room : roomless g (freePages g n c) 1 ≡ false) where
     one-top : 1 ≤ g .top
     one-top = let z = shape .top-low in omega (arith, z)
 
@@ -109,7 +118,8 @@ module _ (g : Geometry) (shape : Shape g) (n : ℕ) (few : pagesOf g n + g .page
     left = applyAll g (collectStores g n 1 2 img) img
 
     still : isNone (sought (chipOf g n left) k) ≡ false
-    still = ap isNone (sought-map g n (chipOf g n left) (collected-one .keeps .held .whole) k k-low ∙ ap (find k) (collected-one .keeps .map-is ∙ sym (keeps .map-is)) ∙ sym (sought-map g n c (keeps .held .whole) k k-low)) ∙ present
+    still = ap isNone (sought-map g n (chipOf g n left) (collected-one .keeps .held .whole) k k-low ∙ ap (find k)
+        (collected-one .keeps .map-is ∙ sym (keeps .map-is)) ∙ sym (sought-map g n c (keeps .held .whole) k k-low)) ∙ present
 
     left-low : maxSeq g n left + 1 < 4294967295
     left-low =
@@ -121,5 +131,6 @@ module _ (g : Geometry) (shape : Shape g) (n : ℕ) (few : pagesOf g n + g .page
     pub delete-updated : Updated g n base (remove k base) img (deleteStores g n img k) (programMost g 1) 2
     unfolding deleteStores
     delete-updated =
-        updated-after g n base (remove k base) img (collectStores g n 1 2 img) (deleteStore g n (maxSeq g n left) (chipOf g n left) k ∷ []) (collect g n 1 2 c) (2 * (g .pages - 1)) 1 2 0 (collected-one .runs)
+        updated-after g n base (remove k base) img (collectStores g n 1 2 img) (deleteStore g n (maxSeq g n left) (chipOf g n left) k ∷ [])
+        (collect g n 1 2 c) (2 * (g .pages - 1)) 1 2 0 (collected-one .runs)
         (delete-own g shape n few k k-low base left (collected-one .keeps) still (collected-one .room) left-low)

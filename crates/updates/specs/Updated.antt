@@ -29,9 +29,13 @@ pub record Updated (g : Geometry) (n : ℕ) (old new : List Entry) (img : List �
   pub wiped : erases ss ≤ e
 
 -- the last store: of the chip after it is known that it is whole and holds the new map
-pub updated : (g : Geometry) → Shape g → (n : ℕ) (old new : List Entry) (img : List ℕ) (ss : List Store) (d : Chip) (b e h : ℕ) (parts : ℕ → List Entry) (s : Store) → Runs g n old img ss d b e
-    → g .pages + 1 ≤ count (pagesOf g n) (d .er) → suc (maxSeq g n (applyAll g ss img)) < 4294967295 → Parts g parts → 1 ≤ h → h ≤ g .top → s ≡ nextStore g n h parts (applyAll g ss img)
-    → ((q : ℕ) → Whole g n (rooted d (nextPage (g .pages) n (d .er)) (builtView g q h parts)) × (mapOf (rooted d (nextPage (g .pages) n (d .er)) (builtView g q h parts)) ≡ new))
+pub updated : (g : Geometry) → Shape g
+    → (n : ℕ) (old new : List Entry) (img : List ℕ) (ss : List Store) (d : Chip) (b e h : ℕ) (parts : ℕ → List Entry) (s : Store)
+    → Runs g n old img ss d b e
+    → g .pages + 1 ≤ count (pagesOf g n) (d .er) → suc (maxSeq g n (applyAll g ss img)) < 4294967295 → Parts g parts → 1 ≤ h → h ≤ g .top
+    → s ≡ nextStore g n h parts (applyAll g ss img)
+    → ((q : ℕ) → Whole g n (rooted d (nextPage (g .pages) n (d .er)) (builtView g q h parts)) ×
+    (mapOf (rooted d (nextPage (g .pages) n (d .er)) (builtView g q h parts)) ≡ new))
     → Updated g n old new img (ss ++ (s ∷ [])) (b + 1) e
 unfolding applyAll programs erases nextStore
 updated g shape n old new img ss d b e h parts s r f low ok i k se good =
@@ -43,9 +47,15 @@ updated g shape n old new img ss d b e h parts s r f low ok i k se good =
     let free : 1 ≤ count t (chipOf g n x .er) = omega (arith, many) in
     let q = suc (maxSeq g n x) in
     let rc = root-chip g shape n x (z .held) free parts ok low h k i in
-    let ge = subst (λ (y : Chip). Whole g n (rooted y (nextPage (g .pages) n (y .er)) (builtView g q h parts)) × (mapOf (rooted y (nextPage (g .pages) n (y .er)) (builtView g q h parts)) ≡ new)) (sym ci) (good q) in
+    let ge = subst (λ (y : Chip). Whole g n (rooted y (nextPage (g .pages) n (y .er)) (builtView g q h parts)) ×
+    (mapOf (rooted y (nextPage (g .pages) n (y .er)) (builtView g q h parts)) ≡ new)) (sym ci) (good q) in
     let fr = root-frees g shape n x (z .held) free parts ok low h k i in
-    let done : Keeps g n new (applyStore g (nextStore g n h parts x) x) = record { held = root-held g shape n x (z .held) free parts ok low h k i (ge .0); r7 = inl (omega (arith, fr, many)); map-is = ap mapOf rc ∙ ge .1 } in
+    let done : Keeps g n new (applyStore g (nextStore g n h parts x) x) = record {
+      held = root-held g shape n x (z .held) free parts ok low h k i
+          (ge .0);
+      r7 = inl (omega (arith, fr, many));
+      map-is = ap mapOf rc ∙ ge .1;
+    } in
     record {
       init = ss;
       last = s;
@@ -58,7 +68,8 @@ updated g shape n old new img ss d b e h parts s r f low ok i k se good =
     }
 
 -- an update after a run that keeps the map
-pub updated-after : (g : Geometry) (n : ℕ) (old new : List Entry) (img : List ℕ) (ss ts : List Store) (d : Chip) (a b e f : ℕ) → Runs g n old img ss d a e → Updated g n old new (applyAll g ss img) ts b f → Updated g n old new img (ss ++ ts) (a + b) (e + f)
+pub updated-after : (g : Geometry) (n : ℕ) (old new : List Entry) (img : List ℕ) (ss ts : List Store) (d : Chip) (a b e f : ℕ)
+    → Runs g n old img ss d a e → Updated g n old new (applyAll g ss img) ts b f → Updated g n old new img (ss ++ ts) (a + b) (e + f)
 updated-after g n old new img ss ts d a b e f r u = record {
   init = ss ++ u .init;
   last = u .last;
