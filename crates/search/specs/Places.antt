@@ -20,30 +20,31 @@ pub chosen-at : (k : ℕ) (es : List Entry) → chosen k es ≡ getD es (index k
 unfolding index
 chosen-at k [] = refl
 chosen-at k (e ∷ []) = refl
-chosen-at k (e ∷ x ∷ es) = go (leb (x .key) k)
+chosen-at k (e ∷ x ∷ es) = go (leb (x .key) k) (chosen-at k (x ∷ es))
   where
-    go : (t : Bool) → pick t (chosen k (x ∷ es)) e ≡ getD (e ∷ x ∷ es) (pick t (suc (index k (x ∷ es))) 0) (record { key = 0; addr = 0 })
-    go true = chosen-at k (x ∷ es)
-    go false = refl
+    go : (t : Bool) → chosen k (x ∷ es) ≡ getD (x ∷ es) (index k (x ∷ es)) (record { key = 0; addr = 0 })
+        → pick t (chosen k (x ∷ es)) e ≡ getD (e ∷ x ∷ es) (pick t (suc (index k (x ∷ es))) 0) (record { key = 0; addr = 0 })
+    go true h = h
+    go false h = refl
 
 pub index-less : (k : ℕ) (es : List Entry) → 0 < length es → index k es < length es
 unfolding index
 index-less k [] h = h
 index-less k (e ∷ []) h = h
-index-less k (e ∷ x ∷ es) h = go (leb (x .key) k)
+index-less k (e ∷ x ∷ es) h = go (leb (x .key) k) (index-less k (x ∷ es) (omega arith))
   where
-    go : (t : Bool) → pick t (suc (index k (x ∷ es))) 0 < length (e ∷ x ∷ es)
-    go true = let i = index-less k (x ∷ es) (omega arith) in omega (arith, i)
-    go false = omega arith
+    go : (t : Bool) → index k (x ∷ es) < suc (length es) → pick t (suc (index k (x ∷ es))) 0 < suc (suc (length es))
+    go true i = omega arith
+    go false i = omega arith
 
 pub ahead-most : (k : ℕ) (es : List Entry) → ahead k es ≤ length es
 unfolding ahead
 ahead-most k [] = omega arith
-ahead-most k (e ∷ es) = go (ltb (e .key) k)
+ahead-most k (e ∷ es) = go (ltb (e .key) k) (ahead-most k es)
   where
-    go : (t : Bool) → pick t (suc (ahead k es)) 0 ≤ suc (length es)
-    go true = let i = ahead-most k es in omega (arith, i)
-    go false = omega arith
+    go : (t : Bool) → ahead k es ≤ length es → pick t (suc (ahead k es)) 0 ≤ suc (length es)
+    go true i = omega arith
+    go false i = omega arith
 
 -- the entry that descent takes of n from byte `at`, read there
 pub chosen-read : (img : List ℕ) (at n k i : ℕ) (e : Entry) → i ≡ index k (entriesAt img at n) → i ≤ n - 1 → (n ≡ 0 → ⊥) → e ≡ entryAt img (at + 8 * i)
