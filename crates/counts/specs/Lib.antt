@@ -2,3 +2,4 @@
 pub mod Least
 pub mod Tally
 pub mod Peak
+pub mod Lowest
