@@ -55,6 +55,10 @@ pub shift-go : (z m : List Entry) (at i j : ℕ) → m ≡ written z at (λ k. g
     → set m (at + j) (getD z (i + j) no-entry) ≡ written z at (λ k. getD z (i + k) no-entry) (j + 1)
 shift-go z m at i j e = written-more z at (λ k. getD z (i + k) no-entry) j m e
 
+pub shift-back : (z m : List Entry) (i j : ℕ) → m ≡ written z i (λ k. getD z (i + 1 + k) no-entry) j
+    → set m (i + j) (getD z (i + 1 + j) no-entry) ≡ written z i (λ k. getD z (i + 1 + k) no-entry) (j + 1)
+shift-back z m i j e = written-more z i (λ k. getD z (i + 1 + k) no-entry) j m e
+
 pub shift-down : (z m : List Entry) (i j : ℕ) → m ≡ written z 0 (λ k. getD z (i + k) no-entry) j
     → set m j (getD z (i + j) no-entry) ≡ written z 0 (λ k. getD z (i + k) no-entry) (j + 1)
 shift-down z m i j e = filled-more z (λ k. getD z (i + k) no-entry) j m e
@@ -90,8 +94,19 @@ pub lefts-all : (n : Node) (h : ℕ) → n .count ≤ h → entries n ≡ take h
 unfolding entries
 lefts-all n h p = short (n .count) h (n .e) p
 
-pub rights-none : (n m : Node) (h : ℕ) → entries m ≡ [] → length (n .e) ≡ 256 → n .count ≤ 256 → n .count ≤ h → entries m ≡ drop h (entries n)
-rights-none n m h e len q p = e ∙ sym (let k : length (entries n) ≤ h = rw (entries-length n len q) p in drop-of-length-le (entries n) k)
+short-drop : (c h : ℕ) (l : List Entry) → c ≤ h → [] ≡ drop h (take c l)
+short-drop zero zero l p = refl
+short-drop zero (suc h) l p = refl
+short-drop (suc c) zero l p = absurd (omega arith)
+short-drop (suc c) (suc h) [] p = refl
+short-drop (suc c) (suc h) (x ∷ l) p = short-drop c h l (omega arith)
+
+none-right : (n : Node) (h : ℕ) → n .count ≤ h → [] ≡ drop h (entries n)
+unfolding entries
+none-right n h p = short-drop (n .count) h (n .e) p
+
+pub rights-none : (n m : Node) (h : ℕ) → entries m ≡ [] → n .count ≤ h → entries m ≡ drop h (entries n)
+rights-none n m h e p = e ∙ none-right n h p
 
 pub rights : (n : Node) (m : List Entry) (h j : ℕ) → m ≡ written (n .e) 0 (λ k. getD (n .e) (h + k) no-entry) j → length (n .e) ≡ 256
     → j ≤ n .count - h → n .count - h ≤ j → h < n .count → n .count ≤ 256
@@ -123,27 +138,31 @@ unfolding replaceBy insertAt
 replace-two i x y [] h = absurd (omega arith)
 replace-two i x y (e ∷ es) h = rw add-one (two-places i x y (e ∷ es) h)
 
-pub two-is : (n m r : Node) (i : ℕ) (x y : Entry) → entries r ≡ insertAt (i + 1) y (entries m) → entries m ≡ set (entries n) i x → length (n .e) ≡ 256
-    → i < n .count → n .count < 256 → entries r ≡ replaceBy i (x ∷ y ∷ []) (entries n)
-two-is n m r i x y f e len h g = f ∙ rw e (replace-two i x y (entries n) (omega (arith, entries-length n len (omega arith))))
+pub two-is : (n m r : Node) (i : ℕ) (x y : Entry) → entries r ≡ insertAt (i + 1) y (entries m) → entries m ≡ set (entries n) i x → i < length (entries n)
+    → entries r ≡ replaceBy i (x ∷ y ∷ []) (entries n)
+two-is n m r i x y f e h = f ∙ rw e (replace-two i x y (entries n) h)
 
-pub spliced-empty : (n : Node) (i : ℕ) (c : Carry) → n .count ≡ 0 → entries n ≡ replaceBy i (carried c) (entries n)
+nil : (i : ℕ) (cs es : List Entry) → length es ≡ 0 → es ≡ replaceBy i cs es
 unfolding replaceBy
-spliced-empty n i c h = rw (empty-is n h)
+nil i cs [] h = refl
+nil i cs (e ∷ es) h = absurd (omega arith)
 
-pub spliced-none : (n r : Node) (i : ℕ) (c : Carry) → entries r ≡ removeAt i (entries n) → c ≡ Nothing → length (n .e) ≡ 256 → i ≤ n .count - 1 → (n .count ≡ 0 → ⊥) → n .count < 256
+pub spliced-empty : (n : Node) (i k : ℕ) (c : Carry) → k ≡ length (entries n) → k ≡ 0 → entries n ≡ replaceBy i (carried c) (entries n)
+spliced-empty n i k c ek h = nil i (carried c) (entries n) (sym ek ∙ h)
+
+pub spliced-none : (n r : Node) (i k : ℕ) (c : Carry) → entries r ≡ removeAt i (entries n) → c ≡ Nothing → k ≡ length (entries n) → k ≡ n .count → i ≤ n .count - 1 → (k ≡ 0 → ⊥)
     → entries r ≡ replaceBy i (carried c) (entries n)
 unfolding carried
-spliced-none n r i c e ec len h z g = e ∙ rw ec (replace-none i (entries n) (omega (arith, entries-length n len (omega arith))))
+spliced-none n r i k c e ec ek en h z = e ∙ rw ec (replace-none i (entries n) (omega arith))
 
-pub spliced-one : (n r : Node) (i : ℕ) (c : Carry) (x : Entry) → entries r ≡ set (entries n) i x → c ≡ One x → length (n .e) ≡ 256 → i ≤ n .count - 1 → (n .count ≡ 0 → ⊥) → n .count < 256
+pub spliced-one : (n r : Node) (i k : ℕ) (c : Carry) (x : Entry) → entries r ≡ set (entries n) i x → c ≡ One x → k ≡ length (entries n) → k ≡ n .count → i ≤ n .count - 1 → (k ≡ 0 → ⊥)
     → entries r ≡ replaceBy i (carried c) (entries n)
 unfolding carried
-spliced-one n r i c x e ec len h z g = e ∙ rw ec (replace-one i x (entries n) (omega (arith, entries-length n len (omega arith))))
+spliced-one n r i k c x e ec ek en h z = e ∙ rw ec (replace-one i x (entries n) (omega arith))
 
 pub spliced-two : (n r : Node) (i : ℕ) (c : Carry) (x y : Entry) → entries r ≡ replaceBy i (x ∷ y ∷ []) (entries n) → c ≡ Two x y
     → entries r ≡ replaceBy i (carried c) (entries n)
 unfolding carried
 spliced-two n r i c x y e ec = e ∙ rw ec
 
-pub ruleset node-laws = (length-mapped, size-is, empty-is, first-none, first-some, replaced, shift-start, shift-go, shift-down, inserts, removes, lefts, lefts-all, rights-none, rights, two-is, spliced-empty, spliced-none, spliced-one, spliced-two)
+pub ruleset node-laws = (length-mapped, size-is, first-none, first-some, replaced, shift-start, shift-go, shift-back, shift-down, inserts, removes, lefts, rights, two-is, spliced-empty, spliced-none, spliced-one, spliced-two)

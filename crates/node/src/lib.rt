@@ -134,7 +134,7 @@ pub fn right_half(n: Node, h: usize) -> Node
 
 // The node with two entries for the one at place i.
 fn two_for_one(n: Node, i: usize, x: Entry, y: Entry) -> Node
-    requires { ⌜ (i < n .count) × (n .count < 256) ⌝ }
+    requires { ⌜ (i < n .count) × (n .count < 256) × (i < length (entries n)) ⌝ }
     ensures { λ r. ⌜ (entries r ≡ replaceBy i (x ∷ y ∷ []) (entries n)) × (r .count ≡ n .count + 1) ⌝ }
 {
     let m = replace_at(n, i, x);
@@ -146,7 +146,8 @@ pub fn splice(n: Node, i: usize, c: Carry) -> Node
     requires { ⌜ (i ≤ n .count - 1) × (n .count < 256) ⌝ }
     ensures { λ r. ⌜ (entries r ≡ replaceBy i (carried c) (entries n)) × (r .count ≤ n .count + 1) ⌝ }
 {
-    if n.count == 0 {
+    let k = size(n);
+    if k == 0 {
         return n;
     }
     match c {

@@ -1,3 +1,4 @@
+use Rattle.node.specs.Laws.{shift-back}
 use borrow.Author.Needs.{needs}
 use Rattle.node.specs.Laws.{node-laws}
 use mathlib.Core.Path.{_≡_}
@@ -36,6 +37,6 @@ remove-at-spec =
     (λ c. search all)
     (λ c. search all)
     (λ c. search all)
-    (λ c. search all)
+    (λ c. (search all, search shift-back))
     (λ c. search all)
     (λ c. search all))

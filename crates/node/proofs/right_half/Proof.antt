@@ -1,3 +1,5 @@
+use Rattle.node.specs.Node.{entries}
+use Rattle.node.specs.Laws.{rights-none, shift-down}
 use borrow.Author.Needs.{needs}
 use Rattle.node.specs.Laws.{node-laws}
 use mathlib.Core.Path.{_≡_}
@@ -20,12 +22,14 @@ abbrev μ-loop : tie.MeasureT-loop
 μ-loop h n c left m₀ j₀ m j = left - j
 
 pub right-half-spec : {M : Type 1} → statement M
+unfolding entries
 right-half-spec =
     tie.close
     (tie.spec
     Inv-loop
     μ-loop
     (λ c κs. search all)
+    (λ c. (search rights-none, search all))
     (λ c. search all)
     (λ c. search all)
     (λ c. search all)
@@ -35,6 +39,5 @@ right-half-spec =
     (λ c. search all)
     (λ c. search all)
     (λ c. search all)
-    (λ c. search all)
-    (λ c. search all)
+    (λ c. (search all, search shift-down))
     (λ c. search all))

@@ -1,3 +1,4 @@
+use Rattle.node.specs.Laws.{two-is}
 use borrow.Author.Needs.{needs}
 use Rattle.node.specs.Laws.{node-laws}
 use Rattle.node.proofs.two_for_one.Statement.{statement}
@@ -11,4 +12,4 @@ ruleset all = (needs, node-laws)
 
 pub two-for-one-spec : {M : Type 1} → statement M
 two-for-one-spec =
-    tie.close (tie.spec (λ c κs. search all) (λ c. search all) (λ c κs. search all) (λ c. search all))
+    tie.close (tie.spec (λ c κs. search all) (λ c. search all) (λ c κs. search all) (λ c. (search two-is, search all)))
