@@ -199,6 +199,16 @@ pub fn page_of(g: Geometry, block: u16, j: u16) -> u32
     first_page(g, block) + widen(j)
 }
 
+// Whether the last page of a block is erased.
+pub fn last_erased(g: Geometry, img: &[u8], block: u16) -> bool
+    ensures { λ r. ⌜ r ≡ erased g (now (img .entry)) (g .pages * block + (g .pages - 1)) ⌝ }
+{
+    if g.pages == 0 {
+        return page_erased(g, img, 0);
+    }
+    page_erased(g, img, page_of(g, block, g.pages - 1))
+}
+
 // The bytes of a block.
 fn block_bytes(g: Geometry) -> usize
     ensures { λ r. ⌜ (r ≡ blockBytes g) × (r < 562949953421312) ⌝ }
