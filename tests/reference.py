@@ -50,6 +50,16 @@ def damaged(rng, m, img):
     return bytes(b)
 
 
+def loose(rng, fuzz, blocks=None):
+    """An image that breaks R6 or R7, or nothing."""
+    class WithoutR7(fuzz.Mu):
+        def R7(self, img):
+            return None
+    if rng.random() < .5:
+        return fuzz.hand_image(rng, fuzz.Mu(), blocks, wild=True)
+    return fuzz.hand_image(rng, WithoutR7(), blocks)
+
+
 def allowances(rng, stores):
     """Some allowances around what an update needs."""
     return rng.choice([0, 1, stores, max(stores - 1, 0), stores + 1, rng.randrange(stores + 1), 2 ** 32 - 1, 2 ** 32 - 1])

@@ -35,8 +35,9 @@ def compare(seconds, seed):
     end = time.time() + seconds
     while time.time() < end:
         img = fuzz.hand_image(rng, m, rng.choice([3, 3, 3, 4, 5]))
-        if rng.random() < .4:
-            img = reference.damaged(rng, m, img)
+        u = rng.random()
+        if u < .4:
+            img = reference.damaged(rng, m, img) if u < .3 else reference.loose(rng, fuzz, 3)
         verdict = tuple(force(x) for x in d["verdict"](small, m.B(img), img))
         damage = m.first_damage(img)
         same("verdict", verdict, ("Broken",) + damage if damage else ("Sound",), img)
