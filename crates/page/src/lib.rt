@@ -26,7 +26,7 @@ fn put_low(buf: &mut [u8], at: usize, v: u64)
 }
 
 // The low 32 bits of a number, least byte first.
-fn put_u32(buf: &mut [u8], at: usize, v: u64)
+pub fn put_u32(buf: &mut [u8], at: usize, v: u64)
     requires { ⌜ at < 1152921504606846976 ⌝ }
     ensures { λ _. ⌜ now (buf .exit) ≡ putU32 (now (buf .entry)) at v ⌝ }
 {
