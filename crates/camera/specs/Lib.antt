@@ -1,0 +1,3 @@
+-- What a C call leaves, and the laws by which the calls are proved.
+pub mod Camera
+pub mod Laws

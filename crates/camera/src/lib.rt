@@ -1,0 +1,55 @@
+// The four calls as a camera service in C makes them: numbers, the lent image, and a lent result buffer.
+ghost use mathlib.Core.Path.{_≡_};
+ghost use Prim.Native.Nat.{_<_};
+ghost use Rattle.geometry.specs.Geometry.{small};
+ghost use Rattle.model.specs.Page.{putU32};
+ghost use Rattle.model.specs.Calls.{format};
+ghost use Rattle.answers.specs.Answers.{numberOf, addressOf, programmedOf, erasedOf};
+ghost use Rattle.camera.specs.Camera.{reportOf, returned};
+use answers::Answer;
+
+fn long(v: u32) -> u64
+    ensures { λ r. ⌜ r ≡ v ⌝ }
+{
+    v as u64
+}
+
+fn put_number(result: &mut [u8], at: usize, v: u32)
+    requires { ⌜ at < 16 ⌝ }
+    ensures { λ _. ⌜ now (result .exit) ≡ putU32 (now (result .entry)) at v ⌝ }
+{
+    page::put_u32(&mut *result, at, long(v));
+}
+
+// The last two numbers: programmed, erased.
+fn report_counts(result: &mut [u8], a: Answer)
+    ensures { λ _. ⌜ now (result .exit) ≡ putU32 (putU32 (now (result .entry)) 8 (programmedOf a)) 12 (erasedOf a) ⌝ }
+{
+    put_number(&mut *result, 8, answers::programmed(a));
+    put_number(&mut *result, 12, answers::erased(a));
+}
+
+// Answer, address, programmed, erased, 32 bits each, least byte first. Gives the answer number.
+fn report(result: &mut [u8], a: Answer) -> u32
+    ensures number { λ r. ⌜ r ≡ numberOf a ⌝ }
+    ensures bytes { λ _. ⌜ now (result .exit) ≡ reportOf a (now (result .entry)) ⌝ }
+{
+    let n = answers::number(a);
+    put_number(&mut *result, 0, n);
+    put_number(&mut *result, 4, answers::address(a));
+    report_counts(&mut *result, a);
+    n
+}
+
+#[no_mangle]
+pub extern "C" fn mutree_format(image: &mut [u8], result: &mut [u8]) -> u32
+    ensures answer { λ r. ⌜ r ≡ returned (format small (now (image .entry))) (now (image .entry)) (now (result .entry)) .answer ⌝ }
+    ensures image { λ _. ⌜ now (image .exit) ≡ returned (format small (now (image .entry))) (now (image .entry)) (now (result .entry)) .image ⌝ }
+    ensures result { λ _. ⌜ now (result .exit) ≡ returned (format small (now (image .entry))) (now (image .entry)) (now (result .entry)) .result ⌝ }
+{
+    if result.len() < 16 {
+        return 1;
+    }
+    let a = index::format(&mut *image);
+    report(&mut *result, a)
+}

@@ -1,0 +1,27 @@
+use borrow.Author.Needs.{needs}
+use Rattle.chip.specs.Laws.{chip-laws}
+use Rattle.chip.proofs.tail_blank.Statement.{statement}
+use Rattle.chip.proofs.tail_blank.Tie as tie
+use Rattle.chip.proofs.tail_blank.Reads as reads
+use Rattle.chip.proofs.tail_blank.Lts as lts
+use Rattle.chip.proofs.all_blank.Reads as all-blank-reads
+use Rattle.chip.proofs.spare_base.Reads as spare-base-reads
+use Rattle.geometry.proofs.wide.Reads as wide-reads
+
+ruleset all = (needs, chip-laws)
+
+pub tail-blank-spec : {M : Type 1} → statement M
+tail-blank-spec =
+    tie.close
+    (tie.spec
+    (λ c κs. search all)
+    (λ c κs. search all)
+    (λ c. search all)
+    (λ c. search all)
+    (λ c κs. search all)
+    (λ c. search all)
+    (λ c. search all)
+    (λ c. search all)
+    (λ c. search all)
+    (λ c κs. search all)
+    (λ c. search all))

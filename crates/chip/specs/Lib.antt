@@ -1,0 +1,6 @@
+-- What is read of an image, law by law.
+pub mod Chip
+pub mod Reads
+pub mod Node
+pub mod Blocks
+pub mod Laws

@@ -1,0 +1,129 @@
+-- Bytes, numbers and the fields of a page, in the form in which the code has the premises. Assumes nothing.
+use Prim.Native.Nat.{ℕ, zero, suc, _+_, _-_, _*_, _<_, _≤_}
+use mathlib.Core.Bool.{Bool, true, false}
+use mathlib.Core.Path.{_≡_, refl, sym, _∙_}
+use mathlib.Core.List.{List, [], _∷_}
+use mir.Syntax.{w32}
+use mir.Val.{Fits}
+use lib.Dec.{eqb}
+use lib.ListN.{getD, length, List·getD-eq-default}
+use native.Mathlib.Omega.{arith}
+use native.Mathlib.Numerals.{sub-one}
+use native.Mathlib.Nat.{zero-mul, mul-le-mul, lt-of-le-of-lt}
+use borrow.Author.Tests.{eq-eqb, ne-eqb}
+use Rattle.geometry.specs.declared.Geometry.{Geometry}
+use Rattle.geometry.specs.declared.Entry.{Entry}
+use Rattle.geometry.specs.Geometry.{pageBytes, pageBase, firstSlot}
+use Rattle.geometry.specs.Tests.{_&_, and-true, and-false}
+use Rattle.model.specs.Bytes.{byteAt, u32At, blank, erased, seqAt, heightAt, countAt, tailAt, nodePlace}
+use Rattle.chip.specs.Chip.{entryAt}
+
+pub byte-past : (img : List ℕ) (at : ℕ) → length img ≤ at → 0 ≡ byteAt img at
+byte-past img at h = sym (List·getD-eq-default img 0 h)
+
+pub u32-past : (img : List ℕ) (at : ℕ) → length img ≤ at → 0 ≡ u32At img at
+unfolding u32At
+u32-past img at h =
+    rw (← (byte-past img at h), ← (byte-past img (at + 1) (omega arith)), ← (byte-past img (at + 2) (omega arith)), ← (byte-past img (at + 3) (omega arith)))
+
+pub u32-is : (img : List ℕ) (at a b c d : ℕ) → a ≡ byteAt img at → b ≡ byteAt img (at + 1) → c ≡ byteAt img (at + 2) → d ≡ byteAt img (at + 3)
+    → a + 256 * b + 65536 * c + 16777216 * d ≡ u32At img at
+unfolding u32At
+u32-is img at a b c d ea eb ec ed = rw (ea, eb, ec, ed)
+
+pub entry-past : (img : List ℕ) (at : ℕ) → length img ≤ at → record { key = 0; addr = 0 } ≡ entryAt img at
+unfolding entryAt
+entry-past img at h = rw (← (u32-past img at h), ← (u32-past img (at + 4) (omega arith)))
+
+pub entry-is : (img : List ℕ) (at k a : ℕ) → k ≡ u32At img at → a ≡ u32At img (at + 4) → record { key = k; addr = a } ≡ entryAt img at
+unfolding entryAt
+entry-is img at k a e f = rw (e, f)
+
+-- a run of 255 from the last byte down
+and-swap : (a b c : Bool) → (a & (b & c)) ≡ (b & (a & c))
+unfolding _&_
+and-swap true b c = refl
+and-swap false true c = refl
+and-swap false false c = refl
+
+blank-last : (img : List ℕ) (at n : ℕ) → blank img at (suc n) ≡ (eqb (byteAt img (at + n)) 255 & blank img at n)
+unfolding blank
+blank-last img at zero =
+    let e : at + 0 ≡ at = omega arith in
+    rw e
+blank-last img at (suc n) =
+    let e : at + 1 + n ≡ at + suc n = omega arith in
+    rw (blank-last img (at + 1) n, e) (and-swap _ _ _)
+
+blank-down : (img : List ℕ) (at k : ℕ) → 0 < k → blank img at k ≡ (eqb (byteAt img (at + (k - 1))) 255 & blank img at (k - 1))
+blank-down img at zero h = absurd (omega arith)
+blank-down img at (suc k) h = rw sub-one (blank-last img at k)
+
+pub blank-stop : (img : List ℕ) (at n k b : ℕ) → blank img at n ≡ blank img at k → b ≡ byteAt img (at + (k - 1)) → 0 < k → (b ≡ 255 → ⊥)
+    → false ≡ blank img at n
+blank-stop img at n k b e f h g = sym (e ∙ blank-down img at k h ∙ simp (← f, ne-eqb _ _ g, and-false))
+
+pub blank-go : (img : List ℕ) (at n k b : ℕ) → blank img at n ≡ blank img at k → b ≡ byteAt img (at + (k - 1)) → 0 < k → b ≡ 255
+    → blank img at n ≡ blank img at (k - 1)
+blank-go img at n k b e f h g = e ∙ blank-down img at k h ∙ simp (← f, eq-eqb _ _ g, and-true)
+
+pub blank-end : (img : List ℕ) (at n k : ℕ) → blank img at n ≡ blank img at k → k ≤ 0 → true ≡ blank img at n
+unfolding blank
+blank-end img at n k e h =
+    let f : k ≡ 0 = omega arith in
+    sym (e ∙ rw f)
+
+-- the fields of a page; s is the byte at which its spare bytes begin
+pub erased-is : (g : Geometry) (img : List ℕ) (p b n : ℕ) (r : Bool) → b ≡ pageBase g p → n ≡ pageBytes g → r ≡ blank img b n → r ≡ erased g img p
+unfolding erased
+erased-is g img p b n r eb en er = er ∙ rw (eb, en)
+
+pub spare-is : (g : Geometry) (p b m : ℕ) → b ≡ pageBase g p → m ≡ g .main → b + m ≡ pageBase g p + g .main
+spare-is g p b m eb em = rw (eb, em)
+
+pub seq-is : (g : Geometry) (img : List ℕ) (p s r : ℕ) → s ≡ pageBase g p + g .main → r ≡ u32At img s → r ≡ seqAt g img p
+unfolding seqAt
+seq-is g img p s r e er = er ∙ rw e
+
+pub height-is : (g : Geometry) (img : List ℕ) (p s r : ℕ) → s ≡ pageBase g p + g .main → r ≡ byteAt img (s + 4) → r ≡ heightAt g img p
+unfolding heightAt
+height-is g img p s r e er = er ∙ rw e
+
+pub count-is : (g : Geometry) (img : List ℕ) (p l s k r : ℕ) → s ≡ pageBase g p + g .main → k ≡ l → r ≡ byteAt img (s + 4 + k) → r ≡ countAt g img p l
+unfolding countAt
+count-is g img p l s k r e ek er = er ∙ rw (e, ek)
+
+pub tail-none : (g : Geometry) (img : List ℕ) (p a t : ℕ) → a ≡ g .spare → t ≡ g .top → a < 5 + t → true ≡ tailAt g img p
+unfolding tailAt blank
+tail-none g img p a t ea et h =
+    let z : g .spare - 5 - g .top ≡ 0 = omega (arith, ea, et) in
+    sym (rw z)
+
+pub tail-is : (g : Geometry) (img : List ℕ) (p s a t : ℕ) (r : Bool) → a ≡ g .spare → t ≡ g .top → s ≡ pageBase g p + g .main
+    → r ≡ blank img (s + 5 + t) (a - 5 - t) → r ≡ tailAt g img p
+unfolding tailAt
+tail-is g img p s a t r ea et es er = er ∙ rw (ea, et, es)
+
+pub place-is : (g : Geometry) (p l b f : ℕ) → b ≡ pageBase g p → f ≡ firstSlot g l → b + 8 * f ≡ nodePlace g p l
+unfolding nodePlace
+place-is g p l b f eb ef = rw (eb, ef)
+
+-- pages of a block
+pub pages-are : (p b r s : ℕ) → r ≡ p → s ≡ b → r * s ≡ p * b
+pages-are p b r s e f = rw (e, f)
+
+pub pages-below : (a b : ℕ) → a < 65536 → b < 65536 → a * b < 4294836226
+pages-below a b ha hb = lt-of-le-of-lt (mul-le-mul {n₁ = a} {m₁ = b} {n₂ = 65535} {m₂ = 65535} (omega arith) (omega arith)) (omega arith)
+
+pub pages-fit : (a b : ℕ) → a < 65536 → b < 65536 → Fits w32 (a * b)
+pages-fit a b ha hb = record { fits = omega (arith, pages-below a b ha hb) }
+
+-- the last page of a block; a block of no pages has page 0 for it, as the model's number says
+pub last-none : (g : Geometry) (img : List ℕ) (b : ℕ) (r : Bool) → r ≡ erased g img 0 → g .pages ≡ 0 → r ≡ erased g img (g .pages * b + (g .pages - 1))
+last-none g img b r er z = er ∙ rw (z, zero-mul b) refl
+
+pub last-some : (g : Geometry) (img : List ℕ) (b w : ℕ) (r : Bool) → w ≡ g .pages * b + (g .pages - 1) → r ≡ erased g img w
+    → r ≡ erased g img (g .pages * b + (g .pages - 1))
+last-some g img b w r e er = er ∙ rw e
+
+pub ruleset read-laws = (byte-past, u32-past, u32-is, entry-past, entry-is, blank-stop, blank-go, blank-end, erased-is, spare-is, seq-is, height-is, count-is, tail-none, tail-is, place-is, pages-are, pages-below, pages-fit, last-none, last-some)

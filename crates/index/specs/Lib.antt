@@ -1,0 +1,2 @@
+-- Laws by which the calls on the small-block chip are proved.
+pub mod Laws

@@ -1,0 +1,14 @@
+// The index as Rattle calls on the small-block chip. No call asks anything of its caller, and each contract is one
+// equation: the answer, its numbers and the image afterwards are those of the definition, for every image.
+ghost use mathlib.Core.Path.{_≡_};
+ghost use Rattle.geometry.specs.Geometry.{small};
+ghost use Rattle.model.specs.Calls.{format};
+ghost use Rattle.answers.specs.Answers.{told};
+use answers::Answer;
+use geometry::Geometry;
+
+pub fn format(img: &mut [u8]) -> Answer
+    ensures { λ r. ⌜ told r (now (img .exit)) ≡ format small (now (img .entry)) ⌝ }
+{
+    format::format(Geometry::small(), &mut *img)
+}

@@ -1,0 +1,29 @@
+use borrow.Author.Needs.{needs}
+use Rattle.page_rules.specs.Laws.{page-laws}
+use Rattle.page_rules.proofs.well_formed.Statement.{statement}
+use Rattle.page_rules.proofs.well_formed.Tie as tie
+use Rattle.page_rules.proofs.well_formed.Reads as reads
+use Rattle.page_rules.proofs.well_formed.Lts as lts
+use Rattle.chip.proofs.height_at.Reads as height-at-reads
+use Rattle.chip.proofs.page_erased.Reads as page-erased-reads
+use Rattle.chip.proofs.seq_at.Reads as seq-at-reads
+use Rattle.chip.proofs.tail_blank.Reads as tail-blank-reads
+use Rattle.geometry.proofs.index.Reads as index-reads
+use Rattle.geometry.proofs.wide.Reads as wide-reads
+
+ruleset all = (needs, page-laws)
+
+pub well-formed-spec : {M : Type 1} → statement M
+well-formed-spec =
+    tie.close
+    (tie.spec
+    (λ c κs. search all)
+    (λ c. search all)
+    (λ c κs. search all)
+    (λ c κs. search all)
+    (λ c κs. search all)
+    (λ c. search all)
+    (λ c κs. search all)
+    (λ c. search all)
+    (λ c κs. search all)
+    (λ c. search all))

@@ -1,0 +1,64 @@
+-- R1. Assumes nothing.
+use Prim.Native.Nat.{ℕ, zero, suc, _+_, _-_, _*_, _<_, _≤_}
+use mathlib.Core.Bool.{Bool, true, false, not}
+use mathlib.Core.Path.{_≡_, refl, sym, _∙_}
+use mathlib.Core.List.{List}
+use lib.Dec.{leb}
+use native.Mathlib.Omega.{arith}
+use borrow.Author.Tests.{not-true, not-false, le-leb, lt-leb}
+use Rattle.geometry.specs.declared.Geometry.{Geometry}
+use Rattle.geometry.specs.declared.Finding.{Finding}
+use Rattle.geometry.specs.declared.Finding.the-variants.{Good, Bad}
+use Rattle.geometry.specs.Tests.{pick, _&_, and-true, and-false}
+use Rattle.model.specs.Bytes.{erased, seqAt, heightAt, tailAt}
+use Rattle.model.specs.Count.{least}
+use Rattle.model.specs.Rules.{wellFormed, r1}
+use Rattle.counts.specs.Least.{least-zero, least-go, least-end}
+use Rattle.counts.specs.Lowest.{lowest-bad, lowest-good}
+
+module _ (g : Geometry) (img : List ℕ) (p : ℕ) (e : Bool) (ee : e ≡ erased g img p) where
+  pub formed-erased : e ≡ true → true ≡ wellFormed g img p
+  unfolding wellFormed
+  formed-erased q = simp (← ee, q)
+
+  pub formed-high : (t w h : ℕ) → t ≡ g .top → h ≡ heightAt g img p → w ≡ h → e ≡ false → t < w → false ≡ wellFormed g img p
+  unfolding wellFormed
+  formed-high t w h et eh ew q k = simp (← ee, q, ← et, ← eh, lt-leb h t (rw (← ew) k), and-false)
+
+  pub formed-tail : (t w h : ℕ) (b : Bool) → t ≡ g .top → h ≡ heightAt g img p → w ≡ h → b ≡ tailAt g img p → e ≡ false → w ≤ t → not b ≡ true
+      → false ≡ wellFormed g img p
+  unfolding wellFormed
+  formed-tail t w h b et eh ew eb q k n = simp (← ee, q, ← et, ← eh, le-leb h t (rw (← ew) k), ← eb, not-true b n, and-true, and-false)
+
+  pub formed-number : (t w h s : ℕ) (b : Bool) → t ≡ g .top → h ≡ heightAt g img p → w ≡ h → b ≡ tailAt g img p → s ≡ seqAt g img p
+      → e ≡ false → w ≤ t → not b ≡ false → leb 1 s ≡ wellFormed g img p
+  unfolding wellFormed
+  formed-number t w h s b et eh ew eb es q k n =
+      simp (← ee, q, ← et, ← eh, le-leb h t (rw (← ew) k), ← eb, not-false b n, ← es, and-true)
+
+-- R1's test, as a name
+unfoldable pub malformed : Geometry → List ℕ → ℕ → Bool
+malformed g img p = not (wellFormed g img p)
+
+-- the loop over the pages
+module _ (g : Geometry) (img : List ℕ) where
+  pub form-start : least 0 (malformed g img) ≡ 0
+  form-start = sym (least-zero (malformed g img))
+
+  pub form-go : (i : ℕ) (r : Bool) → least i (malformed g img) ≡ i → r ≡ wellFormed g img i → not r ≡ false
+      → least (i + 1) (malformed g img) ≡ i + 1
+  unfolding malformed
+  form-go i r e er q = least-go (malformed g img) i e (rw (← er) q)
+
+  pub form-bad : (n t i : ℕ) (r : Bool) → t ≡ g .pages * n → least i (malformed g img) ≡ i → r ≡ wellFormed g img i → not r ≡ true
+      → i < t → Bad i ≡ r1 g n img
+  unfolding r1 malformed
+  form-bad n t i r et e er q h = lowest-bad (malformed g img) (g .pages * n) i e (rw (← er) q) (rw (← et) h)
+
+  pub form-good : (n t i : ℕ) → t ≡ g .pages * n → least i (malformed g img) ≡ i → i ≤ t → t ≤ i → Good ≡ r1 g n img
+  unfolding r1 malformed
+  form-good n t i et e h k =
+      let w : i ≡ g .pages * n = omega (arith, et) in
+      lowest-good (malformed g img) (g .pages * n) (rw (← w) e)
+
+pub ruleset formed-laws = (formed-erased, formed-high, formed-tail, formed-number, form-start, form-go, form-bad, form-good)

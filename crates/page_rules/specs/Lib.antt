@@ -1,0 +1,4 @@
+-- R1 and R2, in the form in which the code has the premises.
+pub mod Formed
+pub mod Blocks
+pub mod Laws

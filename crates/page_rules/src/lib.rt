@@ -1,0 +1,152 @@
+// R1 and R2: what each page and each block must look like.
+ghost use mathlib.Core.Path.{_≡_};
+ghost use Prim.Native.Nat.{ℕ, _+_, _*_, _-_, _≤_, _<_};
+ghost use Rattle.model.specs.Bytes.{erased};
+ghost use Rattle.model.specs.Count.{least};
+ghost use Rattle.model.specs.Next.{mixed, firstIn};
+ghost use Rattle.model.specs.Rules.{wellFormed, inOrder, secondMixed, r1, r2};
+ghost use Rattle.page_rules.specs.Blocks.{disorder, other};
+use geometry::Finding;
+use geometry::Geometry;
+
+// Whether a page is erased, or its height, tail and number may be.
+fn well_formed(g: Geometry, img: &[u8], page: u32) -> bool
+    ensures { λ r. ⌜ r ≡ wellFormed g (now (img .entry)) page ⌝ }
+{
+    if chip::page_erased(g, img, page) {
+        return true;
+    }
+    if geometry::wide(g.top) < geometry::index(chip::height_at(g, img, page)) {
+        return false;
+    }
+    if !chip::tail_blank(g, img, page) {
+        return false;
+    }
+    1 <= chip::seq_at(g, img, page)
+}
+
+// R1: the lowest page that is not well formed.
+pub fn rule_1(g: Geometry, img: &[u8], n: u16) -> Finding
+    ensures { λ r. ⌜ r ≡ r1 g n (now (img .entry)) ⌝ }
+{
+    let pages = chip::first_page(g, n);
+    let mut page: u32 = 0;
+    while page < pages {
+        if !well_formed(g, img, page) {
+            return Finding::Bad(page);
+        }
+        page += 1;
+    }
+    Finding::Good
+}
+
+// The place in a block of its first erased page, or the block's pages.
+fn first_in(g: Geometry, img: &[u8], block: u16) -> u16
+    ensures { λ r. ⌜ (r ≡ firstIn (g .pages) (erased g (now (img .entry))) block) × (r ≤ g .pages) ⌝ }
+{
+    let mut j: u16 = 0;
+    while j < g.pages {
+        if chip::page_erased(g, img, chip::page_of(g, block, j)) {
+            return j;
+        }
+        j += 1;
+    }
+    j
+}
+
+// Whether no page of a block is programmed after the first erased one.
+fn in_order(g: Geometry, img: &[u8], block: u16) -> bool
+    ensures { λ r. ⌜ r ≡ inOrder (g .pages) (erased g (now (img .entry))) block ⌝ }
+{
+    let first = first_in(g, img, block);
+    if g.pages <= first {
+        return true;
+    }
+    let mut j: u16 = first + 1;
+    while j < g.pages {
+        if !chip::page_erased(g, img, chip::page_of(g, block, j)) {
+            return false;
+        }
+        j += 1;
+    }
+    true
+}
+
+// The lowest block that is not in order, or n.
+fn first_disorder(g: Geometry, img: &[u8], n: u16) -> u16
+    ensures { λ r.
+        ⌜ (r ≡ least n (disorder (g .pages) (erased g (now (img .entry))))) × (r ≤ n) ⌝ }
+{
+    let mut block: u16 = 0;
+    while block < n {
+        if !in_order(g, img, block) {
+            return block;
+        }
+        block += 1;
+    }
+    block
+}
+
+// Whether the first page of a block is programmed and the last one erased.
+fn is_mixed(g: Geometry, img: &[u8], block: u16) -> bool
+    ensures { λ r. ⌜ r ≡ mixed (g .pages) (erased g (now (img .entry))) block ⌝ }
+{
+    if chip::page_erased(g, img, chip::page_of(g, block, 0)) {
+        return false;
+    }
+    chip::last_erased(g, img, block)
+}
+
+// The lowest mixed block, or n.
+fn first_mixed(g: Geometry, img: &[u8], n: u16) -> u16
+    ensures { λ r. ⌜ r ≡ least n (mixed (g .pages) (erased g (now (img .entry)))) ⌝ }
+{
+    let mut block: u16 = 0;
+    while block < n {
+        if is_mixed(g, img, block) {
+            return block;
+        }
+        block += 1;
+    }
+    block
+}
+
+// Whether a block is mixed and another one than `first`.
+fn other_mixed(g: Geometry, img: &[u8], block: u16, first: u16) -> bool
+    ensures { λ r. ⌜ r ≡ other (g .pages) (erased g (now (img .entry))) first block ⌝ }
+{
+    if !is_mixed(g, img, block) {
+        return false;
+    }
+    block != first
+}
+
+// The second mixed block, or n.
+fn second_mixed(g: Geometry, img: &[u8], n: u16) -> u16
+    ensures { λ r. ⌜ r ≡ secondMixed (g .pages) n (erased g (now (img .entry))) ⌝ }
+{
+    let first = first_mixed(g, img, n);
+    let mut block: u16 = 0;
+    while block < n {
+        if other_mixed(g, img, block, first) {
+            return block;
+        }
+        block += 1;
+    }
+    block
+}
+
+// R2: the first erased page before a programmed one, or the first page of the second mixed block.
+pub fn rule_2(g: Geometry, img: &[u8], n: u16) -> Finding
+    ensures { λ r. ⌜ r ≡ r2 (g .pages) n (erased g (now (img .entry))) ⌝ }
+{
+    let block = first_disorder(g, img, n);
+    if block < n {
+        return Finding::Bad(chip::page_of(g, block, first_in(g, img, block)));
+    }
+    let second = second_mixed(g, img, n);
+    if second < n {
+        return Finding::Bad(chip::first_page(g, second));
+    }
+    Finding::Good
+}

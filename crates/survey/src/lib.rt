@@ -1,0 +1,137 @@
+// One pass over the pages of an image: the root, the largest number, the erased pages. And R4.
+ghost use mathlib.Core.Path.{_≡_};
+ghost use Prim.Native.Nat.{ℕ, _+_, _*_, _-_, _≤_, _<_, max};
+ghost use Rattle.model.specs.Image.{heightOf};
+ghost use Rattle.model.specs.Rules.{r4};
+ghost use Rattle.survey.specs.Survey.{seenTo, surveyOf};
+use geometry::Finding;
+use geometry::Geometry;
+
+// What the pages below some page say: the root's page and number, the largest number, the erased pages.
+struct Seen {
+    root: u32,
+    score: u32,
+    most: u32,
+    erased: u32,
+}
+
+// An image in numbers: the root's page, its height byte and the levels below it, the largest number, the erased pages.
+pub struct Survey {
+    pub root: u32,
+    pub height: u32,
+    pub level: u32,
+    pub most: u32,
+    pub erased: u32,
+}
+
+fn larger(a: u32, b: u32) -> u32
+    ensures { λ r. ⌜ r ≡ max a b ⌝ }
+{
+    if a < b {
+        return b;
+    }
+    a
+}
+
+// What is seen with one page more.
+fn see(g: Geometry, img: &[u8], page: u32, seen: Seen) -> Seen
+    requires { ⌜ (seen ≡ seenTo g (now img) page) × (seen .erased ≤ page) × (page < 4294967295) ⌝ }
+    ensures { λ r. ⌜ (r ≡ seenTo g (now (img .entry)) (page + 1)) × (r .erased ≤ page + 1) ⌝ }
+{
+    if chip::page_erased(g, img, page) {
+        return Seen {
+            root: seen.root,
+            score: seen.score,
+            most: seen.most,
+            erased: seen.erased + 1,
+        };
+    }
+    let seq = chip::seq_at(g, img, page);
+    let most = larger(seq, seen.most);
+    if chip::height_at(g, img, page) == 0 {
+        return Seen {
+            root: seen.root,
+            score: seen.score,
+            most: most,
+            erased: seen.erased,
+        };
+    }
+    if seq <= seen.score {
+        return Seen {
+            root: seen.root,
+            score: seen.score,
+            most: most,
+            erased: seen.erased,
+        };
+    }
+    Seen {
+        root: page,
+        score: seq,
+        most: most,
+        erased: seen.erased,
+    }
+}
+
+fn see_all(g: Geometry, img: &[u8], pages: u32) -> Seen
+    requires { ⌜ pages < 4294967295 ⌝ }
+    ensures { λ r. ⌜ r ≡ seenTo g (now (img .entry)) pages ⌝ }
+{
+    let mut seen = Seen {
+        root: 0,
+        score: 0,
+        most: 0,
+        erased: 0,
+    };
+    let mut page: u32 = 0;
+    while page < pages {
+        seen = see(g, img, page, seen);
+        page += 1;
+    }
+    seen
+}
+
+// The height byte of a programmed page, 0 of an erased one.
+fn height_of(g: Geometry, img: &[u8], page: u32) -> u32
+    ensures { λ r. ⌜ (r ≡ heightOf g (now (img .entry)) page) × (r < 256) ⌝ }
+{
+    if chip::page_erased(g, img, page) {
+        return 0;
+    }
+    chip::height_at(g, img, page)
+}
+
+fn less_one(x: u32) -> u32
+    ensures { λ r. ⌜ r ≡ x - 1 ⌝ }
+{
+    if x == 0 {
+        return 0;
+    }
+    x - 1
+}
+
+// The survey of n blocks.
+pub fn take_survey(g: Geometry, img: &[u8], n: u16) -> Survey
+    ensures { λ r. ⌜ (r ≡ surveyOf g n (now (img .entry))) × (r .level < 255) ⌝ }
+{
+    let seen = see_all(g, img, chip::first_page(g, n));
+    let height = height_of(g, img, seen.root);
+    let level = less_one(height);
+    Survey {
+        root: seen.root,
+        height: height,
+        level: level,
+        most: seen.most,
+        erased: seen.erased,
+    }
+}
+
+// R4: some page carries a root.
+pub fn rule_4(g: Geometry, img: &[u8], n: u16, survey: Survey) -> Finding
+    requires { ⌜ survey ≡ surveyOf g n (now img) ⌝ }
+    ensures { λ r. ⌜ r ≡ r4 g n (now (img .entry)) ⌝ }
+{
+    if survey.height == 0 {
+        return Finding::Bad(0);
+    }
+    Finding::Good
+}
