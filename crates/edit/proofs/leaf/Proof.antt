@@ -1,0 +1,25 @@
+use borrow.Author.Needs.{needs}
+use Rattle.edit.specs.Laws.{edit-laws}
+use Rattle.edit.proofs.leaf.Statement.{statement}
+use Rattle.edit.proofs.leaf.Tie as tie
+use Rattle.edit.proofs.leaf.Reads as reads
+use Rattle.edit.proofs.leaf.Lts as lts
+use Rattle.load.proofs.load_node.Reads as load-node-reads
+use Rattle.load.proofs.put_leaf.Reads as put-leaf-reads
+use Rattle.load.proofs.remove_leaf.Reads as remove-leaf-reads
+
+ruleset all = (needs, edit-laws)
+
+pub leaf-spec : {M : Type 1} → statement M
+leaf-spec =
+    tie.close
+    (tie.spec
+    (λ c. search all)
+    (λ c κs. search all)
+    (λ c. search all)
+    (λ c κs. search all)
+    (λ c. search all)
+    (λ c κs. search all)
+    (λ c. search all)
+    (λ c. search all)
+    (λ c. search all))

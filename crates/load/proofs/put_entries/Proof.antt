@@ -1,0 +1,25 @@
+use borrow.Author.Needs.{needs}
+use Rattle.load.specs.Laws.{load-laws}
+use Rattle.load.proofs.put_entries.Statement.{statement}
+use Rattle.load.proofs.put_entries.Tie as tie
+use Rattle.load.proofs.put_entries.Reads as reads
+use Rattle.load.proofs.put_entries.Lts as lts
+use Rattle.load.proofs.load.Reads as load-reads
+use Rattle.load.proofs.stands_at.Reads as stands-at-reads
+use Rattle.node.proofs.insert_at.Reads as insert-at-reads
+use Rattle.node.proofs.replace_at.Reads as replace-at-reads
+use Rattle.search.proofs.keys_ahead.Reads as keys-ahead-reads
+
+ruleset all = (needs, load-laws)
+
+pub put-entries-spec : {M : Type 1} → statement M
+put-entries-spec =
+    tie.close
+    (tie.spec
+    (λ c κs. search all)
+    (λ c κs. search all)
+    (λ c κs. search all)
+    (λ c κs. search all)
+    (λ c. search all)
+    (λ c κs. search all)
+    (λ c. search all))

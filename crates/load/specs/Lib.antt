@@ -1,0 +1,4 @@
+-- Nodes read by value, and their laws.
+pub mod Load
+pub mod Places
+pub mod Laws

@@ -1,0 +1,40 @@
+use Rattle.page_rules.specs.Blocks.{block-laws}
+use borrow.Author.Needs.{needs}
+use Rattle.next.specs.Laws.{next-laws}
+use mathlib.Core.Path.{_≡_}
+use Prim.Native.Nat.{_+_, _*_, _-_, _≤_, _<_}
+use lib.ListN.{length}
+use Rattle.model.specs.Bytes.{erased}
+use Rattle.model.specs.Count.{least}
+use Rattle.model.specs.Next.{mixed}
+use Rattle.page_rules.specs.Blocks.{at}
+use Rattle.next.specs.Coming.{free, head, Coming}
+use Rattle.next.proofs.first_in.Statement.{statement}
+use Rattle.next.proofs.first_in.Tie as tie
+use Rattle.next.proofs.first_in.Reads as reads
+use Rattle.next.proofs.first_in.Lts as lts
+use Rattle.chip.proofs.page_of.Reads as page-of-reads
+use Rattle.next.proofs.is_free.Reads as is-free-reads
+
+ruleset all = (needs, next-laws, block-laws)
+
+abbrev Inv-loop : tie.InvT-loop
+Inv-loop g img taken i block j₀ j = (j ≤ g .pages) × (least j (at (g .pages) (free (erased g img) taken i) block) ≡ j)
+
+abbrev μ-loop : tie.MeasureT-loop
+μ-loop g img taken i block j₀ j = g .pages - j
+
+pub first-in-spec : {M : Type 1} → statement M
+first-in-spec =
+    tie.close
+    (tie.spec
+    Inv-loop
+    μ-loop
+    (λ c. search all)
+    (λ c κs. search all)
+    (λ c κs. search all)
+    (λ c. search all)
+    (λ c. search all)
+    (λ c. search all)
+    (λ c. search all)
+    (λ c. search all))

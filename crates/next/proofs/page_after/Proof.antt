@@ -1,0 +1,16 @@
+use Rattle.page_rules.specs.Blocks.{block-laws}
+use borrow.Author.Needs.{needs}
+use Rattle.next.specs.Laws.{next-laws}
+use Rattle.next.proofs.page_after.Statement.{statement}
+use Rattle.next.proofs.page_after.Tie as tie
+use Rattle.next.proofs.page_after.Reads as reads
+use Rattle.next.proofs.page_after.Lts as lts
+use Rattle.chip.proofs.page_of.Reads as page-of-reads
+use Rattle.next.proofs.first_in.Reads as first-in-reads
+use Rattle.next.proofs.next_block.Reads as next-block-reads
+
+ruleset all = (needs, next-laws, block-laws)
+
+pub page-after-spec : {M : Type 1} → statement M
+page-after-spec =
+    tie.close (tie.spec (λ c κs. search all) (λ c κs. search all) (λ c κs. search all) (λ c. search all))

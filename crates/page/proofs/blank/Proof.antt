@@ -1,0 +1,15 @@
+use Rattle.page.specs.Levels.{level-laws}
+use borrow.Author.Needs.{needs}
+use Rattle.page.specs.Laws.{page-laws}
+use mathlib.Core.Path.{refl}
+use Rattle.page.specs.Page.{blanks}
+use Rattle.page.proofs.blank.Statement.{statement}
+use Rattle.page.proofs.blank.Tie as tie
+use Rattle.page.proofs.blank.Reads as reads
+use Rattle.page.proofs.blank.Lts as lts
+
+ruleset all = (needs, page-laws, level-laws)
+
+pub blank-spec : {M : Type 1} → statement M
+unfolding blanks
+blank-spec = tie.close (tie.spec (λ c. search all))

@@ -1,0 +1,4 @@
+-- Runs of stores under an allowance, and the laws of stores and runs.
+pub mod Run
+pub mod Laws
+pub mod Runs
