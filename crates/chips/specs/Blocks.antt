@@ -23,10 +23,13 @@ full-dead n m full d z (suc b) q = go (full b) (leb 1 (d b)) (eqb b m) refl refl
   where
     Out : Type 0
     Out = ((v : ℕ) × (v < suc b) × (full v ≡ true) × (1 ≤ d v)) ⊎ ((d b + sum b d ≤ d m) × (suc b ≤ m → d b + sum b d ≡ 0))
+
     none-here : d b ≡ 0 → (sum b d ≤ d m) × (b ≤ m → sum b d ≡ 0) → Out
     none-here e h = inr (omega (arith, h .0), λ w. omega (arith, h .1 (omega arith)))
+
     at-m : b ≡ m → (sum b d ≤ d m) × (b ≤ m → sum b d ≡ 0) → Out
     at-m e h = inr (omega (arith, h .1 (omega arith), ap d e), λ w. absurd (omega arith))
+
     go : (t u v : Bool) → full b ≡ t → leb 1 (d b) ≡ u → eqb b m ≡ v → ((v : ℕ) × (v < b) × (full v ≡ true) × (1 ≤ d v)) ⊎ ((sum b d ≤ d m) × (b ≤ m → sum b d ≡ 0)) → Out
     go true true v x y e (inl h) = inl (b, omega arith, x, leb-true 1 (d b) y)
     go true true v x y e (inr h) = inl (b, omega arith, x, leb-true 1 (d b) y)
@@ -75,7 +78,6 @@ victim-is full lv (suc b) = better-is full lv b (victim full lv b) (victim-is fu
 -- with room for k more pages and too few erased ones some full block has a dead page; m is the mixed block, or n
 module _ (g k n : ℕ) (er lv dd : ℕ → Bool) (three : (q : ℕ) → bit (er q) + bit (lv q) + bit (dd q) ≡ 1) (full : ℕ → Bool) (m : ℕ)
     (some-er : m < n → 1 ≤ inBlock g er m) (clean : (b : ℕ) → b < n → full b ≡ false → (b ≡ m → ⊥) → inBlock g dd b ≡ 0) where
-
   by-block : (b : ℕ) → inBlock g er b + inBlock g lv b + inBlock g dd b ≡ g
   by-block b = count-three g (λ j. er (g * b + j)) (λ j. lv (g * b + j)) (λ j. dd (g * b + j)) (λ j. three (g * b + j))
 
@@ -84,6 +86,7 @@ module _ (g k n : ℕ) (er lv dd : ℕ → Bool) (three : (q : ℕ) → bit (er 
     where
       enough : g ≤ sum n (inBlock g dd)
       enough = omega (arith, count-three (g * n) er lv dd three, count-blocks g n dd, room, few)
+
       go : ((v : ℕ) × (v < n) × (full v ≡ true) × (1 ≤ inBlock g dd v)) ⊎ ((sum n (inBlock g dd) ≤ inBlock g dd m) × (n ≤ m → sum n (inBlock g dd) ≡ 0)) → (t : Bool) → ltb m n ≡ t → (v : ℕ) × (v < n) × (full v ≡ true) × (inBlock g lv v < g)
       go (inl w) t e = (w .0, w .1, w .2, omega (arith, by-block (w .0), w .3))
       go (inr w) true e = absurd (omega (arith, enough, w .0, by-block m, some-er (ltb-true m n e)))

@@ -47,9 +47,7 @@ pub record Cleared (g : Geometry) (n : ℕ) (c c′ : Chip) : Type 0 where
   pub alike : Same g c c′
 
 module _ (g : Geometry) (shape : Shape g) (n k : ℕ) where
-
   module _ (c : Chip) (h : Whole g n c) where
-
     -- a live page is not erased
     live-kept : (q : ℕ) → c .er q ≡ true → live (placesOf c) q ≡ false
     live-kept q e = dead-live q (placesOf c) (all-map (λ x. (1 ≤ x .level) × fitOf (g .pages * n) (c .er) (x .level) (x .page)) (λ x. x .page ≡ q → ⊥) (placesOf c)
@@ -102,8 +100,8 @@ module _ (g : Geometry) (shape : Shape g) (n k : ℕ) where
     clean b q f d = by-test (c .er (g .pages * b + 0))
         (λ i. count-ext (g .pages) (λ j. deadP (g .pages * b + j)) (λ _. false) (λ j w. rw (h .r2 .mono b 0 j q (omega arith) w i) refl) ∙ count-zero (g .pages))
         (λ i. let z : mixed (g .pages) (c .er) b ≡ true = rw (i, last (c .er (g .pages * b + (g .pages - 1))) f) refl in
-          let w : mx < n = by-le mx b (λ y. omega (arith, q, y)) (λ y. absurd (true-false (mixed (g .pages) (c .er) b) z (mx-is .before b y))) in
-          absurd (d (h .r2 .one b mx q w z (mx-is .hit w))))
+        let w : mx < n = by-le mx b (λ y. omega (arith, q, y)) (λ y. absurd (true-false (mixed (g .pages) (c .er) b) z (mx-is .before b y))) in
+        absurd (d (h .r2 .one b mx q w z (mx-is .hit w))))
       where
         last : (t : Bool) → not t ≡ false → t ≡ true
         last true i = refl
@@ -116,6 +114,7 @@ module _ (g : Geometry) (shape : Shape g) (n k : ℕ) where
       where
         d : (v : ℕ) × (v < n) × (full (g .pages) (c .er) v ≡ true) × (livesIn (g .pages) v c < g .pages)
         d = dead-block (g .pages) k n (c .er) (live (placesOf c)) deadP three (full (g .pages) (c .er)) mx some-er clean (some-page g shape) room few
+
         go : (o : Option ℕ) → theVictim (g .pages) n c ≡ o → Found (full (g .pages) (c .er)) (λ b. livesIn (g .pages) b c) n o → (v : ℕ) × (theVictim (g .pages) n c ≡ some v) × (v < n) × (full (g .pages) (c .er) v ≡ true) × (livesIn (g .pages) v c < g .pages) × (livesIn (g .pages) v c ≤ count (g .pages * n) (c .er))
         go none e f = absurd (true-false (full (g .pages) (c .er) (d .0)) (d .2) (f (d .0) (d .1)))
         go (some v) e f = let a = f .fewest (d .0) (d .1) (d .2) in (v, e, f .below, f .is-full, omega (arith, a, d .3), bound r7)
@@ -131,16 +130,22 @@ module _ (g : Geometry) (shape : Shape g) (n k : ℕ) where
       where
         Out : Chip → Type 0
         Out c′ = Cleared g n c c′ × (g .pages ≤ count (g .pages * n) (c′ .er)) × (count (g .pages * n) (c .er) < count (g .pages * n) (c′ .er))
+
         at : (v : ℕ) → v < n → full (g .pages) (c .er) v ≡ true → livesIn (g .pages) v c < g .pages → livesIn (g .pages) v c ≤ count (g .pages * n) (c .er) → Out (eraseBlock g v (sweep g n v (g .pages) c))
         at v v-in f less le =
             let sw = emptied g shape n v c h (λ i w. full-none v i v-in f w) le in
             let fr = erased-frees g shape n v v-in (sweep g n v (g .pages) c) (sw .done) in
-            let pl = ap (λ m. count (g .pages * n) (live m)) (erased-places g shape n v v-in (sweep g n v (g .pages) c) (sw .done)) in
-            ( record { good = erased-good g shape n v v-in (sweep g n v (g .pages) c) (sw .done)
-                     ; pairs-are = erased-pairs g shape n v v-in (sweep g n v (g .pages) c) (sw .done) ∙ sw .pairs-are
-                     ; lives = omega (arith, pl, sw .lives)
-                     ; alike = same-then g c (sweep g n v (g .pages) c) (eraseBlock g v (sweep g n v (g .pages) c)) (sw .alike) (erased-alike g shape n v v-in (sweep g n v (g .pages) c) (sw .done)) }
-            , omega (arith, fr), omega (arith, fr, sw .frees, less) )
+            let pl = ap (λ m. count (g .pages * n) (live m)) (erased-places g shape n v v-in (sweep g n v (g .pages) c) (sw .done)) in (
+              record {
+                good = erased-good g shape n v v-in (sweep g n v (g .pages) c) (sw .done);
+                pairs-are = erased-pairs g shape n v v-in (sweep g n v (g .pages) c) (sw .done) ∙ sw .pairs-are;
+                lives = omega (arith, pl, sw .lives);
+                alike = same-then g c (sweep g n v (g .pages) c) (eraseBlock g v (sweep g n v (g .pages) c)) (sw .alike) (erased-alike g shape n v v-in (sweep g n v (g .pages) c) (sw .done));
+              },
+              omega (arith, fr),
+              omega (arith, fr, sw .frees, less),
+            )
+
         go : (v : ℕ) × (theVictim (g .pages) n c ≡ some v) × (v < n) × (full (g .pages) (c .er) v ≡ true) × (livesIn (g .pages) v c < g .pages) × (livesIn (g .pages) v c ≤ count (g .pages * n) (c .er)) → Out (clear g n (theVictim (g .pages) n c) c)
         go w = subst (λ o. Out (clear g n o c)) (sym (w .1)) (at (w .0) (w .2) (w .3) (w .4) (w .5))
 
@@ -153,6 +158,7 @@ module _ (g : Geometry) (shape : Shape g) (n k : ℕ) where
     where
       c′ : Chip
       c′ = clear g n (theVictim (g .pages) n c) c
+
       go : (t : Bool) → ltb (count (g .pages * n) (c .er)) (g .pages + k) ≡ t
           → (Whole g n c′ → g .pages ≤ count (g .pages * n) (c′ .er) → g .pages + k ≤ count (g .pages * n) (c′ .er) + m → count (g .pages * n) (live (placesOf c′)) + (2 * g .pages + k) ≤ suc (g .pages * n) → Cleared g n c′ (collect g n k m c′) × (g .pages + k ≤ count (g .pages * n) (collect g n k m c′ .er)))
           → Cleared g n c (pick t (collect g n k m c′) c) × (g .pages + k ≤ count (g .pages * n) (pick t (collect g n k m c′) c .er))
@@ -170,6 +176,7 @@ module _ (g : Geometry) (shape : Shape g) (n k : ℕ) where
     where
       c′ : Chip
       c′ = clear g n (theVictim (g .pages) n c) c
+
       go : (t : Bool) → ltb (count (g .pages * n) (c .er)) (g .pages + k) ≡ t → Cleared g n c (pick t (collect g n k k c′) c) × (g .pages + k ≤ count (g .pages * n) (pick t (collect g n k k c′) c .er))
       go false e = (record { good = h; pairs-are = refl; lives = omega arith; alike = same-self g c }, ltb-false (count (g .pages * n) (c .er)) (g .pages + k) e)
       go true e =

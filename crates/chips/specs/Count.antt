@@ -77,9 +77,10 @@ pub sum-point : (n v d : ℕ) (f h : ℕ → ℕ) → h v ≡ f v + d → ((b : 
 unfolding sum
 sum-point zero v d f h a b = ((λ _. refl), (λ q. absurd (omega arith)))
 sum-point (suc n) v d f h a b =
-    let i = sum-point n v d f h a b in
-    ( (λ q. omega (arith, i .0 (omega arith), b n (λ e. omega arith)))
-    , (λ q. by-eq n v (λ e. let x = ap f e in let y = ap h e in omega (arith, i .0 (omega arith), a, x, y)) (λ e. omega (arith, i .1 (omega arith), b n e))) )
+    let i = sum-point n v d f h a b in (
+      (λ q. omega (arith, i .0 (omega arith), b n (λ e. omega arith))),
+      (λ q. by-eq n v (λ e. let x = ap f e in let y = ap h e in omega (arith, i .0 (omega arith), a, x, y)) (λ e. omega (arith, i .1 (omega arith), b n e))),
+    )
 
 count-add : (m n : ℕ) (f : ℕ → Bool) → count (m + n) f ≡ count m f + count n (λ j. f (m + j))
 unfolding count

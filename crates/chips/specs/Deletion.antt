@@ -33,7 +33,6 @@ abbrev pub leftList : Geometry → ℕ → Chip → ℕ → ℕ → List Entry
 leftList g n c k j = deletePart c k (sidePage g n c 1) j
 
 module _ (g : Geometry) (shape : Shape g) (n k : ℕ) (k-low : k < 4294967296) (c : Chip) (good : Whole g n c) (present : isNone (sought c k) ≡ false) where
-
   abbrev r : Nodes
   r = c .nodes
 
@@ -99,7 +98,6 @@ module _ (g : Geometry) (shape : Shape g) (n k : ℕ) (k-low : k < 4294967296) (
   module _ (free : 1 ≤ count (g .pages * n) (c .er)) (s : Nodes)
       (at-N : (j : ℕ) → 1 ≤ j → j ≤ g .top → s N j ≡ leftList g n c k j)
       (stays : (q l : ℕ) → fit (suc l) q → s q (suc l) ≡ r q (suc l)) (high : suc (c .level) ≤ g .top) where
-
     abbrev fit′ : ℕ → ℕ → Type 0
     fit′ = fitOf (g .pages * n) (taken (g .pages) n (c .er) 1)
 
@@ -123,9 +121,9 @@ module _ (g : Geometry) (shape : Shape g) (n k : ℕ) (k-low : k < 4294967296) (
         let ls : collapse r (c .level) (lists (suc (c .level))) .list ≡ lists (suc (c .level)) = ap (λ (x : Top). x .list) e in
         let here : s N (suc (c .level)) ≡ rootList = at-N (suc (c .level)) (omega arith) high ∙ rw (lv, eq-eqb (suc (c .level)) (suc (c .level)) refl) (ls ∙ root-list) in
         let made : DelMade r s k N (c .level) (chosen k es) = made-from fit rm r k (remove k) (λ e. remove k (e ∷ [])) (kept N) as-splice (λ j d. 1 ≤ length d → s N j ≡ d) (c .level) 4294967296 (theRoot c) k-low (λ _. some-root) (good .sound .rooted .rises)
-              (λ j b d _. at-N j b (omega (arith, d, high)) ∙ rw (lv, ne-eqb j (suc (c .level)) (λ z. omega (arith, z, d)), eq-eqb (c .level) (c .level) refl, le-leb j (c .level) d, and-true true) refl) in
+        (λ j b d _. at-N j b (omega (arith, d, high)) ∙ rw (lv, ne-eqb j (suc (c .level)) (λ z. omega (arith, z, d)), eq-eqb (c .level) (c .level) refl, le-leb j (c .level) d, and-true true) refl) in
         let w = delete-stay N 4294967296 (half g) (rootMost g) r s fit fit′ fit-N (keep g shape n c (good .r2) 1 free) stays new-N k k-low (c .level) (c .root) (good .sound) some-root made here
-              (λ i. rw (← root-list) (two (c .level) i h)) in
+        (λ i. rw (← root-list) (two (c .level) i h)) in
         (record { r2 = after-r2; sound = w .0 }, w .1)
       where
         two : (l : ℕ) → 1 ≤ l → Stays l (lists (suc (c .level))) → 2 ≤ length (lists (suc (c .level)))
@@ -149,7 +147,7 @@ module _ (g : Geometry) (shape : Shape g) (n k : ℕ) (k-low : k < 4294967296) (
         let z = ap length e in
         let made : DelMade r s k N (suc l) (chosen k ls) = none-made k N 4294967296 (half g) (rootMost g) r s fit fit′ fit-N (keep g shape n c (good .r2) 1 free) stays k-low (suc l) (next (sp .post) 4294967296) (chosen k ls) (sp .under) (sp .here) (none-left (deleted r k N (suc l) (chosen k ls)) (omega (arith, w, z, one, b))) in
         subst (λ (x : List Entry). s N (suc (collapse r (suc l) x .level)) ≡ collapse r (suc l) x .list → Proper fit′ rm (rootMost g) 4294967296 s (collapse r (suc l) x .level) N × (under s (suc (collapse r (suc l) x .level)) (the N) ≡ remove k (under r (suc (suc l)) (the (c .root))))) (sym e)
-          (λ at. delete-collapse N 4294967296 (half g) (rootMost g) r s fit fit′ fit-N (keep g shape n c (good .r2) 1 free) stays new-N k k-low wide l (c .root) h made (omega (arith, z, one)) at) at
+        (λ at. delete-collapse N 4294967296 (half g) (rootMost g) r s fit fit′ fit-N (keep g shape n c (good .r2) 1 free) stays new-N k k-low wide l (c .root) h made (omega (arith, z, one)) at) at
 
     -- a root above level 1 keeps an entry
     some-left : (lv : ℕ) → Proper fit rm (rootMost g) 4294967296 r lv (c .root) → 1 ≤ lv → 1 ≤ length (atRoot (remove k) (deleted r k N lv) k lv (r (c .root) (suc lv)))
@@ -168,11 +166,14 @@ module _ (g : Geometry) (shape : Shape g) (n k : ℕ) (k-low : k < 4294967296) (
         many : (l : ℕ) → 2 ≤ length (lists (suc (c .level))) → Stays l (lists (suc (c .level)))
         many zero q = tt
         many (suc l) q = q
+
         leaf-stays : (l : ℕ) → l < 1 → Stays l (lists (suc (c .level)))
         leaf-stays zero q = tt
         leaf-stays (suc l) q = absurd (omega arith)
+
         kept-level : Stays (c .level) (lists (suc (c .level))) → Done (collapse r (c .level) (lists (suc (c .level))) .level)
         kept-level h = let e : collapse r (c .level) (lists (suc (c .level))) .level ≡ c .level = ap (λ (x : Top). x .level) (stays-top (c .level) (lists (suc (c .level))) h) in rw e (stay h)
+
         lower : 1 ≤ c .level → length (lists (suc (c .level))) < 2 → Done (collapse r (c .level) (lists (suc (c .level))) .level)
         lower i q =
             let t = collapse r (c .level) (lists (suc (c .level))) in

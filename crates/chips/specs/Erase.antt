@@ -59,7 +59,6 @@ unfoldable pub eraseBlock : Geometry → ℕ → Chip → Chip
 eraseBlock g v c = record { er = λ q. pick (inB (g .pages) v q) true (c .er q); nodes = λ q j. pick (inB (g .pages) v q) (blankNode g j) (c .nodes q j); level = c .level; root = c .root }
 
 module _ (g : Geometry) (shape : Shape g) (n : ℕ) (v : ℕ) (v-in : v < n) (c : Chip) (sw : Sweeping g n v 0 c) where
-
   abbrev c′ : Chip
   c′ = eraseBlock g v c
 
@@ -76,10 +75,12 @@ module _ (g : Geometry) (shape : Shape g) (n : ℕ) (v : ℕ) (v-in : v < n) (c 
     where
       mono′ : (b i j : ℕ) → b < n → i ≤ j → j < g .pages → c′ .er (g .pages * b + i) ≡ true → c′ .er (g .pages * b + j) ≡ true
       mono′ b i j p q w h = by-eq b v (λ e. rw e (er-own j w)) (λ e. er-other b j w e ∙ sw .good .r2 .mono b i j p q w (sym (er-other b i (omega arith) e) ∙ h))
+
       old-mixed : (b : ℕ) → mixed (g .pages) (c′ .er) b ≡ true → (b ≡ v → ⊥) × (mixed (g .pages) (c .er) b ≡ true)
       old-mixed b h = by-eq b v
           (λ e. absurd (true-false (mixed (g .pages) (c′ .er) v) (subst (λ b. mixed (g .pages) (c′ .er) b ≡ true) e h) (rw (er-own 0 (omega arith)) refl)))
           (λ e. (e, rw (← er-other b 0 (omega arith) e, ← er-other b (g .pages - 1) (omega arith) e) h))
+
       one′ : (b d : ℕ) → b < n → d < n → mixed (g .pages) (c′ .er) b ≡ true → mixed (g .pages) (c′ .er) d ≡ true → b ≡ d
       one′ b d p q h i = sw .good .r2 .one b d p q (old-mixed b h .1) (old-mixed d i .1)
 
@@ -106,8 +107,8 @@ module _ (g : Geometry) (shape : Shape g) (n : ℕ) (v : ℕ) (v-in : v < n) (c 
   outside : All (λ x. 1 ≤ x .level → inB (g .pages) v (x .page) ≡ true → ⊥) (placesOf c)
   outside = all-map (λ x. Mem x (placesOf c)) (λ x. 1 ≤ x .level → inB (g .pages) v (x .page) ≡ true → ⊥) (placesOf c)
       (λ x m _ i. let w = range (g .pages) v (x .page) i in
-        true-false (live (placesOf c) (x .page)) (mem-live x (placesOf c) m)
-          (let e : x .page ≡ g .pages * v + (x .page - g .pages * v) = omega (arith, w .0) in subst (λ q. live (placesOf c) q ≡ false) (sym e) (sw .dead (x .page - g .pages * v) (omega (arith, w .0, w .1)))))
+      true-false (live (placesOf c) (x .page)) (mem-live x (placesOf c) m)
+      (let e : x .page ≡ g .pages * v + (x .page - g .pages * v) = omega (arith, w .0) in subst (λ q. live (placesOf c) q ≡ false) (sym e) (sw .dead (x .page - g .pages * v) (omega (arith, w .0, w .1)))))
       (all-mem (placesOf c))
 
   rooted : Rooted fitz (λ l. 2 * half g l) (rootMost g) 4294967296 (c .nodes) (c .level) (c .root)

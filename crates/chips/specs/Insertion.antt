@@ -40,7 +40,6 @@ abbrev pub mainList : Geometry → ℕ → Chip → ℕ → ℕ → ℕ → List
 mainList g n c k a j = insertPart g c k a (sidePage g n c (needs g c k)) (sidePage g n c) j
 
 module _ (g : Geometry) (shape : Shape g) (n k a : ℕ) (k-low : k < 4294967296) (c : Chip) (good : Whole g n c) where
-
   abbrev r : Nodes
   r = c .nodes
 
@@ -134,18 +133,18 @@ module _ (g : Geometry) (shape : Shape g) (n k a : ℕ) (k-low : k < 4294967296)
           let d = shape .double (suc (c .level)) (omega arith) lo in
           let s = shape .some (suc (c .level)) (omega arith) lo in
           omega (arith, w, am, d, s, root-length, bit-le gained)
+
       at-top : g .top ≤ suc (c .level) → length es ≤ rootSlots g (suc (c .level)) → length (lists (suc (c .level))) ≤ rootSlots g (suc (c .level))
       at-top lo am = by-test gained
           (λ z. by-eq (length es) (rootSlots g (suc (c .level)))
-            (λ y. absurd (true-false _ (and-both _ _ (and-both _ _ (eq-eqb (suc (c .level)) (g .top) (omega (arith, lo, hi))) (eq-eqb (length es) (rootSlots g (suc (c .level))) y)) z) small))
-            (λ y. omega (arith, root-length, am, y, bit-le gained)))
+          (λ y. absurd (true-false _ (and-both _ _ (and-both _ _ (eq-eqb (suc (c .level)) (g .top) (omega (arith, lo, hi))) (eq-eqb (length es) (rootSlots g (suc (c .level))) y)) z) small))
+          (λ y. omega (arith, root-length, am, y, bit-le gained)))
           (λ z. omega (arith, root-length, am, ap bit z))
 
   -- ---- the nodes s after the m pages
   module _ (free : m ≤ count (g .pages * n) (c .er)) (s : Nodes)
       (at-N : (j : ℕ) → 1 ≤ j → j ≤ g .top → s N j ≡ mainList g n c k a j) (at-side : (j : ℕ) → 1 ≤ j → j < m → s (side j) j ≡ sideList g n c k a j)
       (stays : (q l : ℕ) → fit (suc l) q → s q (suc l) ≡ r q (suc l)) (high : suc (c .level) ≤ g .top) where
-
     abbrev fit′ : ℕ → ℕ → Type 0
     fit′ = fitOf (g .pages * n) (taken (g .pages) n (c .er) m)
 
@@ -159,9 +158,11 @@ module _ (g : Geometry) (shape : Shape g) (n k a : ℕ) (k-low : k < 4294967296)
         (λ j b d. at j b d _ refl)
       where
         at : (j : ℕ) → 1 ≤ j → j ≤ c .level → (d : List Entry) → lists j ≡ d → (s N j ≡ pathPart k (half g) j d) × (rm j < length d → (s (side j) j ≡ sideHalf k (half g j) d) × fit′ j (side j) × Cut j)
-        at j b d ds e = (at-N j b (omega (arith, d, high)) ∙ rw (le-leb j (c .level) d) (ap (pathPart k (half g) j) e),
-            λ f. let w = cut-levels j b d .0 (rw e f) in let lt : j < m = omega (arith, needs-is, w) in
-              (at-side j b lt ∙ rw (le-leb j (c .level) d) (ap (sideHalf k (half g j)) e), fit-side g shape n c (good .r2) m free j j b (omega (arith, lt)), (b, lt)))
+        at j b d ds e = (
+          at-N j b (omega (arith, d, high)) ∙ rw (le-leb j (c .level) d) (ap (pathPart k (half g) j) e),
+          λ f. let w = cut-levels j b d .0 (rw e f) in let lt : j < m = omega (arith, needs-is, w) in
+              (at-side j b lt ∙ rw (le-leb j (c .level) d) (ap (sideHalf k (half g j)) e), fit-side g shape n c (good .r2) m free j j b (omega (arith, lt)), (b, lt)),
+        )
 
     some-m : 1 ≤ m
     some-m = omega (arith, needs-is)
@@ -184,8 +185,8 @@ module _ (g : Geometry) (shape : Shape g) (n k a : ℕ) (k-low : k < 4294967296)
     stay small e =
         let here : s N (suc (c .level)) ≡ rootList = at-N (suc (c .level)) (omega arith) high ∙ rw (lt-leb (suc (c .level)) (c .level) (omega arith), e, eq-eqb (suc (c .level)) (suc (c .level)) refl) root-list in
         let w = insert-stay N 4294967296 (half g) (rootMost g) r s fit fit′ (λ l. fit-side g shape n c (good .r2) m free m (suc l) some-m (omega arith)) (keep g shape n c (good .r2) m free) stays (λ l. new-side g shape n c (good .r2) m free m l some-m (omega arith))
-              k a side Cut tt k-low apart inj (λ l j h. new-side g shape n c (good .r2) m free l j (h .0) (omega (arith, h .1)))
-              (c .level) (c .root) (good .sound) made here (rw (← root-list) (stay-most high small e)) in
+        k a side Cut tt k-low apart inj (λ l j h. new-side g shape n c (good .r2) m free l j (h .0) (omega (arith, h .1)))
+        (c .level) (c .root) (good .sound) made here (rw (← root-list) (stay-most high small e)) in
         (record { r2 = after-r2; sound = w .0 }, w .1)
 
     -- the root grows
@@ -202,10 +203,10 @@ module _ (g : Geometry) (shape : Shape g) (n k a : ℕ) (k-low : k < 4294967296)
         let path : s N (suc l) ≡ pathHalf k (2 * h) rootList = at-N (suc l) (omega arith) high ∙ rw (small, e, eq-eqb (suc l) (suc l) refl) (ap (pathHalf k (2 * h)) root-list) in
         let other : s (side (suc l)) (suc l) ≡ sideHalf k (2 * h) rootList = at-side (suc l) (omega arith) lt ∙ rw small (ap (sideHalf k (2 * h)) root-list) in
         let crown : s N (suc (suc l)) ≡ two k N (side (suc l)) (2 * h) (next rootList 0) rootList =
-              at-N (suc (suc l)) (omega arith) (omega (arith, u .0)) ∙ rw (none, e, ne, eq-eqb (suc (suc l)) (suc (suc l)) refl) (ap (λ x. two k N (side (suc l)) (2 * h) (next x 0) x) root-list) in
+        at-N (suc (suc l)) (omega arith) (omega (arith, u .0)) ∙ rw (none, e, ne, eq-eqb (suc (suc l)) (suc (suc l)) refl) (ap (λ x. two k N (side (suc l)) (2 * h) (next x 0) x) root-list) in
         let w = insert-grow N 4294967296 (half g) (rootMost g) r s fit fit′ (λ l. fit-side g shape n c (good .r2) m free m (suc l) some-m (omega arith)) (keep g shape n c (good .r2) m free) stays (λ l. new-side g shape n c (good .r2) m free m l some-m (omega arith))
-              k a side Cut tt k-low apart inj (λ l j h. new-side g shape n c (good .r2) m free l j (h .0) (omega (arith, h .1)))
-              l (c .root) (good .sound) made (path, other, fit-side g shape n c (good .r2) m free (suc l) (suc l) (omega arith) (omega (arith, lt))) (omega arith, lt) crown (sym (ap length root-list) ∙ u .1) (two-most (u .0)) in
+        k a side Cut tt k-low apart inj (λ l j h. new-side g shape n c (good .r2) m free l j (h .0) (omega (arith, h .1)))
+        l (c .root) (good .sound) made (path, other, fit-side g shape n c (good .r2) m free (suc l) (suc l) (omega arith) (omega (arith, lt))) (omega arith, lt) crown (sym (ap length root-list) ∙ u .1) (two-most (u .0)) in
         (record { r2 = after-r2; sound = w .0 }, w .1)
       where
         two-most : suc (c .level) < g .top → 2 ≤ pick (ltb (suc (suc (c .level))) (g .top)) (rootSlots g (suc (suc (c .level))) - 1) (rootSlots g (suc (suc (c .level))))

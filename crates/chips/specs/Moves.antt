@@ -47,7 +47,6 @@ pub record MoveStep (g : Geometry) (n : ℕ) (c c′ : Chip) (p new : ℕ) : Typ
   pub frees : count (g .pages * n) (c .er) ≡ suc (count (g .pages * n) (c′ .er))
 
 module _ (g : Geometry) (shape : Shape g) (n : ℕ) (c : Chip) (good : Whole g n c) (p : ℕ) (alive : live (placesOf c) p ≡ true) (free : 1 ≤ count (g .pages * n) (c .er)) where
-
   abbrev new : ℕ
   new = nextPage (g .pages) n (c .er)
 
@@ -127,27 +126,33 @@ module _ (g : Geometry) (shape : Shape g) (n : ℕ) (c : Chip) (good : Whole g n
   pub move-step : MoveStep g n c c′ p new
   unfolding moveTo
   move-step =
-      record { good = good′
-             ; pairs-are = the-move .pairs-are
-             ; was = found .2
-             ; ers = λ q h. still q h (eqb q new)
-             ; dead = dead-live p (placesOf c′) (the-move .dead)
-             ; others = λ q d. within-live new q (placesOf c) (placesOf c′) (the-move .within) d
-             ; lives = count-moved (g .pages * n) p new (lowLevel (placesOf c) p) (placesOf c) (placesOf c′) (old-p .0) new-in (λ e. true-false (c .er new) (found .2) (rw (← e) (old-p .1))) (low .0) (the-move .dead) (the-move .within)
-             ; alike = alike′
-             ; frees = let u : bit (ltb new (g .pages * n)) ≡ 1 = rw (lt-ltb new (g .pages * n) new-in) refl in omega (arith, count-after (g .pages * n) new (c .er) (found .2), u) }
+      record {
+        good = good′;
+        pairs-are = the-move .pairs-are;
+        was = found .2;
+        ers = λ q h. still q h (eqb q new);
+        dead = dead-live p (placesOf c′) (the-move .dead);
+        others = λ q d. within-live new q (placesOf c) (placesOf c′) (the-move .within) d;
+        lives = count-moved (g .pages * n) p new (lowLevel (placesOf c) p) (placesOf c) (placesOf c′) (old-p .0) new-in (λ e. true-false (c .er new) (found .2) (rw (← e) (old-p .1))) (low .0) (the-move .dead) (the-move .within);
+        alike = alike′;
+        frees = let u : bit (ltb new (g .pages * n)) ≡ 1 = rw (lt-ltb new (g .pages * n) new-in) refl in omega (arith, count-after (g .pages * n) new (c .er) (found .2), u);
+      }
     where
       good′ : Whole g n c′
       good′ = record { r2 = r2-next (g .pages) n (c .er) (some-page g shape) (good .r2) (found .0) (found .1); sound = the-move .sound }
+
       alike′ : Same g c c′
       alike′ = same-like g (g .pages * n) (c .er) (c′ .er) (c .nodes) (c′ .nodes) (c .level) (c .root) new (good .sound .rooted)
           (subst (λ m. Likes (Like (c .nodes) (c′ .nodes) (c .level)) es m) (sym at-root) (move-root-like k a new (λ l. 2 * half g l) (c .nodes) (c′ .nodes) fit stays (c .level) 4294967296 es k-low (good .sound .rooted .rises) made))
           (λ k q. sought-map g n c′ good′ k q ∙ ap (find k) (the-move .pairs-are) ∙ sym (sought-map g n c good k q))
+
       still : (q : ℕ) → c .er q ≡ false → (t : Bool) → pick t false (c .er q) ≡ false
       still q h true = refl
       still q h false = h
+
       above : (a : ℕ) → (1 ≤ a) × fitOf (g .pages * n) (c .er) a p → (p < g .pages * n) × (c .er p ≡ false)
       above zero h = absurd (omega (arith, h .0))
       above (suc a) h = h .1
+
       old-p : (p < g .pages * n) × (c .er p ≡ false)
       old-p = above (lowLevel (placesOf c) p) (all-get (λ x. (1 ≤ x .level) × fitOf (g .pages * n) (c .er) (x .level) (x .page)) (record { page = p; level = lowLevel (placesOf c) p }) (placesOf c) (root-fit (fitOf (g .pages * n) (c .er)) (λ l. 2 * half g l) (rootMost g) (c .nodes) (c .level) (c .root) 4294967296 (good .sound .rooted)) (low .0))

@@ -38,6 +38,7 @@ page-inj g b c i j p q e = go (ltb b c) (ltb c b) refl refl
   where
     up : (b c : ℕ) → b < c → g * b + g ≤ g * c
     up b c h = rw mul-suc at (mul-le-mul-left g h)
+
     go : (t u : Bool) → ltb b c ≡ t → ltb c b ≡ u → (b ≡ c) × (i ≡ j)
     go true u x y = absurd (omega (arith, up b c (ltb-true b c x)))
     go false true x y = absurd (omega (arith, up c b (ltb-true c b y)))
@@ -60,7 +61,6 @@ pub record R2 (g n : ℕ) (er : ℕ → Bool) : Type 0 where
   pub one : (b c : ℕ) → b < n → c < n → mixed g er b ≡ true → mixed g er c ≡ true → b ≡ c
 
 module _ (g n : ℕ) (er : ℕ → Bool) (g-pos : 1 ≤ g) (r2 : R2 g n er) where
-
   mixed-first : (b : ℕ) → mixed g er b ≡ true → (er (g * b + 0) ≡ false) × (er (g * b + (g - 1)) ≡ true)
   mixed-first b h = go (er (g * b + 0)) refl h
     where
@@ -83,7 +83,7 @@ module _ (g n : ℕ) (er : ℕ → Bool) (g-pos : 1 ≤ g) (r2 : R2 g n er) wher
     where
       go : (t : Bool) → ltb (least n (mixed g er)) n ≡ t → Least n (mixed g er) (least n (mixed g er)) → Least n (λ b. er (g * b + 0)) (least n (λ b. er (g * b + 0)))
           → (pick t (least n (mixed g er)) (least n (λ b. er (g * b + 0))) < n) × (firstIn g er (pick t (least n (mixed g er)) (least n (λ b. er (g * b + 0)))) < g)
-            × (er (g * pick t (least n (mixed g er)) (least n (λ b. er (g * b + 0))) + firstIn g er (pick t (least n (mixed g er)) (least n (λ b. er (g * b + 0))))) ≡ true)
+          × (er (g * pick t (least n (mixed g er)) (least n (λ b. er (g * b + 0))) + firstIn g er (pick t (least n (mixed g er)) (least n (λ b. er (g * b + 0))))) ≡ true)
       go true e l k =
           let b = least n (mixed g er) in
           let z = ltb-true b n e in
@@ -102,6 +102,7 @@ module _ (g n : ℕ) (er : ℕ → Bool) (g-pos : 1 ≤ g) (r2 : R2 g n er) wher
           is-blank : (t : Bool) → er (g * c + 0) ≡ t → pick t false (er (g * c + (g - 1))) ≡ false → er (g * c + (g - 1)) ≡ true → er (g * c + 0) ≡ true
           is-blank true x y v = x
           is-blank false x y v = absurd (true-false (er (g * c + (g - 1))) v y)
+
           small : (t : Bool) → ltb c (least n (λ b. er (g * b + 0))) ≡ t → er (g * c + 0) ≡ true → Least n (λ b. er (g * b + 0)) (least n (λ b. er (g * b + 0))) → least n (λ b. er (g * b + 0)) < n
           small true x y v = absurd (true-false (er (g * c + 0)) y (v .before c (ltb-true c (least n (λ b. er (g * b + 0))) x)))
           small false x y v = let z = ltb-false c (least n (λ b. er (g * b + 0))) x in omega arith
@@ -116,7 +117,6 @@ module _ (g n : ℕ) (er : ℕ → Bool) (g-pos : 1 ≤ g) (r2 : R2 g n er) wher
       go false e l = let z = ltb-false (least n (mixed g er)) n e in absurd (true-false (mixed g er b) h (l .before b (omega arith)))
 
   module _ (here : nextBlock g n er < n) (inside : firstIn g er (nextBlock g n er) < g) where
-
     abbrev er′ : ℕ → Bool
     er′ = after (nextPage g n er) er
 
@@ -138,9 +138,10 @@ module _ (g n : ℕ) (er : ℕ → Bool) (g-pos : 1 ≤ g) (r2 : R2 g n er) wher
         mono′ b i j p q w h =
             let o = true-old (g * b + i) h in
             elsewhere b j w (λ e f. by-eq i j
-              (λ z. o .1 (rw (z, e, f) refl))
-              (λ z. true-false (er (g * b + i)) (o .0) (rw e (least-is g (λ j. er (g * nextBlock g n er + j)) .before i (omega arith)))))
+            (λ z. o .1 (rw (z, e, f) refl))
+            (λ z. true-false (er (g * b + i)) (o .0) (rw e (least-is g (λ j. er (g * nextBlock g n er + j)) .before i (omega arith)))))
             ∙ r2 .mono b i j p q w (o .0)
+
         there : (b : ℕ) → b < n → mixed g er′ b ≡ true → b ≡ nextBlock g n er
         there b p h = by-eq b (nextBlock g n er) (λ z. z) (λ z. mixed-next b p (rw (← elsewhere b 0 (omega arith) (λ e _. z e), ← elsewhere b (g - 1) (omega arith) (λ e _. z e)) h))
 
@@ -151,7 +152,6 @@ pub record Step (g n : ℕ) (er : ℕ → Bool) (i : ℕ) : Type 0 where
 
 -- while pages are left the i-th one to come is erased, also at the beginning
 module _ (g n : ℕ) (er : ℕ → Bool) (g-pos : 1 ≤ g) (start : R2 g n er) where
-
   now-erased : (i : ℕ) → Step g n er i → i < count (g * n) er → (nextBlock g n (taken g n er i) < n) × (firstIn g (taken g n er i) (nextBlock g n (taken g n er i)) < g) × (taken g n er i (nth g n er i) ≡ true)
   now-erased i s h =
       let f = some-true (g * n) (taken g n er i) (omega (arith, s .left)) in

@@ -51,7 +51,6 @@ side-most g n c (suc l) = next-most (g .pages) n (taken (g .pages) n (c .er) l)
 
 -- m pages are left
 module _ (g : Geometry) (shape : Shape g) (n : ℕ) (c : Chip) (r2 : R2 (g .pages) n (c .er)) (m : ℕ) (free : m ≤ count (g .pages * n) (c .er)) where
-
   abbrev side : ℕ → ℕ
   side = sidePage g n c
 

@@ -41,29 +41,36 @@ pub record Swept (g : Geometry) (n : ℕ) (v : ℕ) (c c′ : Chip) : Type 0 whe
   pub frees : count (g .pages * n) (c .er) ≤ count (g .pages * n) (c′ .er) + livesIn (g .pages) v c
 
 module _ (g : Geometry) (shape : Shape g) (n : ℕ) (v : ℕ) where
-
   -- one move within the sweep
   pub moved-on : (j : ℕ) (c : Chip) → suc j ≤ g .pages → Sweeping g n v (suc j) c → live (placesOf c) (g .pages * v + (g .pages - suc j)) ≡ true
       → Sweeping g n v j (moveTo c (g .pages * v + (g .pages - suc j)) (nextPage (g .pages) n (c .er))) × MoveStep g n c (moveTo c (g .pages * v + (g .pages - suc j)) (nextPage (g .pages) n (c .er))) (g .pages * v + (g .pages - suc j)) (nextPage (g .pages) n (c .er))
-          × (suc (livesIn (g .pages) v (moveTo c (g .pages * v + (g .pages - suc j)) (nextPage (g .pages) n (c .er)))) ≤ livesIn (g .pages) v c)
+      × (suc (livesIn (g .pages) v (moveTo c (g .pages * v + (g .pages - suc j)) (nextPage (g .pages) n (c .er)))) ≤ livesIn (g .pages) v c)
   moved-on j c q h a = (record { good = m .good; full = full′; few = omega (arith, m .frees, fewer, h .few); dead = dead′ }, m, fewer)
     where
       p : ℕ
       p = (g .pages) * v + (g .pages - suc j)
+
       new : ℕ
       new = nextPage (g .pages) n (c .er)
+
       c′ : Chip
       c′ = moveTo c p new
+
       one : 1 ≤ livesIn (g .pages) v c
       one = omega (arith, count-drop (g .pages) (g .pages - suc j) (λ i. live (placesOf c) (g .pages * v + i)) (λ _. false) (omega arith) a refl (λ i _. omega arith))
+
       m : MoveStep g n c c′ p new
       m = move-step g shape n c (h .good) p a (omega (arith, one, h .few))
+
       not-new : (i : ℕ) → i < g .pages → g .pages * v + i ≡ new → ⊥
       not-new i w e = true-false (c .er new) (m .was) (rw (← e) (h .full i w))
+
       full′ : (i : ℕ) → i < g .pages → c′ .er (g .pages * v + i) ≡ false
       full′ i w = m .ers (g .pages * v + i) (h .full i w)
+
       fewer : suc (livesIn (g .pages) v c′) ≤ livesIn (g .pages) v c
       fewer = count-drop (g .pages) (g .pages - suc j) (λ i. live (placesOf c) (g .pages * v + i)) (λ i. live (placesOf c′) (g .pages * v + i)) (omega arith) a (m .dead) (λ i w. m .others (g .pages * v + i) (not-new i w))
+
       dead′ : (i : ℕ) → i + j < g .pages → live (placesOf c′) (g .pages * v + i) ≡ false
       dead′ i w = by-eq i (g .pages - suc j) (λ e. rw e (m .dead)) (λ e. bit-zero (live (placesOf c′) (g .pages * v + i)) (live (placesOf c) (g .pages * v + i)) (m .others (g .pages * v + i) (not-new i (omega arith))) (h .dead i (omega arith)))
 
@@ -74,6 +81,7 @@ module _ (g : Geometry) (shape : Shape g) (n : ℕ) (v : ℕ) where
     where
       c′ : Chip
       c′ = moveTo c (g .pages * v + (g .pages - suc j)) (nextPage (g .pages) n (c .er))
+
       go : (t : Bool) → live (placesOf c) (g .pages * v + (g .pages - suc j)) ≡ t → ((d : Chip) → Sweeping g n v j d → Swept g n v d (sweep g n v j d)) → Swept g n v c (pick t (sweep g n v j c′) (sweep g n v j c))
       go true e ih =
           let m = moved-on j c q h e in

@@ -41,14 +41,13 @@ not-not false h = absurd (true-false true refl h)
 
 -- ---- R2
 module _ (p n : ℕ) (er : ℕ → Bool) where
-
   ordered : (b : ℕ) → inOrder p er b ≡ true → (i j : ℕ) → i ≤ j → j < p → er (p * b + i) ≡ true → er (p * b + j) ≡ true
   unfolding inOrder
   ordered b h i j q w e =
       let l = least-is p (λ j. er (p * b + j)) in
       let first : firstIn p er b ≤ i = by-le (firstIn p er b) i (λ z. z) (λ z. absurd (true-false (er (p * b + i)) e (l .before i z))) in
       by-eq (firstIn p er b) j (λ z. rw (← z) (l .hit (omega (arith, z, w))))
-        (λ z. not-not (er (p * b + j)) (rw (lt-ltb (firstIn p er b) j (omega (arith, z, first, q)), and-true (not (er (p * b + j)))) at (any-none p (λ j. ltb (firstIn p er b) j & not (er (p * b + j))) (not-true (any p (λ j. ltb (firstIn p er b) j & not (er (p * b + j)))) h) j w)))
+      (λ z. not-not (er (p * b + j)) (rw (lt-ltb (firstIn p er b) j (omega (arith, z, first, q)), and-true (not (er (p * b + j)))) at (any-none p (λ j. ltb (firstIn p er b) j & not (er (p * b + j))) (not-true (any p (λ j. ltb (firstIn p er b) j & not (er (p * b + j)))) h) j w)))
 
   in-order : (b : ℕ) → ((i j : ℕ) → i ≤ j → j < p → er (p * b + i) ≡ true → er (p * b + j) ≡ true) → inOrder p er b ≡ true
   unfolding inOrder
@@ -67,8 +66,8 @@ module _ (p n : ℕ) (er : ℕ → Bool) where
       let v = unless-good _ _ _ (u .1) in
       let first : (b : ℕ) → b < n → inOrder p er b ≡ true = λ b q. not-not (inOrder p er b) (least-none n (λ b. not (inOrder p er b)) (leb-true n (least n (λ b. not (inOrder p er b))) (u .0)) b q) in
       let one : (b : ℕ) → b < n → mixed p er b ≡ true → b ≡ least n (mixed p er) = λ b q m.
-            eqb-true b (least n (mixed p er)) (not-not (eqb b (least n (mixed p er)))
-              (rw (m, and-true (not (eqb b (least n (mixed p er))))) at (least-none n (λ b. mixed p er b & not (eqb b (least n (mixed p er)))) (leb-true n (least n (λ b. mixed p er b & not (eqb b (least n (mixed p er))))) (v .0)) b q))) in
+      eqb-true b (least n (mixed p er)) (not-not (eqb b (least n (mixed p er)))
+      (rw (m, and-true (not (eqb b (least n (mixed p er))))) at (least-none n (λ b. mixed p er b & not (eqb b (least n (mixed p er)))) (leb-true n (least n (λ b. mixed p er b & not (eqb b (least n (mixed p er))))) (v .0)) b q))) in
       record { mono = λ b i j q. ordered b (first b q) i j; one = λ b c q w x y. one b q x ∙ sym (one c w y) }
 
   pub holds-r2 : R2 p n er → r2 p n er ≡ Good
@@ -86,7 +85,6 @@ module _ (p n : ℕ) (er : ℕ → Bool) where
 
 -- ---- R7
 module _ (g : Geometry) (n : ℕ) (c : Chip) where
-
   abbrev fits : ℕ → Bool
   fits b = full (g .pages) (c .er) b & leb (inBlock (g .pages) (live (placesOf c)) b) (count (g .pages * n) (c .er))
 

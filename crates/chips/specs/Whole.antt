@@ -44,7 +44,6 @@ pub same-then : (g : Geometry) (c d e : Chip) → Same g c d → Same g d e → 
 same-then g c d e h i = record { needs-is = λ k q. i .needs-is k q ∙ h .needs-is k q; high-is = λ k q. i .high-is k q ∙ h .high-is k q }
 
 module _ (g : Geometry) (t : ℕ) (er er′ : ℕ → Bool) (r s : Nodes) (l p p′ : ℕ) (root : Rooted (fitOf t er) (λ l. 2 * half g l) (rootMost g) 4294967296 r l p) (alike : Likes (Like r s l) (r p (suc l)) (s p′ (suc l))) where
-
   abbrev c : Chip
   c = record { er = er; nodes = r; level = l; root = p }
 
@@ -58,7 +57,7 @@ module _ (g : Geometry) (t : ℕ) (er er′ : ℕ → Bool) (r s : Nodes) (l p p
       let b = root .least (omega (arith, e)) in
       let sp = split (Ok (fitOf t er) (λ l. 2 * half g l) r l) k 4294967296 (r p (suc l)) (omega (arith, b)) q (root .rises) in
       gains-like (fitOf t er) (λ l. 2 * half g l) r s k (half g) absent l (next (sp .post) 4294967296) (chosen k (r p (suc l))) (chosen k (s p′ (suc l))) (sp .here) (sp .under)
-        (likes-chosen (Like r s l) k (r p (suc l)) (s p′ (suc l)) (like-key r s l) (omega (arith, b)) alike)
+      (likes-chosen (Like r s l) k (r p (suc l)) (s p′ (suc l)) (like-key r s l) (omega (arith, b)) alike)
 
   root-splits : (k : ℕ) (absent : Bool) → k < 4294967296 → (m : ℕ) → l ≡ m → splits r k (half g) absent l (chosen k (r p (suc l))) ≡ splits s k (half g) absent l (chosen k (s p′ (suc l)))
   unfolding splits
@@ -67,9 +66,11 @@ module _ (g : Geometry) (t : ℕ) (er er′ : ℕ → Bool) (r s : Nodes) (l p p
       let b = root .least (omega (arith, e)) in
       let sp = split (Ok (fitOf t er) (λ l. 2 * half g l) r l) k 4294967296 (r p (suc l)) (omega (arith, b)) q (root .rises) in
       splits-like (fitOf t er) (λ l. 2 * half g l) r s k (half g) absent l (next (sp .post) 4294967296) (chosen k (r p (suc l))) (chosen k (s p′ (suc l))) (sp .here) (sp .under)
-        (likes-chosen (Like r s l) k (r p (suc l)) (s p′ (suc l)) (like-key r s l) (omega (arith, b)) alike)
+      (likes-chosen (Like r s l) k (r p (suc l)) (s p′ (suc l)) (like-key r s l) (omega (arith, b)) alike)
 
   pub same-like : ((k : ℕ) → k < 4294967296 → sought c′ k ≡ sought c k) → Same g c c′
   unfolding needs tooHigh rootGains
-  same-like so = record { needs-is = λ k q. sym (rw (so k q, likes-length (Like r s l) (r p (suc l)) (s p′ (suc l)) alike, root-splits k (isNone (sought c k)) q l refl, root-gains k (isNone (sought c k)) q l refl) refl)
-    ; high-is = λ k q. sym (rw (so k q, likes-length (Like r s l) (r p (suc l)) (s p′ (suc l)) alike, root-gains k (isNone (sought c k)) q l refl) refl) }
+  same-like so = record {
+    needs-is = λ k q. sym (rw (so k q, likes-length (Like r s l) (r p (suc l)) (s p′ (suc l)) alike, root-splits k (isNone (sought c k)) q l refl, root-gains k (isNone (sought c k)) q l refl) refl);
+    high-is = λ k q. sym (rw (so k q, likes-length (Like r s l) (r p (suc l)) (s p′ (suc l)) alike, root-gains k (isNone (sought c k)) q l refl) refl);
+  }

@@ -78,7 +78,6 @@ written-in l at f (suc n) k h q = by-eq k n
 -- ---- a number of 32 bits
 -- four bytes set one after the other
 module _ (b : List ℕ) (i w x y z : ℕ) where
-
   abbrev b₁ : List ℕ
   b₁ = set b i w
 
@@ -99,6 +98,7 @@ module _ (b : List ℕ) (i w x y z : ℕ) where
     where
       other : (at : ℕ) (l : List ℕ) (v : ℕ) → (k ≡ at → ⊥) → byteAt (set l at v) k ≡ byteAt l k
       other at l v d = getD-set-other l at k v 0 d
+
       out : (k : ℕ) → Off k i 4 → (o : ℕ) → o < 4 → k ≡ i + o → ⊥
       out k (inl h) o q e = omega arith
       out k (inr h) o q e = omega arith
@@ -107,11 +107,12 @@ module _ (b : List ℕ) (i w x y z : ℕ) where
   four-in h =
       let l₁ = length-set b i w in
       let l₂ = length-set b₁ (i + 1) x in
-      let l₃ = length-set b₂ (i + 2) y in
-      ( getD-set-other b₃ (i + 3) i z 0 (λ e. omega (arith, e)) ∙ getD-set-other b₂ (i + 2) i y 0 (λ e. omega (arith, e)) ∙ getD-set-other b₁ (i + 1) i x 0 (λ e. omega (arith, e)) ∙ getD-set-same b i w 0 (omega (arith, h))
-      , getD-set-other b₃ (i + 3) (i + 1) z 0 (λ e. omega (arith, e)) ∙ getD-set-other b₂ (i + 2) (i + 1) y 0 (λ e. omega (arith, e)) ∙ getD-set-same b₁ (i + 1) x 0 (omega (arith, h, l₁))
-      , getD-set-other b₃ (i + 3) (i + 2) z 0 (λ e. omega (arith, e)) ∙ getD-set-same b₂ (i + 2) y 0 (omega (arith, h, l₁, l₂))
-      , getD-set-same b₃ (i + 3) z 0 (omega (arith, h, l₁, l₂, l₃)) )
+      let l₃ = length-set b₂ (i + 2) y in (
+        getD-set-other b₃ (i + 3) i z 0 (λ e. omega (arith, e)) ∙ getD-set-other b₂ (i + 2) i y 0 (λ e. omega (arith, e)) ∙ getD-set-other b₁ (i + 1) i x 0 (λ e. omega (arith, e)) ∙ getD-set-same b i w 0 (omega (arith, h)),
+        getD-set-other b₃ (i + 3) (i + 1) z 0 (λ e. omega (arith, e)) ∙ getD-set-other b₂ (i + 2) (i + 1) y 0 (λ e. omega (arith, e)) ∙ getD-set-same b₁ (i + 1) x 0 (omega (arith, h, l₁)),
+        getD-set-other b₃ (i + 3) (i + 2) z 0 (λ e. omega (arith, e)) ∙ getD-set-same b₂ (i + 2) y 0 (omega (arith, h, l₁, l₂)),
+        getD-set-same b₃ (i + 3) z 0 (omega (arith, h, l₁, l₂, l₃)),
+      )
 
 pub length-word : (b : List ℕ) (i v : ℕ) → length (putU32 b i v) ≡ length b
 unfolding putU32

@@ -59,7 +59,6 @@ not-not true h = refl
 not-not false h = absurd (true-false true refl h)
 
 module _ (g : Geometry) (n : ℕ) (img : List ℕ) where
-
   abbrev t : ℕ
   t = pagesOf g n
 
@@ -99,13 +98,15 @@ module _ (g : Geometry) (n : ℕ) (img : List ℕ) where
   repeat p q w ep eq e =
       let f : ℕ → Bool = λ q. not (erased g img q) & eqb (seqAt g img q) (seqAt g img p) in
       and-both _ _ (not-false (erased g img p) (sym (er-at p) ∙ ep))
-        (any-one p q f w (and-both _ _ (not-false (erased g img q) (sym (er-at q) ∙ eq)) (eq-eqb _ _ (sym (seq-at q eq) ∙ sym e ∙ seq-at p ep))))
+      (any-one p q f w (and-both _ _ (not-false (erased g img q) (sym (er-at q) ∙ eq)) (eq-eqb _ _ (sym (seq-at q eq) ∙ sym e ∙ seq-at p ep))))
 
   differ : ((p : ℕ) → p < t → repeated (erased g img) (seqAt g img) p ≡ false) → R3 t v
-  differ h = record { differ = λ p q hp hq ep eq e.
-      by-eq p q (λ z. z) (λ z. absurd (by-le p q
+  differ h = record {
+    differ = λ p q hp hq ep eq e.
+        by-eq p q (λ z. z) (λ z. absurd (by-le p q
         (λ w. true-false _ (repeat q p (omega (arith, w, z)) eq ep (sym e)) (h q hq))
-        (λ w. true-false _ (repeat p q w ep eq e) (h p hp)))) }
+        (λ w. true-false _ (repeat p q w ep eq e) (h p hp))));
+  }
 
   no-repeat : R3 t v → (p : ℕ) → p < t → repeated (erased g img) (seqAt g img) p ≡ false
   unfolding repeated
@@ -114,6 +115,7 @@ module _ (g : Geometry) (n : ℕ) (img : List ℕ) where
       inner : (q : ℕ) → q < p → erased g img p ≡ false → (b : Bool) → erased g img q ≡ b → (not b & eqb (seqAt g img q) (seqAt g img p)) ≡ false
       inner q w ep true eq = and-false _
       inner q w ep false eq = and-true _ ∙ ne-eqb _ _ (λ z. let x = h .differ p q hp (omega (arith, w, hp)) (er-at p ∙ ep) (er-at q ∙ eq) (seq-at p (er-at p ∙ ep) ∙ sym z ∙ sym (seq-at q (er-at q ∙ eq))) in omega (arith, x, w))
+
       go : (b : Bool) → erased g img p ≡ b → (not b & any p (λ q. not (erased g img q) & eqb (seqAt g img q) (seqAt g img p))) ≡ false
       go true e = and-false _
       go false e = and-true _ ∙ none-any p (λ q. not (erased g img q) & eqb (seqAt g img q) (seqAt g img p)) (λ q w. inner q w e (erased g img q) refl)
@@ -153,7 +155,6 @@ unfolding orElse
 sound-or r f w h i = rw (h, i) refl
 
 module _ (g : Geometry) (shape : Shape g) (n : ℕ) (img : List ℕ) where
-
   -- a sound image is held, and R7 holds
   pub sound-held : 1 ≤ n → Image g n img → Small img → verdict g n img ≡ Sound → Held g n img × R7 g n (chipOf g n img)
   unfolding verdict r1 r3 r4
@@ -171,16 +172,17 @@ module _ (g : Geometry) (shape : Shape g) (n : ℕ) (img : List ℕ) where
       let pages : 1 ≤ t = let z = block-in (g .pages) 0 n pos in let w = some-page g shape in omega (arith, z, w, mul-zero (g .pages)) in
       let root = r5-rooted g shape t chip (root-below g n img pages, root-er g n img high) (e .0) in
       let fits = root-fit (fitOf t (chip .er)) (λ l. 2 * half g l) (rootMost g) (chip .nodes) (chip .level) (chip .root) 4294967296 root in
-      let tied = r6-tied t chip (all-map (λ x. (1 ≤ x .level) × fitOf t (chip .er) (x .level) (x .page)) (λ x. x .page < t) (placesOf chip) (λ x i. below (chip .er) t (x .level) (x .page) (i .0) (i .1)) fits) (f .0) in
-      ( record {
+      let tied = r6-tied t chip (all-map (λ x. (1 ≤ x .level) × fitOf t (chip .er) (x .level) (x .page)) (λ x. x .page < t) (placesOf chip) (λ x i. below (chip .er) t (x .level) (x .page) (i .0) (i .1)) fits) (f .0) in (
+        record {
           image = image;
           bytes = bytes;
           r1 = λ p q. page-r1 g n img p (not-not (wellFormed g img p) (lowest-none t (λ p. not (wellFormed g img p)) (a .0) p q));
           r3 = differ g n img (lowest-none t (repeated (erased g img) (seqAt g img)) (c .0));
           r4 = subst (λ m. 1 ≤ m) (sym (root-height g n img)) high;
           whole = record { r2 = r2-holds (g .pages) n (erased g img) (b .0); sound = record { rooted = root; tied = tied } };
-        }
-      , r7-holds g n chip (k .0) )
+        },
+        r7-holds g n chip (k .0),
+      )
     where
       below : (er : ℕ → Bool) (t l p : ℕ) → 1 ≤ l → fitOf t er l p → p < t
       below er t zero p i f = absurd (omega arith)

@@ -58,7 +58,6 @@ unfolding viewFrom topOf maxSeq seqOf erased seqAt
 view-max g n img = refl
 
 module _ (g : Geometry) (shape : Shape g) where
-
   -- what is read of a page hangs on the page's bytes alone
   pub copy-node : (a : List ℕ) (p : ℕ) (b : List ℕ) (q : ℕ) → Copy a p b q (pageBytes g) → (l : ℕ) → nodeFrom g b q l ≡ nodeFrom g a p l
   unfolding nodeFrom rootSlots entriesAt
@@ -71,6 +70,7 @@ module _ (g : Geometry) (shape : Shape g) where
           let m = shape .main-is in
           let e : byteAt b (q + g .main + 4 + l) ≡ byteAt a (p + g .main + 4 + l) = copy-byte a p b q (pageBytes g) c (g .main + 4 + l) (p + g .main + 4 + l) (q + g .main + 4 + l) (omega arith) (omega arith) (omega (arith, s, h)) in
           rw e (copy-entries a p b q (pageBytes g) c (min (byteAt a (p + g .main + 4 + l)) (suc (slots g - firstSlot g l))) (8 * firstSlot g l) (p + 8 * firstSlot g l) (q + 8 * firstSlot g l) refl refl (omega (arith, s, r, m)))
+
       go : (t : Bool) → inTable g l ≡ t → entriesAt b (q + 8 * firstSlot g l) (pick t (min (byteAt b (q + g .main + 4 + l)) (suc (slots g - firstSlot g l))) 0) ≡ entriesAt a (p + 8 * firstSlot g l) (pick t (min (byteAt a (p + g .main + 4 + l)) (suc (slots g - firstSlot g l))) 0)
       go true e = at (table-in g l e)
       go false e = refl
@@ -124,10 +124,12 @@ parts-table g shape h parts fits low high above bytes = record { fits = fits; by
     step : (l m : ℕ) → l < m → m ≤ g .top → firstSlot g l + slotsOf g l ≤ firstSlot g m
     step l zero q k = absurd (omega arith)
     step l (suc m) q k = by-eq l m (λ e. rw e (shape .steps m k)) (λ e. let a = step l m (omega arith) (omega arith) in let b = shape .steps m k in omega (arith, a, b))
+
     inside : (l : ℕ) → 1 ≤ l → l ≤ g .top → (x y : Bool) → ltb l h ≡ x → ltb h l ≡ y → firstSlot g l + length (parts l) ≤ slots g
     inside l i k true y e f = let a = low l i (ltb-true l h e) in let b = shape .room l k in omega (arith, a, b)
     inside l i k false true e f = let a = above l (ltb-true h l f) in let b = shape .room l k in omega (arith, a, b)
     inside l i k false false e f = let d : l ≡ h = omega (arith, ltb-false l h e, ltb-false h l f) in rw d (high (omega (arith, d)))
+
     apart : (l m : ℕ) → 1 ≤ l → l < m → m ≤ g .top → (x y : Bool) → ltb l h ≡ x → ltb h m ≡ y → (length (parts m) ≡ 0) ⊎ (firstSlot g l + length (parts l) ≤ firstSlot g m)
     apart l m i q k true y e f = let a = low l i (ltb-true l h e) in let b = step l m q k in inr (omega (arith, a, b))
     apart l m i q k false y e f = let z = ltb-false l h e in inl (above m (omega (arith, z, q)))
@@ -144,7 +146,6 @@ off-nothing i at = go (ltb i at) refl
     go false e = inr (omega (arith, ltb-false i at e))
 
 module _ (g : Geometry) (shape : Shape g) (parts : ℕ → List Entry) where
-
   length-levels : (n : ℕ) (b : List ℕ) → length (putLevels g parts n b) ≡ length b
   unfolding putLevels putLevel
   length-levels zero b = refl
@@ -174,7 +175,6 @@ module _ (g : Geometry) (shape : Shape g) (parts : ℕ → List Entry) where
       ∙ word-same b (g .main) seq (omega arith) s
 
   module _ (ok : Parts g parts) where
-
     -- beside the counts the levels' bytes are main bytes
     levels-off : (n : ℕ) (b : List ℕ) (k : ℕ) → n ≤ g .top → g .main ≤ k → ((k < g .main + 5) ⊎ (g .main + 4 + n < k)) → byteAt (putLevels g parts n b) k ≡ byteAt b k
     unfolding putLevels putLevel
@@ -187,6 +187,7 @@ module _ (g : Geometry) (shape : Shape g) (parts : ℕ → List Entry) where
         apart : ((k < g .main + 5) ⊎ (g .main + 4 + suc n < k)) → k ≡ g .main + 4 + suc n → ⊥
         apart (inl i) e = omega arith
         apart (inr i) e = omega arith
+
         less : ((k < g .main + 5) ⊎ (g .main + 4 + suc n < k)) → (k < g .main + 5) ⊎ (g .main + 4 + n < k)
         less (inl i) = inl i
         less (inr i) = inr (omega arith)
@@ -196,39 +197,42 @@ module _ (g : Geometry) (shape : Shape g) (parts : ℕ → List Entry) where
     levels-count zero b l t h i k = absurd (omega arith)
     levels-count (suc n) b l t h i k = by-eq l (suc n)
         (λ e. rw e (getD-set-same (putEntries (putLevels g parts n b) (8 * firstSlot g (suc n)) (parts (suc n))) (g .main + 4 + suc n) (length (parts (suc n)) % 256) 0 (let x = length-entries (putLevels g parts n b) (8 * firstSlot g (suc n)) (parts (suc n)) in let y = length-levels n b in omega (arith, x, y, h))
-            ∙ mod-eq-of-lt (ok .bytes (suc n) (omega arith) t)))
+        ∙ mod-eq-of-lt (ok .bytes (suc n) (omega arith) t)))
         (λ e. getD-set-other (putEntries (putLevels g parts n b) (8 * firstSlot g (suc n)) (parts (suc n))) (g .main + 4 + suc n) (g .main + 4 + l) (length (parts (suc n)) % 256) 0 (omega arith)
-          ∙ entries-off (putLevels g parts n b) (8 * firstSlot g (suc n)) (parts (suc n)) (g .main + 4 + l) (inr (let z = ok .inside (suc n) (omega arith) t in let m = shape .main-is in omega (arith, z, m)))
-          ∙ levels-count n b l (omega arith) (omega arith) i (omega arith))
+        ∙ entries-off (putLevels g parts n b) (8 * firstSlot g (suc n)) (parts (suc n)) (g .main + 4 + l) (inr (let z = ok .inside (suc n) (omega arith) t in let m = shape .main-is in omega (arith, z, m)))
+        ∙ levels-count n b l (omega arith) (omega arith) i (omega arith))
 
     levels-same : (n : ℕ) (b : List ℕ) (l : ℕ) → n ≤ g .top → g .main ≤ length b → 1 ≤ l → l ≤ n → entriesAt (putLevels g parts n b) (8 * firstSlot g l) (length (parts l)) ≡ parts l
     unfolding putLevels putLevel
     levels-same zero b l h len i k = absurd (omega arith)
     levels-same (suc n) b l h len i k = by-eq l (suc n)
         (λ e. rw e (copy-entries put₁ (8 * firstSlot g (suc n)) (set put₁ (g .main + 4 + suc n) (length (parts (suc n)) % 256)) (8 * firstSlot g (suc n)) (8 * length (parts (suc n)))
-            (λ o q. getD-set-other put₁ (g .main + 4 + suc n) (8 * firstSlot g (suc n) + o) (length (parts (suc n)) % 256) 0 (λ z. omega (arith, z, q, w, m)))
-            (length (parts (suc n))) 0 (8 * firstSlot g (suc n)) (8 * firstSlot g (suc n)) (omega arith) (omega arith) (omega arith)
-          ∙ entries-same old (8 * firstSlot g (suc n)) (parts (suc n)) (omega (arith, w, m, len, length-levels n b)) (ok .fits (suc n) (omega arith) h)))
+        (λ o q. getD-set-other put₁ (g .main + 4 + suc n) (8 * firstSlot g (suc n) + o) (length (parts (suc n)) % 256) 0 (λ z. omega (arith, z, q, w, m)))
+        (length (parts (suc n))) 0 (8 * firstSlot g (suc n)) (8 * firstSlot g (suc n)) (omega arith) (omega arith) (omega arith)
+        ∙ entries-same old (8 * firstSlot g (suc n)) (parts (suc n)) (omega (arith, w, m, len, length-levels n b)) (ok .fits (suc n) (omega arith) h)))
         (λ e. copy-entries old (8 * firstSlot g l) (set put₁ (g .main + 4 + suc n) (length (parts (suc n)) % 256)) (8 * firstSlot g l) (8 * length (parts l))
-            (λ o q. getD-set-other put₁ (g .main + 4 + suc n) (8 * firstSlot g l + o) (length (parts (suc n)) % 256) 0 (λ z. let v = ok .inside l i (omega (arith, k, h)) in omega (arith, z, q, v, m))
-              ∙ entries-off old (8 * firstSlot g (suc n)) (parts (suc n)) (8 * firstSlot g l + o) (away o q (ok .apart l (suc n) i (omega arith) h)))
-            (length (parts l)) 0 (8 * firstSlot g l) (8 * firstSlot g l) (omega arith) (omega arith) (omega arith)
-          ∙ levels-same n b l (omega arith) len i (omega arith))
+        (λ o q. getD-set-other put₁ (g .main + 4 + suc n) (8 * firstSlot g l + o) (length (parts (suc n)) % 256) 0 (λ z. let v = ok .inside l i (omega (arith, k, h)) in omega (arith, z, q, v, m))
+        ∙ entries-off old (8 * firstSlot g (suc n)) (parts (suc n)) (8 * firstSlot g l + o) (away o q (ok .apart l (suc n) i (omega arith) h)))
+        (length (parts l)) 0 (8 * firstSlot g l) (8 * firstSlot g l) (omega arith) (omega arith) (omega arith)
+        ∙ levels-same n b l (omega arith) len i (omega arith))
       where
         old : List ℕ
         old = putLevels g parts n b
+
         put₁ : List ℕ
         put₁ = putEntries (putLevels g parts n b) (8 * firstSlot g (suc n)) (parts (suc n))
+
         m : g .main ≡ 8 * slots g
         m = shape .main-is
+
         w : firstSlot g (suc n) + length (parts (suc n)) ≤ slots g
         w = ok .inside (suc n) (omega arith) h
+
         away : (o : ℕ) → o < 8 * length (parts l) → (length (parts (suc n)) ≡ 0) ⊎ (firstSlot g l + length (parts l) ≤ firstSlot g (suc n)) → Off (8 * firstSlot g l + o) (8 * firstSlot g (suc n)) (8 * length (parts (suc n)))
         away o q (inl z) = rw z (off-nothing (8 * firstSlot g l + o) (8 * firstSlot g (suc n)))
         away o q (inr z) = inl (omega arith)
 
     module _ (seq h : ℕ) (small : seq < 4294967295) (high : h < 256) where
-
       abbrev lev : List ℕ
       lev = putLevels g parts (g .top) (replicate (pageBytes g) 255)
 
@@ -256,17 +260,17 @@ module _ (g : Geometry) (shape : Shape g) (parts : ℕ → List Entry) where
           let m = shape .main-is in
           let w = ok .inside l i k in
           copy-entries lev (8 * firstSlot g l) (sealed g lev seq h) (8 * firstSlot g l) (8 * length (parts l))
-            (λ o q. sealed-off seq h lev (8 * firstSlot g l + o) (inl (omega (arith, m, w, q))))
-            (length (parts l)) 0 (8 * firstSlot g l) (8 * firstSlot g l) (omega arith) (omega arith) (omega arith)
+          (λ o q. sealed-off seq h lev (8 * firstSlot g l + o) (inl (omega (arith, m, w, q))))
+          (length (parts l)) 0 (8 * firstSlot g l) (8 * firstSlot g l) (omega arith) (omega arith) (omega arith)
           ∙ levels-same (g .top) (replicate (pageBytes g) 255) l (omega arith) (omega (arith, len-bare)) i k
 
       built-tail : blank (built g seq h parts) (g .main + 5 + g .top) (g .spare - 5 - g .top) ≡ true
       unfolding built
       built-tail = let s = shape .spare-low in
           blank-all (sealed g lev seq h) (g .spare - 5 - g .top) (g .main + 5 + g .top) (λ k q.
-            sealed-off seq h lev (g .main + 5 + g .top + k) (inr (omega arith))
-            ∙ levels-off (g .top) (replicate (pageBytes g) 255) (g .main + 5 + g .top + k) (omega arith) (omega arith) (inr (omega arith))
-            ∙ getD-replicate {A = ℕ} (pageBytes g) (g .main + 5 + g .top + k) 255 0 (omega (arith, s, q)))
+          sealed-off seq h lev (g .main + 5 + g .top + k) (inr (omega arith))
+          ∙ levels-off (g .top) (replicate (pageBytes g) 255) (g .main + 5 + g .top + k) (omega arith) (omega arith) (inr (omega arith))
+          ∙ getD-replicate {A = ℕ} (pageBytes g) (g .main + 5 + g .top + k) 255 0 (omega (arith, s, q)))
 
       -- a number below 2^32 - 1 shows
       built-er : blank (built g seq h parts) 0 (pageBytes g) ≡ false
@@ -295,6 +299,7 @@ module _ (g : Geometry) (shape : Shape g) (parts : ℕ → List Entry) where
               let w = ok .inside l (k .0) (k .1) in
               let e₂ : min (length (parts l)) (suc (slots g - firstSlot g l)) ≡ length (parts l) = omega (arith, w) in
               rw (e₀, e₁, e₂) (built-node l (k .0) (k .1))
+
           go : (t : Bool) → inTable g l ≡ t → entriesAt (built g seq h parts) (0 + 8 * firstSlot g l) (pick t (min (byteAt (built g seq h parts) (0 + g .main + 4 + l)) (suc (slots g - firstSlot g l))) 0) ≡ pick t (parts l) []
           go true e = at (table-in g l e)
           go false e = refl
@@ -305,7 +310,9 @@ module _ (g : Geometry) (shape : Shape g) (parts : ℕ → List Entry) where
         where
           e₂ : u32At (built g seq h parts) (0 + g .main) ≡ seq
           e₂ = rw zero-add built-seq
+
           e₃ : byteAt (built g seq h parts) (0 + g .main + 4) ≡ h
           e₃ = rw zero-add built-height
+
           e₄ : blank (built g seq h parts) (0 + g .main + 5 + g .top) (g .spare - 5 - g .top) ≡ true
           e₄ = rw zero-add built-tail

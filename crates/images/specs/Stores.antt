@@ -57,7 +57,6 @@ unfolding inB
 within p b q x y = rw (le-leb (p * b) q x, lt-ltb q (p * b + p) y) refl
 
 module _ (g : Geometry) (shape : Shape g) (img : List ℕ) where
-
   -- program: one view changes
   pub views-program : (p : ℕ) (bs : List ℕ) → pageBase g p + pageBytes g ≤ length img → views g (applyStore g (program p bs) img) ≡ laid (views g img) p (viewFrom g bs 0)
   unfolding applyStore
@@ -65,6 +64,7 @@ module _ (g : Geometry) (shape : Shape g) (img : List ℕ) where
     where
       new : List ℕ
       new = written img (pageBase g p) (byteAt bs) (pageBytes g)
+
       at : (q : ℕ) → viewFrom g (written img (pageBase g p) (byteAt bs) (pageBytes g)) (pageBase g q) ≡ pick (eqb q p) (viewFrom g bs 0) (viewFrom g img (pageBase g q))
       at q = by-eq q p
           (λ e. rw (eq-eqb q p e, e) (copy-view g shape bs 0 (written img (pageBase g p) (byteAt bs) (pageBytes g)) (pageBase g p) (λ k h. rw zero-add (written-in img (pageBase g p) (byteAt bs) (pageBytes g) k room h))))
@@ -82,6 +82,7 @@ module _ (g : Geometry) (shape : Shape g) (img : List ℕ) where
           let w = base-apart g (q - g .pages * b) (g .pages) (omega (arith, r)) in
           let f : pageBase g q + k ≡ pageBase g (g .pages * b) + (pageBase g (q - g .pages * b) + k) = omega (arith, e) in
           rw f (written-in img (pageBase g (g .pages * b)) (λ k. 255) (pageBase g (g .pages)) (pageBase g (q - g .pages * b) + k) room (omega (arith, w, h)))
+
       outside : (q k : ℕ) → inB (g .pages) b q ≡ false → k < pageBytes g → Off (pageBase g q + k) (pageBase g (g .pages * b)) (pageBase g (g .pages))
       outside q k r h = go (ltb q (g .pages * b)) (ltb q (g .pages * b + g .pages)) refl refl
         where
@@ -89,13 +90,13 @@ module _ (g : Geometry) (shape : Shape g) (img : List ℕ) where
           go true y e f = let w = base-apart g q (g .pages * b) (ltb-true q (g .pages * b) e) in inl (omega (arith, w, h))
           go false true e f = absurd (true-false (inB (g .pages) b q) (within (g .pages) b q (ltb-false q (g .pages * b) e) (ltb-true q (g .pages * b + g .pages) f)) r)
           go false false e f = let w = base-le g (g .pages * b + g .pages) q (ltb-false q (g .pages * b + g .pages) f) in let z = base-add g (g .pages * b) (g .pages) in inr (omega (arith, w, z))
+
       at : (q : ℕ) (t : Bool) → inB (g .pages) b q ≡ t → viewFrom g (written img (pageBase g (g .pages * b)) (λ k. 255) (pageBase g (g .pages))) (pageBase g q) ≡ pick (inB (g .pages) b q) (noView g) (viewFrom g img (pageBase g q))
       at q true e = rw e (view-erased g shape (written img (pageBase g (g .pages * b)) (λ k. 255) (pageBase g (g .pages))) (pageBase g q) (λ k h. inside q k (range (g .pages) b q e) h))
       at q false e = rw e (copy-view g shape img (pageBase g q) (written img (pageBase g (g .pages * b)) (λ k. 255) (pageBase g (g .pages))) (pageBase g q) (λ k h. written-off img (pageBase g (g .pages * b)) (λ k. 255) (pageBase g (g .pages)) (pageBase g q + k) (outside q k e h)))
 
   -- the stores on the chip. T pages; max is the largest number on the image
   module _ (n : ℕ) (image : Image g n img) where
-
     abbrev t : ℕ
     t = pagesOf g n
 
@@ -106,7 +107,6 @@ module _ (g : Geometry) (shape : Shape g) (img : List ℕ) where
     block-room b h = let w = base-le g (g .pages * b + g .pages) t (block-in (g .pages) b n h) in let z = base-add g (g .pages * b) (g .pages) in omega (arith, w, z, image)
 
     module _ (p : ℕ) (p-in : p < t) (seq h : ℕ) (parts : ℕ → List Entry) (ok : Parts g parts) (small : seq < 4294967295) (high : h < 256) where
-
       pub views-built : views g (applyStore g (program p (built g seq h parts)) img) ≡ laid (views g img) p (builtView g seq h parts)
       views-built = views-program p (built g seq h parts) (page-room p p-in) ∙ ap (laid (views g img) p) (view-built g shape parts ok seq h small high)
 
@@ -135,7 +135,6 @@ module _ (g : Geometry) (shape : Shape g) (img : List ℕ) where
 
     -- the erase of a block that the root is not in
     module _ (b : ℕ) (b-in : b < n) where
-
       pub erase-chip : inB (g .pages) b (rootAt t (views g img)) ≡ false → chipOf g n (applyStore g (erase b) img) ≡ eraseBlock g b (chipOf g n img)
       erase-chip e = sym (view-chip g n _) ∙ ap (chip t) (views-erase b (block-room b b-in)) ∙ chip-wipe t g b (views g img) (let w = block-in (g .pages) b n b-in in let z = shape .pages-low in omega (arith, w, z)) e ∙ ap (eraseBlock g b) (view-chip g n img)
 

@@ -44,6 +44,7 @@ arg-is zero f = go (ltb (f 0) (f 0))
   where
     here : Arg 1 f 0
     here = record { before = λ j h. absurd (omega arith); all = λ j h. let e : j ≡ 0 = omega arith in let q = ap f e in omega (arith, q); inside = omega arith }
+
     go : (t : Bool) → Arg 1 f (pick t 0 0)
     go true = here
     go false = here
@@ -51,13 +52,17 @@ arg-is (suc n) f = go (arg (suc n) f) (arg-is n f) (ltb (f (arg (suc n) f)) (f (
   where
     go : (a : ℕ) → Arg (suc n) f a → (t : Bool) → ltb (f a) (f (suc n)) ≡ t → Arg (suc (suc n)) f (pick t (suc n) a)
     go a h true e = let w = ltb-true (f a) (f (suc n)) e in
-        record { before = λ j q. let z = h .all j q in omega (arith, z, w)
-               ; all = λ j q. by-eq j (suc n) (λ d. let y = ap f d in omega (arith, y)) (λ d. let z = h .all j (omega arith) in omega (arith, z, w))
-               ; inside = omega arith }
+        record {
+          before = λ j q. let z = h .all j q in omega (arith, z, w);
+          all = λ j q. by-eq j (suc n) (λ d. let y = ap f d in omega (arith, y)) (λ d. let z = h .all j (omega arith) in omega (arith, z, w));
+          inside = omega arith;
+        }
     go a h false e = let w = ltb-false (f a) (f (suc n)) e in
-        record { before = h .before
-               ; all = λ j q. by-eq j (suc n) (λ d. let y = ap f d in omega (arith, y, w)) (λ d. h .all j (omega arith))
-               ; inside = omega (arith, h .inside) }
+        record {
+          before = h .before;
+          all = λ j q. by-eq j (suc n) (λ d. let y = ap f d in omega (arith, y, w)) (λ d. h .all j (omega arith));
+          inside = omega (arith, h .inside);
+        }
 
 pub arg-at : (n : ℕ) (f : ℕ → ℕ) → 1 ≤ n → Arg n f (arg n f)
 arg-at zero f h = absurd (omega arith)
@@ -135,7 +140,6 @@ pub score-none : (w : View) → w .height ≡ 0 → score w ≡ 0
 score-none w h = rw h refl
 
 module _ (g : Geometry) (t : ℕ) (v : Views) (p : ℕ) (w : View) (written : w .er ≡ false) where
-
   put-er : (q : ℕ) → laid v p w q .er ≡ after p (λ q. v q .er) q
   put-er q = picked (λ (x : View). x .er) (eqb q p) w (v q) ∙ ap (λ b. pick (eqb q p) b (v q .er)) written
 
@@ -230,6 +234,7 @@ r3-put t v p w h s = record { differ = λ a b ha hb ea eb e. go a b ha hb (eqb a
   where
     low : (j : ℕ) → j < t → v j .seq < w .seq
     low j q = let y = peak-le t (λ q. v q .seq) j q in omega (arith, y, s)
+
     go : (a b : ℕ) → a < t → b < t → (x y : Bool) → eqb a p ≡ x → eqb b p ≡ y → pick x w (v a) .er ≡ false → pick y w (v b) .er ≡ false → pick x w (v a) .seq ≡ pick y w (v b) .seq → a ≡ b
     go a b ha hb true true ea eb fa fb e = eqb-true a p ea ∙ sym (eqb-true b p eb)
     go a b ha hb true false ea eb fa fb e = absurd (omega (arith, low b hb, e))
@@ -254,6 +259,7 @@ r4-some top t v q r h e k = go (v (arg t (λ q. score (v q))) .height) refl
   where
     a : Arg t (λ q. score (v q)) (arg t (λ q. score (v q)))
     a = arg-at t (λ q. score (v q)) (omega arith)
+
     go : (m : ℕ) → v (arg t (λ q. score (v q))) .height ≡ m → 1 ≤ m
     go zero z = let x = a .all q h in let y = r q h .some e in absurd (omega (arith, x, y, score-root (v q) k, score-none (v (arg t (λ q. score (v q)))) z))
     go (suc m) z = omega arith

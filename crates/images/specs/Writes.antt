@@ -54,7 +54,6 @@ max-new t v p w h s =
     omega (arith, up, here, e, s)
 
 module _ (g : Geometry) (shape : Shape g) (n : ℕ) (img : List ℕ) (held : Held g n img) where
-
   abbrev t : ℕ
   t = pagesOf g n
 
@@ -62,7 +61,6 @@ module _ (g : Geometry) (shape : Shape g) (n : ℕ) (img : List ℕ) (held : Hel
   c = chipOf g n img
 
   module _ (free : 1 ≤ count t (c .er)) where
-
     abbrev N : ℕ
     N = nextPage (g .pages) n (c .er)
 
@@ -90,7 +88,6 @@ module _ (g : Geometry) (shape : Shape g) (n : ℕ) (img : List ℕ) (held : Hel
         go false = h .1
 
     module _ (parts : ℕ → List Entry) (ok : Parts g parts) (low : suc (maxSeq g n img) < 4294967295) (h : ℕ) (high : h ≤ g .top) where
-
       abbrev next : List ℕ
       next = applyStore g (nextStore g n h parts img) img
 
@@ -126,7 +123,6 @@ module _ (g : Geometry) (shape : Shape g) (n : ℕ) (img : List ℕ) (held : Hel
 
       -- with a root: what is to be shown is that the abstract chip is whole
       module _ (some-h : 1 ≤ h) where
-
         pub root-chip : chipOf g n next ≡ rooted c N (builtView g (suc (maxSeq g n img)) h parts)
         unfolding nextStore
         root-chip = program-root g shape img n (held .image) N next-in (suc (maxSeq g n img)) h parts ok low h-low some-h seq-is
@@ -148,7 +144,6 @@ module _ (g : Geometry) (shape : Shape g) (n : ℕ) (img : List ℕ) (held : Hel
 
       -- without: all is as before, whatever the page holds
       module _ (no-h : h ≡ 0) where
-
         abbrev w : View
         w = builtView g (suc (maxSeq g n img)) h parts
 
@@ -192,14 +187,13 @@ module _ (g : Geometry) (shape : Shape g) (n : ℕ) (img : List ℕ) (held : Hel
   root-live = rw (eq-eqb (c .root) (c .root) refl) refl
 
   module _ (b : ℕ) (b-in : b < n) (dead : (j : ℕ) → j < g .pages → live (placesOf c) (g .pages * b + j) ≡ false) where
-
     root-out : inB (g .pages) b (rootAt t (views g img)) ≡ false
     root-out = by-test (inB (g .pages) b (rootAt t (views g img)))
         (λ e.
-          let r = range (g .pages) b (rootAt t (views g img)) e in
-          let z : rootAt t (views g img) ≡ c .root = ap (λ (x : Chip). x .root) (view-chip g n img) in
-          let d : c .root ≡ g .pages * b + (c .root - g .pages * b) = omega (arith, r, z) in
-          absurd (true-false (live (placesOf c) (c .root)) root-live (subst (λ q. live (placesOf c) q ≡ false) (sym d) (dead (c .root - g .pages * b) (omega (arith, r, z))))))
+        let r = range (g .pages) b (rootAt t (views g img)) e in
+        let z : rootAt t (views g img) ≡ c .root = ap (λ (x : Chip). x .root) (view-chip g n img) in
+        let d : c .root ≡ g .pages * b + (c .root - g .pages * b) = omega (arith, r, z) in
+        absurd (true-false (live (placesOf c) (c .root)) root-live (subst (λ q. live (placesOf c) q ≡ false) (sym d) (dead (c .root - g .pages * b) (omega (arith, r, z))))))
         (λ e. e)
 
     abbrev wiped : List ℕ

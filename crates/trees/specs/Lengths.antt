@@ -54,10 +54,8 @@ chosen-ok P k hi (e ∷ x ∷ es) n h = go (leb (x .key) k) (chosen-ok P k hi (x
     go false i = (x .key, h .1)
 
 module _ (r : Nodes) (k : ℕ) (leaf : List Entry → List Entry) (name : ℕ → Entry → List Entry → List Entry) where
-
   -- what holds of all entries of the nodes holds of the edited ones
   module _ (P : Entry → Type 0) (leaf-all : (es : List Entry) → All P es → All P (leaf es)) (name-all : (l : ℕ) (e : Entry) (c : List Entry) → P e → All P c → All P (name l e c)) (all : (q l : ℕ) → All P (r q l)) where
-
     edited-all : (l : ℕ) (e : Entry) → All P (edited r k leaf name l e)
     unfolding edited
     edited-all zero e = leaf-all (r (e .addr) 1) (all (e .addr) 1)
@@ -78,7 +76,6 @@ module _ (r : Nodes) (k : ℕ) (leaf : List Entry → List Entry) (name : ℕ �
 
   -- at most d entries more
   module _ (d : ℕ) (leaf-most : (es : List Entry) → length (leaf es) ≤ length es + d) (name-most : (l : ℕ) (e : Entry) (c : List Entry) → length (name l e c) ≤ suc d) where
-
     edited-most : (l : ℕ) (e : Entry) → length (edited r k leaf name l e) ≤ length (r (e .addr) (suc l)) + d
     unfolding edited
     edited-most zero e = leaf-most (r (e .addr) 1)

@@ -79,7 +79,6 @@ pub record Runs (g : Geometry) (n : ℕ) (base : List Entry) (img : List ℕ) (s
   pub wiped : erases ss ≤ e
 
 module _ (g : Geometry) (n : ℕ) (base : List Entry) where
-
   pub runs-end : (img : List ℕ) (ss : List Store) (d : Chip) (b e : ℕ) → Runs g n base img ss d b e → Keeps g n base (applyAll g ss img)
   runs-end img ss d b e r = along-end g n (Keeps g n base) img ss (r .along)
 
@@ -108,9 +107,10 @@ module _ (g : Geometry) (n : ℕ) (base : List Entry) where
       let sf = side-frees g shape n img (h .held) free parts ok low 0 (omega arith) refl in
       let mx = put-max g shape n img (h .held) free parts ok low 0 (omega arith) in
       let end : Keeps g n base (applyStore g (nextStore g n 0 parts img) img) = record {
-            held = side-held g shape n img (h .held) free parts ok low 0 (omega arith) refl;
-            r7 = inl (omega (arith, f, sf));
-            map-is = side-map g shape n img (h .held) free parts ok low 0 (omega arith) refl ∙ h .map-is } in
+        held = side-held g shape n img (h .held) free parts ok low 0 (omega arith) refl;
+        r7 = inl (omega (arith, f, sf));
+        map-is = side-map g shape n img (h .held) free parts ok low 0 (omega arith) refl ∙ h .map-is;
+      } in
       record {
         along = (h, put-legal g shape n img (h .held) free parts ok low 0 (omega arith), end);
         chip-is = side-chip g shape n img (h .held) free parts ok low 0 (omega arith) refl;

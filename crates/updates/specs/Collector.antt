@@ -32,7 +32,6 @@ use Rattle.updates.specs.Along.{Along, Keeps, Runs, runs-end, runs-none,
 use Rattle.updates.specs.Move.{move-chip, move-held, move-map, move-max, move-legal}
 
 module _ (g : Geometry) (shape : Shape g) (n : ℕ) (few : pagesOf g n + g .pages < 4294967296) (base : List Entry) where
-
   abbrev t : ℕ
   t = pagesOf g n
 
@@ -48,16 +47,20 @@ module _ (g : Geometry) (shape : Shape g) (n : ℕ) (few : pagesOf g n + g .page
     where
       p : ℕ
       p = g .pages * v + (g .pages - suc j)
+
       c : Chip
       c = chipOf g n img
+
       N : ℕ
       N = nextPage (g .pages) n (chipOf g n img .er)
+
       st : Store
       st = moveStore g n (g .pages * v + (g .pages - suc j)) img
+
       go : (u : Bool) → live (placesOf (chipOf g n img)) (g .pages * v + (g .pages - suc j)) ≡ u
           → ((i : List ℕ) → Held g n i → Sweeping g n v j (chipOf g n i) → mapOf (chipOf g n i) ≡ base → maxSeq g n i + j < 4294967295 → Runs g n base i (sweepStores g n v j i) (sweep g n v j (chipOf g n i)) (livesIn (g .pages) v (chipOf g n i)) 0)
           → Runs g n base img (pick u (moveStore g n (g .pages * v + (g .pages - suc j)) img ∷ sweepStores g n v j (applyStore g (moveStore g n (g .pages * v + (g .pages - suc j)) img) img)) (sweepStores g n v j img))
-              (pick u (sweep g n v j (moveTo (chipOf g n img) (g .pages * v + (g .pages - suc j)) (nextPage (g .pages) n (chipOf g n img .er)))) (sweep g n v j (chipOf g n img))) (livesIn (g .pages) v (chipOf g n img)) 0
+          (pick u (sweep g n v j (moveTo (chipOf g n img) (g .pages * v + (g .pages - suc j)) (nextPage (g .pages) n (chipOf g n img .er)))) (sweep g n v j (chipOf g n img))) (livesIn (g .pages) v (chipOf g n img)) 0
       go true e ih =
           let o = moved-on g shape n v j c b s e in
           let free : 1 ≤ count t (c .er) = omega (arith, o .1 .frees) in
@@ -106,6 +109,7 @@ module _ (g : Geometry) (shape : Shape g) (n : ℕ) (few : pagesOf g n + g .page
     where
       Out : List Store → Chip → Type 0
       Out ss d = Runs g n base img ss d (g .pages - 1) 1
+
       at : (v : ℕ) → v < n → full (g .pages) (chipOf g n img .er) v ≡ true → livesIn (g .pages) v (chipOf g n img) < g .pages → livesIn (g .pages) v (chipOf g n img) ≤ count t (chipOf g n img .er)
           → Out (sweepStores g n v (g .pages) img ++ (erase v ∷ [])) (eraseBlock g v (sweep g n v (g .pages) (chipOf g n img)))
       at v q f less le =
@@ -118,7 +122,8 @@ module _ (g : Geometry) (shape : Shape g) (n : ℕ) (few : pagesOf g n + g .page
           let z = runs-end g n base img ss (sweep g n v (g .pages) c) (livesIn (g .pages) v c) 0 a in
           let b = erase-runs v q i (z .held) (subst (Sweeping g n v 0) (sym (a .chip-is)) (sw .done)) (z .map-is) in
           runs-as g n base img (ss ++ (erase v ∷ [])) (eraseBlock g v (chipOf g n i)) (eraseBlock g v (sweep g n v (g .pages) c)) (livesIn (g .pages) v c + 0) (g .pages - 1) (0 + 1) 1 (ap (eraseBlock g v) (a .chip-is)) (omega (arith, less)) (omega arith)
-            (runs-then g n base img ss (erase v ∷ []) (sweep g n v (g .pages) c) (eraseBlock g v (chipOf g n i)) (livesIn (g .pages) v c) 0 0 1 a b)
+          (runs-then g n base img ss (erase v ∷ []) (sweep g n v (g .pages) c) (eraseBlock g v (chipOf g n i)) (livesIn (g .pages) v c) 0 0 1 a b)
+
       go : (v : ℕ) × (theVictim (g .pages) n (chipOf g n img) ≡ some v) × (v < n) × (full (g .pages) (chipOf g n img .er) v ≡ true) × (livesIn (g .pages) v (chipOf g n img) < g .pages) × (livesIn (g .pages) v (chipOf g n img) ≤ count t (chipOf g n img .er))
           → Out (clearStores g n (theVictim (g .pages) n (chipOf g n img)) img) (clear g n (theVictim (g .pages) n (chipOf g n img)) (chipOf g n img))
       go u = subst (λ o. Out (clearStores g n o img) (clear g n o (chipOf g n img))) (sym (u .1)) (at (u .0) (u .2) (u .3) (u .4) (u .5))
@@ -132,10 +137,13 @@ module _ (g : Geometry) (shape : Shape g) (n : ℕ) (few : pagesOf g n + g .page
     where
       Out : List Store → Chip → Type 0
       Out ss d = Runs g n base img ss d (suc m * (g .pages - 1)) (suc m)
+
       c : Chip
       c = chipOf g n img
+
       cs : List Store
       cs = clearStores g n (theVictim (g .pages) n (chipOf g n img)) img
+
       go : (u : Bool) → ltb (count t (chipOf g n img .er)) (g .pages + k) ≡ u
           → ((i : List ℕ) → Keeps g n base i → Roomy k (chipOf g n i) → maxSeq g n i + m * g .pages < 4294967295 → Runs g n base i (collectStores g n k m i) (collect g n k m (chipOf g n i)) (m * (g .pages - 1)) m)
           → Out (pick u (clearStores g n (theVictim (g .pages) n (chipOf g n img)) img ++ collectStores g n k m (applyAll g (clearStores g n (theVictim (g .pages) n (chipOf g n img)) img) img)) []) (pick u (collect g n k m (clear g n (theVictim (g .pages) n (chipOf g n img)) (chipOf g n img))) (chipOf g n img))
@@ -151,7 +159,7 @@ module _ (g : Geometry) (shape : Shape g) (n : ℕ) (few : pagesOf g n + g .page
           let ci = a .chip-is in
           let b = ih i (runs-end g n base img cs d (g .pages - 1) 1 a) (subst (Roomy k) (sym ci) (omega (arith, rd .0 .lives, rm))) (let u = a .grows in let x = a .programmed in let o = some-page g shape in omega (arith, u, x, o, w, y)) in
           runs-as g n base img (cs ++ collectStores g n k m i) (collect g n k m (chipOf g n i)) (collect g n k m d) (g .pages - 1 + m * (g .pages - 1)) (suc m * (g .pages - 1)) (1 + m) (suc m) (ap (collect g n k m) ci) (omega (arith, y′)) (omega arith)
-            (runs-then g n base img cs (collectStores g n k m i) d (collect g n k m (chipOf g n i)) (g .pages - 1) (m * (g .pages - 1)) 1 m a b)
+          (runs-then g n base img cs (collectStores g n k m i) d (collect g n k m (chipOf g n i)) (g .pages - 1) (m * (g .pages - 1)) 1 m a b)
 
   -- what the collector leaves for an update that needs k pages
   pub record Collected (k : ℕ) (img : List ℕ) : Type 0 where

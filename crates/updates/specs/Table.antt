@@ -17,7 +17,6 @@ use Rattle.images.specs.Bytes.{Fits}
 use Rattle.images.specs.Page.{in-table, Parts, parts-table}
 
 module _ (g : Geometry) (shape : Shape g) where
-
   pub slots-byte : (l : ℕ) → 1 ≤ l → l ≤ g .top → slotsOf g l < 256
   slots-byte l a b = let x = shape .fits l in let y = shape .byte l a b in omega (arith, x, y)
 
@@ -45,4 +44,4 @@ module _ (g : Geometry) (shape : Shape g) where
       bytes : (l : ℕ) → 1 ≤ l → l ≤ g .top → length (parts l) < 256
       bytes l i k = by-le (suc l) h (λ z. let x = low l i z in let y = slots-byte l i k in omega (arith, x, y))
           (λ z. by-eq l h (λ e. let y = shape .byte l i k in let u = ap (λ m. length (parts m)) e in let w = ap (rootMost g) e in omega (arith, high, y, u, w))
-            (λ e. let x = ap length (above l (omega (arith, z, e))) in omega (arith, x)))
+          (λ e. let x = ap length (above l (omega (arith, z, e))) in omega (arith, x)))
