@@ -4,8 +4,8 @@ use mathlib.Core.List.{List}
 use Rattle.geometry.specs.declared.Geometry.{Geometry}
 use Rattle.geometry.specs.declared.Entry.{Entry}
 use Rattle.geometry.specs.Tests.{pick}
-use Rattle.model.specs.Bytes.{u32At}
-use Rattle.model.specs.Image.{blocksOf, goodLength}
+use Rattle.model.specs.Bytes.{u32At, erased, nodeAt}
+use Rattle.model.specs.Image.{Chip, blocksOf, goodLength}
 
 -- the slot at an index
 unfoldable pub entryAt : List ℕ → ℕ → Entry
@@ -14,3 +14,7 @@ entryAt img at = record { key = u32At img at; addr = u32At img (at + 4) }
 -- the blocks of an image of good length, else 0
 unfoldable pub goodBlocks : Geometry → List ℕ → ℕ
 goodBlocks g img = pick (goodLength g img) (blocksOf g img) 0
+
+-- what the rules see of an image whose root stands at this page, with so many levels below it
+abbrev pub chipWith : Geometry → List ℕ → ℕ → ℕ → Chip
+chipWith g img level root = record { er = erased g img; nodes = nodeAt g img; level = level; root = root }

@@ -11,3 +11,5 @@ pub mod Edit
 pub mod Collect
 pub mod Update
 pub mod Calls
+pub mod Cases
+pub mod Examples

@@ -1,0 +1,209 @@
+-- The rules R1 to R6 of an image as statements, and that the verdict is those and R7, both ways. Assumes nothing.
+use mathlib.Core.Path.{_≡_, refl, sym, subst, _∙_}
+use mathlib.Core.List.{List}
+use mathlib.Core.Bool.{Bool, true, false, not}
+use Prim.Native.Nat.{ℕ, zero, suc, _+_, _-_, _*_, _<_, _≤_}
+use native.Mathlib.Omega.{arith}
+use native.Mathlib.Nat.{mul-zero}
+use lib.Dec.{eqb, leb}
+use borrow.Author.Tests.{le-leb, eq-eqb, ne-eqb, leb-true}
+use Rattle.geometry.specs.declared.Geometry.{Geometry}
+use Rattle.geometry.specs.declared.Finding.{Finding}
+use Rattle.geometry.specs.declared.Finding.the-variants.{Good, Bad}
+use Rattle.geometry.specs.declared.Verdict.{Verdict}
+use Rattle.geometry.specs.declared.Verdict.the-variants.{Sound, Broken}
+use Rattle.geometry.specs.Tests.{pick, _&_, and-true, and-false, and-left, and-right, and-both}
+use Rattle.geometry.specs.Geometry.{pageBytes, pageBase, half, rootMost}
+use Rattle.geometry.specs.Shape.{Shape}
+use Rattle.model.specs.Bytes.{byteAt, u32At, blank, erased, seqAt, heightAt, tailAt}
+use Rattle.model.specs.Count.{least, any}
+use Rattle.model.specs.Image.{pagesOf, seqOf, heightOf, rootScore, rootOf, chipOf}
+use Rattle.model.specs.Tree.{placesOf}
+use Rattle.model.specs.Rules.{lowest, wellFormed, r1, repeated, r3, r4, orElse, verdict}
+use Rattle.trees.specs.Tests.{by-eq, by-le, true-false, not-false}
+use Rattle.trees.specs.Lists.{all-map}
+use Rattle.trees.specs.Nodes.{fitOf}
+use Rattle.trees.specs.Proper.{root-fit}
+use Rattle.trees.specs.Judge.{bad-good, unless-good, good-unless, r5-rooted, rooted-r5, r6-tied, tied-r6}
+use Rattle.chips.specs.Whole.{some-page, Whole}
+use Rattle.chips.specs.Collect.{R7}
+use Rattle.chips.specs.Tests.{any-none, none-any, any-one, r2-holds, holds-r2, r7-holds, holds-r7}
+use Rattle.images.specs.Views.{arg-at, Views, rootAt, R1, R3, AllR1, R4, root-in}
+use Rattle.images.specs.Page.{nodeFrom, viewFrom, views}
+use Rattle.images.specs.Stores.{Image, block-in}
+use Rattle.images.specs.Small.{Small}
+
+pub record Held (g : Geometry) (n : ℕ) (img : List ℕ) : Type 0 where
+  pub image : Image g n img
+  pub bytes : Small img
+  pub r1 : AllR1 (g .top) (pagesOf g n) (views g img)
+  pub r3 : R3 (pagesOf g n) (views g img)
+  pub r4 : R4 (pagesOf g n) (views g img)
+  pub whole : Whole g n (chipOf g n img)
+
+-- ---- a rule that looks for the lowest bad page
+lowest-none : (t : ℕ) (f : ℕ → Bool) → lowest t f ≡ Good → (p : ℕ) → p < t → f p ≡ false
+unfolding lowest
+lowest-none t f h = any-none t f (go (any t f) h)
+  where
+    go : (b : Bool) → pick b (Bad (least t f)) Good ≡ Good → b ≡ false
+    go true i = absurd (bad-good (least t f) i)
+    go false i = refl
+
+none-lowest : (t : ℕ) (f : ℕ → Bool) → ((p : ℕ) → p < t → f p ≡ false) → lowest t f ≡ Good
+unfolding lowest
+none-lowest t f h = rw (none-any t f h) refl
+
+not-not : (t : Bool) → not t ≡ false → t ≡ true
+not-not true h = refl
+not-not false h = absurd (true-false true refl h)
+
+module _ (g : Geometry) (n : ℕ) (img : List ℕ) where
+  abbrev t : ℕ
+  t = pagesOf g n
+
+  abbrev v : Views
+  v = views g img
+
+  -- ---- R1
+  page-r1 : (p : ℕ) → wellFormed g img p ≡ true → R1 (g .top) (v p)
+  unfolding wellFormed viewFrom erased heightAt tailAt seqAt
+  page-r1 p h = go (blank img (pageBase g p) (pageBytes g)) h
+    where
+      go : (b : Bool) → pick b true (leb (byteAt img (pageBase g p + g .main + 4)) (g .top) & blank img (pageBase g p + g .main + 5 + g .top) (g .spare - 5 - g .top) & leb 1 (u32At img (pageBase g p + g .main))) ≡ true
+          → R1 (g .top) (record { er = b; seq = pick b 0 (u32At img (pageBase g p + g .main)); height = pick b 0 (byteAt img (pageBase g p + g .main + 4)); tail = pick b true (blank img (pageBase g p + g .main + 5 + g .top) (g .spare - 5 - g .top)); node = nodeFrom g img (pageBase g p) })
+      go true i = record { high = omega arith; rest = refl; some = λ e. absurd (true-false true refl e) }
+      go false i = let a = and-left _ _ i in record { high = leb-true _ _ (and-left _ _ a); rest = and-right _ _ a; some = λ _. leb-true 1 _ (and-right _ _ i) }
+
+  r1-page : (p : ℕ) → R1 (g .top) (v p) → wellFormed g img p ≡ true
+  unfolding wellFormed viewFrom erased heightAt tailAt seqAt
+  r1-page p h = go (blank img (pageBase g p) (pageBytes g)) (h .high) (h .rest) (h .some)
+    where
+      go : (b : Bool) → pick b 0 (byteAt img (pageBase g p + g .main + 4)) ≤ g .top → pick b true (blank img (pageBase g p + g .main + 5 + g .top) (g .spare - 5 - g .top)) ≡ true → (b ≡ false → 1 ≤ pick b 0 (u32At img (pageBase g p + g .main)))
+          → pick b true (leb (byteAt img (pageBase g p + g .main + 4)) (g .top) & blank img (pageBase g p + g .main + 5 + g .top) (g .spare - 5 - g .top) & leb 1 (u32At img (pageBase g p + g .main))) ≡ true
+      go true i j k = refl
+      go false i j k = and-both _ _ (and-both _ _ (le-leb _ _ i) j) (le-leb 1 _ (k refl))
+
+  -- ---- R3
+  seq-at : (p : ℕ) → v p .er ≡ false → v p .seq ≡ seqAt g img p
+  unfolding viewFrom seqAt
+  seq-at p e = rw e refl
+
+  pub er-at : (p : ℕ) → v p .er ≡ erased g img p
+  unfolding viewFrom erased
+  er-at p = refl
+
+  repeat : (p q : ℕ) → q < p → v p .er ≡ false → v q .er ≡ false → v p .seq ≡ v q .seq → repeated (erased g img) (seqAt g img) p ≡ true
+  unfolding repeated
+  repeat p q w ep eq e =
+      let f : ℕ → Bool = λ q. not (erased g img q) & eqb (seqAt g img q) (seqAt g img p) in
+      and-both _ _ (not-false (erased g img p) (sym (er-at p) ∙ ep))
+      (any-one p q f w (and-both _ _ (not-false (erased g img q) (sym (er-at q) ∙ eq)) (eq-eqb _ _ (sym (seq-at q eq) ∙ sym e ∙ seq-at p ep))))
+
+  differ : ((p : ℕ) → p < t → repeated (erased g img) (seqAt g img) p ≡ false) → R3 t v
+  differ h = record {
+    differ = λ p q hp hq ep eq e.
+        by-eq p q (λ z. z) (λ z. absurd (by-le p q
+        (λ w. true-false _ (repeat q p (omega (arith, w, z)) eq ep (sym e)) (h q hq))
+        (λ w. true-false _ (repeat p q w ep eq e) (h p hp))));
+  }
+
+  no-repeat : R3 t v → (p : ℕ) → p < t → repeated (erased g img) (seqAt g img) p ≡ false
+  unfolding repeated
+  no-repeat h p hp = go (erased g img p) refl
+    where
+      inner : (q : ℕ) → q < p → erased g img p ≡ false → (b : Bool) → erased g img q ≡ b → (not b & eqb (seqAt g img q) (seqAt g img p)) ≡ false
+      inner q w ep true eq = and-false _
+      inner q w ep false eq = and-true _ ∙ ne-eqb _ _ (λ z. let x = h .differ p q hp (omega (arith, w, hp)) (er-at p ∙ ep) (er-at q ∙ eq) (seq-at p (er-at p ∙ ep) ∙ sym z ∙ sym (seq-at q (er-at q ∙ eq))) in omega (arith, x, w))
+
+      go : (b : Bool) → erased g img p ≡ b → (not b & any p (λ q. not (erased g img q) & eqb (seqAt g img q) (seqAt g img p))) ≡ false
+      go true e = and-false _
+      go false e = and-true _ ∙ none-any p (λ q. not (erased g img q) & eqb (seqAt g img q) (seqAt g img p)) (λ q w. inner q w e (erased g img q) refl)
+
+  -- ---- R4
+  pub root-height : v (rootAt t v) .height ≡ heightOf g img (rootOf g n img)
+  unfolding viewFrom rootAt heightOf rootOf rootScore erased heightAt seqOf seqAt
+  root-height = refl
+
+  root-er : 1 ≤ heightOf g img (rootOf g n img) → erased g img (rootOf g n img) ≡ false
+  unfolding heightOf
+  root-er h = go (erased g img (rootOf g n img)) h
+    where
+      go : (b : Bool) → 1 ≤ pick b 0 (heightAt g img (rootOf g n img)) → b ≡ false
+      go true i = absurd (omega (arith, i))
+      go false i = refl
+
+  root-below : 1 ≤ t → rootOf g n img < t
+  unfolding rootOf
+  root-below h = arg-at t (rootScore g img) h .inside
+
+-- ---- the verdict
+broken-sound : (r p : ℕ) → Broken r p ≡ Sound → ⊥
+broken-sound r p h = subst Fine (sym h) tt
+  where
+    Fine : Verdict → Type 0
+    Fine Sound = Unit {0}
+    Fine (Broken r p) = ⊥
+
+or-sound : (r : ℕ) (f : Finding) (w : Verdict) → orElse r f w ≡ Sound → (f ≡ Good) × (w ≡ Sound)
+unfolding orElse
+or-sound r Good w h = (refl, h)
+or-sound r (Bad p) w h = absurd (broken-sound r p h)
+
+sound-or : (r : ℕ) (f : Finding) (w : Verdict) → f ≡ Good → w ≡ Sound → orElse r f w ≡ Sound
+unfolding orElse
+sound-or r f w h i = rw (h, i) refl
+
+module _ (g : Geometry) (shape : Shape g) (n : ℕ) (img : List ℕ) where
+  -- a sound image is held, and R7 holds
+  pub sound-held : 1 ≤ n → Image g n img → Small img → verdict g n img ≡ Sound → Held g n img × R7 g n (chipOf g n img)
+  unfolding verdict r1 r3 r4
+  sound-held pos image bytes h =
+      let a = or-sound _ _ _ h in
+      let b = or-sound _ _ _ (a .1) in
+      let c = or-sound _ _ _ (b .1) in
+      let d = or-sound _ _ _ (c .1) in
+      let e = or-sound _ _ _ (d .1) in
+      let f = or-sound _ _ _ (e .1) in
+      let k = or-sound _ _ _ (f .1) in
+      let t = pagesOf g n in
+      let chip = chipOf g n img in
+      let high = leb-true 1 (heightOf g img (rootOf g n img)) (unless-good _ _ _ (d .0) .0) in
+      let pages : 1 ≤ t = let z = block-in (g .pages) 0 n pos in let w = some-page g shape in omega (arith, z, w, mul-zero (g .pages)) in
+      let root = r5-rooted g shape t chip (root-below g n img pages, root-er g n img high) (e .0) in
+      let fits = root-fit (fitOf t (chip .er)) (λ l. 2 * half g l) (rootMost g) (chip .nodes) (chip .level) (chip .root) 4294967296 root in
+      let tied = r6-tied t chip (all-map (λ x. (1 ≤ x .level) × fitOf t (chip .er) (x .level) (x .page)) (λ x. x .page < t) (placesOf chip) (λ x i. below (chip .er) t (x .level) (x .page) (i .0) (i .1)) fits) (f .0) in (
+        record {
+          image = image;
+          bytes = bytes;
+          r1 = λ p q. page-r1 g n img p (not-not (wellFormed g img p) (lowest-none t (λ p. not (wellFormed g img p)) (a .0) p q));
+          r3 = differ g n img (lowest-none t (repeated (erased g img) (seqAt g img)) (c .0));
+          r4 = subst (λ m. 1 ≤ m) (sym (root-height g n img)) high;
+          whole = record { r2 = r2-holds (g .pages) n (erased g img) (b .0); sound = record { rooted = root; tied = tied } };
+        },
+        r7-holds g n chip (k .0),
+      )
+    where
+      below : (er : ℕ → Bool) (t l p : ℕ) → 1 ≤ l → fitOf t er l p → p < t
+      below er t zero p i f = absurd (omega arith)
+      below er t (suc l) p i f = f .0
+
+  pub held-sound : Held g n img → R7 g n (chipOf g n img) → verdict g n img ≡ Sound
+  unfolding verdict r1 r3 r4
+  held-sound h s =
+      let t = pagesOf g n in
+      let high = subst (λ m. 1 ≤ m) (root-height g n img) (h .r4) in
+      sound-or _ _ _ (none-lowest t (λ p. not (wellFormed g img p)) (λ p q. rw (r1-page g n img p (h .r1 p q)) refl))
+      (sound-or _ _ _ (holds-r2 (g .pages) n (erased g img) (h .whole .r2))
+      (sound-or _ _ _ (none-lowest t (repeated (erased g img) (seqAt g img)) (no-repeat g n img (h .r3)))
+      (sound-or _ _ _ (good-unless _ _ _ (le-leb 1 (heightOf g img (rootOf g n img)) high) refl)
+      (sound-or _ _ _ (rooted-r5 g shape t (chipOf g n img) (h .whole .sound .rooted))
+      (sound-or _ _ _ (tied-r6 t (chipOf g n img) (h .whole .sound .tied))
+      (sound-or _ _ _ (holds-r7 g n (chipOf g n img) s) refl))))))
+
+  pub height-most : 1 ≤ pagesOf g n → Held g n img → suc (chipOf g n img .level) ≤ g .top
+  height-most i h =
+      let a = h .r1 (rootAt (pagesOf g n) (views g img)) (root-in (pagesOf g n) (views g img) i) .high in
+      let b = h .r4 in
+      let e = root-height g n img in
+      omega (arith, a, b, e)

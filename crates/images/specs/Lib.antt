@@ -1,0 +1,8 @@
+-- Theorems about images: a page built and read back, the two stores, the rules. Bytes end here.
+pub mod Bytes
+pub mod Views
+pub mod Page
+pub mod Stores
+pub mod Small
+pub mod Held
+pub mod Writes

@@ -1,0 +1,216 @@
+-- One store: a page at the next place with the next number, with a root or without; a block without live pages erased.
+-- What is held stays held. Assumes nothing.
+use mathlib.Core.Path.{_≡_, refl, ap, sym, subst, _∙_}
+use mathlib.Core.List.{List}
+use mathlib.Core.Bool.{Bool, true, false}
+use Prim.Native.Nat.{ℕ, zero, suc, _+_, _-_, _*_, _<_, _≤_}
+use native.Mathlib.Omega.{arith}
+use lib.ListN.{length}
+use lib.Dec.{eqb, ltb}
+use borrow.Author.Tests.{lt-ltb, eq-eqb, ne-eqb}
+use Rattle.geometry.specs.declared.Geometry.{Geometry}
+use Rattle.geometry.specs.declared.Entry.{Entry}
+use Rattle.geometry.specs.Tests.{pick, bit}
+use Rattle.geometry.specs.Geometry.{pageBytes, half, rootMost}
+use Rattle.geometry.specs.Shape.{Shape}
+use Rattle.model.specs.Bytes.{u32At, erased}
+use Rattle.model.specs.Count.{count}
+use Rattle.model.specs.Image.{pagesOf, maxSeq, Chip, chipOf}
+use Rattle.model.specs.Tree.{mapOf, places, placesOf, live}
+use Rattle.model.specs.Next.{firstIn, nextBlock, nextPage, after}
+use Rattle.model.specs.Page.{built}
+use Rattle.model.specs.Stores.{Store, program, erase, applyStore}
+use Rattle.trees.specs.Tests.{by-test, true-false}
+use Rattle.trees.specs.Nodes.{fitOf}
+use Rattle.trees.specs.Frame.{pairs-same, sound-same}
+use Rattle.chips.specs.Count.{some-true, count-after}
+use Rattle.chips.specs.Next.{in-range, by-block, next-erased, r2-next}
+use Rattle.chips.specs.Whole.{some-page, Whole}
+use Rattle.chips.specs.Erase.{inB, range, eraseBlock}
+use Rattle.images.specs.Views.{View, peak-le, Views, topOf, rootAt, laid, rooted, beside, R3, AllR1, max-put}
+use Rattle.images.specs.Page.{views, view-chip, view-max, Parts, builtView, length-built, built-seq}
+use Rattle.images.specs.Stores.{Image, length-store, views-built, program-root, program-beside, program-r1, program-r3, program-r4, beside-r4, erase-chip, erase-r1, erase-r3, erase-r4, erase-max}
+use Rattle.images.specs.Small.{Small, built-small, store-small}
+use Rattle.images.specs.Held.{Held, er-at}
+
+-- the store at the next page, with the next number
+unfoldable pub nextStore : Geometry → ℕ → ℕ → (ℕ → List Entry) → List ℕ → Store
+nextStore g n h parts img = program (nextPage (g .pages) n (chipOf g n img .er)) (built g (suc (maxSeq g n img)) h parts)
+
+-- a legal store. A program: the whole of the next page, which is erased, with the largest number plus 1.
+-- An erase: a block without live pages
+unfoldable pub Legal : Geometry → ℕ → List ℕ → Store → Type 0
+Legal g n img (program p bs) =
+    (p ≡ nextPage (g .pages) n (erased g img)) × (p < pagesOf g n) × (erased g img p ≡ true) × (length bs ≡ pageBytes g) × (u32At bs (g .main) ≡ suc (maxSeq g n img))
+Legal g n img (erase b) = (b < n) × ((j : ℕ) → j < g .pages → live (placesOf (chipOf g n img)) (g .pages * b + j) ≡ false)
+
+-- the largest number after a page with the next one
+pub max-new : (t : ℕ) (v : Views) (p : ℕ) (w : View) → p < t → w .seq ≡ suc (topOf t v) → topOf t (laid v p w) ≡ suc (topOf t v)
+unfolding topOf
+max-new t v p w h s =
+    let up = max-put t v p w (omega (arith, s)) in
+    let here = peak-le t (λ q. laid v p w q .seq) p h in
+    let e : laid v p w p .seq ≡ w .seq = rw (eq-eqb p p refl) refl in
+    omega (arith, up, here, e, s)
+
+module _ (g : Geometry) (shape : Shape g) (n : ℕ) (img : List ℕ) (held : Held g n img) where
+  abbrev t : ℕ
+  t = pagesOf g n
+
+  abbrev c : Chip
+  c = chipOf g n img
+
+  module _ (free : 1 ≤ count t (c .er)) where
+    abbrev N : ℕ
+    N = nextPage (g .pages) n (c .er)
+
+    found : (nextBlock (g .pages) n (c .er) < n) × (firstIn (g .pages) (c .er) (nextBlock (g .pages) n (c .er)) < g .pages) × (c .er N ≡ true)
+    found =
+        let f = some-true t (c .er) free in
+        let w = by-block (g .pages) n (f .0) (f .1) in
+        next-erased (g .pages) n (c .er) (some-page g shape) (held .whole .r2) (w .0) (w .1) (w .2) (w .3) (rw (← (w .4)) (f .2))
+
+    pub next-in : N < t
+    next-in = in-range (g .pages) n (nextBlock (g .pages) n (c .er)) (firstIn (g .pages) (c .er) (nextBlock (g .pages) n (c .er))) (found .0) (found .1)
+
+    pub next-free : c .er N ≡ true
+    next-free = found .2
+
+    view-free : views g img N .er ≡ true
+    view-free = er-at g n img N ∙ next-free
+
+    keep-next : (l b : ℕ) → fitOf t (c .er) l b → fitOf t (after N (c .er)) l b
+    keep-next zero b h = tt
+    keep-next (suc l) b h = (h .0, go (eqb b N))
+      where
+        go : (u : Bool) → pick u false (c .er b) ≡ false
+        go true = refl
+        go false = h .1
+
+    module _ (parts : ℕ → List Entry) (ok : Parts g parts) (low : suc (maxSeq g n img) < 4294967295) (h : ℕ) (high : h ≤ g .top) where
+      abbrev next : List ℕ
+      next = applyStore g (nextStore g n h parts img) img
+
+      h-low : h < 256
+      h-low = let z = shape .top-high in omega (arith, z, high)
+
+      seq-is : suc (maxSeq g n img) ≡ suc (topOf t (views g img))
+      seq-is = ap suc (sym (view-max g n img))
+
+      pub put-legal : Legal g n img (nextStore g n h parts img)
+      unfolding Legal nextStore
+      put-legal = (refl, next-in, next-free, length-built g shape parts (suc (maxSeq g n img)) h, built-seq g shape parts ok (suc (maxSeq g n img)) h low h-low)
+
+      pub put-max : maxSeq g n next ≡ suc (maxSeq g n img)
+      unfolding nextStore
+      put-max = sym (view-max g n next) ∙ ap (topOf t) (views-built g shape img n (held .image) N next-in (suc (maxSeq g n img)) h parts ok low h-low)
+          ∙ max-new t (views g img) N (builtView g (suc (maxSeq g n img)) h parts) next-in seq-is ∙ sym seq-is
+
+      put-image : Image g n next
+      put-image = length-store g (nextStore g n h parts img) img ∙ held .image
+
+      put-small : Small next
+      unfolding nextStore
+      put-small = store-small g (nextStore g n h parts img) img (built-small g (suc (maxSeq g n img)) h parts) (held .bytes)
+
+      put-r1 : AllR1 (g .top) t (views g next)
+      unfolding nextStore
+      put-r1 = program-r1 g shape img n (held .image) N next-in (suc (maxSeq g n img)) h parts ok low h-low high (omega arith) (held .r1)
+
+      put-r3 : R3 t (views g next)
+      unfolding nextStore
+      put-r3 = program-r3 g shape img n (held .image) N next-in (suc (maxSeq g n img)) h parts ok low h-low seq-is (held .r3)
+
+      -- with a root: what is to be shown is that the abstract chip is whole
+      module _ (some-h : 1 ≤ h) where
+        pub root-chip : chipOf g n next ≡ rooted c N (builtView g (suc (maxSeq g n img)) h parts)
+        unfolding nextStore
+        root-chip = program-root g shape img n (held .image) N next-in (suc (maxSeq g n img)) h parts ok low h-low some-h seq-is
+
+        pub root-held : Whole g n (rooted c N (builtView g (suc (maxSeq g n img)) h parts)) → Held g n next
+        unfolding nextStore
+        root-held w = record {
+          image = put-image;
+          bytes = put-small;
+          r1 = put-r1;
+          r3 = put-r3;
+          r4 = program-r4 g shape img n (held .image) N next-in (suc (maxSeq g n img)) h parts ok low h-low some-h seq-is;
+          whole = subst (Whole g n) (sym root-chip) w;
+        }
+
+        pub root-frees : count t (c .er) ≡ suc (count t (chipOf g n next .er))
+        unfolding rooted
+        root-frees = let u : bit (ltb N t) ≡ 1 = rw (lt-ltb N t next-in) refl in let e = ap (λ (x : Chip). count t (x .er)) root-chip in omega (arith, count-after t N (c .er) next-free, u, e)
+
+      -- without: all is as before, whatever the page holds
+      module _ (no-h : h ≡ 0) where
+        abbrev w : View
+        w = builtView g (suc (maxSeq g n img)) h parts
+
+        pub side-chip : chipOf g n next ≡ beside c N w
+        unfolding nextStore
+        side-chip = program-beside g shape img n (held .image) N next-in (suc (maxSeq g n img)) h parts ok low h-low no-h view-free
+
+        stays : (q l : ℕ) → fitOf t (c .er) (suc l) q → beside c N w .nodes q (suc l) ≡ c .nodes q (suc l)
+        unfolding beside
+        stays q l i = rw (ne-eqb q N (λ e. true-false (c .er N) next-free (rw (← e) (i .1)))) refl
+
+        side-whole : Whole g n (beside c N w)
+        unfolding beside
+        side-whole = record {
+          r2 = r2-next (g .pages) n (c .er) (some-page g shape) (held .whole .r2) (found .0) (found .1);
+          sound = sound-same 4294967296 (λ l. 2 * half g l) (rootMost g) (c .nodes) (beside c N w .nodes) (fitOf t (c .er)) (fitOf t (after N (c .er))) keep-next stays (c .level) (c .root) (held .whole .sound);
+        }
+
+        pub side-held : Held g n next
+        unfolding nextStore
+        side-held = record {
+          image = put-image;
+          bytes = put-small;
+          r1 = put-r1;
+          r3 = put-r3;
+          r4 = beside-r4 g shape img n (held .image) N next-in (suc (maxSeq g n img)) h parts ok low h-low no-h view-free (held .r4);
+          whole = subst (Whole g n) (sym side-chip) side-whole;
+        }
+
+        pub side-map : mapOf (chipOf g n next) ≡ mapOf c
+        unfolding beside
+        side-map = ap mapOf side-chip ∙ pairs-same 4294967296 (λ l. 2 * half g l) (rootMost g) (c .nodes) (beside c N w .nodes) (fitOf t (c .er)) (fitOf t (after N (c .er))) keep-next stays (c .level) (c .root) (held .whole .sound .rooted)
+
+        pub side-frees : count t (c .er) ≡ suc (count t (chipOf g n next .er))
+        unfolding beside
+        side-frees = let u : bit (ltb N t) ≡ 1 = rw (lt-ltb N t next-in) refl in let e = ap (λ (x : Chip). count t (x .er)) side-chip in omega (arith, count-after t N (c .er) next-free, u, e)
+
+  -- ---- the erase of a block without live pages
+  root-live : live (placesOf c) (c .root) ≡ true
+  unfolding places live
+  root-live = rw (eq-eqb (c .root) (c .root) refl) refl
+
+  module _ (b : ℕ) (b-in : b < n) (dead : (j : ℕ) → j < g .pages → live (placesOf c) (g .pages * b + j) ≡ false) where
+    root-out : inB (g .pages) b (rootAt t (views g img)) ≡ false
+    root-out = by-test (inB (g .pages) b (rootAt t (views g img)))
+        (λ e.
+        let r = range (g .pages) b (rootAt t (views g img)) e in
+        let z : rootAt t (views g img) ≡ c .root = ap (λ (x : Chip). x .root) (view-chip g n img) in
+        let d : c .root ≡ g .pages * b + (c .root - g .pages * b) = omega (arith, r, z) in
+        absurd (true-false (live (placesOf c) (c .root)) root-live (subst (λ q. live (placesOf c) q ≡ false) (sym d) (dead (c .root - g .pages * b) (omega (arith, r, z))))))
+        (λ e. e)
+
+    abbrev wiped : List ℕ
+    wiped = applyStore g (erase b) img
+
+    pub wipe-chip : chipOf g n wiped ≡ eraseBlock g b c
+    wipe-chip = erase-chip g shape img n (held .image) b b-in root-out
+
+    pub wipe-held : Whole g n (eraseBlock g b c) → Held g n wiped
+    wipe-held w = record {
+      image = length-store g (erase b) img ∙ held .image;
+      bytes = store-small g (erase b) img tt (held .bytes);
+      r1 = erase-r1 g shape img n (held .image) b b-in (held .r1);
+      r3 = erase-r3 g shape img n (held .image) b b-in (held .r3);
+      r4 = erase-r4 g shape img n (held .image) b b-in root-out (held .r4);
+      whole = subst (Whole g n) (sym wipe-chip) w;
+    }
+
+    pub wipe-max : maxSeq g n wiped ≤ maxSeq g n img
+    wipe-max = let z = erase-max g shape img n (held .image) b b-in in let x = view-max g n wiped in let y = view-max g n img in omega (arith, x, y, z)

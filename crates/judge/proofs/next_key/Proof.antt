@@ -1,0 +1,12 @@
+use borrow.Author.Needs.{needs}
+use Rattle.judge.specs.Laws.{judge-laws}
+use Rattle.judge.proofs.next_key.Statement.{statement}
+use Rattle.judge.proofs.next_key.Tie as tie
+use Rattle.judge.proofs.next_key.Reads as reads
+use Rattle.judge.proofs.next_key.Lts as lts
+use Rattle.judge.proofs.key_at.Reads as key-at-reads
+
+ruleset all = (needs, judge-laws)
+
+pub next-key-spec : {M : Type 1} → statement M
+next-key-spec = tie.close (tie.spec (λ c. search all) (λ c κs. search all) (λ c. search all))

@@ -1,0 +1,2 @@
+-- R5, in the form in which the code has the premises.
+pub mod Laws

@@ -1,0 +1,54 @@
+-- A tree whose pages keep their content: what stays. Assumes nothing.
+use mathlib.Core.Path.{_≡_, ap, sym, subst}
+use mathlib.Core.List.{List, _∷_}
+use Prim.Native.Nat.{ℕ, zero, suc, _<_, _≤_}
+use native.Mathlib.Omega.{arith}
+use Rattle.geometry.specs.declared.Entry.{Entry}
+use Rattle.model.specs.Image.{Nodes}
+use Rattle.model.specs.Tree.{gather, under, Place, places}
+use Rattle.trees.specs.Lists.{All, Rises, Some, all-map, all-both, gather-eq, rises-map, rises-all}
+use Rattle.trees.specs.Nodes.{Ok, ok-same, under-same, places-same, the, Rooted, rooted-with}
+use Rattle.trees.specs.Tied.{Tied}
+use Rattle.trees.specs.Proper.{Proper, root-fit}
+
+module _ (top : ℕ) (room most : ℕ → ℕ) (r s : Nodes) (fit fit′ : ℕ → ℕ → Type 0) (keep : (l b : ℕ) → fit l b → fit′ l b) (same : (q l : ℕ) → fit (suc l) q → s q (suc l) ≡ r q (suc l)) (l p : ℕ) where
+  pub rooted-same : Rooted fit room most top r l p → Rooted fit′ room most top s l p
+  rooted-same h = let e = same p l (h .fits) in
+      record {
+        fits = keep (suc l) p (h .fits);
+        least = λ z. rw e (h .least z);
+        atmost = rw e (h .atmost);
+        rises = rw e (rises-map (Ok fit room r l) (Ok fit′ room s l) top (r p (suc l)) (λ y x _ _ i. ok-same fit room fit′ r s keep same l y x i) (h .rises));
+      }
+
+  list-same : (B : Type 0) (d d′ : Entry → List B) (es : List Entry) → Rises (Ok fit room r l) top es → ((y : ℕ) (x : Entry) → Ok fit room r l y x → d′ x ≡ d x) → gather d′ es ≡ gather d es
+  list-same B d d′ es h f = gather-eq d d′ es (rises-all (Ok fit room r l) (λ x. d′ x ≡ d x) top es (λ y x _ _ i. f y x i) h)
+
+  pub pairs-same : Rooted fit room most top r l p → under s (suc l) (the p) ≡ under r (suc l) (the p)
+  unfolding under
+  pairs-same h = rw (same p l (h .fits)) (list-same Entry (under r l) (under s l) (r p (suc l)) (h .rises) (under-same fit room fit′ r s keep same l))
+
+  pub root-places-same : Rooted fit room most top r l p → places s (suc l) (the p) ≡ places r (suc l) (the p)
+  unfolding places
+  root-places-same h = rw (same p l (h .fits)) (ap (λ m. record { page = p; level = suc l } ∷ m) (list-same Place (places r l) (places s l) (r p (suc l)) (h .rises) (places-same fit room fit′ r s keep same l)))
+
+  node-same : (q j : ℕ) → 1 ≤ j → fit j q → s q j ≡ r q j
+  node-same q zero b f = absurd (omega arith)
+  node-same q (suc j) b f = same q j f
+
+  tied-same : (pls : List Place) → All (λ x. (1 ≤ x .level) × fit (x .level) (x .page)) pls → Tied r pls → Tied s pls
+  tied-same pls f t = all-map (λ x. ((1 ≤ x .level) × fit (x .level) (x .page)) × All (λ y. x .page ≡ y .page → y .level < x .level → Some (λ e. e .addr ≡ x .page) (r (x .page) (x .level))) pls)
+      (λ x. All (λ y. x .page ≡ y .page → y .level < x .level → Some (λ e. e .addr ≡ x .page) (s (x .page) (x .level))) pls) pls
+      (λ x h. rw (node-same (x .page) (x .level) (h .0 .0) (h .0 .1)) (h .1))
+      (all-both (λ x. (1 ≤ x .level) × fit (x .level) (x .page)) (λ x. All (λ y. x .page ≡ y .page → y .level < x .level → Some (λ e. e .addr ≡ x .page) (r (x .page) (x .level))) pls) pls f t)
+
+  pub sound-same : Proper fit room most top r l p → Proper fit′ room most top s l p
+  sound-same h = record { rooted = rooted-same (h .rooted); tied = subst (Tied s) (sym (root-places-same (h .rooted))) (tied-same (places r (suc l) (the p)) (root-fit fit room most r l p top (h .rooted)) (h .tied)) }
+
+-- an erase: no live page is in the block
+pub erase-sound : (top : ℕ) (room most : ℕ → ℕ) (r s : Nodes) (fit fit′ : ℕ → ℕ → Type 0) (In : ℕ → Type 0)
+    → ((l b : ℕ) → fit l b → (1 ≤ l → In b → ⊥) → fit′ l b) → ((q l : ℕ) → (In q → ⊥) → s q (suc l) ≡ r q (suc l))
+    → (l p : ℕ) → All (λ x. In (x .page) → ⊥) (places r (suc l) (the p)) → Proper fit room most top r l p → Proper fit′ room most top s l p
+erase-sound top room most r s fit fit′ In keep same l p dead h =
+    sound-same top room most r s (λ l b. fit l b × (1 ≤ l → In b → ⊥)) fit′ (λ l b i. keep l b (i .0) (i .1)) (λ q l i. same q l (i .1 (omega arith))) l p
+    (record { rooted = rooted-with fit room most top r (λ l b. 1 ≤ l → In b → ⊥) l p (λ a z. absurd (omega arith)) (all-map (λ x. In (x .page) → ⊥) (λ x. 1 ≤ x .level → In (x .page) → ⊥) (places r (suc l) (the p)) (λ x i _. i) dead) (h .rooted); tied = h .tied })

@@ -1,0 +1,20 @@
+-- Theorems about trees of nodes: what an insertion, a deletion and a move make of them. No bytes, no chip.
+pub mod Tests
+pub mod Lists
+pub mod Nodes
+pub mod Edit
+pub mod Insert
+pub mod Delete
+pub mod Move
+pub mod Tied
+pub mod InsertPages
+pub mod DeletePages
+pub mod Proper
+pub mod Frame
+pub mod Seek
+pub mod Path
+pub mod Lengths
+pub mod Splits
+pub mod Like
+pub mod Live
+pub mod Judge

@@ -1,0 +1,207 @@
+-- Lists of entries: joined lists, keys that rise, and where descent stands in such a list. Assumes nothing.
+use mathlib.Core.Path.{_≡_, refl, ap, sym, subst, _∙_}
+use mathlib.Core.List.{List, [], _∷_, _++_, append-assoc}
+use mathlib.Core.Bool.{Bool, true, false}
+use mathlib.Core.Logic.{_⊎_, inl, inr}
+use Prim.Native.Nat.{ℕ, _<_, _≤_}
+use native.Mathlib.Omega.{arith}
+use lib.ListN.{length}
+use lib.Dec.{leb}
+use borrow.Author.Tests.{leb-true, leb-false}
+use Rattle.geometry.specs.declared.Entry.{Entry}
+use Rattle.geometry.specs.Tests.{pick}
+use Rattle.model.specs.Tree.{gather, next, chosen}
+use Rattle.model.specs.Edit.{splice}
+
+abbrev pub All : {A : Type 0} → (A → Type 0) → List A → Type 0
+All P [] = Unit {0}
+All P (x ∷ xs) = P x × All P xs
+
+abbrev pub In : ℕ → ℕ → Entry → Type 0
+In lo hi e = (lo ≤ e .key) × (e .key < hi)
+
+-- the keys rise strictly and stay below hi; P holds of each entry with the key that follows it
+abbrev pub Rises : (ℕ → Entry → Type 0) → ℕ → List Entry → Type 0
+Rises P hi [] = Unit {0}
+Rises P hi (e ∷ es) = (e .key < next es hi) × P (next es hi) e × Rises P hi es
+
+abbrev pub Some : {A : Type 0} → (A → Type 0) → List A → Type 0
+Some P [] = ⊥
+Some P (x ∷ xs) = P x ⊎ Some P xs
+
+abbrev pub Mem : {A : Type 0} → A → List A → Type 0
+Mem x xs = Some (λ z. z ≡ x) xs
+
+-- ---- lists
+
+pub append-nil : {A : Type 0} (xs : List A) → xs ++ [] ≡ xs
+append-nil [] = refl
+append-nil (x ∷ xs) = ap (λ l. x ∷ l) (append-nil xs)
+
+pub all-left : {A : Type 0} (P : A → Type 0) (xs ys : List A) → All P (xs ++ ys) → All P xs
+all-left P [] ys h = tt
+all-left P (x ∷ xs) ys h = (h .0, all-left P xs ys (h .1))
+
+pub all-right : {A : Type 0} (P : A → Type 0) (xs ys : List A) → All P (xs ++ ys) → All P ys
+all-right P [] ys h = h
+all-right P (x ∷ xs) ys h = all-right P xs ys (h .1)
+
+pub all-append : {A : Type 0} (P : A → Type 0) (xs ys : List A) → All P xs → All P ys → All P (xs ++ ys)
+all-append P [] ys h i = i
+all-append P (x ∷ xs) ys h i = (h .0, all-append P xs ys (h .1) i)
+
+pub all-map : {A : Type 0} (P Q : A → Type 0) (xs : List A) → ((x : A) → P x → Q x) → All P xs → All Q xs
+all-map P Q [] s h = tt
+all-map P Q (x ∷ xs) s h = (s x (h .0), all-map P Q xs s (h .1))
+
+pub all-both : {A : Type 0} (P Q : A → Type 0) (xs : List A) → All P xs → All Q xs → All (λ x. P x × Q x) xs
+all-both P Q [] h i = tt
+all-both P Q (x ∷ xs) h i = ((h .0, i .0), all-both P Q xs (h .1) (i .1))
+
+pub all-get : {A : Type 0} (P : A → Type 0) (x : A) (xs : List A) → All P xs → Mem x xs → P x
+all-get P x [] h m = absurd m
+all-get P x (z ∷ xs) h (inl e) = subst P e (h .0)
+all-get P x (z ∷ xs) h (inr m) = all-get P x xs (h .1) m
+
+pub all-mem : {A : Type 0} (xs : List A) → All (λ x. Mem x xs) xs
+all-mem [] = tt
+all-mem (x ∷ xs) = (inl refl, all-map (λ y. Mem y xs) (λ y. Mem y (x ∷ xs)) xs (λ y m. inr m) (all-mem xs))
+
+pub some-left : {A : Type 0} (P : A → Type 0) (xs ys : List A) → Some P xs → Some P (xs ++ ys)
+some-left P [] ys h = absurd h
+some-left P (x ∷ xs) ys (inl h) = inl h
+some-left P (x ∷ xs) ys (inr h) = inr (some-left P xs ys h)
+
+pub some-right : {A : Type 0} (P : A → Type 0) (xs ys : List A) → Some P ys → Some P (xs ++ ys)
+some-right P [] ys h = h
+some-right P (x ∷ xs) ys h = inr (some-right P xs ys h)
+
+pub gather-append : {A : Type 0} (d : Entry → List A) (xs ys : List Entry) → gather d (xs ++ ys) ≡ gather d xs ++ gather d ys
+unfolding gather
+gather-append d [] ys = refl
+gather-append d (x ∷ xs) ys = rw (gather-append d xs ys, append-assoc)
+
+pub gather-eq : {A : Type 0} (d d′ : Entry → List A) (es : List Entry) → All (λ e. d′ e ≡ d e) es → gather d′ es ≡ gather d es
+unfolding gather
+gather-eq d d′ [] h = refl
+gather-eq d d′ (e ∷ es) h = rw (h .0, gather-eq d d′ es (h .1))
+
+pub gather-one : (es : List Entry) → gather (λ e. e ∷ []) es ≡ es
+unfolding gather
+gather-one [] = refl
+gather-one (e ∷ es) = ap (λ l. e ∷ l) (gather-one es)
+
+pub gather-all : {A : Type 0} (W : A → Type 0) (d : Entry → List A) (es : List Entry) → All (λ e. All W (d e)) es → All W (gather d es)
+unfolding gather
+gather-all W d [] h = tt
+gather-all W d (e ∷ es) h = all-append W (d e) (gather d es) (h .0) (gather-all W d es (h .1))
+
+pub all-gather : {A : Type 0} (W : A → Type 0) (d : Entry → List A) (es : List Entry) → All W (gather d es) → All (λ e. All W (d e)) es
+unfolding gather
+all-gather W d [] h = tt
+all-gather W d (e ∷ es) h = (all-left W (d e) (gather d es) h, all-gather W d es (all-right W (d e) (gather d es) h))
+
+-- ---- rising lists
+
+pub next-append : (xs ys : List Entry) (hi : ℕ) → next (xs ++ ys) hi ≡ next xs (next ys hi)
+next-append [] ys hi = refl
+next-append (x ∷ xs) ys hi = refl
+
+pub rises-append : (P : ℕ → Entry → Type 0) (hi : ℕ) (xs ys : List Entry) → Rises P (next ys hi) xs → Rises P hi ys → Rises P hi (xs ++ ys)
+rises-append P hi [] ys h i = i
+rises-append P hi (x ∷ xs) ys h i = rw (next-append xs ys hi) (h .0, h .1, rises-append P hi xs ys (h .2) i)
+
+pub rises-left : (P : ℕ → Entry → Type 0) (hi : ℕ) (xs ys : List Entry) → Rises P hi (xs ++ ys) → Rises P (next ys hi) xs
+rises-left P hi [] ys h = tt
+rises-left P hi (x ∷ xs) ys h = let h′ = rw (next-append xs ys hi) at h in (h′ .0, h′ .1, rises-left P hi xs ys (h .2))
+
+pub rises-right : (P : ℕ → Entry → Type 0) (hi : ℕ) (xs ys : List Entry) → Rises P hi (xs ++ ys) → Rises P hi ys
+rises-right P hi [] ys h = h
+rises-right P hi (x ∷ xs) ys h = rises-right P hi xs ys (h .2)
+
+-- the entries' own keys lie below hi, and what follows an entry is at most hi
+pub next-le : (P : ℕ → Entry → Type 0) (hi : ℕ) (es : List Entry) → Rises P hi es → next es hi ≤ hi
+next-le P hi [] h = omega arith
+next-le P hi (e ∷ es) h = let i = next-le P hi es (h .2) in omega arith
+
+pub rises-map : (P Q : ℕ → Entry → Type 0) (hi : ℕ) (es : List Entry) → ((y : ℕ) (x : Entry) → x .key < y → y ≤ hi → P y x → Q y x) → Rises P hi es → Rises Q hi es
+rises-map P Q hi [] s h = tt
+rises-map P Q hi (e ∷ es) s h = (h .0, s (next es hi) e (h .0) (next-le P hi es (h .2)) (h .1), rises-map P Q hi es s (h .2))
+
+pub rises-all : (P : ℕ → Entry → Type 0) (Z : Entry → Type 0) (hi : ℕ) (es : List Entry) → ((y : ℕ) (x : Entry) → x .key < y → y ≤ hi → P y x → Z x) → Rises P hi es → All Z es
+rises-all P Z hi [] s h = tt
+rises-all P Z hi (e ∷ es) s h = (s (next es hi) e (h .0) (next-le P hi es (h .2)) (h .1), rises-all P Z hi es s (h .2))
+
+pub rises-both : (P : ℕ → Entry → Type 0) (Z : Entry → Type 0) (hi : ℕ) (es : List Entry) → Rises P hi es → All Z es → Rises (λ y x. P y x × Z x) hi es
+rises-both P Z hi [] h i = tt
+rises-both P Z hi (e ∷ es) h i = (h .0, (h .1, i .0), rises-both P Z hi es (h .2) (i .1))
+
+-- a higher bound: what held of the last entry must hold with the higher one too
+pub rises-more : (P Q : ℕ → Entry → Type 0) (hi hi′ : ℕ) (es : List Entry) → hi ≤ hi′ → ((y y′ : ℕ) (x : Entry) → x .key < y → y ≤ y′ → P y x → Q y′ x) → Rises P hi es → Rises Q hi′ es
+rises-more P Q hi hi′ [] q s h = tt
+rises-more P Q hi hi′ (e ∷ []) q s h = (omega arith, s hi hi′ e (h .0) q (h .1), tt)
+rises-more P Q hi hi′ (e ∷ g ∷ es) q s h = (h .0, s (g .key) (g .key) e (h .0) (omega arith) (h .1), rises-more P Q hi hi′ (g ∷ es) q s (h .2))
+
+-- what starts at lo or later has every key at lo or later
+pub rises-floor : (P : ℕ → Entry → Type 0) (lo hi : ℕ) (es : List Entry) → lo ≤ next es hi → Rises P hi es → Rises (λ y x. P y x × (lo ≤ x .key)) hi es
+rises-floor P lo hi [] q h = tt
+rises-floor P lo hi (e ∷ es) q h = (h .0, (h .1, q), rises-floor P lo hi es (omega arith) (h .2))
+
+pub gather-in : (d : Entry → List Entry) (lo hi : ℕ) (es : List Entry) → lo ≤ next es hi → Rises (λ y x. All (In (x .key) y) (d x)) hi es → All (In lo hi) (gather d es)
+unfolding gather
+gather-in d lo hi [] q h = tt
+gather-in d lo hi (e ∷ es) q h =
+    let b = next-le (λ y x. All (In (x .key) y) (d x)) hi es (h .2) in
+    all-append (In lo hi) (d e) (gather d es)
+    (all-map (In (e .key) (next es hi)) (In lo hi) (d e) (λ x i. omega (arith, i, b)) (h .1))
+    (gather-in d lo hi es (omega arith) (h .2))
+
+-- where descent stands: the entries before, the chosen one x, the entries after; S f is the list with f x for x
+pub record Split (P : ℕ → Entry → Type 0) (k hi : ℕ) (es : List Entry) (x : Entry) (S : (Entry → List Entry) → List Entry) : Type 0 where
+  pub pre : List Entry
+  pub post : List Entry
+  pub whole : es ≡ pre ++ (x ∷ post)
+  pub spliced : (f : Entry → List Entry) → S f ≡ pre ++ (f x ++ post)
+  pub before : Rises P (x .key) pre
+  pub upto : (0 < length pre) → x .key ≤ k
+  pub under : k < next post hi
+  pub up : x .key < next post hi
+  pub here : P (next post hi) x
+  pub rest : Rises P hi post
+
+pub split : (P : ℕ → Entry → Type 0) (k hi : ℕ) (es : List Entry) → 0 < length es → k < hi → Rises P hi es → Split P k hi es (chosen k es) (λ f. splice f k es)
+split P k hi [] n q h = absurd (omega arith)
+split P k hi (e ∷ []) n q h = record { pre = []; post = []; whole = refl; spliced = λ f. sym (append-nil (f e)); before = tt; upto = λ z. absurd (omega arith); under = q; up = h .0; here = h .1; rest = tt }
+split P k hi (e ∷ g ∷ es) n q h = go (leb (g .key) k) refl (split P k hi (g ∷ es) (omega arith) q (h .2))
+  where
+    first : (pre : List Entry) (x : Entry) (post : List Entry) → g ∷ es ≡ pre ++ (x ∷ post) → g .key ≡ next pre (x .key)
+    first pre x post w = ap (λ l. next l 0) w ∙ next-append pre (x ∷ post) 0
+
+    low : (pre : List Entry) (x : Entry) → Rises P (x .key) pre → (0 < length pre → x .key ≤ k) → g .key ≤ k → g .key ≡ next pre (x .key) → x .key ≤ k
+    low [] x r u b w = omega arith
+    low (y ∷ pre) x r u b w = u (omega arith)
+
+    go : (t : Bool) → leb (g .key) k ≡ t → Split P k hi (g ∷ es) (chosen k (g ∷ es)) (λ f. splice f k (g ∷ es)) → Split P k hi (e ∷ g ∷ es) (pick t (chosen k (g ∷ es)) e) (λ f. pick t (e ∷ splice f k (g ∷ es)) (f e ++ (g ∷ es)))
+    go true b s =
+        let x = chosen k (g ∷ es) in
+        let w = first (s .pre) x (s .post) (s .whole) in
+        record {
+          pre = e ∷ s .pre;
+          post = s .post;
+          whole = ap (λ l. e ∷ l) (s .whole);
+          spliced = λ f. ap (λ l. e ∷ l) (s .spliced f);
+          before = (rw w at (h .0), subst (λ y. P y e) w (h .1), s .before);
+          upto = λ z. low (s .pre) x (s .before) (s .upto) (leb-true (g .key) k b) w;
+          under = s .under;
+          up = s .up;
+          here = s .here;
+          rest = s .rest;
+        }
+    go false b s = record { pre = []; post = g ∷ es; whole = refl; spliced = λ f. refl; before = tt; upto = λ z. absurd (omega arith); under = leb-false (g .key) k b; up = h .0; here = h .1; rest = h .2 }
+
+-- a splice hangs on what it makes of the chosen entry alone
+pub splice-cong : (P : ℕ → Entry → Type 0) (f g : Entry → List Entry) (k hi : ℕ) (es : List Entry) → 0 < length es → k < hi → Rises P hi es → f (chosen k es) ≡ g (chosen k es) → splice f k es ≡ splice g k es
+splice-cong P f g k hi es n q h e = go (split P k hi es n q h)
+  where
+    go : Split P k hi es (chosen k es) (λ f. splice f k es) → splice f k es ≡ splice g k es
+    go s = s .spliced f ∙ ap (λ m. s .pre ++ (m ++ s .post)) e ∙ sym (s .spliced g)

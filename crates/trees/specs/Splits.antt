@@ -1,0 +1,190 @@
+-- k, counted beforehand, is what happens: an entry gives way to two exactly where `gains` says so, and the levels that
+-- split are 1 to `splits`. Assumes nothing.
+use mathlib.Core.Path.{_≡_, refl, ap, sym, _∙_}
+use mathlib.Core.List.{List, [], _∷_}
+use mathlib.Core.Bool.{Bool, true, false}
+use mathlib.Core.Option.{none, some}
+use Prim.Native.Nat.{ℕ, zero, suc, _+_, _*_, _<_, _≤_, min}
+use native.Mathlib.Omega.{arith}
+use lib.ListN.{length}
+use lib.Dec.{eqb, leb, ltb}
+use borrow.Author.Tests.{ne-eqb, ltb-true, ltb-false, leb-true, leb-false, eqb-true, eqb-false}
+use Rattle.geometry.specs.declared.Entry.{Entry}
+use Rattle.geometry.specs.Tests.{pick, _&_, bit, and-left, and-right}
+use Rattle.model.specs.Image.{Nodes}
+use Rattle.model.specs.Tree.{gather, under, next, chosen, find}
+use Rattle.model.specs.Edit.{splice, onPath, put, two, named, gains, splits}
+use Rattle.model.specs.Update.{isNone}
+use Rattle.trees.specs.Tests.{by-eq, bit-le, and-pick}
+use Rattle.trees.specs.Lists.{Rises, gather-one, rises-map, Split, split}
+use Rattle.trees.specs.Nodes.{Ok}
+use Rattle.trees.specs.Edit.{splice-length, edit, atRoot}
+use Rattle.trees.specs.Insert.{put-splice, inserted}
+use Rattle.trees.specs.Seek.{find-list}
+use Rattle.trees.specs.Path.{AsSplice, below-is, onPath-top, onPath-below}
+
+-- K is above nothing of a list that begins above it
+above-none : (k hi : ℕ) (es : List Entry) → k < next es hi → Rises (λ y x. Unit {0}) hi es → find k es ≡ none
+unfolding find
+above-none k hi [] q h = refl
+above-none k hi (e ∷ es) q h = rw (ne-eqb (e .key) k (λ z. omega arith)) (above-none k hi es (omega (arith, h .0)) (h .2))
+
+-- in a leaf
+pub put-size : (k a hi : ℕ) (es : List Entry) → Rises (λ y x. Unit {0}) hi es → length (put k a es) ≡ length es + bit (isNone (find k es))
+unfolding find
+put-size k a hi [] h = refl
+put-size k a hi (e ∷ es) h = go (ltb (e .key) k) (eqb (e .key) k) refl refl (put-size k a hi es (h .2))
+  where
+    new : Entry
+    new = record { key = k; addr = a }
+
+    go : (t u : Bool) → ltb (e .key) k ≡ t → eqb (e .key) k ≡ u → length (put k a es) ≡ length es + bit (isNone (find k es))
+        → length (pick t (e ∷ put k a es) (record { key = k; addr = a } ∷ pick u es (e ∷ es))) ≡ suc (length es) + bit (isNone (pick u (some (e .addr)) (find k es)))
+    go true true c d i = absurd (omega (arith, ltb-true (e .key) k c, eqb-true (e .key) k d))
+    go true false c d i = omega (arith, i)
+    go false true c d i = omega arith
+    go false false c d i =
+        let w = ltb-false (e .key) k c in
+        let v = eqb-false (e .key) k d in
+        rw (above-none k hi es (omega (arith, w, v, h .0)) (h .2)) (omega arith)
+
+module _ (k a n : ℕ) (side half : ℕ → ℕ) (r : Nodes) (fit : ℕ → ℕ → Type 0) (absent : Bool) where
+  abbrev rm : ℕ → ℕ
+  rm l = 2 * half l
+
+  abbrev Ins : ℕ → Entry → List Entry
+  Ins = inserted r k a n side half
+
+  abbrev gain : ℕ → Entry → Bool
+  gain = gains r k half absent
+
+  named-size : (l i : ℕ) (e : Entry) (c : List Entry) (b : Bool) → i ≤ 2 * half l → length c ≡ i + bit b → length (named k n side half l e c) ≡ 1 + bit (eqb i (2 * half l) & b)
+  named-size l i e c b q h = rw (and-pick (eqb i (2 * half l)) b) (go (leb (length c) (2 * half l)) (eqb i (2 * half l)) b refl refl refl)
+    where
+      go : (t u v : Bool) → leb (length c) (2 * half l) ≡ t → eqb i (2 * half l) ≡ u → b ≡ v → length (pick t (record { key = min (e .key) k; addr = n } ∷ []) (two k n (side l) (half l) (min (e .key) k) c)) ≡ 1 + bit (pick u v false)
+      go true true true x y z = absurd (omega (arith, leb-true (length c) (2 * half l) x, eqb-true i (2 * half l) y, h, ap bit z))
+      go true true false x y z = refl
+      go true false v x y z = refl
+      go false true true x y z = refl
+      go false true false x y z = absurd (omega (arith, leb-false (length c) (2 * half l) x, eqb-true i (2 * half l) y, h, ap bit z))
+      go false false v x y z = absurd (omega (arith, leb-false (length c) (2 * half l) x, eqb-false i (2 * half l) y, h, bit-le b))
+
+  list-size : (l hi : ℕ) (es : List Entry) → 0 < length es → k < hi → Rises (Ok fit rm r l) hi es → isNone (find k (gather (under r l) es)) ≡ absent
+      → ((y : ℕ) → k < y → chosen k es .key < y → Ok fit rm r l y (chosen k es) → isNone (find k (under r l (chosen k es))) ≡ absent → length (Ins l (chosen k es)) ≡ 1 + bit (gain l (chosen k es)))
+      → length (splice (Ins l) k es) ≡ length es + bit (gain l (chosen k es))
+  list-size l hi es c q h f step =
+      let s = split (Ok fit rm r l) k hi es c q h in
+      let i = step (next (s .post) hi) (s .under) (s .up) (s .here) (ap isNone (sym (find-list fit rm r k l hi es c q h)) ∙ f) in
+      omega (arith, splice-length (Ok fit rm r l) (Ins l) k hi es c q h, i)
+
+  -- an entry gives way to two exactly if it gains
+  size : (l hi : ℕ) (e : Entry) → k < hi → e .key < hi → Ok fit rm r l hi e → isNone (find k (under r l e)) ≡ absent → length (Ins l e) ≡ 1 + bit (gain l e)
+  unfolding edit gains Ok under
+  size zero hi e q b h f = put-size k a hi (e ∷ []) (b, tt, tt) ∙ ap (λ t. 1 + bit t) f
+  size (suc l) hi e q b h f = let es = r (e .addr) (suc l) in
+      named-size (suc l) (length es) e (splice (Ins l) k es) (gain l (chosen k es)) (h .2) (list-size l hi es (h .1) q (h .4) f (λ y c d i j. size l y (chosen k es) c d i j))
+
+  -- a node's list takes one more exactly if the chosen entry gains
+  pub size-list : (l hi : ℕ) (es : List Entry) → 0 < length es → k < hi → Rises (Ok fit rm r l) hi es → isNone (find k (gather (under r l) es)) ≡ absent
+      → length (splice (Ins l) k es) ≡ length es + bit (gain l (chosen k es))
+  size-list l hi es c q h f = list-size l hi es c q h f (λ y c d i j. size l y (chosen k es) c d i j)
+
+  -- the root's too, also an empty leaf
+  pub root-size : (l hi : ℕ) (es : List Entry) → (1 ≤ l → 0 < length es) → k < hi → Rises (Ok fit rm r l) hi es → isNone (find k (gather (under r l) es)) ≡ absent
+      → length (atRoot (put k a) (Ins l) k l es) ≡ length es + bit (gain l (chosen k es))
+  unfolding atRoot gains under
+  root-size zero hi es c q h f =
+      put-size k a hi es (rises-map (Ok fit rm r 0) (λ y x. Unit {0}) hi es (λ y x _ _ _. tt) h) ∙ ap (λ t. length es + bit t) (ap (λ m. isNone (find k m)) (sym (gather-one es)) ∙ f)
+  root-size (suc l) hi es c q h f = size-list (suc l) hi es (c (omega arith)) q h f
+
+  -- a node's list is too long exactly if the entry that names the node gains
+  pub over : (l hi : ℕ) (e : Entry) → k < hi → Ok fit rm r (suc l) hi e → isNone (find k (under r (suc l) e)) ≡ absent → 2 * half (suc l) < length (splice (Ins l) k (r (e .addr) (suc l))) → gain (suc l) e ≡ true
+  unfolding gains Ok under
+  over l hi e q h f b = rw (and-pick (eqb (length es) (2 * half (suc l))) (gain l (chosen k es))) (go (eqb (length es) (2 * half (suc l))) (gain l (chosen k es)) refl refl (size-list l hi es (h .1) q (h .4) f))
+    where
+      es : List Entry
+      es = r (e .addr) (suc l)
+
+      go : (t u : Bool) → eqb (length (r (e .addr) (suc l))) (2 * half (suc l)) ≡ t → gain l (chosen k (r (e .addr) (suc l))) ≡ u → length (splice (Ins l) k (r (e .addr) (suc l))) ≡ length (r (e .addr) (suc l)) + bit u → pick t u false ≡ true
+      go true true x y z = refl
+      go true false x y z = absurd (omega (arith, h .2, z, b))
+      go false true x y z = absurd (omega (arith, h .2, z, b, eqb-false (length (r (e .addr) (suc l))) (2 * half (suc l)) x))
+      go false false x y z = absurd (omega (arith, h .2, z, b))
+
+  pub long : (l hi : ℕ) (e : Entry) → k < hi → Ok fit rm r (suc l) hi e → isNone (find k (under r (suc l) e)) ≡ absent → gain (suc l) e ≡ true → 2 * half (suc l) < length (splice (Ins l) k (r (e .addr) (suc l)))
+  unfolding gains Ok under
+  long l hi e q h f b =
+      let es = r (e .addr) (suc l) in
+      let x = eqb-true (length es) (2 * half (suc l)) (and-left _ _ b) in
+      let y = ap bit (and-right _ _ b) in
+      omega (arith, size-list l hi es (h .1) q (h .4) f, x, y)
+
+  -- a level splits only if all below it do
+  pub all-below : (l : ℕ) (e : Entry) → gain l e ≡ true → splits r k half absent l e ≡ l
+  unfolding gains splits
+  all-below zero e h = refl
+  all-below (suc l) e h = let i = all-below l (chosen k (r (e .addr) (suc l))) (and-right _ _ h) in omega (arith, i, ap bit h)
+
+  pub splits-le : (l : ℕ) (e : Entry) → splits r k half absent l e ≤ l
+  unfolding splits
+  splits-le zero e = omega arith
+  splits-le (suc l) e = omega (arith, splits-le l (chosen k (r (e .addr) (suc l))), bit-le (gain (suc l) e))
+
+  abbrev lists : ℕ → Entry → ℕ → List Entry
+  lists = onPath r k (put k a) (named k n side half)
+
+  as-splice : AsSplice k (put k a) (λ e. put k a (e ∷ []))
+  as-splice hi es c q h = sym (put-splice k a hi es c q h)
+
+  -- of the path's nodes below the root those at levels 1 to `splits` are too long, and no others
+  pub splits-are : (l hi : ℕ) (e : Entry) → k < hi → (1 ≤ l → 0 < length (r (e .addr) (suc l))) → Rises (Ok fit rm r l) hi (r (e .addr) (suc l)) → isNone (find k (under r (suc l) e)) ≡ absent
+      → (j : ℕ) → 1 ≤ j → j ≤ l
+      → (2 * half j < length (lists l e j) → j ≤ splits r k half absent l (chosen k (r (e .addr) (suc l)))) × (j ≤ splits r k half absent l (chosen k (r (e .addr) (suc l))) → 2 * half j < length (lists l e j))
+  unfolding splits under Ok
+  splits-are zero hi e q c h f j d b = absurd (omega arith)
+  splits-are (suc l) hi e q c h f j d b = by-eq j (suc l) here (there (splits-are l (next (s .post) hi) x (s .under) (λ _. s .here .1) (s .here .4) f′ j d))
+    where
+      es : List Entry
+      es = r (e .addr) (suc (suc l))
+
+      s : Split (Ok fit rm r (suc l)) k hi es (chosen k es) (λ f. splice f k es)
+      s = split (Ok fit rm r (suc l)) k hi es (c (omega arith)) q h
+
+      x : Entry
+      x = chosen k es
+
+      f′ : isNone (find k (under r (suc l) x)) ≡ absent
+      f′ = ap isNone (sym (find-list fit rm r k (suc l) hi es (c (omega arith)) q h)) ∙ f
+
+      Goal : Type 0
+      Goal = (2 * half j < length (lists (suc l) e j) → j ≤ bit (gain (suc l) x) + splits r k half absent l (chosen k (r (x .addr) (suc l)))) × (j ≤ bit (gain (suc l) x) + splits r k half absent l (chosen k (r (x .addr) (suc l))) → 2 * half j < length (lists (suc l) e j))
+
+      less : splits r k half absent l (chosen k (r (x .addr) (suc l))) ≤ l
+      less = splits-le l (chosen k (r (x .addr) (suc l)))
+
+      gain-all : gain (suc l) x ≡ true → bit (gain (suc l) x) + splits r k half absent l (chosen k (r (x .addr) (suc l))) ≡ suc l
+      gain-all w = all-below (suc l) x w
+
+      here : j ≡ suc l → Goal
+      here z =
+          let w : lists (suc l) e (suc l) ≡ splice (Ins l) k (r (x .addr) (suc l)) = onPath-below fit rm r k (put k a) (λ e. put k a (e ∷ [])) (named k n side half) as-splice l (suc l) e (omega arith) ∙ onPath-top fit rm r k (put k a) (λ e. put k a (e ∷ [])) (named k n side half) as-splice l x ∙ below-is fit rm r k (put k a) (λ e. put k a (e ∷ [])) (named k n side half) as-splice l (next (s .post) hi) x (s .under) (s .here) in
+          rw z (
+            (λ i. let u = gain-all (over l (next (s .post) hi) x (s .under) (s .here) f′ (rw w at i)) in omega (arith, u)),
+            (λ i. rw w (long l (next (s .post) hi) x (s .under) (s .here) f′ (gained (gain (suc l) x) refl i))),
+          )
+        where
+          gained : (t : Bool) → gain (suc l) x ≡ t → suc l ≤ bit t + splits r k half absent l (chosen k (r (x .addr) (suc l))) → gain (suc l) x ≡ true
+          gained true e i = e
+          gained false e i = absurd (omega (arith, i, less))
+
+      there : (j ≤ l → (2 * half j < length (lists l x j) → j ≤ splits r k half absent l (chosen k (r (x .addr) (suc l)))) × (j ≤ splits r k half absent l (chosen k (r (x .addr) (suc l))) → 2 * half j < length (lists l x j))) → (j ≡ suc l → ⊥) → Goal
+      there step z =
+          let ih = step (omega arith) in
+          rw (onPath-below fit rm r k (put k a) (λ e. put k a (e ∷ [])) (named k n side half) as-splice l j e (omega arith)) (
+            (λ i. omega (arith, ih .0 i)),
+            (λ i. ih .1 (low (gain (suc l) x) refl i)),
+          )
+        where
+          low : (t : Bool) → gain (suc l) x ≡ t → j ≤ bit t + splits r k half absent l (chosen k (r (x .addr) (suc l))) → j ≤ splits r k half absent l (chosen k (r (x .addr) (suc l)))
+          low true e i = omega (arith, gain-all e, ap bit e, b, z)
+          low false e i = omega (arith, i)

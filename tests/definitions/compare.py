@@ -1,0 +1,70 @@
+"""The definitions of crates/model, run as they stand, against the reference model: answers, counts, whole images, verdicts.
+
+usage: compare.py [seconds] [seed]
+"""
+import os
+import random
+import sys
+import time
+
+HERE = os.path.dirname(os.path.abspath(__file__))
+sys.path[:0] = [HERE, os.path.dirname(HERE)]
+import reference
+from antt import Definitions, force
+
+
+def outcome(record):
+    return tuple(force(record.fields[name]) for name in ("answer", "address", "programmed", "erased", "image"))
+
+
+def same(what, ours, theirs, img):
+    if ours != theirs:
+        with open("differs.img", "wb") as f:
+            f.write(img)
+        sys.exit("%s: the definitions say %s, the reference %s; the image is in differs.img" % (what, ours[:4], theirs[:4]))
+
+
+def compare(seconds, seed):
+    fuzz = reference.load()
+    if fuzz is None:
+        print("definitions: skipped, the reference model is not here")
+        return
+    d, m, rng = Definitions(reference.ROOT), fuzz.Mu(), random.Random(seed)
+    small, calls, met = force(d["small"]), 0, {}
+    rest = lambda r: (r.answer, r.address, r.programmed, r.erased, r.img)
+    end = time.time() + seconds
+    while time.time() < end:
+        img = fuzz.hand_image(rng, m, rng.choice([3, 3, 3, 4, 5]))
+        u = rng.random()
+        if u < .4:
+            img = reference.damaged(rng, m, img) if u < .3 else reference.loose(rng, fuzz, 3)
+        verdict = tuple(force(x) for x in d["verdict"](small, m.B(img), img))
+        damage = m.first_damage(img)
+        same("verdict", verdict, ("Broken",) + damage if damage else ("Sound",), img)
+        key = "sound" if damage is None else "R%d" % damage[0]
+        met[key] = met.get(key, 0) + 1
+        model = dict(m.map_of(img)) if damage is None else {}
+        for _ in range(3 if damage is None else 1):
+            call = fuzz.some_call(rng, m, img, model) if damage is None else ("insert", 5, 5)
+            needed = len(m.plan(img, call)[1]) if damage is None else 0
+            allowance = reference.allowances(rng, needed)
+            if call[0] == "insert":
+                ours, theirs = d["insert"](small, img, call[1], call[2], allowance), m.insert(img, call[1], call[2], allowance)
+            else:
+                ours, theirs = d["delete"](small, img, call[1], allowance), m.delete(img, call[1], allowance)
+            same("%s allowance %d" % (call, allowance), outcome(ours), rest(theirs), img)
+            same("lookup", outcome(d["lookup"](small, img, call[1])), rest(m.lookup(img, call[1])), img)
+            calls += 2
+            met["answer %d" % theirs.answer] = met.get("answer %d" % theirs.answer, 0) + 1
+            if theirs.answer in (0, 7):
+                img = theirs.img
+                model = dict(m.map_of(img))
+    for cut in (0, 33792, 50687, 50688):
+        img = b"\xff" * cut
+        same("format of %d" % cut, outcome(d["format"](small, img)), rest(m.format(img)), img)
+        same("lookup in %d" % cut, outcome(d["lookup"](small, img, 1)), rest(m.lookup(img, 1)), img)
+    print("definitions: %d calls agree with the reference model; met: %s" % (calls, " ".join("%s %d" % x for x in sorted(met.items()))))
+
+
+if __name__ == "__main__":
+    compare(float(sys.argv[1]) if len(sys.argv) > 1 else 60, int(sys.argv[2]) if len(sys.argv) > 2 else 1)

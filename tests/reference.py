@@ -1,0 +1,65 @@
+"""Where the reference model of the documents is, and images made with it.
+
+The model is no part of this repository: it stands in the folder `shared/model` beside it, or where the variable
+MUTREE_MODEL says. `load` gives None where it is missing.
+"""
+import importlib
+import os
+import random
+import sys
+
+ROOT = os.path.dirname(os.path.dirname(os.path.abspath(__file__)))
+
+
+def load():
+    folder = os.environ.get("MUTREE_MODEL", os.path.join(os.path.dirname(ROOT), "shared", "model"))
+    if not os.path.exists(os.path.join(folder, "mutree_model.py")):
+        return None
+    sys.path.insert(0, folder)
+    return importlib.import_module("fuzz_claims")
+
+
+def damaged(rng, m, img):
+    """The image with one to three things broken: keys, counts, numbers, erased or exchanged pages, single bits."""
+    g, b, live = m.G, bytearray(img), m.live_nodes(img)
+    size = g.page_size
+    for _ in range(rng.choice([1, 1, 2, 3])):
+        p, l = rng.choice(live)
+        at, u = p * size, rng.random()
+        if u < .3:
+            n = m.count(img, p, l)
+            if n:
+                j = at + 8 * (m.first_slot(l) + rng.randrange(n)) + rng.choice([0, 4])
+                x = int.from_bytes(b[j:j + 4], "little")
+                y = rng.choice([x + 1, x - 1, rng.randrange(m.T(img)), rng.randrange(2 ** 32)]) % 2 ** 32
+                b[j:j + 4] = y.to_bytes(4, "little")
+        elif u < .5:
+            b[at + g.main + 4 + l] = rng.choice([0, 1, 2, 16, 17, 32, 33, 63, 64, 255])
+        elif u < .6:
+            b[at + g.main + 4] = rng.randrange(8)
+        elif u < .7:
+            b[at + g.main + rng.randrange(4)] = rng.randrange(256)
+        elif u < .8:
+            q = rng.randrange(m.T(img))
+            b[q * size:(q + 1) * size] = m.ERASED
+        elif u < .9:
+            q, r = rng.randrange(m.T(img)), rng.randrange(m.T(img))
+            b[q * size:(q + 1) * size], b[r * size:(r + 1) * size] = b[r * size:(r + 1) * size], b[q * size:(q + 1) * size]
+        else:
+            b[rng.randrange(len(b))] ^= 1 << rng.randrange(8)
+    return bytes(b)
+
+
+def loose(rng, fuzz, blocks=None):
+    """An image that breaks R6 or R7, or nothing."""
+    class WithoutR7(fuzz.Mu):
+        def R7(self, img):
+            return None
+    if rng.random() < .5:
+        return fuzz.hand_image(rng, fuzz.Mu(), blocks, wild=True)
+    return fuzz.hand_image(rng, WithoutR7(), blocks)
+
+
+def allowances(rng, stores):
+    """Some allowances around what an update needs."""
+    return rng.choice([0, 1, stores, max(stores - 1, 0), stores + 1, rng.randrange(stores + 1), 2 ** 32 - 1, 2 ** 32 - 1])
