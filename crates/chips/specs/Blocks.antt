@@ -1,4 +1,5 @@
--- The collector's counting: pages by blocks, the victim, why there is one. Assumes nothing.
+-- The collector's counting: pages by blocks, the victim, why there is one. g is a block's pages.
+-- Assumes nothing.
 use mathlib.Core.Path.{_≡_, refl, ap}
 use mathlib.Core.Bool.{Bool, true, false}
 use mathlib.Core.Logic.{_⊎_, inl, inr}
@@ -30,7 +31,8 @@ full-dead n m full d z (suc b) q = go (full b) (leb 1 (d b)) (eqb b m) refl refl
     at-m : b ≡ m → (sum b d ≤ d m) × (b ≤ m → sum b d ≡ 0) → Out
     at-m e h = inr (omega (arith, h .1 (omega arith), ap d e), λ w. absurd (omega arith))
 
-    go : (t u v : Bool) → full b ≡ t → leb 1 (d b) ≡ u → eqb b m ≡ v → ((v : ℕ) × (v < b) × (full v ≡ true) × (1 ≤ d v)) ⊎ ((sum b d ≤ d m) × (b ≤ m → sum b d ≡ 0)) → Out
+    go : (t u v : Bool) → full b ≡ t → leb 1 (d b) ≡ u → eqb b m ≡ v
+        → ((v : ℕ) × (v < b) × (full v ≡ true) × (1 ≤ d v)) ⊎ ((sum b d ≤ d m) × (b ≤ m → sum b d ≡ 0)) → Out
     go true true v x y e (inl h) = inl (b, omega arith, x, leb-true 1 (d b) y)
     go true true v x y e (inr h) = inl (b, omega arith, x, leb-true 1 (d b) y)
     go true false v x y e (inl h) = inl (h .0, omega (arith, h .1), h .2, h .3)
@@ -61,14 +63,34 @@ unfolding better
 better-is full lv b none h = go (full b) refl
   where
     go : (t : Bool) → full b ≡ t → Found full lv (suc b) (pick t (some b) none)
-    go true e = record { below = omega arith; is-full = e; fewest = λ c q f. by-last c b q (λ z. absurd (true-false (full c) f (h c z))) (λ z. rw z (omega arith)) }
+    go true e = record {
+      below = omega arith;
+      is-full = e;
+      fewest = λ c q f. by-last c b q (λ z. absurd (true-false (full c) f (h c z)))
+          (λ z. rw z (omega arith));
+    }
     go false e = λ c q. by-last c b q (λ z. h c z) (λ z. rw z e)
 better-is full lv b (some v) h = go (full b) (ltb (lv b) (lv v)) refl refl
   where
     go : (t u : Bool) → full b ≡ t → ltb (lv b) (lv v) ≡ u → Found full lv (suc b) (pick t (pick u (some b) (some v)) (some v))
-    go true true e i = let w = ltb-true (lv b) (lv v) i in record { below = omega arith; is-full = e; fewest = λ c q f. by-last c b q (λ z. omega (arith, h .fewest c z f)) (λ z. rw z (omega arith)) }
-    go true false e i = let w = ltb-false (lv b) (lv v) i in record { below = omega (arith, h .below); is-full = h .is-full; fewest = λ c q f. by-last c b q (λ z. h .fewest c z f) (λ z. rw z w) }
-    go false u e i = record { below = omega (arith, h .below); is-full = h .is-full; fewest = λ c q f. by-last c b q (λ z. h .fewest c z f) (λ z. absurd (true-false (full b) (rw (← z) f) e)) }
+    go true true e i = let w = ltb-true (lv b) (lv v) i in record {
+      below = omega arith;
+      is-full = e;
+      fewest = λ c q f. by-last c b q
+          (λ z. omega (arith, h .fewest c z f)) (λ z. rw z (omega arith));
+    }
+    go true false e i = let w = ltb-false (lv b) (lv v) i in record {
+      below = omega (arith, h .below);
+      is-full = h .is-full;
+      fewest =
+          λ c q f. by-last c b q (λ z. h .fewest c z f) (λ z. rw z w);
+    }
+    go false u e i = record {
+      below = omega (arith, h .below);
+      is-full = h .is-full;
+      fewest = λ c q f. by-last c b q (λ z. h .fewest c z f)
+          (λ z. absurd (true-false (full b) (rw (← z) f) e));
+    }
 
 pub victim-is : (full : ℕ → Bool) (lv : ℕ → ℕ) (b : ℕ) → Found full lv b (victim full lv b)
 unfolding victim
@@ -81,13 +103,16 @@ module _ (g k n : ℕ) (er lv dd : ℕ → Bool) (three : (q : ℕ) → bit (er 
   by-block : (b : ℕ) → inBlock g er b + inBlock g lv b + inBlock g dd b ≡ g
   by-block b = count-three g (λ j. er (g * b + j)) (λ j. lv (g * b + j)) (λ j. dd (g * b + j)) (λ j. three (g * b + j))
 
-  pub dead-block : 1 ≤ g → count (g * n) lv + (2 * g + k) ≤ suc (g * n) → count (g * n) er < g + k → (v : ℕ) × (v < n) × (full v ≡ true) × (inBlock g lv v < g)
+  pub dead-block : 1 ≤ g → count (g * n) lv + (2 * g + k) ≤ suc (g * n) → count (g * n) er < g + k
+      → (v : ℕ) × (v < n) × (full v ≡ true) × (inBlock g lv v < g)
   dead-block h room few = go (full-dead n m full (inBlock g dd) clean n (omega arith)) (ltb m n) refl
     where
       enough : g ≤ sum n (inBlock g dd)
       enough = omega (arith, count-three (g * n) er lv dd three, count-blocks g n dd, room, few)
 
-      go : ((v : ℕ) × (v < n) × (full v ≡ true) × (1 ≤ inBlock g dd v)) ⊎ ((sum n (inBlock g dd) ≤ inBlock g dd m) × (n ≤ m → sum n (inBlock g dd) ≡ 0)) → (t : Bool) → ltb m n ≡ t → (v : ℕ) × (v < n) × (full v ≡ true) × (inBlock g lv v < g)
+      go : ((v : ℕ) × (v < n) × (full v ≡ true) × (1 ≤ inBlock g dd v)) ⊎
+          ((sum n (inBlock g dd) ≤ inBlock g dd m) × (n ≤ m → sum n (inBlock g dd) ≡ 0)) → (t : Bool) → ltb m n ≡ t
+          → (v : ℕ) × (v < n) × (full v ≡ true) × (inBlock g lv v < g)
       go (inl w) t e = (w .0, w .1, w .2, omega (arith, by-block (w .0), w .3))
       go (inr w) true e = absurd (omega (arith, enough, w .0, by-block m, some-er (ltb-true m n e)))
       go (inr w) false e = absurd (omega (arith, enough, w .1 (ltb-false m n e)))

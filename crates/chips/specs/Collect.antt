@@ -1,6 +1,6 @@
 -- The collector: rounds until enough pages are erased. Assumes nothing.
 use mathlib.Core.Path.{_≡_, refl, ap, sym, subst, _∙_}
-use mathlib.Core.Bool.{Bool, true, false, not}
+use mathlib.Core.Bool.{Bool, true, false}
 use mathlib.Core.Logic.{_⊎_, inl, inr}
 use mathlib.Core.Option.{Option, none, some}
 use Prim.Native.Nat.{ℕ, zero, suc, _+_, _-_, _*_, _<_, _≤_}
@@ -13,12 +13,12 @@ use Rattle.geometry.specs.Geometry.{half, rootMost}
 use Rattle.geometry.specs.Shape.{Shape}
 use Rattle.model.specs.Count.{count, least}
 use Rattle.model.specs.Image.{Chip}
-use Rattle.model.specs.Tree.{under, placesOf, live}
+use Rattle.model.specs.Tree.{mapOf, placesOf, live}
 use Rattle.model.specs.Next.{mixed, full, inBlock}
 use Rattle.model.specs.Collect.{livesIn, theVictim}
-use Rattle.trees.specs.Tests.{by-le, by-test, true-false, not-true}
+use Rattle.trees.specs.Tests.{by-le, by-test, true-false, not-true, not-not}
 use Rattle.trees.specs.Lists.{all-map}
-use Rattle.trees.specs.Nodes.{the, fitOf}
+use Rattle.trees.specs.Nodes.{fitOf}
 use Rattle.trees.specs.Proper.{root-fit}
 use Rattle.trees.specs.Live.{dead-live}
 use Rattle.chips.specs.Count.{count-drop, count-ext, count-zero}
@@ -28,21 +28,25 @@ use Rattle.chips.specs.Whole.{some-page, Whole, Same, same-self, same-th
 use Rattle.chips.specs.Sweep.{sweep, emptied}
 use Rattle.chips.specs.Erase.{eraseBlock, erased-good, erased-pairs, erased-places, erased-alike, erased-frees}
 
+-- one round: the victim's live pages moved, then the victim erased
 unfoldable pub clear : Geometry → ℕ → Option ℕ → Chip → Chip
 clear g n none c = c
 clear g n (some v) c = eraseBlock g v (sweep g n v (g .pages) c)
 
+-- at most m rounds, while F < pages + k
 unfoldable pub collect : Geometry → ℕ → ℕ → ℕ → Chip → Chip
 collect g n k zero c = c
 collect g n k (suc m) c = pick (ltb (count (g .pages * n) (c .er)) (g .pages + k)) (collect g n k m (clear g n (theVictim (g .pages) n c) c)) c
 
+-- R7: a block's pages are erased, or some full block has no more live pages than the chip has erased ones
 abbrev pub R7 : Geometry → ℕ → Chip → Type 0
-R7 g n c = (g .pages ≤ count (g .pages * n) (c .er)) ⊎ ((b : ℕ) × (b < n) × (full (g .pages) (c .er) b ≡ true) × (livesIn (g .pages) b c ≤ count (g .pages * n) (c .er)))
+R7 g n c = (g .pages ≤ count (g .pages * n) (c .er)) ⊎ ((b : ℕ) × (b < n) × (full (g .pages) (c .er) b ≡ true) ×
+    (livesIn (g .pages) b c ≤ count (g .pages * n) (c .er)))
 
 -- what a round, and the collector, leave
 pub record Cleared (g : Geometry) (n : ℕ) (c c′ : Chip) : Type 0 where
   pub good : Whole g n c′
-  pub pairs-are : under (c′ .nodes) (suc (c′ .level)) (the (c′ .root)) ≡ under (c .nodes) (suc (c .level)) (the (c .root))
+  pub pairs-are : mapOf c′ ≡ mapOf c
   pub lives : count (g .pages * n) (live (placesOf c′)) ≤ count (g .pages * n) (live (placesOf c))
   pub alike : Same g c c′
 
@@ -50,18 +54,20 @@ module _ (g : Geometry) (shape : Shape g) (n k : ℕ) where
   module _ (c : Chip) (h : Whole g n c) where
     -- a live page is not erased
     live-kept : (q : ℕ) → c .er q ≡ true → live (placesOf c) q ≡ false
-    live-kept q e = dead-live q (placesOf c) (all-map (λ x. (1 ≤ x .level) × fitOf (g .pages * n) (c .er) (x .level) (x .page)) (λ x. x .page ≡ q → ⊥) (placesOf c)
-        (λ x i z. go (x .level) (x .page) i z) (root-fit (fitOf (g .pages * n) (c .er)) (λ l. 2 * half g l) (rootMost g) (c .nodes) (c .level) (c .root) 4294967296 (h .sound .rooted)))
+    live-kept q e = dead-live q (placesOf c) (all-map (λ x. (1 ≤ x .level) × fitOf (g .pages * n) (c .er) (x .level) (x .page)) (λ x. x .page ≡ q → ⊥)
+        (placesOf c)
+        (λ x i z. go (x .level) (x .page) i z) (root-fit (fitOf (g .pages * n) (c .er)) (λ l. 2 * half g l) (rootMost g) (c .nodes) (c .level)
+        (c .root) 4294967296 (h .sound .rooted)))
       where
         go : (j p : ℕ) → (1 ≤ j) × fitOf (g .pages * n) (c .er) j p → p ≡ q → ⊥
         go zero p i z = omega (arith, i .0)
         go (suc j) p i z = true-false (c .er q) e (subst (λ m. c .er m ≡ false) z (i .1 .1))
 
-    deadP : ℕ → Bool
-    deadP q = pick (c .er q) false (pick (live (placesOf c) q) false true)
+    deadPage : ℕ → Bool
+    deadPage q = pick (c .er q) false (pick (live (placesOf c) q) false true)
 
-    three : (q : ℕ) → bit (c .er q) + bit (live (placesOf c) q) + bit (deadP q) ≡ 1
-    unfolding deadP
+    three : (q : ℕ) → bit (c .er q) + bit (live (placesOf c) q) + bit (deadPage q) ≡ 1
+    unfolding deadPage
     three q = go (c .er q) (live (placesOf c) q) refl refl
       where
         go : (t u : Bool) → c .er q ≡ t → live (placesOf c) q ≡ u → bit t + bit u + bit (pick t false (pick u false true)) ≡ 1
@@ -73,16 +79,17 @@ module _ (g : Geometry) (shape : Shape g) (n k : ℕ) where
     -- a full block below n has no erased page
     pub full-none : (b i : ℕ) → b < n → full (g .pages) (c .er) b ≡ true → i < g .pages → c .er (g .pages * b + i) ≡ false
     full-none b i q f w = by-test (c .er (g .pages * b + i))
-        (λ a. let p = some-page g shape in absurd (true-false (c .er (g .pages * b + (g .pages - 1))) (h .r2 .mono b i (g .pages - 1) q (omega (arith, p)) (omega (arith, p)) a) (not-true (c .er (g .pages * b + (g .pages - 1))) f)))
+        (λ a. let p = some-page g shape in absurd (true-false (c .er (g .pages * b + (g .pages - 1)))
+        (h .r2 .mono b i (g .pages - 1) q (omega (arith, p)) (omega (arith, p)) a) (not-true (c .er (g .pages * b + (g .pages - 1))) f)))
         (λ a. a)
 
     -- the mixed block, or n
-    mx : ℕ
-    mx = least n (mixed (g .pages) (c .er))
+    mixedBlock : ℕ
+    mixedBlock = least n (mixed (g .pages) (c .er))
 
-    mx-is : Least n (mixed (g .pages) (c .er)) mx
-    unfolding mx
-    mx-is = least-is n (mixed (g .pages) (c .er))
+    mixed-is : Least n (mixed (g .pages) (c .er)) mixedBlock
+    unfolding mixedBlock
+    mixed-is = least-is n (mixed (g .pages) (c .er))
 
     mixed-last : (b : ℕ) → mixed (g .pages) (c .er) b ≡ true → c .er (g .pages * b + (g .pages - 1)) ≡ true
     mixed-last b z = go (c .er (g .pages * b + 0)) z
@@ -91,31 +98,39 @@ module _ (g : Geometry) (shape : Shape g) (n k : ℕ) where
         go true i = absurd (true-false false i refl)
         go false i = i
 
-    some-er : mx < n → 1 ≤ inBlock (g .pages) (c .er) mx
-    some-er q = let p = some-page g shape in omega (arith, count-drop (g .pages) (g .pages - 1) (λ i. c .er (g .pages * mx + i)) (λ _. false) (omega (arith, p)) (mixed-last mx (mx-is .hit q)) refl (λ i _. omega arith))
+    some-er : mixedBlock < n → 1 ≤ inBlock (g .pages) (c .er) mixedBlock
+    some-er q = let p = some-page g shape in omega (
+      arith,
+      count-drop (g .pages) (g .pages - 1) (λ i. c .er (g .pages * mixedBlock + i)) (λ _. false)
+          (omega (arith, p)) (mixed-last mixedBlock (mixed-is .hit q)) refl (λ i _. omega arith),
+    )
 
     -- a block that is neither full nor mixed has no dead page
-    clean : (b : ℕ) → b < n → full (g .pages) (c .er) b ≡ false → (b ≡ mx → ⊥) → inBlock (g .pages) deadP b ≡ 0
-    unfolding deadP
+    clean : (b : ℕ) → b < n → full (g .pages) (c .er) b ≡ false → (b ≡ mixedBlock → ⊥) → inBlock (g .pages) deadPage b ≡ 0
+    unfolding deadPage
     clean b q f d = by-test (c .er (g .pages * b + 0))
-        (λ i. count-ext (g .pages) (λ j. deadP (g .pages * b + j)) (λ _. false) (λ j w. rw (h .r2 .mono b 0 j q (omega arith) w i) refl) ∙ count-zero (g .pages))
-        (λ i. let z : mixed (g .pages) (c .er) b ≡ true = rw (i, last (c .er (g .pages * b + (g .pages - 1))) f) refl in
-        let w : mx < n = by-le mx b (λ y. omega (arith, q, y)) (λ y. absurd (true-false (mixed (g .pages) (c .er) b) z (mx-is .before b y))) in
-        absurd (d (h .r2 .one b mx q w z (mx-is .hit w))))
-      where
-        last : (t : Bool) → not t ≡ false → t ≡ true
-        last true i = refl
-        last false i = absurd (true-false true refl i)
+        (λ i. count-ext (g .pages) (λ j. deadPage (g .pages * b + j)) (λ _. false) (λ j w. rw (h .r2 .mono b 0 j q (omega arith) w i) refl)
+        ∙ count-zero
+        (g .pages))
+        (λ i. let z : mixed (g .pages) (c .er) b ≡ true = rw (i, not-not (c .er (g .pages * b + (g .pages - 1))) f) refl in
+        let w : mixedBlock < n = by-le mixedBlock b (λ y. omega (arith, q, y))
+        (λ y. absurd (true-false (mixed (g .pages) (c .er) b) z (mixed-is .before b y))) in
+        absurd (d (h .r2 .one b mixedBlock q w z (mixed-is .hit w))))
 
     -- the victim of a round
-    pub round-victim : R7 g n c → count (g .pages * n) (live (placesOf c)) + (2 * g .pages + k) ≤ suc (g .pages * n) → count (g .pages * n) (c .er) < g .pages + k
-        → (v : ℕ) × (theVictim (g .pages) n c ≡ some v) × (v < n) × (full (g .pages) (c .er) v ≡ true) × (livesIn (g .pages) v c < g .pages) × (livesIn (g .pages) v c ≤ count (g .pages * n) (c .er))
+    pub round-victim : R7 g n c → count (g .pages * n) (live (placesOf c)) + (2 * g .pages + k) ≤ suc (g .pages * n)
+        → count (g .pages * n) (c .er) < g .pages + k
+        → (v : ℕ) × (theVictim (g .pages) n c ≡ some v) × (v < n) × (full (g .pages) (c .er) v ≡ true) × (livesIn (g .pages) v c < g .pages) ×
+        (livesIn (g .pages) v c ≤ count (g .pages * n) (c .er))
     round-victim r7 room few = go (theVictim (g .pages) n c) refl (victim-is (full (g .pages) (c .er)) (λ b. livesIn (g .pages) b c) n)
       where
         d : (v : ℕ) × (v < n) × (full (g .pages) (c .er) v ≡ true) × (livesIn (g .pages) v c < g .pages)
-        d = dead-block (g .pages) k n (c .er) (live (placesOf c)) deadP three (full (g .pages) (c .er)) mx some-er clean (some-page g shape) room few
+        d = dead-block (g .pages) k n (c .er) (live (placesOf c)) deadPage three (full (g .pages) (c .er)) mixedBlock some-er clean
+            (some-page g shape) room few
 
-        go : (o : Option ℕ) → theVictim (g .pages) n c ≡ o → Found (full (g .pages) (c .er)) (λ b. livesIn (g .pages) b c) n o → (v : ℕ) × (theVictim (g .pages) n c ≡ some v) × (v < n) × (full (g .pages) (c .er) v ≡ true) × (livesIn (g .pages) v c < g .pages) × (livesIn (g .pages) v c ≤ count (g .pages * n) (c .er))
+        go : (o : Option ℕ) → theVictim (g .pages) n c ≡ o → Found (full (g .pages) (c .er)) (λ b. livesIn (g .pages) b c) n o
+            → (v : ℕ) × (theVictim (g .pages) n c ≡ some v) × (v < n) × (full (g .pages) (c .er) v ≡ true) × (livesIn (g .pages) v c < g .pages) ×
+            (livesIn (g .pages) v c ≤ count (g .pages * n) (c .er))
         go none e f = absurd (true-false (full (g .pages) (c .er) (d .0)) (d .2) (f (d .0) (d .1)))
         go (some v) e f = let a = f .fewest (d .0) (d .1) (d .2) in (v, e, f .below, f .is-full, omega (arith, a, d .3), bound r7)
           where
@@ -123,15 +138,18 @@ module _ (g : Geometry) (shape : Shape g) (n k : ℕ) where
             bound (inl z) = omega (arith, f .fewest (d .0) (d .1) (d .2), d .3)
             bound (inr z) = omega (arith, f .fewest (z .0) (z .1) (z .2), z .3)
 
-    pub round : R7 g n c → count (g .pages * n) (live (placesOf c)) + (2 * g .pages + k) ≤ suc (g .pages * n) → count (g .pages * n) (c .er) < g .pages + k
-        → Cleared g n c (clear g n (theVictim (g .pages) n c) c) × (g .pages ≤ count (g .pages * n) (clear g n (theVictim (g .pages) n c) c .er)) × (count (g .pages * n) (c .er) < count (g .pages * n) (clear g n (theVictim (g .pages) n c) c .er))
+    pub round : R7 g n c → count (g .pages * n) (live (placesOf c)) + (2 * g .pages + k) ≤ suc (g .pages * n)
+        → count (g .pages * n) (c .er) < g .pages + k
+        → Cleared g n c (clear g n (theVictim (g .pages) n c) c) × (g .pages ≤ count (g .pages * n) (clear g n (theVictim (g .pages) n c) c .er)) ×
+        (count (g .pages * n) (c .er) < count (g .pages * n) (clear g n (theVictim (g .pages) n c) c .er))
     unfolding clear
     round r7 room few = go (round-victim r7 room few)
       where
         Out : Chip → Type 0
         Out c′ = Cleared g n c c′ × (g .pages ≤ count (g .pages * n) (c′ .er)) × (count (g .pages * n) (c .er) < count (g .pages * n) (c′ .er))
 
-        at : (v : ℕ) → v < n → full (g .pages) (c .er) v ≡ true → livesIn (g .pages) v c < g .pages → livesIn (g .pages) v c ≤ count (g .pages * n) (c .er) → Out (eraseBlock g v (sweep g n v (g .pages) c))
+        at : (v : ℕ) → v < n → full (g .pages) (c .er) v ≡ true → livesIn (g .pages) v c < g .pages
+            → livesIn (g .pages) v c ≤ count (g .pages * n) (c .er) → Out (eraseBlock g v (sweep g n v (g .pages) c))
         at v v-in f less le =
             let sw = emptied g shape n v c h (λ i w. full-none v i v-in f w) le in
             let fr = erased-frees g shape n v v-in (sweep g n v (g .pages) c) (sw .done) in
@@ -140,33 +158,51 @@ module _ (g : Geometry) (shape : Shape g) (n k : ℕ) where
                 good = erased-good g shape n v v-in (sweep g n v (g .pages) c) (sw .done);
                 pairs-are = erased-pairs g shape n v v-in (sweep g n v (g .pages) c) (sw .done) ∙ sw .pairs-are;
                 lives = omega (arith, pl, sw .lives);
-                alike = same-then g c (sweep g n v (g .pages) c) (eraseBlock g v (sweep g n v (g .pages) c)) (sw .alike) (erased-alike g shape n v v-in (sweep g n v (g .pages) c) (sw .done));
+                alike = same-then g c (sweep g n v (g .pages) c) (eraseBlock g v (sweep g n v (g .pages) c)) (sw .alike)
+                    (erased-alike g shape n v v-in (sweep g n v (g .pages) c) (sw .done));
               },
               omega (arith, fr),
               omega (arith, fr, sw .frees, less),
             )
 
-        go : (v : ℕ) × (theVictim (g .pages) n c ≡ some v) × (v < n) × (full (g .pages) (c .er) v ≡ true) × (livesIn (g .pages) v c < g .pages) × (livesIn (g .pages) v c ≤ count (g .pages * n) (c .er)) → Out (clear g n (theVictim (g .pages) n c) c)
+        go : (v : ℕ) × (theVictim (g .pages) n c ≡ some v) × (v < n) × (full (g .pages) (c .er) v ≡ true) × (livesIn (g .pages) v c < g .pages) ×
+            (livesIn (g .pages) v c ≤ count (g .pages * n) (c .er)) → Out (clear g n (theVictim (g .pages) n c) c)
         go w = subst (λ o. Out (clear g n o c)) (sym (w .1)) (at (w .0) (w .2) (w .3) (w .4) (w .5))
 
   -- with at least (g .pages) pages erased and m rounds for what is lacking
-  more-rounds : (m : ℕ) (c : Chip) → Whole g n c → g .pages ≤ count (g .pages * n) (c .er) → g .pages + k ≤ count (g .pages * n) (c .er) + m → count (g .pages * n) (live (placesOf c)) + (2 * g .pages + k) ≤ suc (g .pages * n)
+  more-rounds : (m : ℕ) (c : Chip) → Whole g n c → g .pages ≤ count (g .pages * n) (c .er) → g .pages + k ≤ count (g .pages * n) (c .er) + m
+      → count (g .pages * n) (live (placesOf c)) + (2 * g .pages + k) ≤ suc (g .pages * n)
       → Cleared g n c (collect g n k m c) × (g .pages + k ≤ count (g .pages * n) (collect g n k m c .er))
   unfolding collect
   more-rounds zero c h a b room = (record { good = h; pairs-are = refl; lives = omega arith; alike = same-self g c }, omega arith)
-  more-rounds (suc m) c h a b room = go (ltb (count (g .pages * n) (c .er)) (g .pages + k)) refl (more-rounds m (clear g n (theVictim (g .pages) n c) c))
+  more-rounds (suc m) c h a b room = go (ltb (count (g .pages * n) (c .er)) (g .pages + k)) refl
+      (more-rounds m (clear g n (theVictim (g .pages) n c) c))
     where
       c′ : Chip
       c′ = clear g n (theVictim (g .pages) n c) c
 
       go : (t : Bool) → ltb (count (g .pages * n) (c .er)) (g .pages + k) ≡ t
-          → (Whole g n c′ → g .pages ≤ count (g .pages * n) (c′ .er) → g .pages + k ≤ count (g .pages * n) (c′ .er) + m → count (g .pages * n) (live (placesOf c′)) + (2 * g .pages + k) ≤ suc (g .pages * n) → Cleared g n c′ (collect g n k m c′) × (g .pages + k ≤ count (g .pages * n) (collect g n k m c′ .er)))
+          → (Whole g n c′ → g .pages ≤ count (g .pages * n) (c′ .er) → g .pages + k ≤ count (g .pages * n) (c′ .er) + m → count (g .pages * n)
+          (live (placesOf c′)) + (2 * g .pages + k) ≤ suc (g .pages * n)
+          → Cleared g n c′ (collect g n k m c′) × (g .pages + k ≤ count (g .pages * n) (collect g n k m c′ .er)))
           → Cleared g n c (pick t (collect g n k m c′) c) × (g .pages + k ≤ count (g .pages * n) (pick t (collect g n k m c′) c .er))
-      go false e ih = (record { good = h; pairs-are = refl; lives = omega arith; alike = same-self g c }, ltb-false (count (g .pages * n) (c .er)) (g .pages + k) e)
+      go false e ih = (
+        record { good = h; pairs-are = refl; lives = omega arith; alike = same-self g c },
+        ltb-false (count (g .pages * n) (c .er))
+            (g .pages + k) e,
+      )
       go true e ih =
           let r = round c h (inl a) room (ltb-true (count (g .pages * n) (c .er)) (g .pages + k) e) in
-          let w = ih (r .0 .good) (r .1) (omega (arith, r .2)) (omega (arith, r .0 .lives)) in
-          (record { good = w .0 .good; pairs-are = w .0 .pairs-are ∙ r .0 .pairs-are; lives = omega (arith, w .0 .lives, r .0 .lives); alike = same-then g c c′ _ (r .0 .alike) (w .0 .alike) }, w .1)
+          let w = ih (r .0 .good) (r .1) (omega (arith, r .2)) (omega (arith, r .0 .lives)) in (
+            record {
+              good = w .0 .good;
+              pairs-are = w .0 .pairs-are ∙ r .0 .pairs-are;
+              lives = omega (arith, w .0 .lives, r .0 .lives);
+              alike =
+                  same-then g c c′ _ (r .0 .alike) (w .0 .alike);
+            },
+            w .1,
+          )
 
   -- the collector: k + 1 rounds are enough
   pub collected : (c : Chip) → Whole g n c → R7 g n c → count (g .pages * n) (live (placesOf c)) + (2 * g .pages + k) ≤ suc (g .pages * n)
@@ -177,9 +213,22 @@ module _ (g : Geometry) (shape : Shape g) (n k : ℕ) where
       c′ : Chip
       c′ = clear g n (theVictim (g .pages) n c) c
 
-      go : (t : Bool) → ltb (count (g .pages * n) (c .er)) (g .pages + k) ≡ t → Cleared g n c (pick t (collect g n k k c′) c) × (g .pages + k ≤ count (g .pages * n) (pick t (collect g n k k c′) c .er))
-      go false e = (record { good = h; pairs-are = refl; lives = omega arith; alike = same-self g c }, ltb-false (count (g .pages * n) (c .er)) (g .pages + k) e)
+      go : (t : Bool) → ltb (count (g .pages * n) (c .er)) (g .pages + k) ≡ t
+          → Cleared g n c (pick t (collect g n k k c′) c) × (g .pages + k ≤ count (g .pages * n) (pick t (collect g n k k c′) c .er))
+      go false e = (
+        record { good = h; pairs-are = refl; lives = omega arith; alike = same-self g c },
+        ltb-false (count (g .pages * n) (c .er))
+            (g .pages + k) e,
+      )
       go true e =
           let r = round c h r7 room (ltb-true (count (g .pages * n) (c .er)) (g .pages + k) e) in
-          let w = more-rounds k c′ (r .0 .good) (r .1) (omega (arith, r .1)) (omega (arith, r .0 .lives)) in
-          (record { good = w .0 .good; pairs-are = w .0 .pairs-are ∙ r .0 .pairs-are; lives = omega (arith, w .0 .lives, r .0 .lives); alike = same-then g c c′ _ (r .0 .alike) (w .0 .alike) }, w .1)
+          let w = more-rounds k c′ (r .0 .good) (r .1) (omega (arith, r .1)) (omega (arith, r .0 .lives)) in (
+            record {
+              good = w .0 .good;
+              pairs-are = w .0 .pairs-are ∙ r .0 .pairs-are;
+              lives = omega (arith, w .0 .lives, r .0 .lives);
+              alike =
+                  same-then g c c′ _ (r .0 .alike) (w .0 .alike);
+            },
+            w .1,
+          )

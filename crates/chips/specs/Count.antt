@@ -26,10 +26,12 @@ below-suc n t = go (ltb n t) (eqb t n) refl refl
     go false false e i = let a = eqb-false t n i in let b = ltb-false n t e in rw (le-ltb n (suc t) (omega arith)) refl
 
 -- one page goes, one comes
-pub count-swap : (t p n : ℕ) (f g : ℕ → Bool) → (p ≡ n → ⊥) → f p ≡ true → g p ≡ false → ((q : ℕ) → (q ≡ n → ⊥) → bit (g q) ≤ bit (f q)) → count t g + bit (ltb p t) ≤ count t f + bit (ltb n t)
+pub count-swap : (t p n : ℕ) (f g : ℕ → Bool) → (p ≡ n → ⊥) → f p ≡ true → g p ≡ false → ((q : ℕ) → (q ≡ n → ⊥) → bit (g q) ≤ bit (f q))
+    → count t g + bit (ltb p t) ≤ count t f + bit (ltb n t)
 unfolding count
 count-swap zero p n f g d fp gp le = rw (le-ltb p 0 (omega arith), le-ltb n 0 (omega arith)) (omega arith)
-count-swap (suc t) p n f g d fp gp le = let i = count-swap t p n f g d fp gp le in let a = go (eqb t p) (eqb t n) refl refl in omega (arith, below-suc p t, below-suc n t, a, i)
+count-swap (suc t) p n f g d fp gp le = let i = count-swap t p n f g d fp gp le in let a = go (eqb t p) (eqb t n) refl refl in
+    omega (arith, below-suc p t, below-suc n t, a, i)
   where
     go : (u v : Bool) → eqb t p ≡ u → eqb t n ≡ v → bit (g t) + bit u ≤ bit (f t) + bit v
     go true true e i = absurd (d (sym (eqb-true t p e) ∙ eqb-true t n i))
@@ -45,11 +47,13 @@ unfolding count
 count-le zero f h le = omega arith
 count-le (suc t) f h le = omega (arith, le t (omega arith), count-le t f h (λ j q. le j (omega arith)))
 
-pub count-drop : (t i : ℕ) (f h : ℕ → Bool) → i < t → f i ≡ true → h i ≡ false → ((j : ℕ) → j < t → bit (h j) ≤ bit (f j)) → suc (count t h) ≤ count t f
+pub count-drop : (t i : ℕ) (f h : ℕ → Bool) → i < t → f i ≡ true → h i ≡ false → ((j : ℕ) → j < t → bit (h j) ≤ bit (f j))
+    → suc (count t h) ≤ count t f
 unfolding count
 count-drop zero i f h q a b le = absurd (omega arith)
 count-drop (suc t) i f h q a b le = by-eq i t
-    (λ e. let x : bit (f t) ≡ 1 = rw (← e, a) refl in let y : bit (h t) ≡ 0 = rw (← e, b) refl in omega (arith, count-le t f h (λ j q. le j (omega arith))))
+    (λ e. let x : bit (f t) ≡ 1 = rw (← e, a) refl in let y : bit (h t) ≡ 0 = rw (← e, b) refl in
+    omega (arith, count-le t f h (λ j q. le j (omega arith))))
     (λ e. omega (arith, le t (omega arith), count-drop t i f h (omega arith) a b (λ j q. le j (omega arith))))
 
 pub count-ext : (t : ℕ) (f h : ℕ → Bool) → ((j : ℕ) → j < t → f j ≡ h j) → count t f ≡ count t h
@@ -73,13 +77,15 @@ sum zero f = 0
 sum (suc t) f = f t + sum t f
 
 -- one summand changes
-pub sum-point : (n v d : ℕ) (f h : ℕ → ℕ) → h v ≡ f v + d → ((b : ℕ) → (b ≡ v → ⊥) → h b ≡ f b) → (n ≤ v → sum n h ≡ sum n f) × (v < n → sum n h ≡ sum n f + d)
+pub sum-point : (n v d : ℕ) (f h : ℕ → ℕ) → h v ≡ f v + d → ((b : ℕ) → (b ≡ v → ⊥) → h b ≡ f b)
+    → (n ≤ v → sum n h ≡ sum n f) × (v < n → sum n h ≡ sum n f + d)
 unfolding sum
 sum-point zero v d f h a b = ((λ _. refl), (λ q. absurd (omega arith)))
 sum-point (suc n) v d f h a b =
     let i = sum-point n v d f h a b in (
       (λ q. omega (arith, i .0 (omega arith), b n (λ e. omega arith))),
-      (λ q. by-eq n v (λ e. let x = ap f e in let y = ap h e in omega (arith, i .0 (omega arith), a, x, y)) (λ e. omega (arith, i .1 (omega arith), b n e))),
+      (λ q. by-eq n v (λ e. let x = ap f e in let y = ap h e in omega (arith, i .0 (omega arith), a, x, y))
+          (λ e. omega (arith, i .1 (omega arith), b n e))),
     )
 
 count-add : (m n : ℕ) (f : ℕ → Bool) → count (m + n) f ≡ count m f + count n (λ j. f (m + j))
@@ -113,15 +119,18 @@ unfolding count
 count-after zero p f h = rw (le-ltb p 0 (omega arith)) refl
 count-after (suc t) p f h = go (eqb t p) refl (count-after t p f h)
   where
-    go : (u : Bool) → eqb t p ≡ u → count t f ≡ bit (ltb p t) + count t (after p f) → bit (f t) + count t f ≡ bit (ltb p (suc t)) + (bit (pick u false (f t)) + count t (after p f))
+    go : (u : Bool) → eqb t p ≡ u → count t f ≡ bit (ltb p t) + count t (after p f)
+        → bit (f t) + count t f ≡ bit (ltb p (suc t)) + (bit (pick u false (f t)) + count t (after p f))
     go true e i = let z = eqb-true t p e in let a : bit (f t) ≡ 1 = rw (z, h) refl in omega (arith, below-suc p t, ap bit e, a, i)
     go false e i = omega (arith, below-suc p t, ap bit e, i)
 
 -- pages below t: the moved page and the new one are two of them
-pub count-moved : (t p n a : ℕ) (old new : List Place) → p < t → n < t → (p ≡ n → ⊥) → Mem (record { page = p; level = a }) old → All (λ x. x .page ≡ p → ⊥) new → All (λ x. (x .page ≡ n) ⊎ Mem x old) new
+pub count-moved : (t p n a : ℕ) (old new : List Place) → p < t → n < t → (p ≡ n → ⊥) → Mem (record { page = p; level = a }) old
+    → All (λ x. x .page ≡ p → ⊥) new → All (λ x. (x .page ≡ n) ⊎ Mem x old) new
     → count t (live new) ≤ count t (live old)
 count-moved t p n a old new pt nt d m dd w =
-    let i = count-swap t p n (live old) (live new) d (mem-live (record { page = p; level = a }) old m) (dead-live p new dd) (λ q. within-live n q old new w) in
+    let i = count-swap t p n (live old) (live new) d (mem-live (record { page = p; level = a }) old m) (dead-live p new dd)
+    (λ q. within-live n q old new w) in
     let u : bit (ltb p t) ≡ 1 = rw (lt-ltb p t pt) refl in
     let v : bit (ltb n t) ≡ 1 = rw (lt-ltb n t nt) refl in
     omega arith

@@ -5,10 +5,11 @@ use mathlib.Core.Bool.{true, false}
 use Prim.Native.Nat.{ℕ, zero, suc, _*_, _<_, _≤_}
 use native.Mathlib.Omega.{arith}
 use lib.ListN.{length}
+use lib.Dec.{eqb}
 use borrow.Author.Tests.{le-leb, eq-eqb, ne-eqb}
 use Rattle.geometry.specs.declared.Geometry.{Geometry}
 use Rattle.geometry.specs.declared.Entry.{Entry}
-use Rattle.geometry.specs.Tests.{and-true}
+use Rattle.geometry.specs.Tests.{pick, and-true}
 use Rattle.geometry.specs.Geometry.{half, rootMost}
 use Rattle.geometry.specs.Shape.{Shape}
 use Rattle.model.specs.Count.{count}
@@ -21,18 +22,27 @@ use Rattle.trees.specs.Tests.{by-le, true-false}
 use Rattle.trees.specs.Lists.{split}
 use Rattle.trees.specs.Nodes.{Ok, the, fitOf}
 use Rattle.trees.specs.Edit.{splice-length, atRoot}
-use Rattle.trees.specs.Delete.{remove-splice, deleted, DelMade, none-left, none-made}
+use Rattle.trees.specs.Delete.{remove-splice, deleted, DeleteMade, none-left, none-made}
 use Rattle.trees.specs.Proper.{Proper, delete-stay, delete-collapse}
 use Rattle.trees.specs.Path.{AsSplice, root-is, onPath-top, made-from}
 use Rattle.chips.specs.Next.{R2, step}
 use Rattle.chips.specs.Whole.{some-page, Whole, sought-map}
 use Rattle.chips.specs.Pages.{keep, fit-side, new-side}
 
+-- the root that is left is no higher
+collapse-low : (r : Nodes) (l : ℕ) (cs : List Entry) → collapse r l cs .level ≤ l
+unfolding collapse
+collapse-low r zero cs = omega arith
+collapse-low r (suc l) [] = omega arith
+collapse-low r (suc l) (x ∷ []) = omega (arith, collapse-low r l (r (x .addr) (suc l)))
+collapse-low r (suc l) (x ∷ y ∷ cs) = omega arith
+
 -- what N holds at level j
 abbrev pub leftList : Geometry → ℕ → Chip → ℕ → ℕ → List Entry
 leftList g n c k j = deletePart c k (sidePage g n c 1) j
 
-module _ (g : Geometry) (shape : Shape g) (n k : ℕ) (k-low : k < 4294967296) (c : Chip) (good : Whole g n c) (present : isNone (sought c k) ≡ false) where
+module _ (g : Geometry) (shape : Shape g) (n k : ℕ) (k-low : k < 4294967296) (c : Chip) (good : Whole g n c)
+    (present : isNone (sought c k) ≡ false) where
   abbrev r : Nodes
   r = c .nodes
 
@@ -48,8 +58,8 @@ module _ (g : Geometry) (shape : Shape g) (n k : ℕ) (k-low : k < 4294967296) (
   abbrev fit : ℕ → ℕ → Type 0
   fit = fitOf (g .pages * n) (c .er)
 
-  abbrev rm : ℕ → ℕ
-  rm l = 2 * half g l
+  abbrev roomAt : ℕ → ℕ
+  roomAt l = 2 * half g l
 
   abbrev rootList : List Entry
   rootList = atRoot (remove k) (deleted r k N (c .level)) k (c .level) es
@@ -62,7 +72,8 @@ module _ (g : Geometry) (shape : Shape g) (n k : ℕ) (k-low : k < 4294967296) (
   some-root = go es refl
     where
       go : (xs : List Entry) → es ≡ xs → 0 < length es
-      go [] e = absurd (true-false (isNone (sought c k)) (ap isNone (sought-map g n c good k k-low) ∙ ap (λ m. isNone (find k (gather (under r (c .level)) m))) e) present)
+      go [] e = absurd (true-false (isNone (sought c k)) (ap isNone (sought-map g n c good k k-low)
+          ∙ ap (λ m. isNone (find k (gather (under r (c .level)) m))) e) present)
       go (x ∷ xs) e = rw e (omega arith)
 
   as-splice : AsSplice k (remove k) (λ e. remove k (e ∷ []))
@@ -70,8 +81,9 @@ module _ (g : Geometry) (shape : Shape g) (n k : ℕ) (k-low : k < 4294967296) (
 
   root-list : lists (suc (c .level)) ≡ rootList
   unfolding deleteList
-  root-list = onPath-top fit rm r k (remove k) (λ e. remove k (e ∷ [])) (kept N) as-splice (c .level) (theRoot c)
-      ∙ root-is fit rm r k (remove k) (λ e. remove k (e ∷ [])) (kept N) as-splice (c .level) 4294967296 (c .root) k-low (λ _. some-root) (good .sound .rooted .rises)
+  root-list = onPath-top fit roomAt r k (remove k) (λ e. remove k (e ∷ [])) (kept N) as-splice (c .level) (theRoot c)
+      ∙ root-is fit roomAt r k (remove k) (λ e. remove k (e ∷ [])) (kept N) as-splice (c .level) 4294967296 (c .root) k-low (λ _. some-root)
+      (good .sound .rooted .rises)
 
   -- where the root's list is more than one entry, or the tree is a leaf, the root stays
   unfoldable pub Stays : ℕ → List Entry → Type 0
@@ -86,14 +98,8 @@ module _ (g : Geometry) (shape : Shape g) (n k : ℕ) (k-low : k < 4294967296) (
   stays-top (suc l) (x ∷ y ∷ cs) h = refl
 
   pub top-low : top .level ≤ c .level
-  unfolding deleteTop collapse
-  top-low = low (c .level) (lists (suc (c .level)))
-    where
-      low : (l : ℕ) (cs : List Entry) → collapse r l cs .level ≤ l
-      low zero cs = omega arith
-      low (suc l) [] = omega arith
-      low (suc l) (x ∷ []) = omega (arith, low l (r (x .addr) (suc l)))
-      low (suc l) (x ∷ y ∷ cs) = omega arith
+  unfolding deleteTop
+  top-low = collapse-low r (c .level) (lists (suc (c .level)))
 
   module _ (free : 1 ≤ count (g .pages * n) (c .er)) (s : Nodes)
       (at-N : (j : ℕ) → 1 ≤ j → j ≤ g .top → s N j ≡ leftList g n c k j)
@@ -119,10 +125,20 @@ module _ (g : Geometry) (shape : Shape g) (n k : ℕ) (k-low : k < 4294967296) (
         let e = stays-top (c .level) (lists (suc (c .level))) h in
         let lv : collapse r (c .level) (lists (suc (c .level))) .level ≡ c .level = ap (λ (x : Top). x .level) e in
         let ls : collapse r (c .level) (lists (suc (c .level))) .list ≡ lists (suc (c .level)) = ap (λ (x : Top). x .list) e in
-        let here : s N (suc (c .level)) ≡ rootList = at-N (suc (c .level)) (omega arith) high ∙ rw (lv, eq-eqb (suc (c .level)) (suc (c .level)) refl) (ls ∙ root-list) in
-        let made : DelMade r s k N (c .level) (chosen k es) = made-from fit rm r k (remove k) (λ e. remove k (e ∷ [])) (kept N) as-splice (λ j d. 1 ≤ length d → s N j ≡ d) (c .level) 4294967296 (theRoot c) k-low (λ _. some-root) (good .sound .rooted .rises)
-        (λ j b d _. at-N j b (omega (arith, d, high)) ∙ rw (lv, ne-eqb j (suc (c .level)) (λ z. omega (arith, z, d)), eq-eqb (c .level) (c .level) refl, le-leb j (c .level) d, and-true true) refl) in
-        let w = delete-stay N 4294967296 (half g) (rootMost g) r s fit fit′ fit-N (keep g shape n c (good .r2) 1 free) stays new-N k k-low (c .level) (c .root) (good .sound) some-root made here
+        let here : s N (suc (c .level)) ≡ rootList = at-N (suc (c .level)) (omega arith) high ∙ rw (lv, eq-eqb (suc (c .level)) (suc (c .level)) refl)
+        (ls ∙ root-list) in
+        let made : DeleteMade r s k N (c .level) (chosen k es) = made-from fit roomAt r k (remove k) (λ e. remove k (e ∷ [])) (kept N) as-splice
+        (λ j d. 1 ≤ length d → s N j ≡ d) (c .level) 4294967296 (theRoot c) k-low (λ _. some-root) (good .sound .rooted .rises)
+        (λ j b d _. at-N j b (omega (arith, d, high)) ∙ rw (
+          lv,
+          ne-eqb j (suc (c .level)) (λ z. omega (arith, z, d)),
+          eq-eqb (c .level)
+              (c .level) refl,
+          le-leb j (c .level) d,
+          and-true true,
+        ) refl) in
+        let w = delete-stay N 4294967296 (half g) (rootMost g) r s fit fit′ fit-N (keep g shape n c (good .r2) 1 free) stays new-N k k-low (c .level)
+        (c .root) (good .sound) some-root made here
         (λ i. rw (← root-list) (two (c .level) i h)) in
         (record { r2 = after-r2; sound = w .0 }, w .1)
       where
@@ -130,38 +146,47 @@ module _ (g : Geometry) (shape : Shape g) (n k : ℕ) (k-low : k < 4294967296) (
         two zero i h = absurd (omega arith)
         two (suc l) i h = h
 
-    wide : (j : ℕ) → rm j ≤ rootMost g j
+    wide : (j : ℕ) → roomAt j ≤ rootMost g j
     wide j = let z = shape .fits j in let w = shape .even j in omega (arith, z, w)
 
     -- one entry is left of a root above level 1
-    drop : (lv : ℕ) (xs : List Entry) → Proper fit rm (rootMost g) 4294967296 r lv (c .root) → xs ≡ atRoot (remove k) (deleted r k N lv) k lv (r (c .root) (suc lv)) → 1 ≤ lv → length xs ≡ 1
+    drop : (lv : ℕ) (xs : List Entry) → Proper fit roomAt (rootMost g) 4294967296 r lv (c .root)
+        → xs ≡ atRoot (remove k) (deleted r k N lv) k lv (r (c .root) (suc lv)) → 1 ≤ lv → length xs ≡ 1
         → s N (suc (collapse r lv xs .level)) ≡ collapse r lv xs .list
-        → Proper fit′ rm (rootMost g) 4294967296 s (collapse r lv xs .level) N × (under s (suc (collapse r lv xs .level)) (the N) ≡ remove k (under r (suc lv) (the (c .root))))
+        → Proper fit′ roomAt (rootMost g) 4294967296 s (collapse r lv xs .level) N ×
+        (under s (suc (collapse r lv xs .level)) (the N) ≡ remove k (under r (suc lv) (the (c .root))))
     unfolding atRoot
     drop zero xs h e i one at = absurd (omega arith)
     drop (suc l) xs h e i one at =
         let ls = r (c .root) (suc (suc l)) in
         let b = h .rooted .least (omega arith) in
-        let sp = split (Ok fit rm r (suc l)) k 4294967296 ls (omega (arith, b)) k-low (h .rooted .rises) in
-        let w = splice-length (Ok fit rm r (suc l)) (deleted r k N (suc l)) k 4294967296 ls (omega (arith, b)) k-low (h .rooted .rises) in
+        let sp = split (Ok fit roomAt r (suc l)) k 4294967296 ls (omega (arith, b)) k-low (h .rooted .rises) in
+        let w = splice-length (Ok fit roomAt r (suc l)) (deleted r k N (suc l)) k 4294967296 ls (omega (arith, b)) k-low (h .rooted .rises) in
         let z = ap length e in
-        let made : DelMade r s k N (suc l) (chosen k ls) = none-made k N 4294967296 (half g) (rootMost g) r s fit fit′ fit-N (keep g shape n c (good .r2) 1 free) stays k-low (suc l) (next (sp .post) 4294967296) (chosen k ls) (sp .under) (sp .here) (none-left (deleted r k N (suc l) (chosen k ls)) (omega (arith, w, z, one, b))) in
-        subst (λ (x : List Entry). s N (suc (collapse r (suc l) x .level)) ≡ collapse r (suc l) x .list → Proper fit′ rm (rootMost g) 4294967296 s (collapse r (suc l) x .level) N × (under s (suc (collapse r (suc l) x .level)) (the N) ≡ remove k (under r (suc (suc l)) (the (c .root))))) (sym e)
-        (λ at. delete-collapse N 4294967296 (half g) (rootMost g) r s fit fit′ fit-N (keep g shape n c (good .r2) 1 free) stays new-N k k-low wide l (c .root) h made (omega (arith, z, one)) at) at
+        let made : DeleteMade r s k N (suc l) (chosen k ls) = none-made k N 4294967296 (half g) (rootMost g) r s fit fit′ fit-N
+        (keep g shape n c (good .r2) 1 free) stays k-low (suc l) (next (sp .post) 4294967296) (chosen k ls) (sp .under) (sp .here)
+        (none-left (deleted r k N (suc l) (chosen k ls)) (omega (arith, w, z, one, b))) in
+        subst (λ (x : List Entry). s N (suc (collapse r (suc l) x .level)) ≡ collapse r (suc l) x .list → Proper fit′ roomAt (rootMost g) 4294967296 s
+        (collapse r (suc l) x .level) N × (under s (suc (collapse r (suc l) x .level)) (the N) ≡ remove k
+        (under r (suc (suc l)) (the (c .root))))) (sym e)
+        (λ at. delete-collapse N 4294967296 (half g) (rootMost g) r s fit fit′ fit-N (keep g shape n c (good .r2) 1 free) stays new-N k k-low wide l
+        (c .root) h made (omega (arith, z, one)) at) at
 
     -- a root above level 1 keeps an entry
-    some-left : (lv : ℕ) → Proper fit rm (rootMost g) 4294967296 r lv (c .root) → 1 ≤ lv → 1 ≤ length (atRoot (remove k) (deleted r k N lv) k lv (r (c .root) (suc lv)))
+    some-left : (lv : ℕ) → Proper fit roomAt (rootMost g) 4294967296 r lv (c .root) → 1 ≤ lv
+        → 1 ≤ length (atRoot (remove k) (deleted r k N lv) k lv (r (c .root) (suc lv)))
     unfolding atRoot
     some-left zero h i = absurd (omega arith)
     some-left (suc l) h i =
         let ls = r (c .root) (suc (suc l)) in
         let b = h .rooted .least (omega arith) in
-        let w = splice-length (Ok fit rm r (suc l)) (deleted r k N (suc l)) k 4294967296 ls (omega (arith, b)) k-low (h .rooted .rises) in
+        let w = splice-length (Ok fit roomAt r (suc l)) (deleted r k N (suc l)) k 4294967296 ls (omega (arith, b)) k-low (h .rooted .rises) in
         omega (arith, w, b)
 
     pub delete-done : Done (top .level)
     unfolding deleteTop deletePart Stays
-    delete-done = by-le 2 (length (lists (suc (c .level)))) (λ q. kept-level (many (c .level) q)) (λ q. by-le 1 (c .level) (λ i. lower i q) (λ i. kept-level (leaf-stays (c .level) i)))
+    delete-done = by-le 2 (length (lists (suc (c .level)))) (λ q. kept-level (many (c .level) q))
+        (λ q. by-le 1 (c .level) (λ i. lower i q) (λ i. kept-level (leaf-stays (c .level) i)))
       where
         many : (l : ℕ) → 2 ≤ length (lists (suc (c .level))) → Stays l (lists (suc (c .level)))
         many zero q = tt
@@ -172,7 +197,8 @@ module _ (g : Geometry) (shape : Shape g) (n k : ℕ) (k-low : k < 4294967296) (
         leaf-stays (suc l) q = absurd (omega arith)
 
         kept-level : Stays (c .level) (lists (suc (c .level))) → Done (collapse r (c .level) (lists (suc (c .level))) .level)
-        kept-level h = let e : collapse r (c .level) (lists (suc (c .level))) .level ≡ c .level = ap (λ (x : Top). x .level) (stays-top (c .level) (lists (suc (c .level))) h) in rw e (stay h)
+        kept-level h = let e : collapse r (c .level) (lists (suc (c .level))) .level ≡ c .level = ap (λ (x : Top). x .level)
+            (stays-top (c .level) (lists (suc (c .level))) h) in rw e (stay h)
 
         lower : 1 ≤ c .level → length (lists (suc (c .level))) < 2 → Done (collapse r (c .level) (lists (suc (c .level))) .level)
         lower i q =
@@ -180,5 +206,23 @@ module _ (g : Geometry) (shape : Shape g) (n k : ℕ) (k-low : k < 4294967296) (
             let z = ap length root-list in
             let y = some-left (c .level) (good .sound) i in
             let x = top-low in
-            let w = drop (c .level) (lists (suc (c .level))) (good .sound) root-list i (omega (arith, q, z, y)) (at-N (suc (t .level)) (omega arith) (omega (arith, x, high)) ∙ rw (eq-eqb (suc (t .level)) (suc (t .level)) refl) refl) in
+            let w = drop (c .level) (lists (suc (c .level))) (good .sound) root-list i (omega (arith, q, z, y))
+            (at-N (suc (t .level)) (omega arith) (omega (arith, x, high)) ∙ rw (eq-eqb (suc (t .level)) (suc (t .level)) refl) refl) in
             (record { r2 = after-r2; sound = w .0 }, w .1)
+
+  -- the root that is left is within the table: by the nodes that are the old ones but for N
+  module _ (free : 1 ≤ count (g .pages * n) (c .er)) (high : suc (c .level) ≤ g .top) where
+    abbrev s : Nodes
+    s q j = pick (eqb q N) (leftList g n c k j) (r q j)
+
+    s-N : (j : ℕ) → s N j ≡ leftList g n c k j
+    s-N j = rw (eq-eqb N N refl) refl
+
+    pub top-most : length (top .list) ≤ rootMost g (suc (top .level))
+    unfolding deletePart
+    top-most =
+        let w = delete-done free s (λ j _ _. s-N j) (λ q l h. rw (ne-eqb q N
+        (λ z. new-side g shape n c (good .r2) 1 free 1 l (omega arith) (omega arith)
+        (subst (fit (suc l)) z h))) refl) high .0 .sound .rooted .atmost in
+        let e : s N (suc (top .level)) ≡ top .list = s-N (suc (top .level)) ∙ rw (eq-eqb (suc (top .level)) (suc (top .level)) refl) refl in
+        subst (λ (x : List Entry). length x ≤ rootMost g (suc (top .level))) e w

@@ -22,7 +22,7 @@ use Rattle.model.specs.Update.{isNone, rootNode, rootGains, fills, needs, tooHi
 use Rattle.trees.specs.Tests.{by-eq, by-test, true-false, bit-le}
 use Rattle.trees.specs.Nodes.{the, fitOf}
 use Rattle.trees.specs.Edit.{atRoot}
-use Rattle.trees.specs.Insert.{put-splice, inserted, InsMade}
+use Rattle.trees.specs.Insert.{put-splice, inserted, InsertMade}
 use Rattle.trees.specs.Proper.{insert-stay, insert-grow}
 use Rattle.trees.specs.Path.{AsSplice, root-is, onPath-top, made-from}
 use Rattle.trees.specs.Splits.{root-size, all-below, splits-le, splits-are}
@@ -70,8 +70,8 @@ module _ (g : Geometry) (shape : Shape g) (n k a : ℕ) (k-low : k < 4294967296)
   abbrev fit : ℕ → ℕ → Type 0
   fit = fitOf (g .pages * n) (c .er)
 
-  abbrev rm : ℕ → ℕ
-  rm l = 2 * half g l
+  abbrev roomAt : ℕ → ℕ
+  roomAt l = 2 * half g l
 
   abbrev rootList : List Entry
   rootList = atRoot (put k a) (inserted r k a N side (half g) (c .level)) k (c .level) es
@@ -87,17 +87,20 @@ module _ (g : Geometry) (shape : Shape g) (n k a : ℕ) (k-low : k < 4294967296)
 
   root-list : lists (suc (c .level)) ≡ rootList
   unfolding insertList
-  root-list = onPath-top fit rm r k (put k a) (λ e. put k a (e ∷ [])) (named k N side (half g)) as-splice (c .level) (theRoot c)
-      ∙ root-is fit rm r k (put k a) (λ e. put k a (e ∷ [])) (named k N side (half g)) as-splice (c .level) 4294967296 (c .root) k-low some-root (good .sound .rooted .rises)
+  root-list = onPath-top fit roomAt r k (put k a) (λ e. put k a (e ∷ [])) (named k N side (half g)) as-splice (c .level) (theRoot c)
+      ∙ root-is fit roomAt r k (put k a) (λ e. put k a (e ∷ [])) (named k N side (half g)) as-splice (c .level) 4294967296 (c .root) k-low some-root
+      (good .sound .rooted .rises)
 
   pub root-length : length (lists (suc (c .level))) ≡ length es + bit gained
   unfolding under
-  root-length = ap length root-list ∙ root-size k a N side (half g) r fit absent (c .level) 4294967296 es some-root k-low (good .sound .rooted .rises) absent-is
+  root-length = ap length root-list ∙ root-size k a N side (half g) r fit absent (c .level) 4294967296 es some-root k-low
+      (good .sound .rooted .rises) absent-is
 
   -- the levels below the root that are too long are 1 to cuts
-  pub cut-levels : (j : ℕ) → 1 ≤ j → j ≤ c .level → (rm j < length (lists j) → j ≤ cuts) × (j ≤ cuts → rm j < length (lists j))
+  pub cut-levels : (j : ℕ) → 1 ≤ j → j ≤ c .level → (roomAt j < length (lists j) → j ≤ cuts) × (j ≤ cuts → roomAt j < length (lists j))
   unfolding insertList
-  cut-levels j b d = splits-are k a N side (half g) r fit absent (c .level) 4294967296 (theRoot c) k-low some-root (good .sound .rooted .rises) absent-is j b d
+  cut-levels j b d = splits-are k a N side (half g) r fit absent (c .level) 4294967296 (theRoot c) k-low some-root
+      (good .sound .rooted .rises) absent-is j b d
 
   abbrev grows : Bool
   grows = fills g (suc (c .level)) (length (lists (suc (c .level))))
@@ -117,17 +120,31 @@ module _ (g : Geometry) (shape : Shape g) (n k a : ℕ) (k-low : k < 4294967296)
       let len = eqb-true (length (lists (suc (c .level)))) (rootSlots g (suc (c .level))) (and-right _ _ e) in
       let d = shape .double (suc (c .level)) (omega arith) lo in
       let s = shape .some (suc (c .level)) (omega arith) lo in
-      let am = rw (lt-ltb (suc (c .level)) (g .top) lo) at (good .sound .rooted .atmost) in
-      (lo, len ∙ d, all-below k a N side (half g) r fit absent (c .level) (chosen k es) (by-test gained (λ z. z) (λ z. absurd (omega (arith, root-length, len, d, s, am, ap bit z)))))
+      let am = rw (lt-ltb (suc (c .level)) (g .top) lo) at (good .sound .rooted .atmost) in (
+        lo,
+        len ∙ d,
+        all-below k a N side (half g) r fit absent (c .level) (chosen k es)
+            (by-test gained (λ z. z) (λ z. absurd (omega (arith, root-length, len, d, s, am, ap bit z)))),
+      )
+
+  -- own pages: 1 + splits + grow
+  pub needs-top : suc (c .level) ≤ g .top → m ≤ g .top
+  needs-top hi = by-test grows (λ e. let u = grow-all e in omega (arith, needs-is, u .0, u .2, ap bit e))
+      (λ e. omega (arith, needs-is, cuts-le, hi, ap bit e))
 
   -- a root that does not grow stays within the table, unless it is too high
   pub stay-most : suc (c .level) ≤ g .top → tooHigh g c k ≡ false → grows ≡ false → length (lists (suc (c .level))) ≤ rootMost g (suc (c .level))
   unfolding fills rootMost tooHigh rootGains
   stay-most hi small e = by-test (ltb (suc (c .level)) (g .top))
-      (λ x. rw x (below (ltb-true (suc (c .level)) (g .top) x) (rw (x, and-true (eqb (length (lists (suc (c .level)))) (rootSlots g (suc (c .level))))) at e) (rw x at (good .sound .rooted .atmost))))
+      (λ x. rw x (below (ltb-true (suc (c .level)) (g .top) x) (rw (
+        x,
+        and-true
+            (eqb (length (lists (suc (c .level)))) (rootSlots g (suc (c .level)))),
+      ) at e) (rw x at (good .sound .rooted .atmost))))
       (λ x. rw x (at-top (ltb-false (suc (c .level)) (g .top) x) (rw x at (good .sound .rooted .atmost))))
     where
-      below : suc (c .level) < g .top → eqb (length (lists (suc (c .level)))) (rootSlots g (suc (c .level))) ≡ false → length es ≤ rootSlots g (suc (c .level)) - 1 → length (lists (suc (c .level))) ≤ rootSlots g (suc (c .level)) - 1
+      below : suc (c .level) < g .top → eqb (length (lists (suc (c .level)))) (rootSlots g (suc (c .level))) ≡ false
+          → length es ≤ rootSlots g (suc (c .level)) - 1 → length (lists (suc (c .level))) ≤ rootSlots g (suc (c .level)) - 1
       below lo ne am =
           let w = eqb-false (length (lists (suc (c .level)))) (rootSlots g (suc (c .level))) ne in
           let d = shape .double (suc (c .level)) (omega arith) lo in
@@ -137,9 +154,19 @@ module _ (g : Geometry) (shape : Shape g) (n k a : ℕ) (k-low : k < 4294967296)
       at-top : g .top ≤ suc (c .level) → length es ≤ rootSlots g (suc (c .level)) → length (lists (suc (c .level))) ≤ rootSlots g (suc (c .level))
       at-top lo am = by-test gained
           (λ z. by-eq (length es) (rootSlots g (suc (c .level)))
-          (λ y. absurd (true-false _ (and-both _ _ (and-both _ _ (eq-eqb (suc (c .level)) (g .top) (omega (arith, lo, hi))) (eq-eqb (length es) (rootSlots g (suc (c .level))) y)) z) small))
+          (λ y. absurd (true-false _ (and-both _ _ (and-both _ _ (eq-eqb (suc (c .level)) (g .top) (omega (arith, lo, hi)))
+          (eq-eqb (length es) (rootSlots g (suc (c .level))) y)) z) small))
           (λ y. omega (arith, root-length, am, y, bit-le gained)))
           (λ z. omega (arith, root-length, am, ap bit z))
+
+  -- a level above a root that grows has room for two entries
+  pub two-root : suc (c .level) < g .top → 2 ≤ rootMost g (suc (suc (c .level)))
+  unfolding rootMost
+  two-root lo = by-test (ltb (suc (suc (c .level))) (g .top))
+      (λ x. let y = ltb-true (suc (suc (c .level))) (g .top) x in let d = shape .double (suc (suc (c .level))) (omega arith) y in let z = shape .some
+      (suc (suc (c .level))) (omega arith) y in rw x (omega (arith, d, z)))
+      (λ x. let y : suc (suc (c .level)) ≡ g .top = omega (arith, lo, ltb-false (suc (suc (c .level))) (g .top) x) in let d = ap (rootSlots g) y in
+      let z = shape .top-slots in rw x (omega (arith, d, z)))
 
   -- ---- the nodes s after the m pages
   module _ (free : m ≤ count (g .pages * n) (c .er)) (s : Nodes)
@@ -151,17 +178,23 @@ module _ (g : Geometry) (shape : Shape g) (n k a : ℕ) (k-low : k < 4294967296)
     abbrev Cut : ℕ → Type 0
     Cut j = (1 ≤ j) × (j < m)
 
-    made : InsMade r s k a N side (half g) fit′ Cut (c .level) (chosen k es)
+    made : InsertMade r s k a N side (half g) fit′ Cut (c .level) (chosen k es)
     unfolding insertPart sideList insertList
-    made = made-from fit rm r k (put k a) (λ e. put k a (e ∷ [])) (named k N side (half g)) as-splice
-        (λ j d. (s N j ≡ pathPart k (half g) j d) × (rm j < length d → (s (side j) j ≡ sideHalf k (half g j) d) × fit′ j (side j) × Cut j)) (c .level) 4294967296 (theRoot c) k-low some-root (good .sound .rooted .rises)
+    made = made-from fit roomAt r k (put k a) (λ e. put k a (e ∷ [])) (named k N side (half g)) as-splice
+        (λ j d. (s N j ≡ pathPart k (half g) j d) × (roomAt j < length d → (s (side j) j ≡ sideHalf k (half g j) d) × fit′ j (side j) × Cut j))
+        (c .level) 4294967296 (theRoot c) k-low some-root (good .sound .rooted .rises)
         (λ j b d. at j b d _ refl)
       where
-        at : (j : ℕ) → 1 ≤ j → j ≤ c .level → (d : List Entry) → lists j ≡ d → (s N j ≡ pathPart k (half g) j d) × (rm j < length d → (s (side j) j ≡ sideHalf k (half g j) d) × fit′ j (side j) × Cut j)
+        at : (j : ℕ) → 1 ≤ j → j ≤ c .level → (d : List Entry) → lists j ≡ d
+            → (s N j ≡ pathPart k (half g) j d) × (roomAt j < length d → (s (side j) j ≡ sideHalf k (half g j) d) × fit′ j (side j) × Cut j)
         at j b d ds e = (
           at-N j b (omega (arith, d, high)) ∙ rw (le-leb j (c .level) d) (ap (pathPart k (half g) j) e),
-          λ f. let w = cut-levels j b d .0 (rw e f) in let lt : j < m = omega (arith, needs-is, w) in
-              (at-side j b lt ∙ rw (le-leb j (c .level) d) (ap (sideHalf k (half g j)) e), fit-side g shape n c (good .r2) m free j j b (omega (arith, lt)), (b, lt)),
+          λ f. let w = cut-levels j b d .0 (rw e f) in let lt : j < m = omega (arith, needs-is, w) in (
+            at-side j b lt ∙ rw (le-leb j (c .level) d) (ap (sideHalf k (half g j)) e),
+            fit-side g shape n c (good .r2) m free j j b
+                (omega (arith, lt)),
+            (b, lt),
+          ),
         )
 
     some-m : 1 ≤ m
@@ -183,15 +216,17 @@ module _ (g : Geometry) (shape : Shape g) (n k a : ℕ) (k-low : k < 4294967296)
     stay : tooHigh g c k ≡ false → grows ≡ false → Done (c .level)
     unfolding insertPart crownPart
     stay small e =
-        let here : s N (suc (c .level)) ≡ rootList = at-N (suc (c .level)) (omega arith) high ∙ rw (lt-leb (suc (c .level)) (c .level) (omega arith), e, eq-eqb (suc (c .level)) (suc (c .level)) refl) root-list in
-        let w = insert-stay N 4294967296 (half g) (rootMost g) r s fit fit′ (λ l. fit-side g shape n c (good .r2) m free m (suc l) some-m (omega arith)) (keep g shape n c (good .r2) m free) stays (λ l. new-side g shape n c (good .r2) m free m l some-m (omega arith))
+        let here : s N (suc (c .level)) ≡ rootList = at-N (suc (c .level)) (omega arith) high
+        ∙ rw (lt-leb (suc (c .level)) (c .level) (omega arith), e, eq-eqb (suc (c .level)) (suc (c .level)) refl) root-list in
+        let w = insert-stay N 4294967296 (half g) (rootMost g) r s fit fit′ (λ l. fit-side g shape n c (good .r2) m free m (suc l) some-m
+        (omega arith)) (keep g shape n c (good .r2) m free) stays (λ l. new-side g shape n c (good .r2) m free m l some-m (omega arith))
         k a side Cut tt k-low apart inj (λ l j h. new-side g shape n c (good .r2) m free l j (h .0) (omega (arith, h .1)))
         (c .level) (c .root) (good .sound) made here (rw (← root-list) (stay-most high small e)) in
         (record { r2 = after-r2; sound = w .0 }, w .1)
 
     -- the root grows
     grow : grows ≡ true → Done (suc (c .level))
-    unfolding insertPart crownPart sideList rootMost
+    unfolding insertPart crownPart sideList
     grow e =
         let l = c .level in
         let h = half g (suc l) in
@@ -200,19 +235,19 @@ module _ (g : Geometry) (shape : Shape g) (n k a : ℕ) (k-low : k < 4294967296)
         let small : leb (suc l) l ≡ false = lt-leb (suc l) l (omega arith) in
         let none : leb (suc (suc l)) l ≡ false = lt-leb (suc (suc l)) l (omega arith) in
         let ne : eqb (suc (suc l)) (suc l) ≡ false = ne-eqb (suc (suc l)) (suc l) (λ z. omega (arith, z)) in
-        let path : s N (suc l) ≡ pathHalf k (2 * h) rootList = at-N (suc l) (omega arith) high ∙ rw (small, e, eq-eqb (suc l) (suc l) refl) (ap (pathHalf k (2 * h)) root-list) in
-        let other : s (side (suc l)) (suc l) ≡ sideHalf k (2 * h) rootList = at-side (suc l) (omega arith) lt ∙ rw small (ap (sideHalf k (2 * h)) root-list) in
+        let path : s N (suc l) ≡ pathHalf k (2 * h) rootList = at-N (suc l) (omega arith) high ∙ rw (small, e, eq-eqb (suc l) (suc l) refl)
+        (ap (pathHalf k (2 * h)) root-list) in
+        let other : s (side (suc l)) (suc l) ≡ sideHalf k (2 * h) rootList = at-side (suc l) (omega arith) lt ∙ rw small
+        (ap (sideHalf k (2 * h)) root-list) in
         let crown : s N (suc (suc l)) ≡ two k N (side (suc l)) (2 * h) (next rootList 0) rootList =
-        at-N (suc (suc l)) (omega arith) (omega (arith, u .0)) ∙ rw (none, e, ne, eq-eqb (suc (suc l)) (suc (suc l)) refl) (ap (λ x. two k N (side (suc l)) (2 * h) (next x 0) x) root-list) in
-        let w = insert-grow N 4294967296 (half g) (rootMost g) r s fit fit′ (λ l. fit-side g shape n c (good .r2) m free m (suc l) some-m (omega arith)) (keep g shape n c (good .r2) m free) stays (λ l. new-side g shape n c (good .r2) m free m l some-m (omega arith))
+        at-N (suc (suc l)) (omega arith) (omega (arith, u .0)) ∙ rw (none, e, ne, eq-eqb (suc (suc l)) (suc (suc l)) refl)
+        (ap (λ x. two k N (side (suc l)) (2 * h) (next x 0) x) root-list) in
+        let w = insert-grow N 4294967296 (half g) (rootMost g) r s fit fit′ (λ l. fit-side g shape n c (good .r2) m free m (suc l) some-m
+        (omega arith)) (keep g shape n c (good .r2) m free) stays (λ l. new-side g shape n c (good .r2) m free m l some-m (omega arith))
         k a side Cut tt k-low apart inj (λ l j h. new-side g shape n c (good .r2) m free l j (h .0) (omega (arith, h .1)))
-        l (c .root) (good .sound) made (path, other, fit-side g shape n c (good .r2) m free (suc l) (suc l) (omega arith) (omega (arith, lt))) (omega arith, lt) crown (sym (ap length root-list) ∙ u .1) (two-most (u .0)) in
+        l (c .root) (good .sound) made (path, other, fit-side g shape n c (good .r2) m free (suc l) (suc l) (omega arith) (omega (arith, lt)))
+        (omega arith, lt) crown (sym (ap length root-list) ∙ u .1) (two-root (u .0)) in
         (record { r2 = after-r2; sound = w .0 }, w .1)
-      where
-        two-most : suc (c .level) < g .top → 2 ≤ pick (ltb (suc (suc (c .level))) (g .top)) (rootSlots g (suc (suc (c .level))) - 1) (rootSlots g (suc (suc (c .level))))
-        two-most lo = by-test (ltb (suc (suc (c .level))) (g .top))
-            (λ x. let y = ltb-true (suc (suc (c .level))) (g .top) x in let d = shape .double (suc (suc (c .level))) (omega arith) y in let z = shape .some (suc (suc (c .level))) (omega arith) y in rw x (omega (arith, d, z)))
-            (λ x. let y : suc (suc (c .level)) ≡ g .top = omega (arith, lo, ltb-false (suc (suc (c .level))) (g .top) x) in let d = ap (rootSlots g) y in let z = shape .top-slots in rw x (omega (arith, d, z)))
 
     pub insert-done : tooHigh g c k ≡ false → Done (crownHeight g (suc (c .level)) (lists (suc (c .level))) - 1)
     unfolding crownHeight

@@ -14,14 +14,14 @@ use Rattle.geometry.specs.Geometry.{half, rootMost}
 use Rattle.geometry.specs.Shape.{Shape}
 use Rattle.model.specs.Count.{count}
 use Rattle.model.specs.Image.{Chip, theRoot}
-use Rattle.model.specs.Tree.{under, placesOf, live, lowLevel, next, chosen, find}
+use Rattle.model.specs.Tree.{mapOf, placesOf, live, lowLevel, next, chosen, find}
 use Rattle.model.specs.Next.{firstIn, nextBlock, nextPage, after}
 use Rattle.model.specs.Edit.{splice, renamed, same}
 use Rattle.model.specs.Collect.{moveKey, movePart}
 use Rattle.trees.specs.Tests.{true-false}
 use Rattle.trees.specs.Lists.{All, Mem, all-get}
-use Rattle.trees.specs.Nodes.{the, fitOf}
-use Rattle.trees.specs.Move.{moved, MovMade}
+use Rattle.trees.specs.Nodes.{fitOf}
+use Rattle.trees.specs.Move.{moved, MoveMade}
 use Rattle.trees.specs.Proper.{places-level, root-first, root-fit, Moved, move-sound}
 use Rattle.trees.specs.Path.{same-as, same-root, root-is, onPath-top, made-from}
 use Rattle.trees.specs.Like.{Likes, Like, move-root-like}
@@ -37,7 +37,7 @@ moveTo c p m = record { er = after m (c .er); nodes = λ q j. pick (eqb q m) (mo
 -- what a move does: sound again, the same pairs, p dead, nothing else come alive but the new page, one page fewer erased
 pub record MoveStep (g : Geometry) (n : ℕ) (c c′ : Chip) (p new : ℕ) : Type 0 where
   pub good : Whole g n c′
-  pub pairs-are : under (c′ .nodes) (suc (c′ .level)) (the (c′ .root)) ≡ under (c .nodes) (suc (c .level)) (the (c .root))
+  pub pairs-are : mapOf c′ ≡ mapOf c
   pub was : c .er new ≡ true
   pub ers : (q : ℕ) → c .er q ≡ false → c′ .er q ≡ false
   pub dead : live (placesOf c′) p ≡ false
@@ -46,7 +46,8 @@ pub record MoveStep (g : Geometry) (n : ℕ) (c c′ : Chip) (p new : ℕ) : Typ
   pub alike : Same g c c′
   pub frees : count (g .pages * n) (c .er) ≡ suc (count (g .pages * n) (c′ .er))
 
-module _ (g : Geometry) (shape : Shape g) (n : ℕ) (c : Chip) (good : Whole g n c) (p : ℕ) (alive : live (placesOf c) p ≡ true) (free : 1 ≤ count (g .pages * n) (c .er)) where
+module _ (g : Geometry) (shape : Shape g) (n : ℕ) (c : Chip) (good : Whole g n c) (p : ℕ) (alive : live (placesOf c) p ≡ true)
+    (free : 1 ≤ count (g .pages * n) (c .er)) where
   abbrev new : ℕ
   new = nextPage (g .pages) n (c .er)
 
@@ -81,7 +82,8 @@ module _ (g : Geometry) (shape : Shape g) (n : ℕ) (c : Chip) (good : Whole g n
   unfolding moveTo
   on-new j = rw (eq-eqb new new refl) refl
 
-  low : Mem (record { page = p; level = lowLevel (placesOf c) p }) (placesOf c) × All (λ x. x .page ≡ p → lowLevel (placesOf c) p ≤ x .level) (placesOf c)
+  low : Mem (record { page = p; level = lowLevel (placesOf c) p }) (placesOf c) × All (λ x. x .page ≡ p → lowLevel (placesOf c) p ≤ x .level)
+      (placesOf c)
   low = low-is (placesOf c) p alive
 
   abbrev a : ℕ
@@ -97,31 +99,38 @@ module _ (g : Geometry) (shape : Shape g) (n : ℕ) (c : Chip) (good : Whole g n
   fit = fitOf (g .pages * n) (c .er)
 
   k-low : k < 4294967296
-  k-low = all-get (λ x. next (c .nodes (x .page) (x .level)) 0 < 4294967296) (record { page = p; level = a }) (placesOf c) (root-first fit (λ l. 2 * half g l) (rootMost g) (c .nodes) (c .level) (c .root) 4294967296 (omega arith) (good .sound .rooted)) (low .0)
+  k-low = all-get (λ x. next (c .nodes (x .page) (x .level)) 0 < 4294967296) (record { page = p; level = a }) (placesOf c)
+      (root-first fit (λ l. 2 * half g l) (rootMost g) (c .nodes) (c .level) (c .root) 4294967296 (omega arith) (good .sound .rooted)) (low .0)
 
   some-root : 1 ≤ c .level → 0 < length es
   some-root i = let z = good .sound .rooted .least i in omega (arith, z)
 
-  made : MovMade (c .nodes) (c′ .nodes) k a new (c .level) (chosen k es)
+  made : MoveMade (c .nodes) (c′ .nodes) k a new (c .level) (chosen k es)
   unfolding movePart
-  made = made-from fit (λ l. 2 * half g l) (c .nodes) k same (λ e. e ∷ []) (renamed a new) (same-as k) (λ j d. a ≤ j → c′ .nodes new j ≡ d) (c .level) 4294967296 (theRoot c) k-low some-root (good .sound .rooted .rises)
+  made = made-from fit (λ l. 2 * half g l) (c .nodes) k same (λ e. e ∷ []) (renamed a new) (same-as k) (λ j d. a ≤ j → c′ .nodes new j ≡ d)
+      (c .level) 4294967296 (theRoot c) k-low some-root (good .sound .rooted .rises)
       (λ j b d w. on-new j ∙ rw (le-leb a j w) refl)
 
   a-in : a ≤ suc (c .level)
-  a-in = all-get (λ x. (1 ≤ x .level) × (x .level ≤ suc (c .level))) (record { page = p; level = a }) (placesOf c) (places-level (c .nodes) (suc (c .level)) (theRoot c)) (low .0) .1
+  a-in = all-get (λ x. (1 ≤ x .level) × (x .level ≤ suc (c .level))) (record { page = p; level = a }) (placesOf c)
+      (places-level (c .nodes) (suc (c .level)) (theRoot c)) (low .0) .1
 
   at-root : c′ .nodes new (suc (c .level)) ≡ splice (moved (c .nodes) k a new (c .level)) k es
   unfolding movePart
   at-root = on-new (suc (c .level)) ∙ rw (le-leb a (suc (c .level)) a-in)
       (onPath-top fit (λ l. 2 * half g l) (c .nodes) k same (λ e. e ∷ []) (renamed a new) (same-as k) (c .level) (theRoot c)
-      ∙ root-is fit (λ l. 2 * half g l) (c .nodes) k same (λ e. e ∷ []) (renamed a new) (same-as k) (c .level) 4294967296 (c .root) k-low some-root (good .sound .rooted .rises)
+      ∙ root-is fit (λ l. 2 * half g l) (c .nodes) k same (λ e. e ∷ []) (renamed a new) (same-as k) (c .level) 4294967296 (c .root) k-low some-root
+      (good .sound .rooted .rises)
       ∙ same-root (c .nodes) k (renamed a new) (c .level) es)
 
   fit-new : (l : ℕ) → fitOf (g .pages * n) (after new (c .er)) (suc l) new
   fit-new l = (new-in, rw (eq-eqb new new refl) refl)
 
-  the-move : Moved p (lowLevel (placesOf c) p) new 4294967296 (half g) (rootMost g) (c .nodes) (c′ .nodes) (fitOf (g .pages * n) (c .er)) (fitOf (g .pages * n) (after new (c .er))) fit-new keep stays (λ l h. not-new new l h refl) (c .level) (c .root) (good .sound) (low .0) (low .1)
-  the-move = move-sound p (lowLevel (placesOf c) p) new 4294967296 (half g) (rootMost g) (c .nodes) (c′ .nodes) (fitOf (g .pages * n) (c .er)) (fitOf (g .pages * n) (after new (c .er))) fit-new keep stays (λ l h. not-new new l h refl) (c .level) (c .root) (good .sound) (low .0) (low .1) made at-root
+  the-move : Moved p (lowLevel (placesOf c) p) new 4294967296 (half g) (rootMost g) (c .nodes) (c′ .nodes) (fitOf (g .pages * n) (c .er))
+      (fitOf (g .pages * n) (after new (c .er))) fit-new keep stays (λ l h. not-new new l h refl) (c .level) (c .root) (good .sound) (low .0) (low .1)
+  the-move = move-sound p (lowLevel (placesOf c) p) new 4294967296 (half g) (rootMost g) (c .nodes) (c′ .nodes) (fitOf (g .pages * n) (c .er))
+      (fitOf (g .pages * n) (after new (c .er))) fit-new keep stays (λ l h. not-new new l h refl) (c .level) (c .root) (good .sound) (low .0)
+      (low .1) made at-root
 
   pub move-step : MoveStep g n c c′ p new
   unfolding moveTo
@@ -133,9 +142,11 @@ module _ (g : Geometry) (shape : Shape g) (n : ℕ) (c : Chip) (good : Whole g n
         ers = λ q h. still q h (eqb q new);
         dead = dead-live p (placesOf c′) (the-move .dead);
         others = λ q d. within-live new q (placesOf c) (placesOf c′) (the-move .within) d;
-        lives = count-moved (g .pages * n) p new (lowLevel (placesOf c) p) (placesOf c) (placesOf c′) (old-p .0) new-in (λ e. true-false (c .er new) (found .2) (rw (← e) (old-p .1))) (low .0) (the-move .dead) (the-move .within);
+        lives = count-moved (g .pages * n) p new (lowLevel (placesOf c) p) (placesOf c) (placesOf c′) (old-p .0) new-in
+            (λ e. true-false (c .er new) (found .2) (rw (← e) (old-p .1))) (low .0) (the-move .dead) (the-move .within);
         alike = alike′;
-        frees = let u : bit (ltb new (g .pages * n)) ≡ 1 = rw (lt-ltb new (g .pages * n) new-in) refl in omega (arith, count-after (g .pages * n) new (c .er) (found .2), u);
+        frees = let u : bit (ltb new (g .pages * n)) ≡ 1 = rw (lt-ltb new (g .pages * n) new-in) refl in
+            omega (arith, count-after (g .pages * n) new (c .er) (found .2), u);
       }
     where
       good′ : Whole g n c′
@@ -143,7 +154,9 @@ module _ (g : Geometry) (shape : Shape g) (n : ℕ) (c : Chip) (good : Whole g n
 
       alike′ : Same g c c′
       alike′ = same-like g (g .pages * n) (c .er) (c′ .er) (c .nodes) (c′ .nodes) (c .level) (c .root) new (good .sound .rooted)
-          (subst (λ m. Likes (Like (c .nodes) (c′ .nodes) (c .level)) es m) (sym at-root) (move-root-like k a new (λ l. 2 * half g l) (c .nodes) (c′ .nodes) fit stays (c .level) 4294967296 es k-low (good .sound .rooted .rises) made))
+          (subst (λ m. Likes (Like (c .nodes) (c′ .nodes) (c .level)) es m) (sym at-root)
+          (move-root-like k a new (λ l. 2 * half g l) (c .nodes) (c′ .nodes) fit stays (c .level) 4294967296 es k-low
+          (good .sound .rooted .rises) made))
           (λ k q. sought-map g n c′ good′ k q ∙ ap (find k) (the-move .pairs-are) ∙ sym (sought-map g n c good k q))
 
       still : (q : ℕ) → c .er q ≡ false → (t : Bool) → pick t false (c .er q) ≡ false
@@ -155,4 +168,7 @@ module _ (g : Geometry) (shape : Shape g) (n : ℕ) (c : Chip) (good : Whole g n
       above (suc a) h = h .1
 
       old-p : (p < g .pages * n) × (c .er p ≡ false)
-      old-p = above (lowLevel (placesOf c) p) (all-get (λ x. (1 ≤ x .level) × fitOf (g .pages * n) (c .er) (x .level) (x .page)) (record { page = p; level = lowLevel (placesOf c) p }) (placesOf c) (root-fit (fitOf (g .pages * n) (c .er)) (λ l. 2 * half g l) (rootMost g) (c .nodes) (c .level) (c .root) 4294967296 (good .sound .rooted)) (low .0))
+      old-p = above (lowLevel (placesOf c) p) (all-get (λ x. (1 ≤ x .level) × fitOf (g .pages * n) (c .er) (x .level) (x .page))
+          (record { page = p; level = lowLevel (placesOf c) p }) (placesOf c)
+          (root-fit (fitOf (g .pages * n) (c .er)) (λ l. 2 * half g l) (rootMost g) (c .nodes) (c .level) (c .root) 4294967296 (good .sound .rooted))
+          (low .0))

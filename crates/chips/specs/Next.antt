@@ -1,4 +1,5 @@
--- The next page: R2 is kept, and there is one while a page is erased. Assumes nothing.
+-- The next page: R2 is kept, and there is one while a page is erased. g is a block's pages.
+-- Assumes nothing.
 use mathlib.Core.Path.{_≡_, refl, ap, sym, _∙_}
 use mathlib.Core.Bool.{Bool, true, false}
 use Prim.Native.Nat.{ℕ, zero, suc, _+_, _-_, _*_, _<_, _≤_}
@@ -26,7 +27,12 @@ least-is (suc n) f = go (ltb (least n f) n) (f n) refl refl (least-is n f)
     go : (t u : Bool) → ltb (least n f) n ≡ t → f n ≡ u → Least n f (least n f) → Least (suc n) f (pick t (least n f) (pick u n (suc n)))
     go true u a b h = let w = ltb-true (least n f) n a in record { upto = omega arith; hit = λ _. h .hit w; before = h .before }
     go false true a b h = let w = ltb-false (least n f) n a in record { upto = omega arith; hit = λ _. b; before = λ j q. h .before j (omega arith) }
-    go false false a b h = let w = ltb-false (least n f) n a in record { upto = omega arith; hit = λ q. absurd (omega arith); before = λ j q. pre j q (ltb j n) refl }
+    go false false a b h = let w = ltb-false (least n f) n a in record {
+      upto = omega arith;
+      hit = λ q. absurd (omega arith);
+      before = λ j q. pre j q
+          (ltb j n) refl;
+    }
       where
         pre : (j : ℕ) → j < suc n → (t : Bool) → ltb j n ≡ t → f j ≡ false
         pre j q true e = let z = ltb-true j n e in h .before j (omega (arith, ltb-false (least n f) n a))
@@ -51,7 +57,8 @@ pub by-block : (g n q : ℕ) → q < g * n → (c : ℕ) × (j : ℕ) × (c < n)
 by-block g zero q h = absurd (omega (arith, mul-zero g))
 by-block g (suc n) q h = go (ltb q (g * n)) refl (by-block g n q)
   where
-    go : (t : Bool) → ltb q (g * n) ≡ t → (q < g * n → (c : ℕ) × (j : ℕ) × (c < n) × (j < g) × (q ≡ g * c + j)) → (c : ℕ) × (j : ℕ) × (c < suc n) × (j < g) × (q ≡ g * c + j)
+    go : (t : Bool) → ltb q (g * n) ≡ t → (q < g * n → (c : ℕ) × (j : ℕ) × (c < n) × (j < g) × (q ≡ g * c + j))
+        → (c : ℕ) × (j : ℕ) × (c < suc n) × (j < g) × (q ≡ g * c + j)
     go true e k = let w = k (ltb-true q (g * n) e) in (w .0, w .1, omega (arith, w .2), w .3, w .4)
     go false e k = let z = ltb-false q (g * n) e in (n, q - g * n, omega arith, omega (arith, mul-suc g n), omega arith)
 
@@ -72,18 +79,23 @@ module _ (g n : ℕ) (er : ℕ → Bool) (g-pos : 1 ≤ g) (r2 : R2 g n er) wher
   first-in : (b j : ℕ) → j < g → er (g * b + j) ≡ true → (firstIn g er b ≤ j) × (er (g * b + firstIn g er b) ≡ true)
   first-in b j q h = let l = least-is g (λ j. er (g * b + j)) in go l (ltb j (firstIn g er b)) refl
     where
-      go : Least g (λ j. er (g * b + j)) (firstIn g er b) → (t : Bool) → ltb j (firstIn g er b) ≡ t → (firstIn g er b ≤ j) × (er (g * b + firstIn g er b) ≡ true)
+      go : Least g (λ j. er (g * b + j)) (firstIn g er b) → (t : Bool) → ltb j (firstIn g er b) ≡ t
+          → (firstIn g er b ≤ j) × (er (g * b + firstIn g er b) ≡ true)
       go l true e = absurd (true-false (er (g * b + j)) h (l .before j (ltb-true j (firstIn g er b) e)))
       go l false e = let z = ltb-false j (firstIn g er b) e in (z, l .hit (omega arith))
 
   -- if a page is erased, the next page is one of them
-  pub next-erased : (c j : ℕ) → c < n → j < g → er (g * c + j) ≡ true → (nextBlock g n er < n) × (firstIn g er (nextBlock g n er) < g) × (er (nextPage g n er) ≡ true)
+  pub next-erased : (c j : ℕ) → c < n → j < g → er (g * c + j) ≡ true
+      → (nextBlock g n er < n) × (firstIn g er (nextBlock g n er) < g) × (er (nextPage g n er) ≡ true)
   unfolding nextBlock
   next-erased c j q w h = go (ltb (least n (mixed g er)) n) refl (least-is n (mixed g er)) (least-is n (λ b. er (g * b + 0)))
     where
-      go : (t : Bool) → ltb (least n (mixed g er)) n ≡ t → Least n (mixed g er) (least n (mixed g er)) → Least n (λ b. er (g * b + 0)) (least n (λ b. er (g * b + 0)))
-          → (pick t (least n (mixed g er)) (least n (λ b. er (g * b + 0))) < n) × (firstIn g er (pick t (least n (mixed g er)) (least n (λ b. er (g * b + 0)))) < g)
-          × (er (g * pick t (least n (mixed g er)) (least n (λ b. er (g * b + 0))) + firstIn g er (pick t (least n (mixed g er)) (least n (λ b. er (g * b + 0))))) ≡ true)
+      go : (t : Bool) → ltb (least n (mixed g er)) n ≡ t → Least n (mixed g er) (least n (mixed g er))
+          → Least n (λ b. er (g * b + 0)) (least n (λ b. er (g * b + 0)))
+          → (pick t (least n (mixed g er)) (least n (λ b. er (g * b + 0))) < n) ×
+          (firstIn g er (pick t (least n (mixed g er)) (least n (λ b. er (g * b + 0)))) < g)
+          × (er (g * pick t (least n (mixed g er)) (least n (λ b. er (g * b + 0))) + firstIn g er
+          (pick t (least n (mixed g er)) (least n (λ b. er (g * b + 0))))) ≡ true)
       go true e l k =
           let b = least n (mixed g er) in
           let z = ltb-true b n e in
@@ -99,11 +111,13 @@ module _ (g n : ℕ) (er : ℕ → Bool) (g-pos : 1 ≤ g) (r2 : R2 g n er) wher
           let f = first-in b 0 (omega arith) (k .hit b-in) in
           (b-in, omega (arith, f .0), f .1)
         where
-          is-blank : (t : Bool) → er (g * c + 0) ≡ t → pick t false (er (g * c + (g - 1))) ≡ false → er (g * c + (g - 1)) ≡ true → er (g * c + 0) ≡ true
+          is-blank : (t : Bool) → er (g * c + 0) ≡ t → pick t false (er (g * c + (g - 1))) ≡ false → er (g * c + (g - 1)) ≡ true
+              → er (g * c + 0) ≡ true
           is-blank true x y v = x
           is-blank false x y v = absurd (true-false (er (g * c + (g - 1))) v y)
 
-          small : (t : Bool) → ltb c (least n (λ b. er (g * b + 0))) ≡ t → er (g * c + 0) ≡ true → Least n (λ b. er (g * b + 0)) (least n (λ b. er (g * b + 0))) → least n (λ b. er (g * b + 0)) < n
+          small : (t : Bool) → ltb c (least n (λ b. er (g * b + 0))) ≡ t → er (g * c + 0) ≡ true
+              → Least n (λ b. er (g * b + 0)) (least n (λ b. er (g * b + 0))) → least n (λ b. er (g * b + 0)) < n
           small true x y v = absurd (true-false (er (g * c + 0)) y (v .before c (ltb-true c (least n (λ b. er (g * b + 0))) x)))
           small false x y v = let z = ltb-false c (least n (λ b. er (g * b + 0))) x in omega arith
 
@@ -112,7 +126,8 @@ module _ (g n : ℕ) (er : ℕ → Bool) (g-pos : 1 ≤ g) (r2 : R2 g n er) wher
   unfolding nextBlock
   mixed-next b q h = go (ltb (least n (mixed g er)) n) refl (least-is n (mixed g er))
     where
-      go : (t : Bool) → ltb (least n (mixed g er)) n ≡ t → Least n (mixed g er) (least n (mixed g er)) → b ≡ pick t (least n (mixed g er)) (least n (λ b. er (g * b + 0)))
+      go : (t : Bool) → ltb (least n (mixed g er)) n ≡ t → Least n (mixed g er) (least n (mixed g er))
+          → b ≡ pick t (least n (mixed g er)) (least n (λ b. er (g * b + 0)))
       go true e l = let z = ltb-true (least n (mixed g er)) n e in r2 .one b (least n (mixed g er)) q z h (l .hit z)
       go false e l = let z = ltb-false (least n (mixed g er)) n e in absurd (true-false (mixed g er b) h (l .before b (omega arith)))
 
@@ -121,7 +136,8 @@ module _ (g n : ℕ) (er : ℕ → Bool) (g-pos : 1 ≤ g) (r2 : R2 g n er) wher
     er′ = after (nextPage g n er) er
 
     elsewhere : (b j : ℕ) → j < g → ((b ≡ nextBlock g n er) → (j ≡ firstIn g er (nextBlock g n er)) → ⊥) → er′ (g * b + j) ≡ er (g * b + j)
-    elsewhere b j q d = rw (ne-eqb (g * b + j) (nextPage g n er) (λ e. let z = page-inj g b (nextBlock g n er) j (firstIn g er (nextBlock g n er)) q inside e in d (z .0) (z .1))) refl
+    elsewhere b j q d = rw (ne-eqb (g * b + j) (nextPage g n er) (λ e. let z = page-inj g b (nextBlock g n er) j
+        (firstIn g er (nextBlock g n er)) q inside e in d (z .0) (z .1))) refl
 
     true-old : (q : ℕ) → er′ q ≡ true → (er q ≡ true) × (q ≡ nextPage g n er → ⊥)
     true-old q h = go (eqb q (nextPage g n er)) refl h
@@ -143,7 +159,8 @@ module _ (g n : ℕ) (er : ℕ → Bool) (g-pos : 1 ≤ g) (r2 : R2 g n er) wher
             ∙ r2 .mono b i j p q w (o .0)
 
         there : (b : ℕ) → b < n → mixed g er′ b ≡ true → b ≡ nextBlock g n er
-        there b p h = by-eq b (nextBlock g n er) (λ z. z) (λ z. mixed-next b p (rw (← elsewhere b 0 (omega arith) (λ e _. z e), ← elsewhere b (g - 1) (omega arith) (λ e _. z e)) h))
+        there b p h = by-eq b (nextBlock g n er) (λ z. z) (λ z. mixed-next b p
+            (rw (← elsewhere b 0 (omega arith) (λ e _. z e), ← elsewhere b (g - 1) (omega arith) (λ e _. z e)) h))
 
 -- ---- the pages to come
 pub record Step (g n : ℕ) (er : ℕ → Bool) (i : ℕ) : Type 0 where
@@ -152,7 +169,9 @@ pub record Step (g n : ℕ) (er : ℕ → Bool) (i : ℕ) : Type 0 where
 
 -- while pages are left the i-th one to come is erased, also at the beginning
 module _ (g n : ℕ) (er : ℕ → Bool) (g-pos : 1 ≤ g) (start : R2 g n er) where
-  now-erased : (i : ℕ) → Step g n er i → i < count (g * n) er → (nextBlock g n (taken g n er i) < n) × (firstIn g (taken g n er i) (nextBlock g n (taken g n er i)) < g) × (taken g n er i (nth g n er i) ≡ true)
+  now-erased : (i : ℕ) → Step g n er i → i < count (g * n) er
+      → (nextBlock g n (taken g n er i) < n) × (firstIn g (taken g n er i) (nextBlock g n (taken g n er i)) < g) ×
+      (taken g n er i (nth g n er i) ≡ true)
   now-erased i s h =
       let f = some-true (g * n) (taken g n er i) (omega (arith, s .left)) in
       let w = by-block g n (f .0) (f .1) in
@@ -174,12 +193,18 @@ module _ (g n : ℕ) (er : ℕ → Bool) (g-pos : 1 ≤ g) (start : R2 g n er) w
   earlier zero q h = (h, λ j z. absurd (omega arith))
   earlier (suc i) q h = go (eqb q (nth g n er i)) refl h (earlier i q)
     where
-      go : (t : Bool) → eqb q (nth g n er i) ≡ t → pick t false (taken g n er i q) ≡ true → (taken g n er i q ≡ true → (er q ≡ true) × ((j : ℕ) → j < i → q ≡ nth g n er j → ⊥)) → (er q ≡ true) × ((j : ℕ) → j < suc i → q ≡ nth g n er j → ⊥)
+      go : (t : Bool) → eqb q (nth g n er i) ≡ t → pick t false (taken g n er i q) ≡ true
+          → (taken g n er i q ≡ true → (er q ≡ true) × ((j : ℕ) → j < i → q ≡ nth g n er j → ⊥))
+          → (er q ≡ true) × ((j : ℕ) → j < suc i → q ≡ nth g n er j → ⊥)
       go true e k f = absurd (true-false false k refl)
       go false e k f = (f k .0, λ j z. by-eq j i (λ w y. eqb-false q (nth g n er i) e (y ∙ ap (nth g n er) w)) (λ w. f k .1 j (omega arith)))
 
   pub nth-erased : (i : ℕ) → i < count (g * n) er → (er (nth g n er i) ≡ true) × (nth g n er i < g * n)
-  nth-erased i h = let w = now-erased i (step i (omega arith)) h in (earlier i (nth g n er i) (w .2) .0, in-range g n (nextBlock g n (taken g n er i)) (firstIn g (taken g n er i) (nextBlock g n (taken g n er i))) (w .0) (w .1))
+  nth-erased i h = let w = now-erased i (step i (omega arith)) h in (
+    earlier i (nth g n er i) (w .2) .0,
+    in-range g n (nextBlock g n (taken g n er i))
+        (firstIn g (taken g n er i) (nextBlock g n (taken g n er i))) (w .0) (w .1),
+  )
 
   pub nth-apart : (i j : ℕ) → j < i → i < count (g * n) er → nth g n er i ≡ nth g n er j → ⊥
   nth-apart i j q h = earlier i (nth g n er i) (now-erased i (step i (omega arith)) h .2) .1 j q

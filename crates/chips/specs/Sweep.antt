@@ -8,11 +8,10 @@ use Rattle.geometry.specs.Tests.{pick, bit}
 use Rattle.geometry.specs.Shape.{Shape}
 use Rattle.model.specs.Count.{count}
 use Rattle.model.specs.Image.{Chip}
-use Rattle.model.specs.Tree.{under, placesOf, live}
+use Rattle.model.specs.Tree.{mapOf, placesOf, live}
 use Rattle.model.specs.Next.{nextPage}
 use Rattle.model.specs.Collect.{livesIn}
 use Rattle.trees.specs.Tests.{by-eq, true-false}
-use Rattle.trees.specs.Nodes.{the}
 use Rattle.chips.specs.Count.{count-drop}
 use Rattle.chips.specs.Whole.{Whole, Same, same-self, same-then}
 use Rattle.chips.specs.Moves.{moveTo, MoveStep, move-step}
@@ -24,7 +23,8 @@ bit-zero false c h e = refl
 -- the last j pages of block v, in rising order, each live one moved
 unfoldable pub sweep : Geometry → ℕ → ℕ → ℕ → Chip → Chip
 sweep g n v zero c = c
-sweep g n v (suc j) c = pick (live (placesOf c) (g .pages * v + (g .pages - suc j))) (sweep g n v j (moveTo c (g .pages * v + (g .pages - suc j)) (nextPage (g .pages) n (c .er)))) (sweep g n v j c)
+sweep g n v (suc j) c = pick (live (placesOf c) (g .pages * v + (g .pages - suc j)))
+    (sweep g n v j (moveTo c (g .pages * v + (g .pages - suc j)) (nextPage (g .pages) n (c .er)))) (sweep g n v j c)
 
 -- block v is full, has no more live pages than there are erased ones, and its first (g .pages) - j pages are dead
 pub record Sweeping (g : Geometry) (n : ℕ) (v j : ℕ) (c : Chip) : Type 0 where
@@ -35,7 +35,7 @@ pub record Sweeping (g : Geometry) (n : ℕ) (v j : ℕ) (c : Chip) : Type 0 whe
 
 pub record Swept (g : Geometry) (n : ℕ) (v : ℕ) (c c′ : Chip) : Type 0 where
   pub done : Sweeping g n v 0 c′
-  pub pairs-are : under (c′ .nodes) (suc (c′ .level)) (the (c′ .root)) ≡ under (c .nodes) (suc (c .level)) (the (c .root))
+  pub pairs-are : mapOf c′ ≡ mapOf c
   pub lives : count (g .pages * n) (live (placesOf c′)) ≤ count (g .pages * n) (live (placesOf c))
   pub alike : Same g c c′
   pub frees : count (g .pages * n) (c .er) ≤ count (g .pages * n) (c′ .er) + livesIn (g .pages) v c
@@ -43,7 +43,9 @@ pub record Swept (g : Geometry) (n : ℕ) (v : ℕ) (c c′ : Chip) : Type 0 whe
 module _ (g : Geometry) (shape : Shape g) (n : ℕ) (v : ℕ) where
   -- one move within the sweep
   pub moved-on : (j : ℕ) (c : Chip) → suc j ≤ g .pages → Sweeping g n v (suc j) c → live (placesOf c) (g .pages * v + (g .pages - suc j)) ≡ true
-      → Sweeping g n v j (moveTo c (g .pages * v + (g .pages - suc j)) (nextPage (g .pages) n (c .er))) × MoveStep g n c (moveTo c (g .pages * v + (g .pages - suc j)) (nextPage (g .pages) n (c .er))) (g .pages * v + (g .pages - suc j)) (nextPage (g .pages) n (c .er))
+      → Sweeping g n v j (moveTo c (g .pages * v + (g .pages - suc j)) (nextPage (g .pages) n (c .er))) × MoveStep g n c
+      (moveTo c (g .pages * v + (g .pages - suc j)) (nextPage (g .pages) n (c .er))) (g .pages * v + (g .pages - suc j))
+      (nextPage (g .pages) n (c .er))
       × (suc (livesIn (g .pages) v (moveTo c (g .pages * v + (g .pages - suc j)) (nextPage (g .pages) n (c .er)))) ≤ livesIn (g .pages) v c)
   moved-on j c q h a = (record { good = m .good; full = full′; few = omega (arith, m .frees, fewer, h .few); dead = dead′ }, m, fewer)
     where
@@ -57,7 +59,11 @@ module _ (g : Geometry) (shape : Shape g) (n : ℕ) (v : ℕ) where
       c′ = moveTo c p new
 
       one : 1 ≤ livesIn (g .pages) v c
-      one = omega (arith, count-drop (g .pages) (g .pages - suc j) (λ i. live (placesOf c) (g .pages * v + i)) (λ _. false) (omega arith) a refl (λ i _. omega arith))
+      one = omega (
+        arith,
+        count-drop (g .pages) (g .pages - suc j) (λ i. live (placesOf c) (g .pages * v + i)) (λ _. false) (omega arith) a refl
+            (λ i _. omega arith),
+      )
 
       m : MoveStep g n c c′ p new
       m = move-step g shape n c (h .good) p a (omega (arith, one, h .few))
@@ -69,10 +75,12 @@ module _ (g : Geometry) (shape : Shape g) (n : ℕ) (v : ℕ) where
       full′ i w = m .ers (g .pages * v + i) (h .full i w)
 
       fewer : suc (livesIn (g .pages) v c′) ≤ livesIn (g .pages) v c
-      fewer = count-drop (g .pages) (g .pages - suc j) (λ i. live (placesOf c) (g .pages * v + i)) (λ i. live (placesOf c′) (g .pages * v + i)) (omega arith) a (m .dead) (λ i w. m .others (g .pages * v + i) (not-new i w))
+      fewer = count-drop (g .pages) (g .pages - suc j) (λ i. live (placesOf c) (g .pages * v + i)) (λ i. live (placesOf c′) (g .pages * v + i))
+          (omega arith) a (m .dead) (λ i w. m .others (g .pages * v + i) (not-new i w))
 
       dead′ : (i : ℕ) → i + j < g .pages → live (placesOf c′) (g .pages * v + i) ≡ false
-      dead′ i w = by-eq i (g .pages - suc j) (λ e. rw e (m .dead)) (λ e. bit-zero (live (placesOf c′) (g .pages * v + i)) (live (placesOf c) (g .pages * v + i)) (m .others (g .pages * v + i) (not-new i (omega arith))) (h .dead i (omega arith)))
+      dead′ i w = by-eq i (g .pages - suc j) (λ e. rw e (m .dead)) (λ e. bit-zero (live (placesOf c′) (g .pages * v + i))
+          (live (placesOf c) (g .pages * v + i)) (m .others (g .pages * v + i) (not-new i (omega arith))) (h .dead i (omega arith)))
 
   pub swept : (j : ℕ) (c : Chip) → j ≤ g .pages → Sweeping g n v j c → Swept g n v c (sweep g n v j c)
   unfolding sweep
@@ -82,13 +90,28 @@ module _ (g : Geometry) (shape : Shape g) (n : ℕ) (v : ℕ) where
       c′ : Chip
       c′ = moveTo c (g .pages * v + (g .pages - suc j)) (nextPage (g .pages) n (c .er))
 
-      go : (t : Bool) → live (placesOf c) (g .pages * v + (g .pages - suc j)) ≡ t → ((d : Chip) → Sweeping g n v j d → Swept g n v d (sweep g n v j d)) → Swept g n v c (pick t (sweep g n v j c′) (sweep g n v j c))
+      go : (t : Bool) → live (placesOf c) (g .pages * v + (g .pages - suc j)) ≡ t
+          → ((d : Chip) → Sweeping g n v j d → Swept g n v d (sweep g n v j d)) → Swept g n v c (pick t (sweep g n v j c′) (sweep g n v j c))
       go true e ih =
           let m = moved-on j c q h e in
           let w = ih c′ (m .0) in
-          record { done = w .done; pairs-are = w .pairs-are ∙ m .1 .pairs-are; lives = omega (arith, w .lives, m .1 .lives); alike = same-then g c c′ (sweep g n v j c′) (m .1 .alike) (w .alike); frees = omega (arith, w .frees, m .1 .frees, m .2) }
-      go false e ih = ih c (record { good = h .good; full = h .full; few = h .few; dead = λ i w. by-eq i (g .pages - suc j) (λ z. rw z e) (λ z. h .dead i (omega arith)) })
+          record {
+            done = w .done;
+            pairs-are = w .pairs-are ∙ m .1 .pairs-are;
+            lives = omega (arith, w .lives, m .1 .lives);
+            alike = same-then g c c′
+                (sweep g n v j c′) (m .1 .alike) (w .alike);
+            frees = omega (arith, w .frees, m .1 .frees, m .2);
+          }
+      go false e ih = ih c (record {
+        good = h .good;
+        full = h .full;
+        few = h .few;
+        dead = λ i w. by-eq i (g .pages - suc j) (λ z. rw z e)
+            (λ z. h .dead i (omega arith));
+      })
 
   -- the whole block: all its pages are dead afterwards
-  pub emptied : (c : Chip) → Whole g n c → ((i : ℕ) → i < g .pages → c .er (g .pages * v + i) ≡ false) → livesIn (g .pages) v c ≤ count (g .pages * n) (c .er) → Swept g n v c (sweep g n v (g .pages) c)
+  pub emptied : (c : Chip) → Whole g n c → ((i : ℕ) → i < g .pages → c .er (g .pages * v + i) ≡ false)
+      → livesIn (g .pages) v c ≤ count (g .pages * n) (c .er) → Swept g n v c (sweep g n v (g .pages) c)
   emptied c h f e = swept (g .pages) c (omega arith) (record { good = h; full = f; few = e; dead = λ i w. absurd (omega arith) })

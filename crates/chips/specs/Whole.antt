@@ -26,11 +26,13 @@ pub record Whole (g : Geometry) (n : ℕ) (c : Chip) : Type 0 where
 
 -- lookup answers as the map does
 pub sought-map : (g : Geometry) (n : ℕ) (c : Chip) → Whole g n c → (k : ℕ) → k < 4294967296 → sought c k ≡ find k (mapOf c)
-sought-map g n c h k q = find-root (fitOf (g .pages * n) (c .er)) (λ l. 2 * half g l) (c .nodes) k (rootMost g) 4294967296 (c .level) (c .root) q (h .sound .rooted)
+sought-map g n c h k q = find-root (fitOf (g .pages * n) (c .er)) (λ l. 2 * half g l) (c .nodes) k (rootMost g) 4294967296 (c .level) (c .root) q
+    (h .sound .rooted)
 
 -- the keys of the map rise strictly
 pub map-rises : (g : Geometry) (n : ℕ) (c : Chip) → Whole g n c → Rises (λ y x. Unit {0}) 4294967296 (mapOf c)
-map-rises g n c h = root-rises (fitOf (g .pages * n) (c .er)) (λ l. 2 * half g l) (c .nodes) 0 (rootMost g) 4294967296 (c .level) (c .root) (h .sound .rooted)
+map-rises g n c h = root-rises (fitOf (g .pages * n) (c .er)) (λ l. 2 * half g l) (c .nodes) 0 (rootMost g) 4294967296 (c .level) (c .root)
+    (h .sound .rooted)
 
 -- c′ needs as many pages as c, and is too high where c is
 pub record Same (g : Geometry) (c c′ : Chip) : Type 0 where
@@ -43,34 +45,47 @@ same-self g c = record { needs-is = λ k q. refl; high-is = λ k q. refl }
 pub same-then : (g : Geometry) (c d e : Chip) → Same g c d → Same g d e → Same g c e
 same-then g c d e h i = record { needs-is = λ k q. i .needs-is k q ∙ h .needs-is k q; high-is = λ k q. i .high-is k q ∙ h .high-is k q }
 
-module _ (g : Geometry) (t : ℕ) (er er′ : ℕ → Bool) (r s : Nodes) (l p p′ : ℕ) (root : Rooted (fitOf t er) (λ l. 2 * half g l) (rootMost g) 4294967296 r l p) (alike : Likes (Like r s l) (r p (suc l)) (s p′ (suc l))) where
+module _ (g : Geometry) (t : ℕ) (er er′ : ℕ → Bool) (r s : Nodes) (l p p′ : ℕ)
+    (root : Rooted (fitOf t er) (λ l. 2 * half g l) (rootMost g) 4294967296 r l p) (alike : Likes (Like r s l) (r p (suc l)) (s p′ (suc l))) where
   abbrev c : Chip
   c = record { er = er; nodes = r; level = l; root = p }
 
   abbrev c′ : Chip
   c′ = record { er = er′; nodes = s; level = l; root = p′ }
 
-  root-gains : (k : ℕ) (absent : Bool) → k < 4294967296 → (m : ℕ) → l ≡ m → gains r k (half g) absent l (chosen k (r p (suc l))) ≡ gains s k (half g) absent l (chosen k (s p′ (suc l)))
+  root-gains : (k : ℕ) (absent : Bool) → k < 4294967296 → (m : ℕ) → l ≡ m
+      → gains r k (half g) absent l (chosen k (r p (suc l))) ≡ gains s k (half g) absent l (chosen k (s p′ (suc l)))
   unfolding gains
-  root-gains k absent q zero e = subst (λ m. gains r k (half g) absent m (chosen k (r p (suc l))) ≡ gains s k (half g) absent m (chosen k (s p′ (suc l)))) (sym e) refl
+  root-gains k absent q zero e = subst (λ m. gains r k (half g) absent m (chosen k (r p (suc l))) ≡ gains s k (half g) absent m
+      (chosen k (s p′ (suc l)))) (sym e) refl
   root-gains k absent q (suc m) e =
       let b = root .least (omega (arith, e)) in
       let sp = split (Ok (fitOf t er) (λ l. 2 * half g l) r l) k 4294967296 (r p (suc l)) (omega (arith, b)) q (root .rises) in
-      gains-like (fitOf t er) (λ l. 2 * half g l) r s k (half g) absent l (next (sp .post) 4294967296) (chosen k (r p (suc l))) (chosen k (s p′ (suc l))) (sp .here) (sp .under)
+      gains-like (fitOf t er) (λ l. 2 * half g l) r s k (half g) absent l (next (sp .post) 4294967296) (chosen k (r p (suc l)))
+      (chosen k (s p′ (suc l))) (sp .here) (sp .under)
       (likes-chosen (Like r s l) k (r p (suc l)) (s p′ (suc l)) (like-key r s l) (omega (arith, b)) alike)
 
-  root-splits : (k : ℕ) (absent : Bool) → k < 4294967296 → (m : ℕ) → l ≡ m → splits r k (half g) absent l (chosen k (r p (suc l))) ≡ splits s k (half g) absent l (chosen k (s p′ (suc l)))
+  root-splits : (k : ℕ) (absent : Bool) → k < 4294967296 → (m : ℕ) → l ≡ m
+      → splits r k (half g) absent l (chosen k (r p (suc l))) ≡ splits s k (half g) absent l (chosen k (s p′ (suc l)))
   unfolding splits
-  root-splits k absent q zero e = subst (λ m. splits r k (half g) absent m (chosen k (r p (suc l))) ≡ splits s k (half g) absent m (chosen k (s p′ (suc l)))) (sym e) refl
+  root-splits k absent q zero e = subst (λ m. splits r k (half g) absent m (chosen k (r p (suc l))) ≡ splits s k (half g) absent m
+      (chosen k (s p′ (suc l)))) (sym e) refl
   root-splits k absent q (suc m) e =
       let b = root .least (omega (arith, e)) in
       let sp = split (Ok (fitOf t er) (λ l. 2 * half g l) r l) k 4294967296 (r p (suc l)) (omega (arith, b)) q (root .rises) in
-      splits-like (fitOf t er) (λ l. 2 * half g l) r s k (half g) absent l (next (sp .post) 4294967296) (chosen k (r p (suc l))) (chosen k (s p′ (suc l))) (sp .here) (sp .under)
+      splits-like (fitOf t er) (λ l. 2 * half g l) r s k (half g) absent l (next (sp .post) 4294967296) (chosen k (r p (suc l)))
+      (chosen k (s p′ (suc l))) (sp .here) (sp .under)
       (likes-chosen (Like r s l) k (r p (suc l)) (s p′ (suc l)) (like-key r s l) (omega (arith, b)) alike)
 
   pub same-like : ((k : ℕ) → k < 4294967296 → sought c′ k ≡ sought c k) → Same g c c′
   unfolding needs tooHigh rootGains
   same-like so = record {
-    needs-is = λ k q. sym (rw (so k q, likes-length (Like r s l) (r p (suc l)) (s p′ (suc l)) alike, root-splits k (isNone (sought c k)) q l refl, root-gains k (isNone (sought c k)) q l refl) refl);
-    high-is = λ k q. sym (rw (so k q, likes-length (Like r s l) (r p (suc l)) (s p′ (suc l)) alike, root-gains k (isNone (sought c k)) q l refl) refl);
+    needs-is = λ k q. sym (rw (
+      so k q,
+      likes-length (Like r s l) (r p (suc l)) (s p′ (suc l)) alike,
+      root-splits k (isNone (sought c k)) q l refl,
+      root-gains k (isNone (sought c k)) q l refl,
+    ) refl);
+    high-is = λ k q. sym (rw (so k q, likes-length (Like r s l) (r p (suc l)) (s p′ (suc l)) alike, root-gains k (isNone (sought c k)) q l refl)
+        refl);
   }

@@ -29,17 +29,31 @@ module _ (a : List ℕ) (p : ℕ) (b : List ℕ) (q n : ℕ) (copy : Copy a p b 
 
   pub copy-u32 : (o i j : ℕ) → i ≡ p + o → j ≡ q + o → o + 4 ≤ n → u32At b j ≡ u32At a i
   unfolding u32At
-  copy-u32 o i j e f h = rw (copy-byte o i j e f (omega arith), copy-byte (o + 1) (i + 1) (j + 1) (omega arith) (omega arith) (omega arith), copy-byte (o + 2) (i + 2) (j + 2) (omega arith) (omega arith) (omega arith), copy-byte (o + 3) (i + 3) (j + 3) (omega arith) (omega arith) (omega arith))
+  copy-u32 o i j e f h = rw (
+    copy-byte o i j e f (omega arith),
+    copy-byte (o + 1) (i + 1) (j + 1) (omega arith) (omega arith) (omega arith),
+    copy-byte
+        (o + 2) (i + 2) (j + 2) (omega arith) (omega arith) (omega arith),
+    copy-byte (o + 3) (i + 3) (j + 3) (omega arith) (omega arith) (omega arith),
+  )
 
   pub copy-blank : (m o i j : ℕ) → i ≡ p + o → j ≡ q + o → o + m ≤ n → blank b j m ≡ blank a i m
   unfolding blank
   copy-blank zero o i j e f h = refl
-  copy-blank (suc m) o i j e f h = rw (copy-byte o i j e f (omega arith), copy-blank m (o + 1) (i + 1) (j + 1) (omega arith) (omega arith) (omega arith))
+  copy-blank (suc m) o i j e f h = rw (
+    copy-byte o i j e f (omega arith),
+    copy-blank m (o + 1) (i + 1) (j + 1) (omega arith) (omega arith)
+        (omega arith),
+  )
 
   pub copy-entries : (m o i j : ℕ) → i ≡ p + o → j ≡ q + o → o + 8 * m ≤ n → entriesAt b j m ≡ entriesAt a i m
   unfolding entriesAt
   copy-entries zero o i j e f h = refl
-  copy-entries (suc m) o i j e f h = rw (copy-u32 o i j e f (omega arith), copy-u32 (o + 4) (i + 4) (j + 4) (omega arith) (omega arith) (omega arith), copy-entries m (o + 8) (i + 8) (j + 8) (omega arith) (omega arith) (omega arith))
+  copy-entries (suc m) o i j e f h = rw (
+    copy-u32 o i j e f (omega arith),
+    copy-u32 (o + 4) (i + 4) (j + 4) (omega arith) (omega arith) (omega arith),
+    copy-entries m (o + 8) (i + 8) (j + 8) (omega arith) (omega arith) (omega arith),
+  )
 
 -- ---- blank and its bytes
 pub blank-all : (img : List ℕ) (n at : ℕ) → ((k : ℕ) → k < n → byteAt img (at + k) ≡ 255) → blank img at n ≡ true
@@ -52,7 +66,8 @@ pub blank-get : (img : List ℕ) (n at k : ℕ) → blank img at n ≡ true → 
 unfolding blank
 blank-get img zero at k e h = absurd (omega arith)
 blank-get img (suc n) at zero e h = rw add-zero (eqb-true (byteAt img at) 255 (and-left _ _ e))
-blank-get img (suc n) at (suc k) e h = let f : at + suc k ≡ at + 1 + k = omega arith in rw f (blank-get img n (at + 1) k (and-right _ _ e) (omega arith))
+blank-get img (suc n) at (suc k) e h = let f : at + suc k ≡ at + 1 + k = omega arith in rw f
+    (blank-get img n (at + 1) k (and-right _ _ e) (omega arith))
 
 pub length-written : (l : List ℕ) (at : ℕ) (f : ℕ → ℕ) (n : ℕ) → length (written l at f n) ≡ length l
 unfolding written
@@ -94,7 +109,8 @@ module _ (b : List ℕ) (i w x y z : ℕ) where
   four-length = length-set b₃ (i + 3) z ∙ length-set b₂ (i + 2) y ∙ length-set b₁ (i + 1) x ∙ length-set b i w
 
   four-off : (k : ℕ) → Off k i 4 → byteAt b₄ k ≡ byteAt b k
-  four-off k h = other (i + 3) b₃ z (λ e. out k h 3 (omega arith) e) ∙ other (i + 2) b₂ y (λ e. out k h 2 (omega arith) e) ∙ other (i + 1) b₁ x (λ e. out k h 1 (omega arith) e) ∙ other i b w (λ e. out k h 0 (omega arith) (e ∙ sym (add-zero i)))
+  four-off k h = other (i + 3) b₃ z (λ e. out k h 3 (omega arith) e) ∙ other (i + 2) b₂ y (λ e. out k h 2 (omega arith) e) ∙ other (i + 1) b₁ x
+      (λ e. out k h 1 (omega arith) e) ∙ other i b w (λ e. out k h 0 (omega arith) (e ∙ sym (add-zero i)))
     where
       other : (at : ℕ) (l : List ℕ) (v : ℕ) → (k ≡ at → ⊥) → byteAt (set l at v) k ≡ byteAt l k
       other at l v d = getD-set-other l at k v 0 d
@@ -108,8 +124,10 @@ module _ (b : List ℕ) (i w x y z : ℕ) where
       let l₁ = length-set b i w in
       let l₂ = length-set b₁ (i + 1) x in
       let l₃ = length-set b₂ (i + 2) y in (
-        getD-set-other b₃ (i + 3) i z 0 (λ e. omega (arith, e)) ∙ getD-set-other b₂ (i + 2) i y 0 (λ e. omega (arith, e)) ∙ getD-set-other b₁ (i + 1) i x 0 (λ e. omega (arith, e)) ∙ getD-set-same b i w 0 (omega (arith, h)),
-        getD-set-other b₃ (i + 3) (i + 1) z 0 (λ e. omega (arith, e)) ∙ getD-set-other b₂ (i + 2) (i + 1) y 0 (λ e. omega (arith, e)) ∙ getD-set-same b₁ (i + 1) x 0 (omega (arith, h, l₁)),
+        getD-set-other b₃ (i + 3) i z 0 (λ e. omega (arith, e)) ∙ getD-set-other b₂ (i + 2) i y 0 (λ e. omega (arith, e)) ∙ getD-set-other b₁
+            (i + 1) i x 0 (λ e. omega (arith, e)) ∙ getD-set-same b i w 0 (omega (arith, h)),
+        getD-set-other b₃ (i + 3) (i + 1) z 0 (λ e. omega (arith, e)) ∙ getD-set-other b₂ (i + 2) (i + 1) y 0 (λ e. omega (arith, e))
+            ∙ getD-set-same b₁ (i + 1) x 0 (omega (arith, h, l₁)),
         getD-set-other b₃ (i + 3) (i + 2) z 0 (λ e. omega (arith, e)) ∙ getD-set-same b₂ (i + 2) y 0 (omega (arith, h, l₁, l₂)),
         getD-set-same b₃ (i + 3) z 0 (omega (arith, h, l₁, l₂, l₃)),
       )
@@ -153,7 +171,8 @@ four-bytes v h =
 
 pub word-same : (b : List ℕ) (i v : ℕ) → i + 4 ≤ length b → v < 4294967296 → u32At (putU32 b i v) i ≡ v
 unfolding putU32 u32At
-word-same b i v h hv = let w = four-in b i (v % 256) (v / 256 % 256) (v / 65536 % 256) (v / 16777216 % 256) h in rw (w .0, w .1, w .2, w .3) (four-bytes v hv)
+word-same b i v h hv = let w = four-in b i (v % 256) (v / 256 % 256) (v / 65536 % 256) (v / 16777216 % 256) h in rw (w .0, w .1, w .2, w .3)
+    (four-bytes v hv)
 
 abbrev pub Fits : Entry → Type 0
 Fits e = (e .key < 4294967296) × (e .addr < 4294967296)
@@ -162,20 +181,24 @@ pub entry-key : (b : List ℕ) (i : ℕ) (e : Entry) → i + 8 ≤ length b → 
 unfolding putEntry
 entry-key b i e h f =
     let b₁ = putU32 b i (e .key) in
-    copy-u32 b₁ i (putU32 b₁ (i + 4) (e .addr)) i 4 (λ k q. word-off b₁ (i + 4) (e .addr) (i + k) (inl (omega arith))) 0 i i (omega arith) (omega arith) (omega arith) ∙ word-same b i (e .key) (omega arith) f
+    copy-u32 b₁ i (putU32 b₁ (i + 4) (e .addr)) i 4 (λ k q. word-off b₁ (i + 4) (e .addr) (i + k) (inl (omega arith))) 0 i i (omega arith)
+    (omega arith) (omega arith) ∙ word-same b i (e .key) (omega arith) f
 
 pub entry-addr : (b : List ℕ) (i : ℕ) (e : Entry) → i + 8 ≤ length b → e .addr < 4294967296 → u32At (putEntry b i e) (i + 4) ≡ e .addr
 unfolding putEntry
 entry-addr b i e h f = word-same (putU32 b i (e .key)) (i + 4) (e .addr) (omega (arith, length-word b i (e .key))) f
 
 -- what was put is read
-pub entries-same : (b : List ℕ) (at : ℕ) (es : List Entry) → at + 8 * length es ≤ length b → All Fits es → entriesAt (putEntries b at es) at (length es) ≡ es
+pub entries-same : (b : List ℕ) (at : ℕ) (es : List Entry) → at + 8 * length es ≤ length b → All Fits es
+    → entriesAt (putEntries b at es) at (length es) ≡ es
 unfolding entriesAt putEntries
 entries-same b at [] h f = refl
 entries-same b at (e ∷ es) h f =
     let b₁ = putEntry b at e in
     let b₂ = putEntries b₁ (at + 8) es in
     let same : Copy b₁ at b₂ at 8 = λ k q. entries-off b₁ (at + 8) es (at + k) (inl (omega arith)) in
-    let k : u32At b₂ at ≡ e .key = copy-u32 b₁ at b₂ at 8 same 0 at at (omega arith) (omega arith) (omega arith) ∙ entry-key b at e (omega arith) (f .0 .0) in
-    let a : u32At b₂ (at + 4) ≡ e .addr = copy-u32 b₁ at b₂ at 8 same 4 (at + 4) (at + 4) refl refl (omega arith) ∙ entry-addr b at e (omega arith) (f .0 .1) in
+    let k : u32At b₂ at ≡ e .key = copy-u32 b₁ at b₂ at 8 same 0 at at (omega arith) (omega arith) (omega arith) ∙ entry-key b at e (omega arith)
+    (f .0 .0) in
+    let a : u32At b₂ (at + 4) ≡ e .addr = copy-u32 b₁ at b₂ at 8 same 4 (at + 4) (at + 4) refl refl (omega arith) ∙ entry-addr b at e (omega arith)
+    (f .0 .1) in
     rw (k, a, entries-same b₁ (at + 8) es (omega (arith, length-entry b at e)) (f .1))

@@ -20,7 +20,7 @@ use Rattle.model.specs.Count.{least, any}
 use Rattle.model.specs.Image.{pagesOf, seqOf, heightOf, rootScore, rootOf, chipOf}
 use Rattle.model.specs.Tree.{placesOf}
 use Rattle.model.specs.Rules.{lowest, wellFormed, r1, repeated, r3, r4, orElse, verdict}
-use Rattle.trees.specs.Tests.{by-eq, by-le, true-false, not-false}
+use Rattle.trees.specs.Tests.{by-eq, by-le, true-false, not-false, not-not}
 use Rattle.trees.specs.Lists.{all-map}
 use Rattle.trees.specs.Nodes.{fitOf}
 use Rattle.trees.specs.Proper.{root-fit}
@@ -54,10 +54,6 @@ none-lowest : (t : ℕ) (f : ℕ → Bool) → ((p : ℕ) → p < t → f p ≡ 
 unfolding lowest
 none-lowest t f h = rw (none-any t f h) refl
 
-not-not : (t : Bool) → not t ≡ false → t ≡ true
-not-not true h = refl
-not-not false h = absurd (true-false true refl h)
-
 module _ (g : Geometry) (n : ℕ) (img : List ℕ) where
   abbrev t : ℕ
   t = pagesOf g n
@@ -70,17 +66,37 @@ module _ (g : Geometry) (n : ℕ) (img : List ℕ) where
   unfolding wellFormed viewFrom erased heightAt tailAt seqAt
   page-r1 p h = go (blank img (pageBase g p) (pageBytes g)) h
     where
-      go : (b : Bool) → pick b true (leb (byteAt img (pageBase g p + g .main + 4)) (g .top) & blank img (pageBase g p + g .main + 5 + g .top) (g .spare - 5 - g .top) & leb 1 (u32At img (pageBase g p + g .main))) ≡ true
-          → R1 (g .top) (record { er = b; seq = pick b 0 (u32At img (pageBase g p + g .main)); height = pick b 0 (byteAt img (pageBase g p + g .main + 4)); tail = pick b true (blank img (pageBase g p + g .main + 5 + g .top) (g .spare - 5 - g .top)); node = nodeFrom g img (pageBase g p) })
+      go : (b : Bool)
+          → pick b true
+          (leb (byteAt img (pageBase g p + g .main + 4)) (g .top) & blank img (pageBase g p + g .main + 5 + g .top) (g .spare - 5 - g .top) & leb 1
+          (u32At img (pageBase g p + g .main))) ≡ true
+          → R1 (g .top)
+          (record {
+            er = b;
+            seq = pick b 0 (u32At img (pageBase g p + g .main));
+            height = pick b 0 (byteAt img (pageBase g p + g .main + 4));
+            tail =
+                pick b true (blank img (pageBase g p + g .main + 5 + g .top) (g .spare - 5 - g .top));
+            node = nodeFrom g img (pageBase g p);
+          })
       go true i = record { high = omega arith; rest = refl; some = λ e. absurd (true-false true refl e) }
-      go false i = let a = and-left _ _ i in record { high = leb-true _ _ (and-left _ _ a); rest = and-right _ _ a; some = λ _. leb-true 1 _ (and-right _ _ i) }
+      go false i = let a = and-left _ _ i in record {
+        high = leb-true _ _ (and-left _ _ a);
+        rest = and-right _ _ a;
+        some = λ _. leb-true 1 _
+            (and-right _ _ i);
+      }
 
   r1-page : (p : ℕ) → R1 (g .top) (v p) → wellFormed g img p ≡ true
   unfolding wellFormed viewFrom erased heightAt tailAt seqAt
   r1-page p h = go (blank img (pageBase g p) (pageBytes g)) (h .high) (h .rest) (h .some)
     where
-      go : (b : Bool) → pick b 0 (byteAt img (pageBase g p + g .main + 4)) ≤ g .top → pick b true (blank img (pageBase g p + g .main + 5 + g .top) (g .spare - 5 - g .top)) ≡ true → (b ≡ false → 1 ≤ pick b 0 (u32At img (pageBase g p + g .main)))
-          → pick b true (leb (byteAt img (pageBase g p + g .main + 4)) (g .top) & blank img (pageBase g p + g .main + 5 + g .top) (g .spare - 5 - g .top) & leb 1 (u32At img (pageBase g p + g .main))) ≡ true
+      go : (b : Bool) → pick b 0 (byteAt img (pageBase g p + g .main + 4)) ≤ g .top
+          → pick b true (blank img (pageBase g p + g .main + 5 + g .top) (g .spare - 5 - g .top)) ≡ true
+          → (b ≡ false → 1 ≤ pick b 0 (u32At img (pageBase g p + g .main)))
+          → pick b true
+          (leb (byteAt img (pageBase g p + g .main + 4)) (g .top) & blank img (pageBase g p + g .main + 5 + g .top) (g .spare - 5 - g .top) & leb 1
+          (u32At img (pageBase g p + g .main))) ≡ true
       go true i j k = refl
       go false i j k = and-both _ _ (and-both _ _ (le-leb _ _ i) j) (le-leb 1 _ (k refl))
 
@@ -114,11 +130,13 @@ module _ (g : Geometry) (n : ℕ) (img : List ℕ) where
     where
       inner : (q : ℕ) → q < p → erased g img p ≡ false → (b : Bool) → erased g img q ≡ b → (not b & eqb (seqAt g img q) (seqAt g img p)) ≡ false
       inner q w ep true eq = and-false _
-      inner q w ep false eq = and-true _ ∙ ne-eqb _ _ (λ z. let x = h .differ p q hp (omega (arith, w, hp)) (er-at p ∙ ep) (er-at q ∙ eq) (seq-at p (er-at p ∙ ep) ∙ sym z ∙ sym (seq-at q (er-at q ∙ eq))) in omega (arith, x, w))
+      inner q w ep false eq = and-true _ ∙ ne-eqb _ _ (λ z. let x = h .differ p q hp (omega (arith, w, hp)) (er-at p ∙ ep) (er-at q ∙ eq)
+          (seq-at p (er-at p ∙ ep) ∙ sym z ∙ sym (seq-at q (er-at q ∙ eq))) in omega (arith, x, w))
 
       go : (b : Bool) → erased g img p ≡ b → (not b & any p (λ q. not (erased g img q) & eqb (seqAt g img q) (seqAt g img p))) ≡ false
       go true e = and-false _
-      go false e = and-true _ ∙ none-any p (λ q. not (erased g img q) & eqb (seqAt g img q) (seqAt g img p)) (λ q w. inner q w e (erased g img q) refl)
+      go false e = and-true _ ∙ none-any p (λ q. not (erased g img q) & eqb (seqAt g img q) (seqAt g img p))
+          (λ q w. inner q w e (erased g img q) refl)
 
   -- ---- R4
   pub root-height : v (rootAt t v) .height ≡ heightOf g img (rootOf g n img)
@@ -172,7 +190,8 @@ module _ (g : Geometry) (shape : Shape g) (n : ℕ) (img : List ℕ) where
       let pages : 1 ≤ t = let z = block-in (g .pages) 0 n pos in let w = some-page g shape in omega (arith, z, w, mul-zero (g .pages)) in
       let root = r5-rooted g shape t chip (root-below g n img pages, root-er g n img high) (e .0) in
       let fits = root-fit (fitOf t (chip .er)) (λ l. 2 * half g l) (rootMost g) (chip .nodes) (chip .level) (chip .root) 4294967296 root in
-      let tied = r6-tied t chip (all-map (λ x. (1 ≤ x .level) × fitOf t (chip .er) (x .level) (x .page)) (λ x. x .page < t) (placesOf chip) (λ x i. below (chip .er) t (x .level) (x .page) (i .0) (i .1)) fits) (f .0) in (
+      let tied = r6-tied t chip (all-map (λ x. (1 ≤ x .level) × fitOf t (chip .er) (x .level) (x .page)) (λ x. x .page < t) (placesOf chip)
+      (λ x i. below (chip .er) t (x .level) (x .page) (i .0) (i .1)) fits) (f .0) in (
         record {
           image = image;
           bytes = bytes;

@@ -63,15 +63,21 @@ module _ (g : Geometry) (shape : Shape g) where
   unfolding nodeFrom rootSlots entriesAt
   copy-node a p b q c l = go (inTable g l) refl
     where
-      at : (1 ≤ l) × (l ≤ g .top) → entriesAt b (q + 8 * firstSlot g l) (min (byteAt b (q + g .main + 4 + l)) (suc (slots g - firstSlot g l))) ≡ entriesAt a (p + 8 * firstSlot g l) (min (byteAt a (p + g .main + 4 + l)) (suc (slots g - firstSlot g l)))
+      at : (1 ≤ l) × (l ≤ g .top)
+          → entriesAt b (q + 8 * firstSlot g l) (min (byteAt b (q + g .main + 4 + l)) (suc (slots g - firstSlot g l))) ≡ entriesAt a
+          (p + 8 * firstSlot g l) (min (byteAt a (p + g .main + 4 + l)) (suc (slots g - firstSlot g l)))
       at h =
           let s = shape .spare-low in
           let r = shape .room l (h .1) in
           let m = shape .main-is in
-          let e : byteAt b (q + g .main + 4 + l) ≡ byteAt a (p + g .main + 4 + l) = copy-byte a p b q (pageBytes g) c (g .main + 4 + l) (p + g .main + 4 + l) (q + g .main + 4 + l) (omega arith) (omega arith) (omega (arith, s, h)) in
-          rw e (copy-entries a p b q (pageBytes g) c (min (byteAt a (p + g .main + 4 + l)) (suc (slots g - firstSlot g l))) (8 * firstSlot g l) (p + 8 * firstSlot g l) (q + 8 * firstSlot g l) refl refl (omega (arith, s, r, m)))
+          let e : byteAt b (q + g .main + 4 + l) ≡ byteAt a (p + g .main + 4 + l) = copy-byte a p b q (pageBytes g) c (g .main + 4 + l)
+          (p + g .main + 4 + l) (q + g .main + 4 + l) (omega arith) (omega arith) (omega (arith, s, h)) in
+          rw e (copy-entries a p b q (pageBytes g) c (min (byteAt a (p + g .main + 4 + l)) (suc (slots g - firstSlot g l))) (8 * firstSlot g l)
+          (p + 8 * firstSlot g l) (q + 8 * firstSlot g l) refl refl (omega (arith, s, r, m)))
 
-      go : (t : Bool) → inTable g l ≡ t → entriesAt b (q + 8 * firstSlot g l) (pick t (min (byteAt b (q + g .main + 4 + l)) (suc (slots g - firstSlot g l))) 0) ≡ entriesAt a (p + 8 * firstSlot g l) (pick t (min (byteAt a (p + g .main + 4 + l)) (suc (slots g - firstSlot g l))) 0)
+      go : (t : Bool) → inTable g l ≡ t
+          → entriesAt b (q + 8 * firstSlot g l) (pick t (min (byteAt b (q + g .main + 4 + l)) (suc (slots g - firstSlot g l))) 0) ≡ entriesAt a
+          (p + 8 * firstSlot g l) (pick t (min (byteAt a (p + g .main + 4 + l)) (suc (slots g - firstSlot g l))) 0)
       go true e = at (table-in g l e)
       go false e = refl
 
@@ -79,11 +85,23 @@ module _ (g : Geometry) (shape : Shape g) where
   unfolding viewFrom
   copy-view a p b q c =
       let s = shape .spare-low in
-      let e₁ : blank b q (pageBytes g) ≡ blank a p (pageBytes g) = copy-blank a p b q (pageBytes g) c (pageBytes g) 0 p q (omega arith) (omega arith) (omega arith) in
-      let e₂ : u32At b (q + g .main) ≡ u32At a (p + g .main) = copy-u32 a p b q (pageBytes g) c (g .main) (p + g .main) (q + g .main) refl refl (omega (arith, s)) in
-      let e₃ : byteAt b (q + g .main + 4) ≡ byteAt a (p + g .main + 4) = copy-byte a p b q (pageBytes g) c (g .main + 4) (p + g .main + 4) (q + g .main + 4) (omega arith) (omega arith) (omega (arith, s)) in
-      let e₄ : blank b (q + g .main + 5 + g .top) (g .spare - 5 - g .top) ≡ blank a (p + g .main + 5 + g .top) (g .spare - 5 - g .top) = copy-blank a p b q (pageBytes g) c (g .spare - 5 - g .top) (g .main + 5 + g .top) (p + g .main + 5 + g .top) (q + g .main + 5 + g .top) (omega arith) (omega arith) (omega (arith, s)) in
-      λ i. record { er = e₁ i; seq = pick (e₁ i) 0 (e₂ i); height = pick (e₁ i) 0 (e₃ i); tail = pick (e₁ i) true (e₄ i); node = λ l. copy-node a p b q c l i }
+      let e₁ : blank b q (pageBytes g) ≡ blank a p (pageBytes g) = copy-blank a p b q (pageBytes g) c (pageBytes g) 0 p q (omega arith) (omega arith)
+      (omega arith) in
+      let e₂ : u32At b (q + g .main) ≡ u32At a (p + g .main) = copy-u32 a p b q (pageBytes g) c (g .main) (p + g .main) (q + g .main) refl refl
+      (omega (arith, s)) in
+      let e₃ : byteAt b (q + g .main + 4) ≡ byteAt a (p + g .main + 4) = copy-byte a p b q (pageBytes g) c (g .main + 4) (p + g .main + 4)
+      (q + g .main + 4) (omega arith) (omega arith) (omega (arith, s)) in
+      let e₄ : blank b (q + g .main + 5 + g .top) (g .spare - 5 - g .top) ≡ blank a (p + g .main + 5 + g .top) (g .spare - 5 - g .top) =
+      copy-blank a p b q (pageBytes g) c (g .spare - 5 - g .top) (g .main + 5 + g .top) (p + g .main + 5 + g .top) (q + g .main + 5 + g .top)
+      (omega arith) (omega arith) (omega (arith, s)) in
+      λ i. record {
+        er = e₁ i;
+        seq = pick (e₁ i) 0 (e₂ i);
+        height = pick (e₁ i) 0 (e₃ i);
+        tail = pick (e₁ i) true (e₄ i);
+        node =
+            λ l. copy-node a p b q c l i;
+      }
 
   -- an erased page
   bare : List ℕ
@@ -100,7 +118,14 @@ module _ (g : Geometry) (shape : Shape g) where
   bare-view : viewFrom g bare 0 ≡ noView g
   unfolding viewFrom
   bare-view = let e : blank bare 0 (pageBytes g) ≡ true = blank-all bare (pageBytes g) 0 (λ k h. rw zero-add (bare-at k h)) in
-      λ i. record { er = e i; seq = pick (e i) 0 (u32At bare (0 + g .main)); height = pick (e i) 0 (byteAt bare (0 + g .main + 4)); tail = pick (e i) true (blank bare (0 + g .main + 5 + g .top) (g .spare - 5 - g .top)); node = λ l. bare-node l i }
+      λ i. record {
+        er = e i;
+        seq = pick (e i) 0 (u32At bare (0 + g .main));
+        height = pick (e i) 0 (byteAt bare (0 + g .main + 4));
+        tail = pick
+            (e i) true (blank bare (0 + g .main + 5 + g .top) (g .spare - 5 - g .top));
+        node = λ l. bare-node l i;
+      }
 
   pub view-erased : (img : List ℕ) (b : ℕ) → ((k : ℕ) → k < pageBytes g → byteAt img (b + k) ≡ 255) → viewFrom g img b ≡ noView g
   view-erased img b h = copy-view bare 0 img b (λ k q. h k q ∙ sym (rw zero-add (bare-at k q))) ∙ bare-view
@@ -117,20 +142,30 @@ pub record Parts (g : Geometry) (parts : ℕ → List Entry) : Type 0 where
   pub apart : (l m : ℕ) → 1 ≤ l → l < m → m ≤ g .top → (length (parts m) ≡ 0) ⊎ (firstSlot g l + length (parts l) ≤ firstSlot g m)
 
 -- levels below h within the table, level h within its full slots, nothing above
-pub parts-table : (g : Geometry) → Shape g → (h : ℕ) (parts : ℕ → List Entry) → ((l : ℕ) → 1 ≤ l → l ≤ g .top → All Fits (parts l)) → ((l : ℕ) → 1 ≤ l → l < h → length (parts l) ≤ slotsOf g l)
-    → (h ≤ g .top → firstSlot g h + length (parts h) ≤ slots g) → ((l : ℕ) → h < l → length (parts l) ≡ 0) → ((l : ℕ) → 1 ≤ l → l ≤ g .top → length (parts l) < 256) → Parts g parts
-parts-table g shape h parts fits low high above bytes = record { fits = fits; bytes = bytes; inside = λ l i k. inside l i k (ltb l h) (ltb h l) refl refl; apart = λ l m i k q. apart l m i k q (ltb l h) (ltb h m) refl refl }
+pub parts-table : (g : Geometry) → Shape g → (h : ℕ) (parts : ℕ → List Entry) → ((l : ℕ) → 1 ≤ l → l ≤ g .top → All Fits (parts l))
+    → ((l : ℕ) → 1 ≤ l → l < h → length (parts l) ≤ slotsOf g l)
+    → (h ≤ g .top → firstSlot g h + length (parts h) ≤ slots g) → ((l : ℕ) → h < l → length (parts l) ≡ 0)
+    → ((l : ℕ) → 1 ≤ l → l ≤ g .top → length (parts l) < 256) → Parts g parts
+parts-table g shape h parts fits low high above bytes = record {
+  fits = fits;
+  bytes = bytes;
+  inside = λ l i k. inside l i k (ltb l h)
+      (ltb h l) refl refl;
+  apart = λ l m i k q. apart l m i k q (ltb l h) (ltb h m) refl refl;
+}
   where
     step : (l m : ℕ) → l < m → m ≤ g .top → firstSlot g l + slotsOf g l ≤ firstSlot g m
     step l zero q k = absurd (omega arith)
-    step l (suc m) q k = by-eq l m (λ e. rw e (shape .steps m k)) (λ e. let a = step l m (omega arith) (omega arith) in let b = shape .steps m k in omega (arith, a, b))
+    step l (suc m) q k = by-eq l m (λ e. rw e (shape .steps m k)) (λ e. let a = step l m (omega arith) (omega arith) in let b = shape .steps m k in
+        omega (arith, a, b))
 
     inside : (l : ℕ) → 1 ≤ l → l ≤ g .top → (x y : Bool) → ltb l h ≡ x → ltb h l ≡ y → firstSlot g l + length (parts l) ≤ slots g
     inside l i k true y e f = let a = low l i (ltb-true l h e) in let b = shape .room l k in omega (arith, a, b)
     inside l i k false true e f = let a = above l (ltb-true h l f) in let b = shape .room l k in omega (arith, a, b)
     inside l i k false false e f = let d : l ≡ h = omega (arith, ltb-false l h e, ltb-false h l f) in rw d (high (omega (arith, d)))
 
-    apart : (l m : ℕ) → 1 ≤ l → l < m → m ≤ g .top → (x y : Bool) → ltb l h ≡ x → ltb h m ≡ y → (length (parts m) ≡ 0) ⊎ (firstSlot g l + length (parts l) ≤ firstSlot g m)
+    apart : (l m : ℕ) → 1 ≤ l → l < m → m ≤ g .top → (x y : Bool) → ltb l h ≡ x → ltb h m ≡ y
+        → (length (parts m) ≡ 0) ⊎ (firstSlot g l + length (parts l) ≤ firstSlot g m)
     apart l m i q k true y e f = let a = low l i (ltb-true l h e) in let b = step l m q k in inr (omega (arith, a, b))
     apart l m i q k false y e f = let z = ltb-false l h e in inl (above m (omega (arith, z, q)))
 
@@ -149,7 +184,8 @@ module _ (g : Geometry) (shape : Shape g) (parts : ℕ → List Entry) where
   length-levels : (n : ℕ) (b : List ℕ) → length (putLevels g parts n b) ≡ length b
   unfolding putLevels putLevel
   length-levels zero b = refl
-  length-levels (suc n) b = length-set (putEntries (putLevels g parts n b) (8 * firstSlot g (suc n)) (parts (suc n))) (g .main + 4 + suc n) (length (parts (suc n)) % 256) ∙ length-entries (putLevels g parts n b) (8 * firstSlot g (suc n)) (parts (suc n)) ∙ length-levels n b
+  length-levels (suc n) b = length-set (putEntries (putLevels g parts n b) (8 * firstSlot g (suc n)) (parts (suc n))) (g .main + 4 + suc n)
+      (length (parts (suc n)) % 256) ∙ length-entries (putLevels g parts n b) (8 * firstSlot g (suc n)) (parts (suc n)) ∙ length-levels n b
 
   length-sealed : (seq h : ℕ) (b : List ℕ) → length (sealed g b seq h) ≡ length b
   unfolding sealed
@@ -161,27 +197,35 @@ module _ (g : Geometry) (shape : Shape g) (parts : ℕ → List Entry) where
 
   sealed-off : (seq h : ℕ) (b : List ℕ) (k : ℕ) → Off k (g .main) 5 → byteAt (sealed g b seq h) k ≡ byteAt b k
   unfolding sealed
-  sealed-off seq h b k (inl q) = getD-set-other (putU32 b (g .main) seq) (g .main + 4) k (h % 256) 0 (omega arith) ∙ word-off b (g .main) seq k (inl q)
-  sealed-off seq h b k (inr q) = getD-set-other (putU32 b (g .main) seq) (g .main + 4) k (h % 256) 0 (omega arith) ∙ word-off b (g .main) seq k (inr (omega arith))
+  sealed-off seq h b k (inl q) = getD-set-other (putU32 b (g .main) seq) (g .main + 4) k (h % 256) 0 (omega arith) ∙ word-off b (g .main) seq k
+      (inl q)
+  sealed-off seq h b k (inr q) = getD-set-other (putU32 b (g .main) seq) (g .main + 4) k (h % 256) 0 (omega arith) ∙ word-off b (g .main) seq k
+      (inr (omega arith))
 
   sealed-height : (seq h : ℕ) (b : List ℕ) → g .main + 5 ≤ length b → h < 256 → byteAt (sealed g b seq h) (g .main + 4) ≡ h
   unfolding sealed
-  sealed-height seq h b q s = getD-set-same (putU32 b (g .main) seq) (g .main + 4) (h % 256) 0 (omega (arith, length-word b (g .main) seq)) ∙ mod-eq-of-lt s
+  sealed-height seq h b q s = getD-set-same (putU32 b (g .main) seq) (g .main + 4) (h % 256) 0 (omega (arith, length-word b (g .main) seq))
+      ∙ mod-eq-of-lt s
 
   sealed-seq : (seq h : ℕ) (b : List ℕ) → g .main + 5 ≤ length b → seq < 4294967296 → u32At (sealed g b seq h) (g .main) ≡ seq
   unfolding sealed
   sealed-seq seq h b q s =
-      copy-u32 (putU32 b (g .main) seq) (g .main) (set (putU32 b (g .main) seq) (g .main + 4) (h % 256)) (g .main) 4 (λ k w. getD-set-other (putU32 b (g .main) seq) (g .main + 4) (g .main + k) (h % 256) 0 (omega arith)) 0 (g .main) (g .main) (omega arith) (omega arith) (omega arith)
+      copy-u32 (putU32 b (g .main) seq) (g .main) (set (putU32 b (g .main) seq) (g .main + 4) (h % 256)) (g .main) 4
+      (λ k w. getD-set-other (putU32 b (g .main) seq) (g .main + 4) (g .main + k) (h % 256) 0 (omega arith)) 0 (g .main) (g .main) (omega arith)
+      (omega arith) (omega arith)
       ∙ word-same b (g .main) seq (omega arith) s
 
   module _ (ok : Parts g parts) where
     -- beside the counts the levels' bytes are main bytes
-    levels-off : (n : ℕ) (b : List ℕ) (k : ℕ) → n ≤ g .top → g .main ≤ k → ((k < g .main + 5) ⊎ (g .main + 4 + n < k)) → byteAt (putLevels g parts n b) k ≡ byteAt b k
+    levels-off : (n : ℕ) (b : List ℕ) (k : ℕ) → n ≤ g .top → g .main ≤ k → ((k < g .main + 5) ⊎ (g .main + 4 + n < k))
+        → byteAt (putLevels g parts n b) k ≡ byteAt b k
     unfolding putLevels putLevel
     levels-off zero b k h q o = refl
     levels-off (suc n) b k h q o =
-        getD-set-other (putEntries (putLevels g parts n b) (8 * firstSlot g (suc n)) (parts (suc n))) (g .main + 4 + suc n) k (length (parts (suc n)) % 256) 0 (apart o)
-        ∙ entries-off (putLevels g parts n b) (8 * firstSlot g (suc n)) (parts (suc n)) k (inr (let i = ok .inside (suc n) (omega arith) h in let m = shape .main-is in omega (arith, i, m, q)))
+        getD-set-other (putEntries (putLevels g parts n b) (8 * firstSlot g (suc n)) (parts (suc n))) (g .main + 4 + suc n) k
+        (length (parts (suc n)) % 256) 0 (apart o)
+        ∙ entries-off (putLevels g parts n b) (8 * firstSlot g (suc n)) (parts (suc n)) k
+        (inr (let i = ok .inside (suc n) (omega arith) h in let m = shape .main-is in omega (arith, i, m, q)))
         ∙ levels-off n b k (omega arith) q (less o)
       where
         apart : ((k < g .main + 5) ⊎ (g .main + 4 + suc n < k)) → k ≡ g .main + 4 + suc n → ⊥
@@ -192,26 +236,37 @@ module _ (g : Geometry) (shape : Shape g) (parts : ℕ → List Entry) where
         less (inl i) = inl i
         less (inr i) = inr (omega arith)
 
-    levels-count : (n : ℕ) (b : List ℕ) (l : ℕ) → n ≤ g .top → g .main + 4 + n < length b → 1 ≤ l → l ≤ n → byteAt (putLevels g parts n b) (g .main + 4 + l) ≡ length (parts l)
+    levels-count : (n : ℕ) (b : List ℕ) (l : ℕ) → n ≤ g .top → g .main + 4 + n < length b → 1 ≤ l → l ≤ n
+        → byteAt (putLevels g parts n b) (g .main + 4 + l) ≡ length (parts l)
     unfolding putLevels putLevel
     levels-count zero b l t h i k = absurd (omega arith)
     levels-count (suc n) b l t h i k = by-eq l (suc n)
-        (λ e. rw e (getD-set-same (putEntries (putLevels g parts n b) (8 * firstSlot g (suc n)) (parts (suc n))) (g .main + 4 + suc n) (length (parts (suc n)) % 256) 0 (let x = length-entries (putLevels g parts n b) (8 * firstSlot g (suc n)) (parts (suc n)) in let y = length-levels n b in omega (arith, x, y, h))
+        (λ e. rw e (getD-set-same (putEntries (putLevels g parts n b) (8 * firstSlot g (suc n)) (parts (suc n))) (g .main + 4 + suc n)
+        (length (parts (suc n)) % 256) 0 (let x = length-entries (putLevels g parts n b) (8 * firstSlot g (suc n)) (parts (suc n)) in let y =
+        length-levels n b in omega (arith, x, y, h))
         ∙ mod-eq-of-lt (ok .bytes (suc n) (omega arith) t)))
-        (λ e. getD-set-other (putEntries (putLevels g parts n b) (8 * firstSlot g (suc n)) (parts (suc n))) (g .main + 4 + suc n) (g .main + 4 + l) (length (parts (suc n)) % 256) 0 (omega arith)
-        ∙ entries-off (putLevels g parts n b) (8 * firstSlot g (suc n)) (parts (suc n)) (g .main + 4 + l) (inr (let z = ok .inside (suc n) (omega arith) t in let m = shape .main-is in omega (arith, z, m)))
+        (λ e. getD-set-other (putEntries (putLevels g parts n b) (8 * firstSlot g (suc n)) (parts (suc n))) (g .main + 4 + suc n) (g .main + 4 + l)
+        (length (parts (suc n)) % 256) 0 (omega arith)
+        ∙ entries-off (putLevels g parts n b) (8 * firstSlot g (suc n)) (parts (suc n)) (g .main + 4 + l)
+        (inr (let z = ok .inside (suc n) (omega arith) t in let m = shape .main-is in omega (arith, z, m)))
         ∙ levels-count n b l (omega arith) (omega arith) i (omega arith))
 
-    levels-same : (n : ℕ) (b : List ℕ) (l : ℕ) → n ≤ g .top → g .main ≤ length b → 1 ≤ l → l ≤ n → entriesAt (putLevels g parts n b) (8 * firstSlot g l) (length (parts l)) ≡ parts l
+    levels-same : (n : ℕ) (b : List ℕ) (l : ℕ) → n ≤ g .top → g .main ≤ length b → 1 ≤ l → l ≤ n
+        → entriesAt (putLevels g parts n b) (8 * firstSlot g l) (length (parts l)) ≡ parts l
     unfolding putLevels putLevel
     levels-same zero b l h len i k = absurd (omega arith)
     levels-same (suc n) b l h len i k = by-eq l (suc n)
-        (λ e. rw e (copy-entries put₁ (8 * firstSlot g (suc n)) (set put₁ (g .main + 4 + suc n) (length (parts (suc n)) % 256)) (8 * firstSlot g (suc n)) (8 * length (parts (suc n)))
-        (λ o q. getD-set-other put₁ (g .main + 4 + suc n) (8 * firstSlot g (suc n) + o) (length (parts (suc n)) % 256) 0 (λ z. omega (arith, z, q, w, m)))
+        (λ e. rw e (copy-entries put₁ (8 * firstSlot g (suc n)) (set put₁ (g .main + 4 + suc n) (length (parts (suc n)) % 256))
+        (8 * firstSlot g (suc n)) (8 * length (parts (suc n)))
+        (λ o q. getD-set-other put₁ (g .main + 4 + suc n) (8 * firstSlot g (suc n) + o) (length (parts (suc n)) % 256) 0
+        (λ z. omega (arith, z, q, w, m)))
         (length (parts (suc n))) 0 (8 * firstSlot g (suc n)) (8 * firstSlot g (suc n)) (omega arith) (omega arith) (omega arith)
-        ∙ entries-same old (8 * firstSlot g (suc n)) (parts (suc n)) (omega (arith, w, m, len, length-levels n b)) (ok .fits (suc n) (omega arith) h)))
-        (λ e. copy-entries old (8 * firstSlot g l) (set put₁ (g .main + 4 + suc n) (length (parts (suc n)) % 256)) (8 * firstSlot g l) (8 * length (parts l))
-        (λ o q. getD-set-other put₁ (g .main + 4 + suc n) (8 * firstSlot g l + o) (length (parts (suc n)) % 256) 0 (λ z. let v = ok .inside l i (omega (arith, k, h)) in omega (arith, z, q, v, m))
+        ∙ entries-same old (8 * firstSlot g (suc n)) (parts (suc n)) (omega (arith, w, m, len, length-levels n b))
+        (ok .fits (suc n) (omega arith) h)))
+        (λ e. copy-entries old (8 * firstSlot g l) (set put₁ (g .main + 4 + suc n) (length (parts (suc n)) % 256)) (8 * firstSlot g l)
+        (8 * length (parts l))
+        (λ o q. getD-set-other put₁ (g .main + 4 + suc n) (8 * firstSlot g l + o) (length (parts (suc n)) % 256) 0
+        (λ z. let v = ok .inside l i (omega (arith, k, h)) in omega (arith, z, q, v, m))
         ∙ entries-off old (8 * firstSlot g (suc n)) (parts (suc n)) (8 * firstSlot g l + o) (away o q (ok .apart l (suc n) i (omega arith) h)))
         (length (parts l)) 0 (8 * firstSlot g l) (8 * firstSlot g l) (omega arith) (omega arith) (omega arith)
         ∙ levels-same n b l (omega arith) len i (omega arith))
@@ -228,47 +283,49 @@ module _ (g : Geometry) (shape : Shape g) (parts : ℕ → List Entry) where
         w : firstSlot g (suc n) + length (parts (suc n)) ≤ slots g
         w = ok .inside (suc n) (omega arith) h
 
-        away : (o : ℕ) → o < 8 * length (parts l) → (length (parts (suc n)) ≡ 0) ⊎ (firstSlot g l + length (parts l) ≤ firstSlot g (suc n)) → Off (8 * firstSlot g l + o) (8 * firstSlot g (suc n)) (8 * length (parts (suc n)))
+        away : (o : ℕ) → o < 8 * length (parts l) → (length (parts (suc n)) ≡ 0) ⊎ (firstSlot g l + length (parts l) ≤ firstSlot g (suc n))
+            → Off (8 * firstSlot g l + o) (8 * firstSlot g (suc n)) (8 * length (parts (suc n)))
         away o q (inl z) = rw z (off-nothing (8 * firstSlot g l + o) (8 * firstSlot g (suc n)))
         away o q (inr z) = inl (omega arith)
 
     module _ (seq h : ℕ) (small : seq < 4294967295) (high : h < 256) where
-      abbrev lev : List ℕ
-      lev = putLevels g parts (g .top) (replicate (pageBytes g) 255)
+      abbrev laidLevels : List ℕ
+      laidLevels = putLevels g parts (g .top) (replicate (pageBytes g) 255)
 
       len-bare : length {A = ℕ} (replicate (pageBytes g) 255) ≡ pageBytes g
       len-bare = length-replicate {A = ℕ} (pageBytes g) 255
 
-      len-lev : length lev ≡ pageBytes g
-      len-lev = length-levels (g .top) (replicate (pageBytes g) 255) ∙ len-bare
+      length-laid : length laidLevels ≡ pageBytes g
+      length-laid = length-levels (g .top) (replicate (pageBytes g) 255) ∙ len-bare
 
       pub built-seq : u32At (built g seq h parts) (g .main) ≡ seq
       unfolding built
-      built-seq = let s = shape .spare-low in sealed-seq seq h lev (omega (arith, len-lev, s)) (omega arith)
+      built-seq = let s = shape .spare-low in sealed-seq seq h laidLevels (omega (arith, length-laid, s)) (omega arith)
 
       built-height : byteAt (built g seq h parts) (g .main + 4) ≡ h
       unfolding built
-      built-height = let s = shape .spare-low in sealed-height seq h lev (omega (arith, len-lev, s)) high
+      built-height = let s = shape .spare-low in sealed-height seq h laidLevels (omega (arith, length-laid, s)) high
 
       built-count : (l : ℕ) → 1 ≤ l → l ≤ g .top → byteAt (built g seq h parts) (g .main + 4 + l) ≡ length (parts l)
       unfolding built
-      built-count l i k = let s = shape .spare-low in sealed-off seq h lev (g .main + 4 + l) (inr (omega arith)) ∙ levels-count (g .top) (replicate (pageBytes g) 255) l (omega arith) (omega (arith, len-bare, s)) i k
+      built-count l i k = let s = shape .spare-low in sealed-off seq h laidLevels (g .main + 4 + l) (inr (omega arith)) ∙ levels-count (g .top)
+          (replicate (pageBytes g) 255) l (omega arith) (omega (arith, len-bare, s)) i k
 
       built-node : (l : ℕ) → 1 ≤ l → l ≤ g .top → entriesAt (built g seq h parts) (8 * firstSlot g l) (length (parts l)) ≡ parts l
       unfolding built
       built-node l i k =
           let m = shape .main-is in
           let w = ok .inside l i k in
-          copy-entries lev (8 * firstSlot g l) (sealed g lev seq h) (8 * firstSlot g l) (8 * length (parts l))
-          (λ o q. sealed-off seq h lev (8 * firstSlot g l + o) (inl (omega (arith, m, w, q))))
+          copy-entries laidLevels (8 * firstSlot g l) (sealed g laidLevels seq h) (8 * firstSlot g l) (8 * length (parts l))
+          (λ o q. sealed-off seq h laidLevels (8 * firstSlot g l + o) (inl (omega (arith, m, w, q))))
           (length (parts l)) 0 (8 * firstSlot g l) (8 * firstSlot g l) (omega arith) (omega arith) (omega arith)
           ∙ levels-same (g .top) (replicate (pageBytes g) 255) l (omega arith) (omega (arith, len-bare)) i k
 
       built-tail : blank (built g seq h parts) (g .main + 5 + g .top) (g .spare - 5 - g .top) ≡ true
       unfolding built
       built-tail = let s = shape .spare-low in
-          blank-all (sealed g lev seq h) (g .spare - 5 - g .top) (g .main + 5 + g .top) (λ k q.
-          sealed-off seq h lev (g .main + 5 + g .top + k) (inr (omega arith))
+          blank-all (sealed g laidLevels seq h) (g .spare - 5 - g .top) (g .main + 5 + g .top) (λ k q.
+          sealed-off seq h laidLevels (g .main + 5 + g .top + k) (inr (omega arith))
           ∙ levels-off (g .top) (replicate (pageBytes g) 255) (g .main + 5 + g .top + k) (omega arith) (omega arith) (inr (omega arith))
           ∙ getD-replicate {A = ℕ} (pageBytes g) (g .main + 5 + g .top + k) 255 0 (omega (arith, s, q)))
 
@@ -281,7 +338,8 @@ module _ (g : Geometry) (shape : Shape g) (parts : ℕ → List Entry) where
           go false e = refl
           go true e =
               let s = shape .spare-low in
-              let at : (k : ℕ) → k < pageBytes g → byteAt (built g seq h parts) k ≡ 255 = λ k q. rw zero-add at (blank-get (built g seq h parts) (pageBytes g) 0 k e q) in
+              let at : (k : ℕ) → k < pageBytes g → byteAt (built g seq h parts) k ≡ 255 = λ k q. rw zero-add at
+              (blank-get (built g seq h parts) (pageBytes g) 0 k e q) in
               let b₀ = at (g .main) (omega (arith, s)) in
               let b₁ = at (g .main + 1) (omega (arith, s)) in
               let b₂ = at (g .main + 2) (omega (arith, s)) in
@@ -292,7 +350,9 @@ module _ (g : Geometry) (shape : Shape g) (parts : ℕ → List Entry) where
       unfolding nodeFrom rootSlots entriesAt
       built-read l = go (inTable g l) refl
         where
-          at : (1 ≤ l) × (l ≤ g .top) → entriesAt (built g seq h parts) (0 + 8 * firstSlot g l) (min (byteAt (built g seq h parts) (0 + g .main + 4 + l)) (suc (slots g - firstSlot g l))) ≡ parts l
+          at : (1 ≤ l) × (l ≤ g .top)
+              → entriesAt (built g seq h parts) (0 + 8 * firstSlot g l)
+              (min (byteAt (built g seq h parts) (0 + g .main + 4 + l)) (suc (slots g - firstSlot g l))) ≡ parts l
           at k =
               let e₀ : 0 + 8 * firstSlot g l ≡ 8 * firstSlot g l = omega arith in
               let e₁ : byteAt (built g seq h parts) (0 + g .main + 4 + l) ≡ length (parts l) = rw zero-add (built-count l (k .0) (k .1)) in
@@ -300,13 +360,22 @@ module _ (g : Geometry) (shape : Shape g) (parts : ℕ → List Entry) where
               let e₂ : min (length (parts l)) (suc (slots g - firstSlot g l)) ≡ length (parts l) = omega (arith, w) in
               rw (e₀, e₁, e₂) (built-node l (k .0) (k .1))
 
-          go : (t : Bool) → inTable g l ≡ t → entriesAt (built g seq h parts) (0 + 8 * firstSlot g l) (pick t (min (byteAt (built g seq h parts) (0 + g .main + 4 + l)) (suc (slots g - firstSlot g l))) 0) ≡ pick t (parts l) []
+          go : (t : Bool) → inTable g l ≡ t
+              → entriesAt (built g seq h parts) (0 + 8 * firstSlot g l)
+              (pick t (min (byteAt (built g seq h parts) (0 + g .main + 4 + l)) (suc (slots g - firstSlot g l))) 0) ≡ pick t (parts l) []
           go true e = at (table-in g l e)
           go false e = refl
 
       pub view-built : viewFrom g (built g seq h parts) 0 ≡ builtView g seq h parts
       unfolding viewFrom
-      view-built = λ i. record { er = built-er i; seq = pick (built-er i) 0 (e₂ i); height = pick (built-er i) 0 (e₃ i); tail = pick (built-er i) true (e₄ i); node = λ l. built-read l i }
+      view-built = λ i. record {
+        er = built-er i;
+        seq = pick (built-er i) 0 (e₂ i);
+        height = pick (built-er i) 0 (e₃ i);
+        tail = pick (built-er i) true
+            (e₄ i);
+        node = λ l. built-read l i;
+      }
         where
           e₂ : u32At (built g seq h parts) (0 + g .main) ≡ seq
           e₂ = rw zero-add built-seq

@@ -43,7 +43,12 @@ unfolding arg
 arg-is zero f = go (ltb (f 0) (f 0))
   where
     here : Arg 1 f 0
-    here = record { before = λ j h. absurd (omega arith); all = λ j h. let e : j ≡ 0 = omega arith in let q = ap f e in omega (arith, q); inside = omega arith }
+    here = record {
+      before = λ j h. absurd (omega arith);
+      all = λ j h. let e : j ≡ 0 = omega arith in let q = ap f e in omega (arith, q);
+      inside =
+          omega arith;
+    }
 
     go : (t : Bool) → Arg 1 f (pick t 0 0)
     go true = here
@@ -167,7 +172,8 @@ module _ (g : Geometry) (t : ℕ) (v : Views) (p : ℕ) (w : View) (written : w 
   unfolding rooted
   chip-root h k s =
       let r = root-new h k s in
-      let e : laid v p w (rootAt t (laid v p w)) .height - 1 ≡ w .height - 1 = ap (λ q. laid v p w q .height - 1) r ∙ ap (λ (x : View). x .height - 1) put-here in
+      let e : laid v p w (rootAt t (laid v p w)) .height - 1 ≡ w .height - 1 = ap (λ q. laid v p w q .height - 1) r
+      ∙ ap (λ (x : View). x .height - 1) put-here in
       λ i. record { er = λ q. put-er q i; nodes = λ q l. put-node q l i; level = e i; root = r i }
 
   -- a page without a root where nothing was
@@ -176,31 +182,44 @@ module _ (g : Geometry) (t : ℕ) (v : Views) (p : ℕ) (w : View) (written : w 
   root-beside n h = ap (arg t) (λ i q. same q i)
     where
       same : (q : ℕ) → score (laid v p w q) ≡ score (v q)
-      same q = by-eq q p (λ e. ap (λ q. score (laid v p w q)) e ∙ ap score put-here ∙ score-none w h ∙ sym (ap (λ q. score (v q)) e ∙ ap score n)) (λ e. ap score (put-there q e))
+      same q = by-eq q p (λ e. ap (λ q. score (laid v p w q)) e ∙ ap score put-here ∙ score-none w h ∙ sym (ap (λ q. score (v q)) e ∙ ap score n))
+          (λ e. ap score (put-there q e))
 
   pub chip-beside : v p ≡ noView g → w .height ≡ 0 → chip t (laid v p w) ≡ beside (chip t v) p w
   unfolding beside
   chip-beside n h =
       let r = root-beside n h in
-      let high : (q : ℕ) → laid v p w q .height ≡ v q .height = λ q. by-eq q p (λ e. ap (λ q. laid v p w q .height) e ∙ ap (λ (x : View). x .height) put-here ∙ h ∙ sym (ap (λ q. v q .height) e ∙ ap (λ (x : View). x .height) n)) (λ e. ap (λ (x : View). x .height) (put-there q e)) in
-      let e : laid v p w (rootAt t (laid v p w)) .height - 1 ≡ v (rootAt t v) .height - 1 = ap (λ n. n - 1) (high (rootAt t (laid v p w)) ∙ ap (λ q. v q .height) r) in
+      let high : (q : ℕ) → laid v p w q .height ≡ v q .height = λ q. by-eq q p
+      (λ e. ap (λ q. laid v p w q .height) e ∙ ap (λ (x : View). x .height) put-here ∙ h
+      ∙ sym (ap (λ q. v q .height) e ∙ ap (λ (x : View). x .height) n)) (λ e. ap (λ (x : View). x .height) (put-there q e)) in
+      let e : laid v p w (rootAt t (laid v p w)) .height - 1 ≡ v (rootAt t v) .height - 1 = ap (λ n. n - 1)
+      (high (rootAt t (laid v p w)) ∙ ap (λ q. v q .height) r) in
       λ i. record { er = λ q. put-er q i; nodes = λ q l. put-node q l i; level = e i; root = r i }
 
 -- the erase of a block that the root is not in
 pub root-wipe : (t : ℕ) (g : Geometry) (b : ℕ) (v : Views) → 1 ≤ t → inB (g .pages) b (rootAt t v) ≡ false → rootAt t (wipe g b v) ≡ rootAt t v
 unfolding rootAt
-root-wipe t g b v h k = arg-less t (λ q. score (v q)) (λ q. score (wipe g b v q)) h (λ j. low j (inB (g .pages) b j)) (ap (λ s. score (pick s (noView g) (v (arg t (λ q. score (v q)))))) k)
+root-wipe t g b v h k = arg-less t (λ q. score (v q)) (λ q. score (wipe g b v q)) h (λ j. low j (inB (g .pages) b j))
+    (ap (λ s. score (pick s (noView g) (v (arg t (λ q. score (v q)))))) k)
   where
     low : (j : ℕ) (s : Bool) → score (pick s (noView g) (v j)) ≤ score (v j)
     low j true = omega arith
     low j false = omega arith
 
-pub chip-wipe : (t : ℕ) (g : Geometry) (b : ℕ) (v : Views) → 1 ≤ t → inB (g .pages) b (rootAt t v) ≡ false → chip t (wipe g b v) ≡ eraseBlock g b (chip t v)
+pub chip-wipe : (t : ℕ) (g : Geometry) (b : ℕ) (v : Views) → 1 ≤ t → inB (g .pages) b (rootAt t v) ≡ false
+    → chip t (wipe g b v) ≡ eraseBlock g b (chip t v)
 unfolding eraseBlock
 chip-wipe t g b v h k =
     let r = root-wipe t g b v h k in
-    let e : wipe g b v (rootAt t (wipe g b v)) .height - 1 ≡ v (rootAt t v) .height - 1 = ap (λ q. wipe g b v q .height - 1) r ∙ ap (λ s. pick s (noView g) (v (rootAt t v)) .height - 1) k in
-    λ i. record { er = λ q. picked (λ (x : View). x .er) (inB (g .pages) b q) (noView g) (v q) i; nodes = λ q l. picked (λ (x : View). x .node l) (inB (g .pages) b q) (noView g) (v q) i; level = e i; root = r i }
+    let e : wipe g b v (rootAt t (wipe g b v)) .height - 1 ≡ v (rootAt t v) .height - 1 = ap (λ q. wipe g b v q .height - 1) r
+    ∙ ap (λ s. pick s (noView g) (v (rootAt t v)) .height - 1) k in
+    λ i. record {
+      er = λ q. picked (λ (x : View). x .er) (inB (g .pages) b q) (noView g) (v q) i;
+      nodes = λ q l. picked (λ (x : View). x .node l)
+          (inB (g .pages) b q) (noView g) (v q) i;
+      level = e i;
+      root = r i;
+    }
 
 -- R1 and R3
 pub record R1 (top : ℕ) (w : View) : Type 0 where
@@ -235,7 +254,8 @@ r3-put t v p w h s = record { differ = λ a b ha hb ea eb e. go a b ha hb (eqb a
     low : (j : ℕ) → j < t → v j .seq < w .seq
     low j q = let y = peak-le t (λ q. v q .seq) j q in omega (arith, y, s)
 
-    go : (a b : ℕ) → a < t → b < t → (x y : Bool) → eqb a p ≡ x → eqb b p ≡ y → pick x w (v a) .er ≡ false → pick y w (v b) .er ≡ false → pick x w (v a) .seq ≡ pick y w (v b) .seq → a ≡ b
+    go : (a b : ℕ) → a < t → b < t → (x y : Bool) → eqb a p ≡ x → eqb b p ≡ y → pick x w (v a) .er ≡ false → pick y w (v b) .er ≡ false
+        → pick x w (v a) .seq ≡ pick y w (v b) .seq → a ≡ b
     go a b ha hb true true ea eb fa fb e = eqb-true a p ea ∙ sym (eqb-true b p eb)
     go a b ha hb true false ea eb fa fb e = absurd (omega (arith, low b hb, e))
     go a b ha hb false true ea eb fa fb e = absurd (omega (arith, low a ha, e))
@@ -244,7 +264,8 @@ r3-put t v p w h s = record { differ = λ a b ha hb ea eb e. go a b ha hb (eqb a
 pub r3-wipe : (t : ℕ) (g : Geometry) (b : ℕ) (v : Views) → R3 t v → R3 t (wipe g b v)
 r3-wipe t g b v h = record { differ = λ p q hp hq ep eq e. go p q hp hq (inB (g .pages) b p) (inB (g .pages) b q) ep eq e }
   where
-    go : (p q : ℕ) → p < t → q < t → (x y : Bool) → pick x (noView g) (v p) .er ≡ false → pick y (noView g) (v q) .er ≡ false → pick x (noView g) (v p) .seq ≡ pick y (noView g) (v q) .seq → p ≡ q
+    go : (p q : ℕ) → p < t → q < t → (x y : Bool) → pick x (noView g) (v p) .er ≡ false → pick y (noView g) (v q) .er ≡ false
+        → pick x (noView g) (v p) .seq ≡ pick y (noView g) (v q) .seq → p ≡ q
     go p q hp hq true y a c e = absurd (true-false true refl a)
     go p q hp hq false true a c e = absurd (true-false true refl c)
     go p q hp hq false false a c e = h .differ p q hp hq a c e
@@ -261,23 +282,33 @@ r4-some top t v q r h e k = go (v (arg t (λ q. score (v q))) .height) refl
     a = arg-at t (λ q. score (v q)) (omega arith)
 
     go : (m : ℕ) → v (arg t (λ q. score (v q))) .height ≡ m → 1 ≤ m
-    go zero z = let x = a .all q h in let y = r q h .some e in absurd (omega (arith, x, y, score-root (v q) k, score-none (v (arg t (λ q. score (v q)))) z))
+    go zero z = let x = a .all q h in let y = r q h .some e in absurd (omega (
+      arith,
+      x,
+      y,
+      score-root (v q) k,
+      score-none
+          (v (arg t (λ q. score (v q)))) z,
+    ))
     go (suc m) z = omega arith
 
 -- of the pages that carry a root, the root's number is the largest
 pub root-largest : (t : ℕ) (v : Views) (q : ℕ) → q < t → 1 ≤ v q .height → v q .seq ≤ v (rootAt t v) .seq
 unfolding rootAt
-root-largest t v q h k = let a = arg-at t (λ q. score (v q)) (omega arith) in let x = a .all q h in let y = score-le (v (arg t (λ q. score (v q)))) in omega (arith, x, y, score-root (v q) k)
+root-largest t v q h k = let a = arg-at t (λ q. score (v q)) (omega arith) in let x = a .all q h in let y = score-le (v (arg t (λ q. score (v q)))) in
+    omega (arith, x, y, score-root (v q) k)
 
 pub root-in : (t : ℕ) (v : Views) → 1 ≤ t → rootAt t v < t
 unfolding rootAt
 root-in t v h = arg-at t (λ q. score (v q)) h .inside
 
-pub r4-root : (g : Geometry) (t : ℕ) (v : Views) (p : ℕ) (w : View) → w .er ≡ false → p < t → 1 ≤ w .height → w .seq ≡ suc (topOf t v) → R4 t (laid v p w)
+pub r4-root : (g : Geometry) (t : ℕ) (v : Views) (p : ℕ) (w : View) → w .er ≡ false → p < t → 1 ≤ w .height → w .seq ≡ suc (topOf t v)
+    → R4 t (laid v p w)
 r4-root g t v p w e h k s = rw (root-new g t v p w e h k s, eq-eqb p p refl) k
 
 pub r4-beside : (g : Geometry) (t : ℕ) (v : Views) (p : ℕ) (w : View) → w .er ≡ false → v p ≡ noView g → w .height ≡ 0 → R4 t v → R4 t (laid v p w)
-r4-beside g t v p w e n h r = rw (root-beside g t v p w e n h) (by-eq (rootAt t v) p (λ d. absurd (omega (arith, r, ap (λ q. v q .height) d, ap (λ (x : View). x .height) n))) (λ d. rw (ne-eqb (rootAt t v) p d) r))
+r4-beside g t v p w e n h r = rw (root-beside g t v p w e n h) (by-eq (rootAt t v) p
+    (λ d. absurd (omega (arith, r, ap (λ q. v q .height) d, ap (λ (x : View). x .height) n))) (λ d. rw (ne-eqb (rootAt t v) p d) r))
 
 pub r4-wipe : (t : ℕ) (g : Geometry) (b : ℕ) (v : Views) → 1 ≤ t → inB (g .pages) b (rootAt t v) ≡ false → R4 t v → R4 t (wipe g b v)
 r4-wipe t g b v h k r = rw (root-wipe t g b v h k, k) r

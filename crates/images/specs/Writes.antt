@@ -41,7 +41,8 @@ nextStore g n h parts img = program (nextPage (g .pages) n (chipOf g n img .er))
 -- An erase: a block without live pages
 unfoldable pub Legal : Geometry → ℕ → List ℕ → Store → Type 0
 Legal g n img (program p bs) =
-    (p ≡ nextPage (g .pages) n (erased g img)) × (p < pagesOf g n) × (erased g img p ≡ true) × (length bs ≡ pageBytes g) × (u32At bs (g .main) ≡ suc (maxSeq g n img))
+    (p ≡ nextPage (g .pages) n (erased g img)) × (p < pagesOf g n) × (erased g img p ≡ true) × (length bs ≡ pageBytes g) ×
+    (u32At bs (g .main) ≡ suc (maxSeq g n img))
 Legal g n img (erase b) = (b < n) × ((j : ℕ) → j < g .pages → live (placesOf (chipOf g n img)) (g .pages * b + j) ≡ false)
 
 -- the largest number after a page with the next one
@@ -71,7 +72,8 @@ module _ (g : Geometry) (shape : Shape g) (n : ℕ) (img : List ℕ) (held : Hel
         next-erased (g .pages) n (c .er) (some-page g shape) (held .whole .r2) (w .0) (w .1) (w .2) (w .3) (rw (← (w .4)) (f .2))
 
     pub next-in : N < t
-    next-in = in-range (g .pages) n (nextBlock (g .pages) n (c .er)) (firstIn (g .pages) (c .er) (nextBlock (g .pages) n (c .er))) (found .0) (found .1)
+    next-in = in-range (g .pages) n (nextBlock (g .pages) n (c .er)) (firstIn (g .pages) (c .er) (nextBlock (g .pages) n (c .er))) (found .0)
+        (found .1)
 
     pub next-free : c .er N ≡ true
     next-free = found .2
@@ -99,7 +101,14 @@ module _ (g : Geometry) (shape : Shape g) (n : ℕ) (img : List ℕ) (held : Hel
 
       pub put-legal : Legal g n img (nextStore g n h parts img)
       unfolding Legal nextStore
-      put-legal = (refl, next-in, next-free, length-built g shape parts (suc (maxSeq g n img)) h, built-seq g shape parts ok (suc (maxSeq g n img)) h low h-low)
+      put-legal = (
+        refl,
+        next-in,
+        next-free,
+        length-built g shape parts (suc (maxSeq g n img)) h,
+        built-seq g shape parts ok
+            (suc (maxSeq g n img)) h low h-low,
+      )
 
       pub put-max : maxSeq g n next ≡ suc (maxSeq g n img)
       unfolding nextStore
@@ -140,7 +149,8 @@ module _ (g : Geometry) (shape : Shape g) (n : ℕ) (img : List ℕ) (held : Hel
 
         pub root-frees : count t (c .er) ≡ suc (count t (chipOf g n next .er))
         unfolding rooted
-        root-frees = let u : bit (ltb N t) ≡ 1 = rw (lt-ltb N t next-in) refl in let e = ap (λ (x : Chip). count t (x .er)) root-chip in omega (arith, count-after t N (c .er) next-free, u, e)
+        root-frees = let u : bit (ltb N t) ≡ 1 = rw (lt-ltb N t next-in) refl in let e = ap (λ (x : Chip). count t (x .er)) root-chip in
+            omega (arith, count-after t N (c .er) next-free, u, e)
 
       -- without: all is as before, whatever the page holds
       module _ (no-h : h ≡ 0) where
@@ -159,7 +169,8 @@ module _ (g : Geometry) (shape : Shape g) (n : ℕ) (img : List ℕ) (held : Hel
         unfolding beside
         side-whole = record {
           r2 = r2-next (g .pages) n (c .er) (some-page g shape) (held .whole .r2) (found .0) (found .1);
-          sound = sound-same 4294967296 (λ l. 2 * half g l) (rootMost g) (c .nodes) (beside c N w .nodes) (fitOf t (c .er)) (fitOf t (after N (c .er))) keep-next stays (c .level) (c .root) (held .whole .sound);
+          sound = sound-same 4294967296 (λ l. 2 * half g l) (rootMost g) (c .nodes) (beside c N w .nodes) (fitOf t (c .er))
+              (fitOf t (after N (c .er))) keep-next stays (c .level) (c .root) (held .whole .sound);
         }
 
         pub side-held : Held g n next
@@ -175,11 +186,13 @@ module _ (g : Geometry) (shape : Shape g) (n : ℕ) (img : List ℕ) (held : Hel
 
         pub side-map : mapOf (chipOf g n next) ≡ mapOf c
         unfolding beside
-        side-map = ap mapOf side-chip ∙ pairs-same 4294967296 (λ l. 2 * half g l) (rootMost g) (c .nodes) (beside c N w .nodes) (fitOf t (c .er)) (fitOf t (after N (c .er))) keep-next stays (c .level) (c .root) (held .whole .sound .rooted)
+        side-map = ap mapOf side-chip ∙ pairs-same 4294967296 (λ l. 2 * half g l) (rootMost g) (c .nodes) (beside c N w .nodes) (fitOf t (c .er))
+            (fitOf t (after N (c .er))) keep-next stays (c .level) (c .root) (held .whole .sound .rooted)
 
         pub side-frees : count t (c .er) ≡ suc (count t (chipOf g n next .er))
         unfolding beside
-        side-frees = let u : bit (ltb N t) ≡ 1 = rw (lt-ltb N t next-in) refl in let e = ap (λ (x : Chip). count t (x .er)) side-chip in omega (arith, count-after t N (c .er) next-free, u, e)
+        side-frees = let u : bit (ltb N t) ≡ 1 = rw (lt-ltb N t next-in) refl in let e = ap (λ (x : Chip). count t (x .er)) side-chip in
+            omega (arith, count-after t N (c .er) next-free, u, e)
 
   -- ---- the erase of a block without live pages
   root-live : live (placesOf c) (c .root) ≡ true
@@ -193,7 +206,8 @@ module _ (g : Geometry) (shape : Shape g) (n : ℕ) (img : List ℕ) (held : Hel
         let r = range (g .pages) b (rootAt t (views g img)) e in
         let z : rootAt t (views g img) ≡ c .root = ap (λ (x : Chip). x .root) (view-chip g n img) in
         let d : c .root ≡ g .pages * b + (c .root - g .pages * b) = omega (arith, r, z) in
-        absurd (true-false (live (placesOf c) (c .root)) root-live (subst (λ q. live (placesOf c) q ≡ false) (sym d) (dead (c .root - g .pages * b) (omega (arith, r, z))))))
+        absurd (true-false (live (placesOf c) (c .root)) root-live (subst (λ q. live (placesOf c) q ≡ false) (sym d)
+        (dead (c .root - g .pages * b) (omega (arith, r, z))))))
         (λ e. e)
 
     abbrev wiped : List ℕ
@@ -213,4 +227,5 @@ module _ (g : Geometry) (shape : Shape g) (n : ℕ) (img : List ℕ) (held : Hel
     }
 
     pub wipe-max : maxSeq g n wiped ≤ maxSeq g n img
-    wipe-max = let z = erase-max g shape img n (held .image) b b-in in let x = view-max g n wiped in let y = view-max g n img in omega (arith, x, y, z)
+    wipe-max = let z = erase-max g shape img n (held .image) b b-in in let x = view-max g n wiped in let y = view-max g n img in
+        omega (arith, x, y, z)

@@ -16,7 +16,8 @@ use Rattle.trees.specs.Tests.{by-eq}
 use Rattle.trees.specs.Lists.{All, Rises, all-append}
 use Rattle.trees.specs.Nodes.{Ok}
 
-pub splice-all : (P : Entry → Type 0) (f : Entry → List Entry) (k : ℕ) (es : List Entry) → ((e : Entry) → P e → All P (f e)) → All P es → All P (splice f k es)
+pub splice-all : (P : Entry → Type 0) (f : Entry → List Entry) (k : ℕ) (es : List Entry) → ((e : Entry) → P e → All P (f e)) → All P es
+    → All P (splice f k es)
 splice-all P f k [] h a = tt
 splice-all P f k (e ∷ []) h a = h e (a .0)
 splice-all P f k (e ∷ x ∷ es) h a = go (leb (x .key) k) (splice-all P f k (x ∷ es) h (a .1))
@@ -30,7 +31,8 @@ splice-most f k d [] h = omega arith
 splice-most f k d (e ∷ []) h = omega (arith, h e)
 splice-most f k d (e ∷ x ∷ es) h = go (leb (x .key) k) (splice-most f k d (x ∷ es) h)
   where
-    go : (t : Bool) → length (splice f k (x ∷ es)) ≤ length (x ∷ es) + d → length (pick t (e ∷ splice f k (x ∷ es)) (f e ++ (x ∷ es))) ≤ suc (length (x ∷ es)) + d
+    go : (t : Bool) → length (splice f k (x ∷ es)) ≤ length (x ∷ es) + d
+        → length (pick t (e ∷ splice f k (x ∷ es)) (f e ++ (x ∷ es))) ≤ suc (length (x ∷ es)) + d
     go true i = omega (arith, i)
     go false i = let w = length-append (f e) (x ∷ es) in omega (arith, w, h e)
 
@@ -55,11 +57,13 @@ chosen-ok P k hi (e ∷ x ∷ es) n h = go (leb (x .key) k) (chosen-ok P k hi (x
 
 module _ (r : Nodes) (k : ℕ) (leaf : List Entry → List Entry) (name : ℕ → Entry → List Entry → List Entry) where
   -- what holds of all entries of the nodes holds of the edited ones
-  module _ (P : Entry → Type 0) (leaf-all : (es : List Entry) → All P es → All P (leaf es)) (name-all : (l : ℕ) (e : Entry) (c : List Entry) → P e → All P c → All P (name l e c)) (all : (q l : ℕ) → All P (r q l)) where
+  module _ (P : Entry → Type 0) (leaf-all : (es : List Entry) → All P es → All P (leaf es))
+      (name-all : (l : ℕ) (e : Entry) (c : List Entry) → P e → All P c → All P (name l e c)) (all : (q l : ℕ) → All P (r q l)) where
     edited-all : (l : ℕ) (e : Entry) → All P (edited r k leaf name l e)
     unfolding edited
     edited-all zero e = leaf-all (r (e .addr) 1) (all (e .addr) 1)
-    edited-all (suc l) e = splice-all P (λ x. name (suc l) x (edited r k leaf name l x)) k (r (e .addr) (suc (suc l))) (λ x p. name-all (suc l) x (edited r k leaf name l x) p (edited-all l x)) (all (e .addr) (suc (suc l)))
+    edited-all (suc l) e = splice-all P (λ x. name (suc l) x (edited r k leaf name l x)) k (r (e .addr) (suc (suc l)))
+        (λ x p. name-all (suc l) x (edited r k leaf name l x) p (edited-all l x)) (all (e .addr) (suc (suc l)))
 
     pub path-all : (l : ℕ) (e : Entry) (j : ℕ) → All P (onPath r k leaf name l e j)
     unfolding onPath
@@ -70,16 +74,19 @@ module _ (r : Nodes) (k : ℕ) (leaf : List Entry → List Entry) (name : ℕ �
         go false = tt
     path-all (suc l) e j = go (eqb j (suc (suc l))) (path-all l (chosen k (r (e .addr) (suc (suc l)))) j)
       where
-        go : (t : Bool) → All P (onPath r k leaf name l (chosen k (r (e .addr) (suc (suc l)))) j) → All P (pick t (edited r k leaf name (suc l) e) (onPath r k leaf name l (chosen k (r (e .addr) (suc (suc l)))) j))
+        go : (t : Bool) → All P (onPath r k leaf name l (chosen k (r (e .addr) (suc (suc l)))) j)
+            → All P (pick t (edited r k leaf name (suc l) e) (onPath r k leaf name l (chosen k (r (e .addr) (suc (suc l)))) j))
         go true i = edited-all (suc l) e
         go false i = i
 
   -- at most d entries more
-  module _ (d : ℕ) (leaf-most : (es : List Entry) → length (leaf es) ≤ length es + d) (name-most : (l : ℕ) (e : Entry) (c : List Entry) → length (name l e c) ≤ suc d) where
+  module _ (d : ℕ) (leaf-most : (es : List Entry) → length (leaf es) ≤ length es + d)
+      (name-most : (l : ℕ) (e : Entry) (c : List Entry) → length (name l e c) ≤ suc d) where
     edited-most : (l : ℕ) (e : Entry) → length (edited r k leaf name l e) ≤ length (r (e .addr) (suc l)) + d
     unfolding edited
     edited-most zero e = leaf-most (r (e .addr) 1)
-    edited-most (suc l) e = splice-most (λ x. name (suc l) x (edited r k leaf name l x)) k d (r (e .addr) (suc (suc l))) (λ x. name-most (suc l) x (edited r k leaf name l x))
+    edited-most (suc l) e = splice-most (λ x. name (suc l) x (edited r k leaf name l x)) k d (r (e .addr) (suc (suc l)))
+        (λ x. name-most (suc l) x (edited r k leaf name l x))
 
     -- at the top of the path
     pub path-top : (l : ℕ) (e : Entry) → length (onPath r k leaf name l e (suc l)) ≤ length (r (e .addr) (suc l)) + d
@@ -88,16 +95,19 @@ module _ (r : Nodes) (k : ℕ) (leaf : List Entry → List Entry) (name : ℕ �
     path-top (suc l) e = rw (eq-eqb (suc (suc l)) (suc (suc l)) refl) (edited-most (suc l) e)
 
     -- below it
-    pub path-most : (fit : ℕ → ℕ → Type 0) (room : ℕ → ℕ) (l hi : ℕ) (e : Entry) → (1 ≤ l → 0 < length (r (e .addr) (suc l))) → Rises (Ok fit room r l) hi (r (e .addr) (suc l)) → (j : ℕ) → 1 ≤ j → j ≤ l → length (onPath r k leaf name l e j) ≤ room j + d
+    pub path-most : (fit : ℕ → ℕ → Type 0) (room : ℕ → ℕ) (l hi : ℕ) (e : Entry) → (1 ≤ l → 0 < length (r (e .addr) (suc l)))
+        → Rises (Ok fit room r l) hi (r (e .addr) (suc l)) → (j : ℕ) → 1 ≤ j → j ≤ l → length (onPath r k leaf name l e j) ≤ room j + d
     unfolding onPath Ok
     path-most fit room zero hi e c h j a b = absurd (omega arith)
     path-most fit room (suc l) hi e c h j a b =
         let o = chosen-ok (Ok fit room r (suc l)) k hi (r (e .addr) (suc (suc l))) (c (omega arith)) h in
         let x = chosen k (r (e .addr) (suc (suc l))) in
-        rw (ne-eqb j (suc (suc l)) (λ z. omega arith)) (by-eq j (suc l) (λ z. rw z (let w = path-top l x in omega (arith, w, o .1 .2))) (λ z. path-most fit room l (o .0) x (λ _. o .1 .1) (o .1 .4) j a (omega arith)))
+        rw (ne-eqb j (suc (suc l)) (λ z. omega arith)) (by-eq j (suc l) (λ z. rw z (let w = path-top l x in omega (arith, w, o .1 .2)))
+        (λ z. path-most fit room l (o .0) x (λ _. o .1 .1) (o .1 .4) j a (omega arith)))
 
   -- nothing at level 0 nor above the root
   pub path-none : (l : ℕ) (e : Entry) (j : ℕ) → (1 ≤ j → suc l < j) → onPath r k leaf name l e j ≡ []
   unfolding onPath
   path-none zero e j h = rw (ne-eqb j 1 (λ z. let w = h (omega (arith, z)) in omega (arith, w, z))) refl
-  path-none (suc l) e j h = rw (ne-eqb j (suc (suc l)) (λ z. let w = h (omega (arith, z)) in omega (arith, w, z))) (path-none l (chosen k (r (e .addr) (suc (suc l)))) j (λ i. let w = h i in omega (arith, w)))
+  path-none (suc l) e j h = rw (ne-eqb j (suc (suc l)) (λ z. let w = h (omega (arith, z)) in omega (arith, w, z)))
+      (path-none l (chosen k (r (e .addr) (suc (suc l)))) j (λ i. let w = h i in omega (arith, w)))
