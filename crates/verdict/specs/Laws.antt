@@ -6,7 +6,7 @@ use mathlib.Core.List.{List}
 use lib.Dec.{leb, ltb}
 use lib.ListN.{length}
 use native.Mathlib.Omega.{arith}
-use native.Mathlib.Nat.{mul-suc, mul-le-mul-left}
+use native.Mathlib.Nat.{mul-suc, mul-le-mul, mul-le-mul-left}
 use borrow.Author.Tests.{le-leb, lt-leb}
 use Rattle.geometry.specs.declared.Geometry.{Geometry}
 use Rattle.geometry.specs.declared.Finding.{Finding}
@@ -172,8 +172,14 @@ module _ (g : Geometry) (n : ℕ) (img : List ℕ) (s : Survey) where
   pub tells-filled : (m : ℕ) (tbl : List ℕ) (v : Verdict) → Ready g n img s m → Marked (chipWith g img (s .level) (s .root)) tbl → Tells (chipOf g n img) tbl v
   tells-filled m tbl v x y = record { marked = λ e. subst (λ (c : Chip). Marked c tbl) (chip-is g n img s (x .survey)) y }
 
-  pub ready-is : (m : ℕ) → s ≡ surveyOf g n img → s .level < 255 → 1 ≤ m → g .pages * n ≤ m → Ready g n img s m
-  ready-is m e h k r = record { survey = e; level = h; some = k; room = r }
+  -- 65536 places have room for 1024 blocks of at most 64 pages
+  pub ready-is : (m : ℕ) → s ≡ surveyOf g n img → s .level < 255 → g .pages ≤ 64 → n ≤ 1024 → 65536 ≤ m → Ready g n img s m
+  ready-is m e h p k r = record {
+    survey = e;
+    level = h;
+    some = omega arith;
+    room = omega (arith, r, mul-le-mul {n₁ = g .pages} {m₁ = n} {n₂ = 64} {m₂ = 1024} p k);
+  }
 
   module _ (m : ℕ) (x : Ready g n img s m) where
     pub ready-same : (k : ℕ) → k ≡ m → Ready g n img s k

@@ -149,7 +149,7 @@ fn from_rule_1(g: Geometry, img: &[u8], table: &mut [u8], n: u16, survey: Survey
 
 // Judges n blocks. Where they are sound the table then tells each page's lowest live level.
 pub fn judge_image(g: Geometry, img: &[u8], table: &mut [u8], n: u16) -> Judgement
-    requires { ⌜ (1 ≤ length (now table)) × (g .pages * n ≤ length (now table)) ⌝ }
+    requires { ⌜ (g .pages ≤ 64) × (n ≤ 1024) × (65536 ≤ length (now table)) ⌝ }
     ensures { λ r. ⌜ Judged g n (now (img .entry)) r (now (table .entry)) (now (table .exit)) ⌝ }
 {
     let survey = survey::take_survey(g, img, n);
