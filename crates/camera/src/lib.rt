@@ -3,7 +3,7 @@ ghost use mathlib.Core.Path.{_≡_};
 ghost use Prim.Native.Nat.{_<_};
 ghost use Rattle.geometry.specs.Geometry.{small};
 ghost use Rattle.model.specs.Page.{putU32};
-ghost use Rattle.model.specs.Calls.{format};
+ghost use Rattle.model.specs.Calls.{format, lookup};
 ghost use Rattle.answers.specs.Answers.{numberOf, addressOf, programmedOf, erasedOf};
 ghost use Rattle.camera.specs.Camera.{reportOf, returned};
 use answers::Answer;
@@ -51,5 +51,17 @@ pub extern "C" fn mutree_format(image: &mut [u8], result: &mut [u8]) -> u32
         return 1;
     }
     let a = index::format(&mut *image);
+    report(&mut *result, a)
+}
+
+#[no_mangle]
+pub extern "C" fn mutree_lookup(image: &[u8], key: u32, result: &mut [u8]) -> u32
+    ensures answer { λ r. ⌜ r ≡ returned (lookup small (now (image .entry)) key) (now (image .entry)) (now (result .entry)) .answer ⌝ }
+    ensures result { λ _. ⌜ now (result .exit) ≡ returned (lookup small (now (image .entry)) key) (now (image .entry)) (now (result .entry)) .result ⌝ }
+{
+    if result.len() < 16 {
+        return 1;
+    }
+    let a = index::lookup(image, key);
     report(&mut *result, a)
 }

@@ -2,7 +2,7 @@
 // equation: the answer, its numbers and the image afterwards are those of the definition, for every image.
 ghost use mathlib.Core.Path.{_≡_};
 ghost use Rattle.geometry.specs.Geometry.{small};
-ghost use Rattle.model.specs.Calls.{format};
+ghost use Rattle.model.specs.Calls.{format, lookup};
 ghost use Rattle.answers.specs.Answers.{told};
 use answers::Answer;
 use geometry::Geometry;
@@ -11,4 +11,10 @@ pub fn format(img: &mut [u8]) -> Answer
     ensures { λ r. ⌜ told r (now (img .exit)) ≡ format small (now (img .entry)) ⌝ }
 {
     format::format(Geometry::small(), &mut *img)
+}
+
+pub fn lookup(img: &[u8], key: u32) -> Answer
+    ensures { λ r. ⌜ told r (now (img .entry)) ≡ lookup small (now (img .entry)) key ⌝ }
+{
+    lookup::lookup_small(img, key)
 }
