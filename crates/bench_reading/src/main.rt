@@ -51,46 +51,50 @@ fn put_entry(img: &mut [u8; 50688], page: u32, level: u32, i: usize, key: u8, ad
     put_number(&mut *img, at + 4, addr);
 }
 
+// A node of one entry at a level of a page.
+fn put_one(img: &mut [u8; 50688], page: u32, level: u32, key: u8, addr: u8) {
+    put_count(&mut *img, page, level, 1);
+    put_entry(&mut *img, page, level, 0, key, addr);
+}
+
+// A node of two entries, keys 10 and 20.
+fn put_two(img: &mut [u8; 50688], page: u32, level: u32, addr: u8, other: u8) {
+    put_count(&mut *img, page, level, 2);
+    put_entry(&mut *img, page, level, 0, 10, addr);
+    put_entry(&mut *img, page, level, 1, 20, other);
+}
+
 // Two leaves on pages 0 and 1, and a root of height 2 on page 1.
 fn put_tree(img: &mut [u8; 50688]) {
     erase_all(&mut *img);
     put_page(&mut *img, 0, 1, 0);
-    put_count(&mut *img, 0, 1, 1);
-    put_entry(&mut *img, 0, 1, 0, 10, 110);
+    put_one(&mut *img, 0, 1, 10, 110);
     put_page(&mut *img, 1, 2, 2);
-    put_count(&mut *img, 1, 1, 1);
-    put_entry(&mut *img, 1, 1, 0, 20, 120);
-    put_count(&mut *img, 1, 2, 2);
-    put_entry(&mut *img, 1, 2, 0, 10, 0);
-    put_entry(&mut *img, 1, 2, 1, 20, 1);
+    put_one(&mut *img, 1, 1, 20, 120);
+    put_two(&mut *img, 1, 2, 0, 1);
 }
 
-// A root of height 3 on page 3 over nodes of level 2 on pages 0 and 1. Page 1 lives at levels 1 and 2 and does not name itself.
+// Nodes of level 2 on pages 0 and 1, leaves on pages 1 and 2.
+fn put_levels(img: &mut [u8; 50688]) {
+    put_one(&mut *img, 0, 2, 10, 1);
+    put_one(&mut *img, 1, 2, 20, 2);
+    put_one(&mut *img, 1, 1, 10, 110);
+    put_one(&mut *img, 2, 1, 20, 120);
+}
+
+// The same under a root of height 3 on page 3: page 1 lives at levels 1 and 2 and does not name itself.
 fn put_loose(img: &mut [u8; 50688]) {
     erase_all(&mut *img);
     put_page(&mut *img, 0, 1, 0);
-    put_count(&mut *img, 0, 2, 1);
-    put_entry(&mut *img, 0, 2, 0, 10, 1);
     put_page(&mut *img, 1, 2, 0);
-    put_count(&mut *img, 1, 1, 1);
-    put_entry(&mut *img, 1, 1, 0, 10, 110);
-    put_count(&mut *img, 1, 2, 1);
-    put_entry(&mut *img, 1, 2, 0, 20, 2);
     put_page(&mut *img, 2, 3, 0);
-    put_count(&mut *img, 2, 1, 1);
-    put_entry(&mut *img, 2, 1, 0, 20, 120);
-    put_loose_root(&mut *img);
-}
-
-fn put_loose_root(img: &mut [u8; 50688]) {
+    put_levels(&mut *img);
     put_page(&mut *img, 3, 4, 3);
-    put_count(&mut *img, 3, 3, 2);
-    put_entry(&mut *img, 3, 3, 0, 10, 0);
-    put_entry(&mut *img, 3, 3, 1, 20, 1);
+    put_two(&mut *img, 3, 3, 0, 1);
 }
 
-// All pages programmed, a live one in each block: leaves on pages 0 and 32, the root on page 95.
-fn put_full(img: &mut [u8; 50688]) {
+// All pages programmed, without nodes.
+fn put_pages(img: &mut [u8; 50688]) {
     erase_all(&mut *img);
     let mut page: u32 = 0;
     let mut seq: u8 = 1;
@@ -101,14 +105,15 @@ fn put_full(img: &mut [u8; 50688]) {
             seq += 1;
         }
     }
-    put_count(&mut *img, 0, 1, 1);
-    put_entry(&mut *img, 0, 1, 0, 10, 110);
-    put_count(&mut *img, 32, 1, 1);
-    put_entry(&mut *img, 32, 1, 0, 20, 120);
+}
+
+// All pages programmed, a live one in each block: leaves on pages 0 and 32, the root on page 95.
+fn put_full(img: &mut [u8; 50688]) {
+    put_pages(&mut *img);
+    put_one(&mut *img, 0, 1, 10, 110);
+    put_one(&mut *img, 32, 1, 20, 120);
     put_page(&mut *img, 95, 96, 2);
-    put_count(&mut *img, 95, 2, 2);
-    put_entry(&mut *img, 95, 2, 0, 10, 0);
-    put_entry(&mut *img, 95, 2, 1, 20, 32);
+    put_two(&mut *img, 95, 2, 0, 32);
 }
 
 fn space() {
@@ -154,36 +159,50 @@ fn lengths() {
     case(&image);
 }
 
-fn damaged(img: &mut [u8; 50688]) {
+fn sound(img: &mut [u8; 50688]) {
     put_tree(&mut *img);
     io::write_all(1, b"sound");
     case(&*img);
+}
+
+fn rule_1(img: &mut [u8; 50688]) {
+    put_tree(&mut *img);
     put_page(&mut *img, 0, 1, 6);
     io::write_all(1, b"R1, height byte 6");
     case(&*img);
+}
+
+// The tree with one page more.
+fn page_more(img: &mut [u8; 50688], page: u32, seq: u8) {
     put_tree(&mut *img);
-    put_page(&mut *img, 3, 3, 0);
-    io::write_all(1, b"R2, page 2 erased before page 3");
-    case(&*img);
-    put_tree(&mut *img);
-    put_page(&mut *img, 32, 3, 0);
-    io::write_all(1, b"R2, a second mixed block");
+    put_page(&mut *img, page, seq, 0);
     case(&*img);
 }
 
-fn damaged_trees(img: &mut [u8; 50688]) {
-    put_tree(&mut *img);
-    put_page(&mut *img, 2, 2, 0);
+fn rules_2_and_3(img: &mut [u8; 50688]) {
+    io::write_all(1, b"R2, page 2 erased before page 3");
+    page_more(&mut *img, 3, 3);
+    io::write_all(1, b"R2, a second mixed block");
+    page_more(&mut *img, 32, 3);
     io::write_all(1, b"R3, number 2 again");
-    case(&*img);
+    page_more(&mut *img, 2, 2);
+}
+
+fn rule_4(img: &mut [u8; 50688]) {
     put_tree(&mut *img);
     put_page(&mut *img, 1, 2, 0);
     io::write_all(1, b"R4, no root");
     case(&*img);
+}
+
+fn rule_5(img: &mut [u8; 50688]) {
     put_tree(&mut *img);
     put_entry(&mut *img, 0, 1, 0, 20, 110);
     io::write_all(1, b"R5, a key not below the next entry's");
     case(&*img);
+}
+
+fn rules_6_and_7(img: &mut [u8; 50688]) {
     put_loose(&mut *img);
     io::write_all(1, b"R6, page 1 does not name itself");
     case(&*img);
@@ -195,6 +214,10 @@ fn damaged_trees(img: &mut [u8; 50688]) {
 fn main() {
     lengths();
     let mut image: [u8; 50688] = [0; 50688];
-    damaged(&mut image);
-    damaged_trees(&mut image);
+    sound(&mut image);
+    rule_1(&mut image);
+    rules_2_and_3(&mut image);
+    rule_4(&mut image);
+    rule_5(&mut image);
+    rules_6_and_7(&mut image);
 }
