@@ -60,11 +60,11 @@ module _ (g : Geometry) (shape : Shape g) (n k : ℕ) where
         go zero p i z = omega (arith, i .0)
         go (suc j) p i z = true-false (c .er q) e (subst (λ m. c .er m ≡ false) z (i .1 .1))
 
-    deadP : ℕ → Bool
-    deadP q = pick (c .er q) false (pick (live (placesOf c) q) false true)
+    deadPage : ℕ → Bool
+    deadPage q = pick (c .er q) false (pick (live (placesOf c) q) false true)
 
-    three : (q : ℕ) → bit (c .er q) + bit (live (placesOf c) q) + bit (deadP q) ≡ 1
-    unfolding deadP
+    three : (q : ℕ) → bit (c .er q) + bit (live (placesOf c) q) + bit (deadPage q) ≡ 1
+    unfolding deadPage
     three q = go (c .er q) (live (placesOf c) q) refl refl
       where
         go : (t u : Bool) → c .er q ≡ t → live (placesOf c) q ≡ u → bit t + bit u + bit (pick t false (pick u false true)) ≡ 1
@@ -81,12 +81,12 @@ module _ (g : Geometry) (shape : Shape g) (n k : ℕ) where
         (λ a. a)
 
     -- the mixed block, or n
-    mx : ℕ
-    mx = least n (mixed (g .pages) (c .er))
+    mixedBlock : ℕ
+    mixedBlock = least n (mixed (g .pages) (c .er))
 
-    mx-is : Least n (mixed (g .pages) (c .er)) mx
-    unfolding mx
-    mx-is = least-is n (mixed (g .pages) (c .er))
+    mixed-is : Least n (mixed (g .pages) (c .er)) mixedBlock
+    unfolding mixedBlock
+    mixed-is = least-is n (mixed (g .pages) (c .er))
 
     mixed-last : (b : ℕ) → mixed (g .pages) (c .er) b ≡ true → c .er (g .pages * b + (g .pages - 1)) ≡ true
     mixed-last b z = go (c .er (g .pages * b + 0)) z
@@ -95,22 +95,24 @@ module _ (g : Geometry) (shape : Shape g) (n k : ℕ) where
         go true i = absurd (true-false false i refl)
         go false i = i
 
-    some-er : mx < n → 1 ≤ inBlock (g .pages) (c .er) mx
+    some-er : mixedBlock < n → 1 ≤ inBlock (g .pages) (c .er) mixedBlock
     some-er q = let p = some-page g shape in omega (
       arith,
-      count-drop (g .pages) (g .pages - 1) (λ i. c .er (g .pages * mx + i)) (λ _. false)
-          (omega (arith, p)) (mixed-last mx (mx-is .hit q)) refl (λ i _. omega arith),
+      count-drop (g .pages) (g .pages - 1) (λ i. c .er (g .pages * mixedBlock + i)) (λ _. false)
+          (omega (arith, p)) (mixed-last mixedBlock (mixed-is .hit q)) refl (λ i _. omega arith),
     )
 
     -- a block that is neither full nor mixed has no dead page
-    clean : (b : ℕ) → b < n → full (g .pages) (c .er) b ≡ false → (b ≡ mx → ⊥) → inBlock (g .pages) deadP b ≡ 0
-    unfolding deadP
+    clean : (b : ℕ) → b < n → full (g .pages) (c .er) b ≡ false → (b ≡ mixedBlock → ⊥) → inBlock (g .pages) deadPage b ≡ 0
+    unfolding deadPage
     clean b q f d = by-test (c .er (g .pages * b + 0))
-        (λ i. count-ext (g .pages) (λ j. deadP (g .pages * b + j)) (λ _. false) (λ j w. rw (h .r2 .mono b 0 j q (omega arith) w i) refl) ∙ count-zero
+        (λ i. count-ext (g .pages) (λ j. deadPage (g .pages * b + j)) (λ _. false) (λ j w. rw (h .r2 .mono b 0 j q (omega arith) w i) refl)
+        ∙ count-zero
         (g .pages))
         (λ i. let z : mixed (g .pages) (c .er) b ≡ true = rw (i, not-not (c .er (g .pages * b + (g .pages - 1))) f) refl in
-        let w : mx < n = by-le mx b (λ y. omega (arith, q, y)) (λ y. absurd (true-false (mixed (g .pages) (c .er) b) z (mx-is .before b y))) in
-        absurd (d (h .r2 .one b mx q w z (mx-is .hit w))))
+        let w : mixedBlock < n = by-le mixedBlock b (λ y. omega (arith, q, y))
+        (λ y. absurd (true-false (mixed (g .pages) (c .er) b) z (mixed-is .before b y))) in
+        absurd (d (h .r2 .one b mixedBlock q w z (mixed-is .hit w))))
 
     -- the victim of a round
     pub round-victim : R7 g n c → count (g .pages * n) (live (placesOf c)) + (2 * g .pages + k) ≤ suc (g .pages * n)
@@ -120,7 +122,8 @@ module _ (g : Geometry) (shape : Shape g) (n k : ℕ) where
     round-victim r7 room few = go (theVictim (g .pages) n c) refl (victim-is (full (g .pages) (c .er)) (λ b. livesIn (g .pages) b c) n)
       where
         d : (v : ℕ) × (v < n) × (full (g .pages) (c .er) v ≡ true) × (livesIn (g .pages) v c < g .pages)
-        d = dead-block (g .pages) k n (c .er) (live (placesOf c)) deadP three (full (g .pages) (c .er)) mx some-er clean (some-page g shape) room few
+        d = dead-block (g .pages) k n (c .er) (live (placesOf c)) deadPage three (full (g .pages) (c .er)) mixedBlock some-er clean
+            (some-page g shape) room few
 
         go : (o : Option ℕ) → theVictim (g .pages) n c ≡ o → Found (full (g .pages) (c .er)) (λ b. livesIn (g .pages) b c) n o
             → (v : ℕ) × (theVictim (g .pages) n c ≡ some v) × (v < n) × (full (g .pages) (c .er) v ≡ true) × (livesIn (g .pages) v c < g .pages) ×

@@ -22,7 +22,7 @@ use Rattle.trees.specs.Tests.{by-le, true-false}
 use Rattle.trees.specs.Lists.{split}
 use Rattle.trees.specs.Nodes.{Ok, the, fitOf}
 use Rattle.trees.specs.Edit.{splice-length, atRoot}
-use Rattle.trees.specs.Delete.{remove-splice, deleted, DelMade, none-left, none-made}
+use Rattle.trees.specs.Delete.{remove-splice, deleted, DeleteMade, none-left, none-made}
 use Rattle.trees.specs.Proper.{Proper, delete-stay, delete-collapse}
 use Rattle.trees.specs.Path.{AsSplice, root-is, onPath-top, made-from}
 use Rattle.chips.specs.Next.{R2, step}
@@ -58,8 +58,8 @@ module _ (g : Geometry) (shape : Shape g) (n k : ℕ) (k-low : k < 4294967296) (
   abbrev fit : ℕ → ℕ → Type 0
   fit = fitOf (g .pages * n) (c .er)
 
-  abbrev rm : ℕ → ℕ
-  rm l = 2 * half g l
+  abbrev roomAt : ℕ → ℕ
+  roomAt l = 2 * half g l
 
   abbrev rootList : List Entry
   rootList = atRoot (remove k) (deleted r k N (c .level)) k (c .level) es
@@ -81,8 +81,8 @@ module _ (g : Geometry) (shape : Shape g) (n k : ℕ) (k-low : k < 4294967296) (
 
   root-list : lists (suc (c .level)) ≡ rootList
   unfolding deleteList
-  root-list = onPath-top fit rm r k (remove k) (λ e. remove k (e ∷ [])) (kept N) as-splice (c .level) (theRoot c)
-      ∙ root-is fit rm r k (remove k) (λ e. remove k (e ∷ [])) (kept N) as-splice (c .level) 4294967296 (c .root) k-low (λ _. some-root)
+  root-list = onPath-top fit roomAt r k (remove k) (λ e. remove k (e ∷ [])) (kept N) as-splice (c .level) (theRoot c)
+      ∙ root-is fit roomAt r k (remove k) (λ e. remove k (e ∷ [])) (kept N) as-splice (c .level) 4294967296 (c .root) k-low (λ _. some-root)
       (good .sound .rooted .rises)
 
   -- where the root's list is more than one entry, or the tree is a leaf, the root stays
@@ -127,7 +127,7 @@ module _ (g : Geometry) (shape : Shape g) (n k : ℕ) (k-low : k < 4294967296) (
         let ls : collapse r (c .level) (lists (suc (c .level))) .list ≡ lists (suc (c .level)) = ap (λ (x : Top). x .list) e in
         let here : s N (suc (c .level)) ≡ rootList = at-N (suc (c .level)) (omega arith) high ∙ rw (lv, eq-eqb (suc (c .level)) (suc (c .level)) refl)
         (ls ∙ root-list) in
-        let made : DelMade r s k N (c .level) (chosen k es) = made-from fit rm r k (remove k) (λ e. remove k (e ∷ [])) (kept N) as-splice
+        let made : DeleteMade r s k N (c .level) (chosen k es) = made-from fit roomAt r k (remove k) (λ e. remove k (e ∷ [])) (kept N) as-splice
         (λ j d. 1 ≤ length d → s N j ≡ d) (c .level) 4294967296 (theRoot c) k-low (λ _. some-root) (good .sound .rooted .rises)
         (λ j b d _. at-N j b (omega (arith, d, high)) ∙ rw (
           lv,
@@ -146,41 +146,41 @@ module _ (g : Geometry) (shape : Shape g) (n k : ℕ) (k-low : k < 4294967296) (
         two zero i h = absurd (omega arith)
         two (suc l) i h = h
 
-    wide : (j : ℕ) → rm j ≤ rootMost g j
+    wide : (j : ℕ) → roomAt j ≤ rootMost g j
     wide j = let z = shape .fits j in let w = shape .even j in omega (arith, z, w)
 
     -- one entry is left of a root above level 1
-    drop : (lv : ℕ) (xs : List Entry) → Proper fit rm (rootMost g) 4294967296 r lv (c .root)
+    drop : (lv : ℕ) (xs : List Entry) → Proper fit roomAt (rootMost g) 4294967296 r lv (c .root)
         → xs ≡ atRoot (remove k) (deleted r k N lv) k lv (r (c .root) (suc lv)) → 1 ≤ lv → length xs ≡ 1
         → s N (suc (collapse r lv xs .level)) ≡ collapse r lv xs .list
-        → Proper fit′ rm (rootMost g) 4294967296 s (collapse r lv xs .level) N ×
+        → Proper fit′ roomAt (rootMost g) 4294967296 s (collapse r lv xs .level) N ×
         (under s (suc (collapse r lv xs .level)) (the N) ≡ remove k (under r (suc lv) (the (c .root))))
     unfolding atRoot
     drop zero xs h e i one at = absurd (omega arith)
     drop (suc l) xs h e i one at =
         let ls = r (c .root) (suc (suc l)) in
         let b = h .rooted .least (omega arith) in
-        let sp = split (Ok fit rm r (suc l)) k 4294967296 ls (omega (arith, b)) k-low (h .rooted .rises) in
-        let w = splice-length (Ok fit rm r (suc l)) (deleted r k N (suc l)) k 4294967296 ls (omega (arith, b)) k-low (h .rooted .rises) in
+        let sp = split (Ok fit roomAt r (suc l)) k 4294967296 ls (omega (arith, b)) k-low (h .rooted .rises) in
+        let w = splice-length (Ok fit roomAt r (suc l)) (deleted r k N (suc l)) k 4294967296 ls (omega (arith, b)) k-low (h .rooted .rises) in
         let z = ap length e in
-        let made : DelMade r s k N (suc l) (chosen k ls) = none-made k N 4294967296 (half g) (rootMost g) r s fit fit′ fit-N
+        let made : DeleteMade r s k N (suc l) (chosen k ls) = none-made k N 4294967296 (half g) (rootMost g) r s fit fit′ fit-N
         (keep g shape n c (good .r2) 1 free) stays k-low (suc l) (next (sp .post) 4294967296) (chosen k ls) (sp .under) (sp .here)
         (none-left (deleted r k N (suc l) (chosen k ls)) (omega (arith, w, z, one, b))) in
-        subst (λ (x : List Entry). s N (suc (collapse r (suc l) x .level)) ≡ collapse r (suc l) x .list → Proper fit′ rm (rootMost g) 4294967296 s
+        subst (λ (x : List Entry). s N (suc (collapse r (suc l) x .level)) ≡ collapse r (suc l) x .list → Proper fit′ roomAt (rootMost g) 4294967296 s
         (collapse r (suc l) x .level) N × (under s (suc (collapse r (suc l) x .level)) (the N) ≡ remove k
         (under r (suc (suc l)) (the (c .root))))) (sym e)
         (λ at. delete-collapse N 4294967296 (half g) (rootMost g) r s fit fit′ fit-N (keep g shape n c (good .r2) 1 free) stays new-N k k-low wide l
         (c .root) h made (omega (arith, z, one)) at) at
 
     -- a root above level 1 keeps an entry
-    some-left : (lv : ℕ) → Proper fit rm (rootMost g) 4294967296 r lv (c .root) → 1 ≤ lv
+    some-left : (lv : ℕ) → Proper fit roomAt (rootMost g) 4294967296 r lv (c .root) → 1 ≤ lv
         → 1 ≤ length (atRoot (remove k) (deleted r k N lv) k lv (r (c .root) (suc lv)))
     unfolding atRoot
     some-left zero h i = absurd (omega arith)
     some-left (suc l) h i =
         let ls = r (c .root) (suc (suc l)) in
         let b = h .rooted .least (omega arith) in
-        let w = splice-length (Ok fit rm r (suc l)) (deleted r k N (suc l)) k 4294967296 ls (omega (arith, b)) k-low (h .rooted .rises) in
+        let w = splice-length (Ok fit roomAt r (suc l)) (deleted r k N (suc l)) k 4294967296 ls (omega (arith, b)) k-low (h .rooted .rises) in
         omega (arith, w, b)
 
     pub delete-done : Done (top .level)

@@ -93,10 +93,10 @@ module _ (g : Geometry) (shape : Shape g) (n : ℕ) (v : ℕ) (v-in : v < n) (c 
       one′ : (b d : ℕ) → b < n → d < n → mixed (g .pages) (c′ .er) b ≡ true → mixed (g .pages) (c′ .er) d ≡ true → b ≡ d
       one′ b d p q h i = sw .good .r2 .one b d p q (old-mixed b h .1) (old-mixed d i .1)
 
-  abbrev fitz : ℕ → ℕ → Type 0
-  fitz l q = fitOf (g .pages * n) (c .er) l q × (1 ≤ l → inB (g .pages) v q ≡ true → ⊥)
+  abbrev fitOutside : ℕ → ℕ → Type 0
+  fitOutside l q = fitOf (g .pages * n) (c .er) l q × (1 ≤ l → inB (g .pages) v q ≡ true → ⊥)
 
-  keep : (l q : ℕ) → fitz l q → fitOf (g .pages * n) (c′ .er) l q
+  keep : (l q : ℕ) → fitOutside l q → fitOf (g .pages * n) (c′ .er) l q
   unfolding eraseBlock
   keep zero q h = tt
   keep (suc l) q h = (h .0 .0, go (inB (g .pages) v q) refl)
@@ -105,7 +105,7 @@ module _ (g : Geometry) (shape : Shape g) (n : ℕ) (v : ℕ) (v-in : v < n) (c 
       go true e = absurd (h .1 (omega arith) e)
       go false e = h .0 .1
 
-  same : (q l : ℕ) → fitz (suc l) q → c′ .nodes q (suc l) ≡ c .nodes q (suc l)
+  same : (q l : ℕ) → fitOutside (suc l) q → c′ .nodes q (suc l) ≡ c .nodes q (suc l)
   unfolding eraseBlock
   same q l h = go (inB (g .pages) v q) refl
     where
@@ -121,7 +121,7 @@ module _ (g : Geometry) (shape : Shape g) (n : ℕ) (v : ℕ) (v-in : v < n) (c 
       (sw .dead (x .page - g .pages * v) (omega (arith, w .0, w .1)))))
       (all-mem (placesOf c))
 
-  rooted : Rooted fitz (λ l. 2 * half g l) (rootMost g) 4294967296 (c .nodes) (c .level) (c .root)
+  rooted : Rooted fitOutside (λ l. 2 * half g l) (rootMost g) 4294967296 (c .nodes) (c .level) (c .root)
   rooted = rooted-with (fitOf (g .pages * n) (c .er)) (λ l. 2 * half g l) (rootMost g) 4294967296 (c .nodes)
       (λ l q. 1 ≤ l → inB (g .pages) v q ≡ true → ⊥) (c .level) (c .root) (λ a z. absurd (omega arith)) outside (sw .good .sound .rooted)
 
@@ -129,24 +129,26 @@ module _ (g : Geometry) (shape : Shape g) (n : ℕ) (v : ℕ) (v-in : v < n) (c 
   unfolding eraseBlock
   erased-good = record {
     r2 = r2′;
-    sound = sound-same 4294967296 (λ l. 2 * half g l) (rootMost g) (c .nodes) (c′ .nodes) fitz
+    sound = sound-same 4294967296 (λ l. 2 * half g l) (rootMost g) (c .nodes) (c′ .nodes) fitOutside
         (fitOf (g .pages * n) (c′ .er)) keep same (c .level) (c .root) (record { rooted = rooted; tied = sw .good .sound .tied });
   }
 
   pub erased-pairs : under (c′ .nodes) (suc (c′ .level)) (the (c′ .root)) ≡ under (c .nodes) (suc (c .level)) (the (c .root))
   unfolding eraseBlock
-  erased-pairs = pairs-same 4294967296 (λ l. 2 * half g l) (rootMost g) (c .nodes) (c′ .nodes) fitz (fitOf (g .pages * n) (c′ .er)) keep same
+  erased-pairs = pairs-same 4294967296 (λ l. 2 * half g l) (rootMost g) (c .nodes) (c′ .nodes) fitOutside (fitOf (g .pages * n) (c′ .er)) keep same
       (c .level) (c .root) rooted
 
   pub erased-places : placesOf c′ ≡ placesOf c
   unfolding eraseBlock
-  erased-places = root-places-same 4294967296 (λ l. 2 * half g l) (rootMost g) (c .nodes) (c′ .nodes) fitz (fitOf (g .pages * n) (c′ .er)) keep same
+  erased-places = root-places-same 4294967296 (λ l. 2 * half g l) (rootMost g) (c .nodes) (c′ .nodes) fitOutside
+      (fitOf (g .pages * n) (c′ .er)) keep same
       (c .level) (c .root) rooted
 
   pub erased-alike : Same g c c′
   unfolding eraseBlock
   erased-alike = same-like g (g .pages * n) (c .er) (c′ .er) (c .nodes) (c′ .nodes) (c .level) (c .root) (c .root) (sw .good .sound .rooted)
-      (rw (same (c .root) (c .level) (rooted .fits)) (root-like-same 0 0 0 (λ l. 2 * half g l) (c .nodes) (c′ .nodes) fitz same (c .level) 4294967296
+      (rw (same (c .root) (c .level) (rooted .fits)) (root-like-same 0 0 0 (λ l. 2 * half g l) (c .nodes) (c′ .nodes) fitOutside same
+      (c .level) 4294967296
       (c .nodes (c .root) (suc (c .level))) (rooted .rises)))
       (λ k q. sought-map g n c′ erased-good k q ∙ ap (find k) erased-pairs ∙ sym (sought-map g n c (sw .good) k q))
 

@@ -22,7 +22,7 @@ use Rattle.model.specs.Update.{isNone, rootNode, rootGains, fills, needs, tooHi
 use Rattle.trees.specs.Tests.{by-eq, by-test, true-false, bit-le}
 use Rattle.trees.specs.Nodes.{the, fitOf}
 use Rattle.trees.specs.Edit.{atRoot}
-use Rattle.trees.specs.Insert.{put-splice, inserted, InsMade}
+use Rattle.trees.specs.Insert.{put-splice, inserted, InsertMade}
 use Rattle.trees.specs.Proper.{insert-stay, insert-grow}
 use Rattle.trees.specs.Path.{AsSplice, root-is, onPath-top, made-from}
 use Rattle.trees.specs.Splits.{root-size, all-below, splits-le, splits-are}
@@ -70,8 +70,8 @@ module _ (g : Geometry) (shape : Shape g) (n k a : ℕ) (k-low : k < 4294967296)
   abbrev fit : ℕ → ℕ → Type 0
   fit = fitOf (g .pages * n) (c .er)
 
-  abbrev rm : ℕ → ℕ
-  rm l = 2 * half g l
+  abbrev roomAt : ℕ → ℕ
+  roomAt l = 2 * half g l
 
   abbrev rootList : List Entry
   rootList = atRoot (put k a) (inserted r k a N side (half g) (c .level)) k (c .level) es
@@ -87,8 +87,8 @@ module _ (g : Geometry) (shape : Shape g) (n k a : ℕ) (k-low : k < 4294967296)
 
   root-list : lists (suc (c .level)) ≡ rootList
   unfolding insertList
-  root-list = onPath-top fit rm r k (put k a) (λ e. put k a (e ∷ [])) (named k N side (half g)) as-splice (c .level) (theRoot c)
-      ∙ root-is fit rm r k (put k a) (λ e. put k a (e ∷ [])) (named k N side (half g)) as-splice (c .level) 4294967296 (c .root) k-low some-root
+  root-list = onPath-top fit roomAt r k (put k a) (λ e. put k a (e ∷ [])) (named k N side (half g)) as-splice (c .level) (theRoot c)
+      ∙ root-is fit roomAt r k (put k a) (λ e. put k a (e ∷ [])) (named k N side (half g)) as-splice (c .level) 4294967296 (c .root) k-low some-root
       (good .sound .rooted .rises)
 
   pub root-length : length (lists (suc (c .level))) ≡ length es + bit gained
@@ -97,7 +97,7 @@ module _ (g : Geometry) (shape : Shape g) (n k a : ℕ) (k-low : k < 4294967296)
       (good .sound .rooted .rises) absent-is
 
   -- the levels below the root that are too long are 1 to cuts
-  pub cut-levels : (j : ℕ) → 1 ≤ j → j ≤ c .level → (rm j < length (lists j) → j ≤ cuts) × (j ≤ cuts → rm j < length (lists j))
+  pub cut-levels : (j : ℕ) → 1 ≤ j → j ≤ c .level → (roomAt j < length (lists j) → j ≤ cuts) × (j ≤ cuts → roomAt j < length (lists j))
   unfolding insertList
   cut-levels j b d = splits-are k a N side (half g) r fit absent (c .level) 4294967296 (theRoot c) k-low some-root
       (good .sound .rooted .rises) absent-is j b d
@@ -178,15 +178,15 @@ module _ (g : Geometry) (shape : Shape g) (n k a : ℕ) (k-low : k < 4294967296)
     abbrev Cut : ℕ → Type 0
     Cut j = (1 ≤ j) × (j < m)
 
-    made : InsMade r s k a N side (half g) fit′ Cut (c .level) (chosen k es)
+    made : InsertMade r s k a N side (half g) fit′ Cut (c .level) (chosen k es)
     unfolding insertPart sideList insertList
-    made = made-from fit rm r k (put k a) (λ e. put k a (e ∷ [])) (named k N side (half g)) as-splice
-        (λ j d. (s N j ≡ pathPart k (half g) j d) × (rm j < length d → (s (side j) j ≡ sideHalf k (half g j) d) × fit′ j (side j) × Cut j))
+    made = made-from fit roomAt r k (put k a) (λ e. put k a (e ∷ [])) (named k N side (half g)) as-splice
+        (λ j d. (s N j ≡ pathPart k (half g) j d) × (roomAt j < length d → (s (side j) j ≡ sideHalf k (half g j) d) × fit′ j (side j) × Cut j))
         (c .level) 4294967296 (theRoot c) k-low some-root (good .sound .rooted .rises)
         (λ j b d. at j b d _ refl)
       where
         at : (j : ℕ) → 1 ≤ j → j ≤ c .level → (d : List Entry) → lists j ≡ d
-            → (s N j ≡ pathPart k (half g) j d) × (rm j < length d → (s (side j) j ≡ sideHalf k (half g j) d) × fit′ j (side j) × Cut j)
+            → (s N j ≡ pathPart k (half g) j d) × (roomAt j < length d → (s (side j) j ≡ sideHalf k (half g j) d) × fit′ j (side j) × Cut j)
         at j b d ds e = (
           at-N j b (omega (arith, d, high)) ∙ rw (le-leb j (c .level) d) (ap (pathPart k (half g) j) e),
           λ f. let w = cut-levels j b d .0 (rw e f) in let lt : j < m = omega (arith, needs-is, w) in (

@@ -21,7 +21,7 @@ use Rattle.model.specs.Collect.{moveKey, movePart}
 use Rattle.trees.specs.Tests.{true-false}
 use Rattle.trees.specs.Lists.{All, Mem, all-get}
 use Rattle.trees.specs.Nodes.{the, fitOf}
-use Rattle.trees.specs.Move.{moved, MovMade}
+use Rattle.trees.specs.Move.{moved, MoveMade}
 use Rattle.trees.specs.Proper.{places-level, root-first, root-fit, Moved, move-sound}
 use Rattle.trees.specs.Path.{same-as, same-root, root-is, onPath-top, made-from}
 use Rattle.trees.specs.Like.{Likes, Like, move-root-like}
@@ -105,7 +105,7 @@ module _ (g : Geometry) (shape : Shape g) (n : ℕ) (c : Chip) (good : Whole g n
   some-root : 1 ≤ c .level → 0 < length es
   some-root i = let z = good .sound .rooted .least i in omega (arith, z)
 
-  made : MovMade (c .nodes) (c′ .nodes) k a new (c .level) (chosen k es)
+  made : MoveMade (c .nodes) (c′ .nodes) k a new (c .level) (chosen k es)
   unfolding movePart
   made = made-from fit (λ l. 2 * half g l) (c .nodes) k same (λ e. e ∷ []) (renamed a new) (same-as k) (λ j d. a ≤ j → c′ .nodes new j ≡ d)
       (c .level) 4294967296 (theRoot c) k-low some-root (good .sound .rooted .rises)

@@ -289,26 +289,26 @@ module _ (g : Geometry) (shape : Shape g) (parts : ℕ → List Entry) where
         away o q (inr z) = inl (omega arith)
 
     module _ (seq h : ℕ) (small : seq < 4294967295) (high : h < 256) where
-      abbrev lev : List ℕ
-      lev = putLevels g parts (g .top) (replicate (pageBytes g) 255)
+      abbrev laidLevels : List ℕ
+      laidLevels = putLevels g parts (g .top) (replicate (pageBytes g) 255)
 
       len-bare : length {A = ℕ} (replicate (pageBytes g) 255) ≡ pageBytes g
       len-bare = length-replicate {A = ℕ} (pageBytes g) 255
 
-      len-lev : length lev ≡ pageBytes g
-      len-lev = length-levels (g .top) (replicate (pageBytes g) 255) ∙ len-bare
+      length-laid : length laidLevels ≡ pageBytes g
+      length-laid = length-levels (g .top) (replicate (pageBytes g) 255) ∙ len-bare
 
       pub built-seq : u32At (built g seq h parts) (g .main) ≡ seq
       unfolding built
-      built-seq = let s = shape .spare-low in sealed-seq seq h lev (omega (arith, len-lev, s)) (omega arith)
+      built-seq = let s = shape .spare-low in sealed-seq seq h laidLevels (omega (arith, length-laid, s)) (omega arith)
 
       built-height : byteAt (built g seq h parts) (g .main + 4) ≡ h
       unfolding built
-      built-height = let s = shape .spare-low in sealed-height seq h lev (omega (arith, len-lev, s)) high
+      built-height = let s = shape .spare-low in sealed-height seq h laidLevels (omega (arith, length-laid, s)) high
 
       built-count : (l : ℕ) → 1 ≤ l → l ≤ g .top → byteAt (built g seq h parts) (g .main + 4 + l) ≡ length (parts l)
       unfolding built
-      built-count l i k = let s = shape .spare-low in sealed-off seq h lev (g .main + 4 + l) (inr (omega arith)) ∙ levels-count (g .top)
+      built-count l i k = let s = shape .spare-low in sealed-off seq h laidLevels (g .main + 4 + l) (inr (omega arith)) ∙ levels-count (g .top)
           (replicate (pageBytes g) 255) l (omega arith) (omega (arith, len-bare, s)) i k
 
       built-node : (l : ℕ) → 1 ≤ l → l ≤ g .top → entriesAt (built g seq h parts) (8 * firstSlot g l) (length (parts l)) ≡ parts l
@@ -316,16 +316,16 @@ module _ (g : Geometry) (shape : Shape g) (parts : ℕ → List Entry) where
       built-node l i k =
           let m = shape .main-is in
           let w = ok .inside l i k in
-          copy-entries lev (8 * firstSlot g l) (sealed g lev seq h) (8 * firstSlot g l) (8 * length (parts l))
-          (λ o q. sealed-off seq h lev (8 * firstSlot g l + o) (inl (omega (arith, m, w, q))))
+          copy-entries laidLevels (8 * firstSlot g l) (sealed g laidLevels seq h) (8 * firstSlot g l) (8 * length (parts l))
+          (λ o q. sealed-off seq h laidLevels (8 * firstSlot g l + o) (inl (omega (arith, m, w, q))))
           (length (parts l)) 0 (8 * firstSlot g l) (8 * firstSlot g l) (omega arith) (omega arith) (omega arith)
           ∙ levels-same (g .top) (replicate (pageBytes g) 255) l (omega arith) (omega (arith, len-bare)) i k
 
       built-tail : blank (built g seq h parts) (g .main + 5 + g .top) (g .spare - 5 - g .top) ≡ true
       unfolding built
       built-tail = let s = shape .spare-low in
-          blank-all (sealed g lev seq h) (g .spare - 5 - g .top) (g .main + 5 + g .top) (λ k q.
-          sealed-off seq h lev (g .main + 5 + g .top + k) (inr (omega arith))
+          blank-all (sealed g laidLevels seq h) (g .spare - 5 - g .top) (g .main + 5 + g .top) (λ k q.
+          sealed-off seq h laidLevels (g .main + 5 + g .top + k) (inr (omega arith))
           ∙ levels-off (g .top) (replicate (pageBytes g) 255) (g .main + 5 + g .top + k) (omega arith) (omega arith) (inr (omega arith))
           ∙ getD-replicate {A = ℕ} (pageBytes g) (g .main + 5 + g .top + k) 255 0 (omega (arith, s, q)))
 

@@ -87,8 +87,8 @@ blank-small n i = go (ltb i n) refl
 pub built-small : (g : Geometry) (seq h : ℕ) (parts : ℕ → List Entry) → Small (built g seq h parts)
 unfolding built sealed
 built-small g seq h parts =
-    let lev = putLevels g parts (g .top) (replicate (pageBytes g) 255) in
-    set-small (putU32 lev (g .main) seq) (g .main + 4) (h % 256) (word-small lev (g .main) seq
+    let laidLevels = putLevels g parts (g .top) (replicate (pageBytes g) 255) in
+    set-small (putU32 laidLevels (g .main) seq) (g .main + 4) (h % 256) (word-small laidLevels (g .main) seq
     (levels-small g parts (g .top) (replicate (pageBytes g) 255) (blank-small (pageBytes g)))) (omega arith)
 
 abbrev pub SmallStore : Store → Type 0

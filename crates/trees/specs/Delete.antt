@@ -46,11 +46,11 @@ remove-splice k hi es n q h =
 abbrev pub deleted : Nodes → ℕ → ℕ → ℕ → Entry → List Entry
 deleted r k n l e = edit r k (λ e. remove k (e ∷ [])) (kept n) l e
 
-abbrev pub DelHeld : ℕ → Nodes → ℕ → Entry → List Entry → Type 0
-DelHeld n s l e c = 1 ≤ length c → s n l ≡ c
+abbrev pub DeleteHeld : ℕ → Nodes → ℕ → Entry → List Entry → Type 0
+DeleteHeld n s l e c = 1 ≤ length c → s n l ≡ c
 
-abbrev pub DelMade : Nodes → Nodes → ℕ → ℕ → ℕ → Entry → Type 0
-DelMade r s k n l e = Made r k (λ e. remove k (e ∷ [])) (kept n) (DelHeld n s) l e
+abbrev pub DeleteMade : Nodes → Nodes → ℕ → ℕ → ℕ → Entry → Type 0
+DeleteMade r s k n l e = Made r k (λ e. remove k (e ∷ [])) (kept n) (DeleteHeld n s) l e
 
 pub none-left : (es : List Entry) → length es ≤ 0 → es ≡ []
 none-left [] h = refl
@@ -58,25 +58,25 @@ none-left (e ∷ es) h = absurd (omega arith)
 
 module _ (k n top : ℕ) (half most : ℕ → ℕ) (r s : Nodes) (fit fit′ : ℕ → ℕ → Type 0) (fit-n : (l : ℕ) → fit′ (suc l) n)
     (keep : (l a : ℕ) → fit l a → fit′ l a) (same : (p l : ℕ) → fit (suc l) p → s p (suc l) ≡ r p (suc l)) (k-top : k < top) where
-  abbrev rm : ℕ → ℕ
-  rm l = 2 * half l
+  abbrev roomAt : ℕ → ℕ
+  roomAt l = 2 * half l
 
-  abbrev Del : ℕ → Entry → List Entry
-  Del = deleted r k n
+  abbrev deletes : ℕ → Entry → List Entry
+  deletes = deleted r k n
 
-  abbrev DMade : ℕ → Entry → Type 0
-  DMade = DelMade r s k n
+  abbrev Making : ℕ → Entry → Type 0
+  Making = DeleteMade r s k n
 
-  pub kept-under : (l : ℕ) (e : Entry) (c : List Entry) → DelHeld n s (suc l) e c
+  pub kept-under : (l : ℕ) (e : Entry) (c : List Entry) → DeleteHeld n s (suc l) e c
       → gather (under s (suc l)) (kept n (suc l) e c) ≡ gather (under s l) c
   unfolding under gather
   kept-under l e [] h = refl
   kept-under l e (x ∷ c) h = rw (h (omega arith)) (append-nil (gather (under s l) (x ∷ c)))
 
-  pub kept-ok : (l y i : ℕ) (e : Entry) (c : List Entry) → DelHeld n s (suc l) e c → k < y → e .key < y → Rises (Ok fit′ rm s l) y c
+  pub kept-ok : (l y i : ℕ) (e : Entry) (c : List Entry) → DeleteHeld n s (suc l) e c → k < y → e .key < y → Rises (Ok fit′ roomAt s l) y c
       → e .key ≤ next c y
-      → 1 ≤ i → i ≤ rm (suc l) → i + 0 ≤ suc (length c) → suc (length c) ≤ i + 1
-      → Out (Ok fit′ rm s (suc l)) (λ z. z) 0 1 y (e .key) (kept n (suc l) e c)
+      → 1 ≤ i → i ≤ roomAt (suc l) → i + 0 ≤ suc (length c) → suc (length c) ≤ i + 1
+      → Out (Ok fit′ roomAt s (suc l)) (λ z. z) 0 1 y (e .key) (kept n (suc l) e c)
   unfolding Ok
   kept-ok l y i e [] h q b up from i1 i2 c1 c2 = (tt, omega arith, omega arith, omega arith)
   kept-ok l y i e (x ∷ c) h q b up from i1 i2 c1 c2 = (
@@ -86,74 +86,75 @@ module _ (k n top : ℕ) (half most : ℕ → ℕ) (r s : Nodes) (fit fit′ : �
     omega arith,
   )
 
-  pub remove-ok : (y : ℕ) (e : Entry) → k < y → e .key < y → fit 0 (e .addr) → Out (Ok fit′ rm s 0) (λ z. z) 0 1 y (e .key) (remove k (e ∷ []))
+  pub remove-ok : (y : ℕ) (e : Entry) → k < y → e .key < y → fit 0 (e .addr) → Out (Ok fit′ roomAt s 0) (λ z. z) 0 1 y (e .key) (remove k (e ∷ []))
   unfolding Ok
   remove-ok y e q b h = go (eqb (e .key) k)
     where
-      go : (t : Bool) → Out (Ok fit′ rm s 0) (λ z. z) 0 1 y (e .key) (pick t [] (e ∷ []))
+      go : (t : Bool) → Out (Ok fit′ roomAt s 0) (λ z. z) 0 1 y (e .key) (pick t [] (e ∷ []))
       go true = (tt, omega arith, omega arith, omega arith)
       go false = ((b, keep 0 (e .addr) h, tt), omega arith, omega arith, omega arith)
 
   pub record Gone (l : ℕ) (es c : List Entry) : Type 0 where
     pub pairs-are : gather (under s l) c ≡ remove k (gather (under r l) es)
-    pub rises : Rises (Ok fit′ rm s l) top c
+    pub rises : Rises (Ok fit′ roomAt s l) top c
     pub few : length es ≤ suc (length c)
     pub many : length c ≤ length es
 
-  gone-some : (l : ℕ) (es : List Entry) → 0 < length es → Rises (Ok fit rm r l) top es → DMade l (chosen k es) → Gone l es (splice (Del l) k es)
+  gone-some : (l : ℕ) (es : List Entry) → 0 < length es → Rises (Ok fit roomAt r l) top es → Making l (chosen k es)
+      → Gone l es (splice (deletes l) k es)
   gone-some l es e h m =
-      let p = edit-list fit fit′ rm r s keep same k (λ e. remove k (e ∷ [])) (kept n) (DelHeld n s) (remove k) (remove-local k) (λ e. refl)
+      let p = edit-list fit fit′ roomAt r s keep same k (λ e. remove k (e ∷ [])) (kept n) (DeleteHeld n s) (remove k) (remove-local k) (λ e. refl)
       (λ l hi e c _ h i. kept-under l e c h ∙ i) l top es e k-top h m in
-      let o = edit-list-ok fit fit′ rm r s keep same k (λ e. remove k (e ∷ [])) (kept n) (DelHeld n s) (λ z. z) 0 1 (λ z. omega arith)
+      let o = edit-list-ok fit fit′ roomAt r s keep same k (λ e. remove k (e ∷ [])) (kept n) (DeleteHeld n s) (λ z. z) 0 1 (λ z. omega arith)
       (λ z i. omega arith) (λ y z i. omega arith) remove-ok (λ l y i e c _. kept-ok l y i e c) l top es e k-top h m in
       record { pairs-are = p; rises = o .up; few = omega (arith, o .few); many = omega (arith, o .many) }
 
-  pub gone : (l : ℕ) (es : List Entry) → (1 ≤ l → 2 ≤ length es) → Rises (Ok fit rm r l) top es → DMade l (chosen k es)
-      → Gone l es (atRoot (remove k) (Del l) k l es)
+  pub gone : (l : ℕ) (es : List Entry) → (1 ≤ l → 2 ≤ length es) → Rises (Ok fit roomAt r l) top es → Making l (chosen k es)
+      → Gone l es (atRoot (remove k) (deletes l) k l es)
   unfolding atRoot edit under Ok
   gone zero [] g h m = record { pairs-are = gather-one [] ∙ ap (remove k) (sym (gather-one [])); rises = tt; few = omega arith; many = omega arith }
   gone zero (e ∷ es) g h m = rw (remove-splice k top (e ∷ es) (omega arith) k-top
-      (rises-map (Ok fit rm r 0) (λ y x. Unit {0}) top (e ∷ es) (λ y x _ _ _. tt) h)) at (gone-some zero (e ∷ es) (omega arith) h m)
+      (rises-map (Ok fit roomAt r 0) (λ y x. Unit {0}) top (e ∷ es) (λ y x _ _ _. tt) h)) at (gone-some zero (e ∷ es) (omega arith) h m)
   gone (suc l) es g h m = gone-some (suc l) es (omega (arith, g (omega arith))) h m
 
   abbrev rootLess : ℕ → ℕ → List Entry
-  rootLess l p = atRoot (remove k) (Del l) k l (r p (suc l))
+  rootLess l p = atRoot (remove k) (deletes l) k l (r p (suc l))
 
   -- the root stays at its level
-  pub less-pairs : (l p : ℕ) → Rooted fit rm most top r l p → DMade l (chosen k (r p (suc l))) → s n (suc l) ≡ rootLess l p
+  pub less-pairs : (l p : ℕ) → Rooted fit roomAt most top r l p → Making l (chosen k (r p (suc l))) → s n (suc l) ≡ rootLess l p
       → under s (suc l) (the n) ≡ remove k (under r (suc l) (the p))
   unfolding under
   less-pairs l p h m e = rw e (gone l (r p (suc l)) (h .least) (h .rises) m .pairs-are)
 
-  pub less-ok : (l p : ℕ) → Rooted fit rm most top r l p → DMade l (chosen k (r p (suc l))) → s n (suc l) ≡ rootLess l p
+  pub less-ok : (l p : ℕ) → Rooted fit roomAt most top r l p → Making l (chosen k (r p (suc l))) → s n (suc l) ≡ rootLess l p
       → (1 ≤ l → 2 ≤ length (rootLess l p))
-      → Rooted fit′ rm most top s l n
+      → Rooted fit′ roomAt most top s l n
   less-ok l p h m e b =
       let f = gone l (r p (suc l)) (h .least) (h .rises) m in
       record { fits = fit-n l; least = λ z. rw e (b z); atmost = rw e (omega (arith, f .many, h .atmost)); rises = rw e (f .rises) }
 
   -- one entry is left: the path is gone and the entry is an old one
-  pub left-old : (l : ℕ) (es : List Entry) → 2 ≤ length es → Rises (Ok fit rm r l) top es → length (splice (Del l) k es) ≡ 1
-      → Rises (Ok fit rm r l) top (splice (Del l) k es)
+  pub left-old : (l : ℕ) (es : List Entry) → 2 ≤ length es → Rises (Ok fit roomAt r l) top es → length (splice (deletes l) k es) ≡ 1
+      → Rises (Ok fit roomAt r l) top (splice (deletes l) k es)
   left-old l es g h e =
-      let a = splice-length (Ok fit rm r l) (Del l) k top es (omega arith) k-top h in
-      let b = none-left (Del l (chosen k es)) (omega arith) in
-      rw (splice-cong (Ok fit rm r l) (Del l) (λ _. []) k top es (omega arith) k-top h b)
-      (splice-rises k (Ok fit rm r l) (Ok fit rm r l) (λ _. []) (λ z. z) (λ z. omega arith) (λ z i. omega arith)
-      (λ y y′ x _ z i. ok-more fit rm r l y y′ x z i) top es (omega arith) k-top h (λ y a b i. (tt, omega arith)) .0)
+      let a = splice-length (Ok fit roomAt r l) (deletes l) k top es (omega arith) k-top h in
+      let b = none-left (deletes l (chosen k es)) (omega arith) in
+      rw (splice-cong (Ok fit roomAt r l) (deletes l) (λ _. []) k top es (omega arith) k-top h b)
+      (splice-rises k (Ok fit roomAt r l) (Ok fit roomAt r l) (λ _. []) (λ z. z) (λ z. omega arith) (λ z i. omega arith)
+      (λ y y′ x _ z i. ok-more fit roomAt r l y y′ x z i) top es (omega arith) k-top h (λ y a b i. (tt, omega arith)) .0)
 
   -- where nothing is left of an entry, nothing is left of the path below it
-  pub none-made : (l hi : ℕ) (e : Entry) → k < hi → Ok fit rm r l hi e → Del l e ≡ [] → DMade l e
+  pub none-made : (l hi : ℕ) (e : Entry) → k < hi → Ok fit roomAt r l hi e → deletes l e ≡ [] → Making l e
   unfolding edit Made Ok
   none-made zero hi e q h d = tt
   none-made (suc l) hi e q h d =
       let es = r (e .addr) (suc l) in
-      let z = emptied (splice (Del l) k es) d in
-      let sp = split (Ok fit rm r l) k hi es (h .1) q (h .4) in
-      let w = splice-length (Ok fit rm r l) (Del l) k hi es (h .1) q (h .4) in (
+      let z = emptied (splice (deletes l) k es) d in
+      let sp = split (Ok fit roomAt r l) k hi es (h .1) q (h .4) in
+      let w = splice-length (Ok fit roomAt r l) (deletes l) k hi es (h .1) q (h .4) in (
         (λ i. absurd (omega (arith, i, z))),
         none-made l (next (sp .post) hi) (chosen k es) (sp .under) (sp .here)
-            (none-left (Del l (chosen k es)) (omega (arith, w, z, h .1))),
+            (none-left (deletes l (chosen k es)) (omega (arith, w, z, h .1))),
       )
     where
       emptied : (c : List Entry) → kept n (suc l) e c ≡ [] → length c ≡ 0
@@ -163,11 +164,11 @@ module _ (k n top : ℕ) (half most : ℕ → ℕ) (r s : Nodes) (fit fit′ : �
   -- the collapse
   pub record Topped (l : ℕ) (c : List Entry) (t : Top) : Type 0 where
     pub pairs-are : gather (under r (t .level)) (t .list) ≡ gather (under r l) c
-    pub rises : Rises (Ok fit rm r (t .level)) top (t .list)
+    pub rises : Rises (Ok fit roomAt r (t .level)) top (t .list)
     pub least : 1 ≤ t .level → 2 ≤ length (t .list)
     pub atmost : length (t .list) ≤ most (suc (t .level))
 
-  pub topped : ((j : ℕ) → rm j ≤ most j) → (l : ℕ) (c : List Entry) → 1 ≤ length c → length c ≤ most (suc l) → Rises (Ok fit rm r l) top c
+  pub topped : ((j : ℕ) → roomAt j ≤ most j) → (l : ℕ) (c : List Entry) → 1 ≤ length c → length c ≤ most (suc l) → Rises (Ok fit roomAt r l) top c
       → Topped l c (collapse r l c)
   unfolding collapse gather under Ok
   topped w zero c g b h = record { pairs-are = refl; rises = h; least = λ z. absurd (omega arith); atmost = b }
@@ -184,19 +185,20 @@ module _ (k n top : ℕ) (half most : ℕ → ℕ) (r s : Nodes) (fit fit′ : �
       }
   topped w (suc l) (x ∷ y ∷ c) g b h = record { pairs-are = refl; rises = h; least = λ z. omega arith; atmost = b }
 
-  module _ (wide : (j : ℕ) → rm j ≤ most j) (l p : ℕ) (h : Rooted fit rm most top r (suc l) p) (m : DMade (suc l) (chosen k (r p (suc (suc l)))))
+  module _ (wide : (j : ℕ) → roomAt j ≤ most j) (l p : ℕ) (h : Rooted fit roomAt most top r (suc l) p)
+      (m : Making (suc l) (chosen k (r p (suc (suc l)))))
       (one : length (rootLess (suc l) p) ≡ 1)
       (e : s n (suc (collapse r (suc l) (rootLess (suc l) p) .level)) ≡ collapse r (suc l) (rootLess (suc l) p) .list) where
-    pub old-list : Rises (Ok fit rm r (suc l)) top (rootLess (suc l) p)
+    pub old-list : Rises (Ok fit roomAt r (suc l)) top (rootLess (suc l) p)
     unfolding atRoot
     old-list = left-old (suc l) (r p (suc (suc l))) (h .least (omega arith)) (h .rises) one
 
     pub the-top : Topped (suc l) (rootLess (suc l) p) (collapse r (suc l) (rootLess (suc l) p))
     the-top = topped wide (suc l) (rootLess (suc l) p) (omega arith) (omega (arith, h .atmost, h .least (omega arith))) old-list
 
-    as-old : (j : ℕ) (c : List Entry) → Rises (Ok fit rm r j) top c → gather (under s j) c ≡ gather (under r j) c
-    as-old j c i = gather-eq (under r j) (under s j) c (rises-all (Ok fit rm r j) (λ x. under s j x ≡ under r j x) top c
-        (λ y x _ _ i. under-same fit rm fit′ r s keep same j y x i) i)
+    as-old : (j : ℕ) (c : List Entry) → Rises (Ok fit roomAt r j) top c → gather (under s j) c ≡ gather (under r j) c
+    as-old j c i = gather-eq (under r j) (under s j) c (rises-all (Ok fit roomAt r j) (λ x. under s j x ≡ under r j x) top c
+        (λ y x _ _ i. under-same fit roomAt fit′ r s keep same j y x i) i)
 
     pub collapse-pairs : under s (suc (collapse r (suc l) (rootLess (suc l) p) .level)) (the n) ≡ remove k (under r (suc (suc l)) (the p))
     unfolding under
@@ -205,13 +207,13 @@ module _ (k n top : ℕ) (half most : ℕ → ℕ) (r s : Nodes) (fit fit′ : �
         ap (gather (under s (t .level))) e ∙ as-old (t .level) (t .list) (the-top .rises) ∙ the-top .pairs-are
         ∙ sym (as-old (suc l) (rootLess (suc l) p) old-list) ∙ gone (suc l) (r p (suc (suc l))) (h .least) (h .rises) m .pairs-are
 
-    pub collapse-ok : Rooted fit′ rm most top s (collapse r (suc l) (rootLess (suc l) p) .level) n
+    pub collapse-ok : Rooted fit′ roomAt most top s (collapse r (suc l) (rootLess (suc l) p) .level) n
     collapse-ok =
         let t = collapse r (suc l) (rootLess (suc l) p) in
         record {
           fits = fit-n (t .level);
           least = λ z. rw e (the-top .least z);
           atmost = rw e (the-top .atmost);
-          rises = rw e (rises-map (Ok fit rm r (t .level)) (Ok fit′ rm s (t .level)) top (t .list)
-              (λ y x _ _ i. ok-same fit rm fit′ r s keep same (t .level) y x i) (the-top .rises));
+          rises = rw e (rises-map (Ok fit roomAt r (t .level)) (Ok fit′ roomAt s (t .level)) top (t .list)
+              (λ y x _ _ i. ok-same fit roomAt fit′ r s keep same (t .level) y x i) (the-top .rises));
         }

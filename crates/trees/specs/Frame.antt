@@ -40,13 +40,13 @@ module _ (top : ℕ) (room most : ℕ → ℕ) (r s : Nodes) (fit fit′ : ℕ �
   node-same q zero b f = absurd (omega arith)
   node-same q (suc j) b f = same q j f
 
-  tied-same : (pls : List Place) → All (λ x. (1 ≤ x .level) × fit (x .level) (x .page)) pls → Tied r pls → Tied s pls
-  tied-same pls f t = all-map (λ x. ((1 ≤ x .level) × fit (x .level) (x .page)) × All
-      (λ y. x .page ≡ y .page → y .level < x .level → Some (λ e. e .addr ≡ x .page) (r (x .page) (x .level))) pls)
-      (λ x. All (λ y. x .page ≡ y .page → y .level < x .level → Some (λ e. e .addr ≡ x .page) (s (x .page) (x .level))) pls) pls
+  tied-same : (spots : List Place) → All (λ x. (1 ≤ x .level) × fit (x .level) (x .page)) spots → Tied r spots → Tied s spots
+  tied-same spots f t = all-map (λ x. ((1 ≤ x .level) × fit (x .level) (x .page)) × All
+      (λ y. x .page ≡ y .page → y .level < x .level → Some (λ e. e .addr ≡ x .page) (r (x .page) (x .level))) spots)
+      (λ x. All (λ y. x .page ≡ y .page → y .level < x .level → Some (λ e. e .addr ≡ x .page) (s (x .page) (x .level))) spots) spots
       (λ x h. rw (node-same (x .page) (x .level) (h .0 .0) (h .0 .1)) (h .1))
       (all-both (λ x. (1 ≤ x .level) × fit (x .level) (x .page)) (λ x. All (λ y. x .page ≡ y .page → y .level < x .level → Some
-      (λ e. e .addr ≡ x .page) (r (x .page) (x .level))) pls) pls f t)
+      (λ e. e .addr ≡ x .page) (r (x .page) (x .level))) spots) spots f t)
 
   pub sound-same : Proper fit room most top r l p → Proper fit′ room most top s l p
   sound-same h = record {

@@ -50,15 +50,15 @@ abbrev pub Halves : ℕ → ℕ → (ℕ → ℕ) → Nodes → (ℕ → ℕ →
 Halves k n side s fit l m c = (s n l ≡ pathHalf k m c) × (s (side l) l ≡ sideHalf k m c) × fit l (side l)
 
 -- Cut l: level l is split
-abbrev pub InsHeld : ℕ → ℕ → (ℕ → ℕ) → (ℕ → ℕ) → Nodes → (ℕ → ℕ → Type 0) → (ℕ → Type 0) → ℕ → Entry → List Entry → Type 0
-InsHeld k n side half s fit Cut l e c = (s n l ≡ pathPart k half l c) × (2 * half l < length c → (s (side l) l ≡ sideHalf k (half l) c) × fit l
+abbrev pub InsertHeld : ℕ → ℕ → (ℕ → ℕ) → (ℕ → ℕ) → Nodes → (ℕ → ℕ → Type 0) → (ℕ → Type 0) → ℕ → Entry → List Entry → Type 0
+InsertHeld k n side half s fit Cut l e c = (s n l ≡ pathPart k half l c) × (2 * half l < length c → (s (side l) l ≡ sideHalf k (half l) c) × fit l
     (side l) × Cut l)
 
 abbrev pub inserted : Nodes → ℕ → ℕ → ℕ → (ℕ → ℕ) → (ℕ → ℕ) → ℕ → Entry → List Entry
 inserted r k a n side half l e = edit r k (λ e. put k a (e ∷ [])) (named k n side half) l e
 
-abbrev pub InsMade : Nodes → Nodes → ℕ → ℕ → ℕ → (ℕ → ℕ) → (ℕ → ℕ) → (ℕ → ℕ → Type 0) → (ℕ → Type 0) → ℕ → Entry → Type 0
-InsMade r s k a n side half fit Cut l e = Made r k (λ e. put k a (e ∷ [])) (named k n side half) (InsHeld k n side half s fit Cut) l e
+abbrev pub InsertMade : Nodes → Nodes → ℕ → ℕ → ℕ → (ℕ → ℕ) → (ℕ → ℕ) → (ℕ → ℕ → Type 0) → (ℕ → Type 0) → ℕ → Entry → Type 0
+InsertMade r s k a n side half fit Cut l e = Made r k (λ e. put k a (e ∷ [])) (named k n side half) (InsertHeld k n side half s fit Cut) l e
 
 pub first-below : (P : ℕ → Entry → Type 0) (y : ℕ) (es : List Entry) → 1 ≤ length es → Rises P y es → next es 0 < y
 first-below P y [] n h = absurd (omega arith)
@@ -87,7 +87,7 @@ module _ (k a n : ℕ) (side half : ℕ → ℕ) (s : Nodes) (fit′ : ℕ → �
       go false i j = rw (i, j, append-nil (gather (under s l) (drop m c))) (sym (gather-append (under s l) (take m c) (drop m c))
           ∙ ap (gather (under s l)) (take-append-drop m c))
 
-  pub named-under : (l : ℕ) (e : Entry) (c : List Entry) → InsHeld k n side half s fit′ Cut (suc l) e c
+  pub named-under : (l : ℕ) (e : Entry) (c : List Entry) → InsertHeld k n side half s fit′ Cut (suc l) e c
       → gather (under s (suc l)) (named k n side half (suc l) e c) ≡ gather (under s l) c
   unfolding under gather
   named-under l e c h = go (leb (length c) (2 * half (suc l))) refl (h .0)
@@ -175,7 +175,7 @@ module _ (k a n : ℕ) (side half : ℕ → ℕ) (s : Nodes) (fit′ : ℕ → �
           ),
         )
 
-    pub named-ok : (l y i : ℕ) (e : Entry) (c : List Entry) → InsHeld k n side half s fit′ Cut (suc l) e c → k < y → e .key < y
+    pub named-ok : (l y i : ℕ) (e : Entry) (c : List Entry) → InsertHeld k n side half s fit′ Cut (suc l) e c → k < y → e .key < y
         → Rises (Ok fit′ room s l) y c → min (e .key) k ≤ next c y
         → 1 ≤ i → i ≤ room (suc l) → i + 1 ≤ suc (length c) → suc (length c) ≤ i + 2
         → Out (Ok fit′ room s (suc l)) (λ z. min z k) 1 2 y (e .key) (named k n side half (suc l) e c)
@@ -204,38 +204,39 @@ module _ (k a n : ℕ) (side half : ℕ → ℕ) (s : Nodes) (fit′ : ℕ → �
 module _ (k a n top : ℕ) (side half most : ℕ → ℕ) (r s : Nodes) (fit fit′ : ℕ → ℕ → Type 0) (Cut : ℕ → Type 0) (fit-n : (l : ℕ) → fit′ (suc l) n)
     (fit-a : fit′ 0 a)
     (keep : (l a : ℕ) → fit l a → fit′ l a) (same : (p l : ℕ) → fit (suc l) p → s p (suc l) ≡ r p (suc l)) (k-top : k < top) where
-  abbrev Ins : ℕ → Entry → List Entry
-  Ins = inserted r k a n side half
+  abbrev inserts : ℕ → Entry → List Entry
+  inserts = inserted r k a n side half
 
-  abbrev IMade : ℕ → Entry → Type 0
-  IMade = InsMade r s k a n side half fit′ Cut
+  abbrev Making : ℕ → Entry → Type 0
+  Making = InsertMade r s k a n side half fit′ Cut
 
-  abbrev rm : ℕ → ℕ
-  rm l = 2 * half l
+  abbrev roomAt : ℕ → ℕ
+  roomAt l = 2 * half l
 
   -- the list at the root: its pairs are the pairs with k put in; it rises; it has at most one entry more
   pub record Fresh (l : ℕ) (es c : List Entry) : Type 0 where
     pub pairs-are : gather (under s l) c ≡ put k a (gather (under r l) es)
-    pub rises : Rises (Ok fit′ rm s l) top c
+    pub rises : Rises (Ok fit′ roomAt s l) top c
     pub few : length es ≤ length c
     pub some : 1 ≤ length c
     pub many : length c ≤ suc (length es)
 
-  pub ins-list-ok : (l hi : ℕ) (es : List Entry) → 0 < length es → k < hi → Rises (Ok fit rm r l) hi es → IMade l (chosen k es)
-      → Changed (Ok fit′ rm s l) (λ z. min z k) 1 2 hi (next es hi) (length es) (splice (Ins l) k es)
-  ins-list-ok = edit-list-ok fit fit′ rm r s keep same k (λ e. put k a (e ∷ [])) (named k n side half) (InsHeld k n side half s fit′ Cut)
+  pub ins-list-ok : (l hi : ℕ) (es : List Entry) → 0 < length es → k < hi → Rises (Ok fit roomAt r l) hi es → Making l (chosen k es)
+      → Changed (Ok fit′ roomAt s l) (λ z. min z k) 1 2 hi (next es hi) (length es) (splice (inserts l) k es)
+  ins-list-ok = edit-list-ok fit fit′ roomAt r s keep same k (λ e. put k a (e ∷ [])) (named k n side half) (InsertHeld k n side half s fit′ Cut)
       (λ z. min z k) 1 2 (λ z. omega arith) (λ z i. omega arith) (λ y z i. omega arith) (put-ok k a n side half s fit′ Cut fit fit-n fit-a keep)
       (λ l y i e c _. named-ok k a n side half s fit′ Cut fit fit-n fit-a keep l y i e c)
 
-  fresh-some : (l : ℕ) (es : List Entry) → 0 < length es → Rises (Ok fit rm r l) top es → IMade l (chosen k es) → Fresh l es (splice (Ins l) k es)
+  fresh-some : (l : ℕ) (es : List Entry) → 0 < length es → Rises (Ok fit roomAt r l) top es → Making l (chosen k es)
+      → Fresh l es (splice (inserts l) k es)
   fresh-some l es e h m =
-      let p = edit-list fit fit′ rm r s keep same k (λ e. put k a (e ∷ [])) (named k n side half) (InsHeld k n side half s fit′ Cut) (put k a)
+      let p = edit-list fit fit′ roomAt r s keep same k (λ e. put k a (e ∷ [])) (named k n side half) (InsertHeld k n side half s fit′ Cut) (put k a)
       (put-local k a) (λ e. refl) (λ l hi e c _ h i. named-under k a n side half s fit′ Cut l e c h ∙ i) l top es e k-top h m in
       let o = ins-list-ok l top es e k-top h m in
       record { pairs-are = p; rises = o .up; few = omega (arith, o .few); some = omega (arith, o .few); many = omega (arith, o .many) }
 
-  pub fresh : (l : ℕ) (es : List Entry) → (1 ≤ l → 2 ≤ length es) → Rises (Ok fit rm r l) top es → IMade l (chosen k es)
-      → Fresh l es (atRoot (put k a) (Ins l) k l es)
+  pub fresh : (l : ℕ) (es : List Entry) → (1 ≤ l → 2 ≤ length es) → Rises (Ok fit roomAt r l) top es → Making l (chosen k es)
+      → Fresh l es (atRoot (put k a) (inserts l) k l es)
   unfolding atRoot edit under Ok
   fresh zero [] g h m = record {
     pairs-are = gather-one (put k a []) ∙ ap (put k a) (sym (gather-one []));
@@ -246,21 +247,21 @@ module _ (k a n top : ℕ) (side half most : ℕ → ℕ) (r s : Nodes) (fit fit
     many = omega arith;
   }
   fresh zero (e ∷ es) g h m = rw (put-splice k a top (e ∷ es) (omega arith) k-top
-      (rises-map (Ok fit rm r 0) (λ y x. Unit {0}) top (e ∷ es) (λ y x _ _ _. tt) h)) at (fresh-some zero (e ∷ es) (omega arith) h m)
+      (rises-map (Ok fit roomAt r 0) (λ y x. Unit {0}) top (e ∷ es) (λ y x _ _ _. tt) h)) at (fresh-some zero (e ∷ es) (omega arith) h m)
   fresh (suc l) es g h m = fresh-some (suc l) es (omega (arith, g (omega arith))) h m
 
   abbrev rootList : ℕ → ℕ → List Entry
-  rootList l p = atRoot (put k a) (Ins l) k l (r p (suc l))
+  rootList l p = atRoot (put k a) (inserts l) k l (r p (suc l))
 
   -- the root does not grow
-  pub stay-pairs : (l p : ℕ) → Rooted fit rm most top r l p → IMade l (chosen k (r p (suc l))) → s n (suc l) ≡ rootList l p
+  pub stay-pairs : (l p : ℕ) → Rooted fit roomAt most top r l p → Making l (chosen k (r p (suc l))) → s n (suc l) ≡ rootList l p
       → under s (suc l) (the n) ≡ put k a (under r (suc l) (the p))
   unfolding under
   stay-pairs l p h m e = rw e (fresh l (r p (suc l)) (h .least) (h .rises) m .pairs-are)
 
-  pub stay-ok : (l p : ℕ) → Rooted fit rm most top r l p → IMade l (chosen k (r p (suc l))) → s n (suc l) ≡ rootList l p
+  pub stay-ok : (l p : ℕ) → Rooted fit roomAt most top r l p → Making l (chosen k (r p (suc l))) → s n (suc l) ≡ rootList l p
       → length (rootList l p) ≤ most (suc l)
-      → Rooted fit′ rm most top s l n
+      → Rooted fit′ roomAt most top s l n
   stay-ok l p h m e b =
       let f = fresh l (r p (suc l)) (h .least) (h .rises) m in
       record { fits = fit-n l; least = λ z. rw e (omega (arith, f .few, h .least z)); atmost = rw e b; rises = rw e (f .rises) }
@@ -270,15 +271,15 @@ module _ (k a n top : ℕ) (side half most : ℕ → ℕ) (r s : Nodes) (fit fit
     pub halves : Halves k n side s fit′ (suc l) (2 * half (suc l)) c
     pub top-list : s n (suc (suc l)) ≡ two k n (side (suc l)) (2 * half (suc l)) (next c 0) c
 
-  pub grow-pairs : (l p : ℕ) → Rooted fit rm most top r l p → IMade l (chosen k (r p (suc l))) → Grown l (rootList l p)
+  pub grow-pairs : (l p : ℕ) → Rooted fit roomAt most top r l p → Making l (chosen k (r p (suc l))) → Grown l (rootList l p)
       → under s (suc (suc l)) (the n) ≡ put k a (under r (suc l) (the p))
   unfolding under
   grow-pairs l p h m g = rw (g .top-list) (two-under k a n side half s fit′ Cut l (2 * half (suc l)) (next (rootList l p) 0) (rootList l p)
       (g .halves) ∙ fresh l (r p (suc l)) (h .least) (h .rises) m .pairs-are)
 
-  pub grow-ok : (l p : ℕ) → Rooted fit rm most top r l p → IMade l (chosen k (r p (suc l))) → Grown l (rootList l p)
+  pub grow-ok : (l p : ℕ) → Rooted fit roomAt most top r l p → Making l (chosen k (r p (suc l))) → Grown l (rootList l p)
       → length (rootList l p) ≡ 4 * half (suc l) → 2 ≤ most (suc (suc l))
-      → Rooted fit′ rm most top s (suc l) n
+      → Rooted fit′ roomAt most top s (suc l) n
   grow-ok l p h m g c w =
       let f = fresh l (r p (suc l)) (h .least) (h .rises) m in
       let e = g .top-list in

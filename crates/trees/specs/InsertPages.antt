@@ -16,7 +16,7 @@ use Rattle.model.specs.Edit.{splice, put, turn, pathHalf, two, named, pathPart}
 use Rattle.trees.specs.Lists.{All, Rises, Some, all-left, all-right, all-append, all-map, gather-append, next-append, Split, split}
 use Rattle.trees.specs.Nodes.{Ok, places-fit, Rooted}
 use Rattle.trees.specs.Edit.{edit, atRoot, Made, no-places, edit-list-places}
-use Rattle.trees.specs.Insert.{Halves, InsHeld, inserted, InsMade, Fresh, ins-list-ok, fresh}
+use Rattle.trees.specs.Insert.{Halves, InsertHeld, inserted, InsertMade, Fresh, ins-list-ok, fresh}
 use Rattle.trees.specs.Tied.{Where}
 
 -- Z holds of the last entry whose key is not above k
@@ -116,25 +116,26 @@ put-sits k a y (e ∷ es) q h = go (ltb (e .key) k) (eqb (e .key) k) refl refl (
 module _ (k a n top : ℕ) (side half most : ℕ → ℕ) (r s : Nodes) (fit fit′ : ℕ → ℕ → Type 0) (Cut : ℕ → Type 0) (fit-n : (l : ℕ) → fit′ (suc l) n)
     (fit-a : fit′ 0 a)
     (keep : (l a : ℕ) → fit l a → fit′ l a) (same : (p l : ℕ) → fit (suc l) p → s p (suc l) ≡ r p (suc l)) (k-top : k < top) where
-  abbrev pub InsWhere : Place → Type 0
-  InsWhere x = Where s n 1 side Cut (λ x. (1 ≤ x .level) × fit (x .level) (x .page)) x
+  abbrev pub InsertWhere : Place → Type 0
+  InsertWhere x = Where s n 1 side Cut (λ x. (1 ≤ x .level) × fit (x .level) (x .page)) x
 
-  abbrev rm : ℕ → ℕ
-  rm l = 2 * half l
+  abbrev roomAt : ℕ → ℕ
+  roomAt l = 2 * half l
 
-  abbrev Ins : ℕ → Entry → List Entry
-  Ins = inserted r k a n side half
+  abbrev inserts : ℕ → Entry → List Entry
+  inserts = inserted r k a n side half
 
-  off-where : (l y : ℕ) (e : Entry) → e .key < y → Ok fit rm r l y e → ((y ≤ k) ⊎ (k < e .key)) → All InsWhere (places r l e)
-  off-where l y e b h o = all-map (λ x. (1 ≤ x .level) × fit (x .level) (x .page)) InsWhere (places r l e) (λ x i. inr (inr i))
-      (places-fit fit rm r l y e h)
+  off-where : (l y : ℕ) (e : Entry) → e .key < y → Ok fit roomAt r l y e → ((y ≤ k) ⊎ (k < e .key)) → All InsertWhere (places r l e)
+  off-where l y e b h o = all-map (λ x. (1 ≤ x .level) × fit (x .level) (x .page)) InsertWhere (places r l e) (λ x i. inr (inr i))
+      (places-fit fit roomAt r l y e h)
 
   -- the changed list of a node above the leaves has the entry that names n where descent takes it
-  list-sits : (l hi : ℕ) (es : List Entry) → 1 ≤ l → 0 < length es → k < hi → Rises (Ok fit rm r l) hi es → Sits k (Names n) hi (splice (Ins l) k es)
+  list-sits : (l hi : ℕ) (es : List Entry) → 1 ≤ l → 0 < length es → k < hi → Rises (Ok fit roomAt r l) hi es
+      → Sits k (Names n) hi (splice (inserts l) k es)
   unfolding edit
   list-sits zero hi es b c q h = absurd (omega arith)
-  list-sits (suc l) hi es b c q h = splice-sits k (Names n) (Ok fit rm r (suc l)) (Ins (suc l)) hi es c q h
-      (λ y d. named-sits k n side half (suc l) y (chosen k es) (splice (Ins l) k (r (chosen k es .addr) (suc l))) d)
+  list-sits (suc l) hi es b c q h = splice-sits k (Names n) (Ok fit roomAt r (suc l)) (inserts (suc l)) hi es c q h
+      (λ y d. named-sits k n side half (suc l) y (chosen k es) (splice (inserts l) k (r (chosen k es .addr) (suc l))) d)
 
   pub page-where : (W : Place → Type 0) (l z q : ℕ) (es : List Entry) → s q (suc l) ≡ es → W (record { page = q; level = suc l })
       → All W (gather (places s l) es) → All W (places s (suc l) (record { key = z; addr = q }))
@@ -168,82 +169,88 @@ module _ (k a n top : ℕ) (side half most : ℕ → ℕ) (r s : Nodes) (fit fit
           (page-where W l z n (take m c) i w lh) (page-where W l (next (drop m c) 0) (side (suc l)) (drop m c) j w′ rh)
 
   -- the node on n at a level above the leaves names n
-  part-names : (l y : ℕ) (es : List Entry) → 1 ≤ l → 0 < length es → k < y → Rises (Ok fit rm r l) y es
-      → InsMade r s k a n side half fit′ Cut l (chosen k es) → Some (Names n) (pathPart k half (suc l) (splice (Ins l) k es))
-  part-names l y es b c q h m = go (leb (length (splice (Ins l) k es)) (2 * half (suc l))) refl
+  part-names : (l y : ℕ) (es : List Entry) → 1 ≤ l → 0 < length es → k < y → Rises (Ok fit roomAt r l) y es
+      → InsertMade r s k a n side half fit′ Cut l (chosen k es) → Some (Names n) (pathPart k half (suc l) (splice (inserts l) k es))
+  part-names l y es b c q h m = go (leb (length (splice (inserts l) k es)) (2 * half (suc l))) refl
     where
-      i : Sits k (Names n) y (splice (Ins l) k es)
+      i : Sits k (Names n) y (splice (inserts l) k es)
       i = list-sits l y es b c q h
 
-      up : Rises (Ok fit′ rm s l) y (splice (Ins l) k es)
+      up : Rises (Ok fit′ roomAt s l) y (splice (inserts l) k es)
       up = ins-list-ok k a n top side half most r s fit fit′ Cut fit-n fit-a keep same k-top l y es c q h m .up
 
-      go : (t : Bool) → leb (length (splice (Ins l) k es)) (2 * half (suc l)) ≡ t
-          → Some (Names n) (pick t (splice (Ins l) k es) (pathHalf k (half (suc l)) (splice (Ins l) k es)))
-      go true d = sits-some k (Names n) y (splice (Ins l) k es) i
-      go false d = let w = leb-false (length (splice (Ins l) k es)) (2 * half (suc l)) d in half-holds k (Names n) (Ok fit′ rm s l) y (half (suc l))
-          (splice (Ins l) k es) (omega arith) up i
+      go : (t : Bool) → leb (length (splice (inserts l) k es)) (2 * half (suc l)) ≡ t
+          → Some (Names n) (pick t (splice (inserts l) k es) (pathHalf k (half (suc l)) (splice (inserts l) k es)))
+      go true d = sits-some k (Names n) y (splice (inserts l) k es) i
+      go false d = let w = leb-false (length (splice (inserts l) k es)) (2 * half (suc l)) d in half-holds k (Names n) (Ok fit′ roomAt s l) y
+          (half (suc l))
+          (splice (inserts l) k es) (omega arith) up i
 
-  name-where : (l y : ℕ) (e : Entry) → k < y → e .key < y → Ok fit rm r (suc l) y e → InsMade r s k a n side half fit′ Cut (suc l) e
-      → All InsWhere (gather (places s l) (splice (Ins l) k (r (e .addr) (suc l))))
-      → All InsWhere (gather (places s (suc l)) (named k n side half (suc l) e (splice (Ins l) k (r (e .addr) (suc l)))))
+  name-where : (l y : ℕ) (e : Entry) → k < y → e .key < y → Ok fit roomAt r (suc l) y e → InsertMade r s k a n side half fit′ Cut (suc l) e
+      → All InsertWhere (gather (places s l) (splice (inserts l) k (r (e .addr) (suc l))))
+      → All InsertWhere (gather (places s (suc l)) (named k n side half (suc l) e (splice (inserts l) k (r (e .addr) (suc l)))))
   unfolding gather Ok Made
   name-where l y e q b h m w = go (leb (length c) (2 * half (suc l))) refl (m .0 .0)
     where
       c : List Entry
-      c = splice (Ins l) k (r (e .addr) (suc l))
+      c = splice (inserts l) k (r (e .addr) (suc l))
 
-      on-n : InsWhere (record { page = n; level = suc l })
+      on-n : InsertWhere (record { page = n; level = suc l })
       on-n = inl (refl, omega arith, λ d. rw (m .0 .0) (part-names l y (r (e .addr) (suc l)) (omega arith) (h .1) q (h .4) (m .1)))
 
       go : (t : Bool) → leb (length c) (2 * half (suc l)) ≡ t → s n (suc l) ≡ pick t c (pathHalf k (half (suc l)) c)
-          → All InsWhere
+          → All InsertWhere
           (gather (places s (suc l)) (pick t (record { key = min (e .key) k; addr = n } ∷ [])
           (two k n (side (suc l)) (half (suc l)) (min (e .key) k) c)))
-      go true d i = all-append InsWhere (places s (suc l) (record { key = min (e .key) k; addr = n })) []
-          (page-where InsWhere l (min (e .key) k) n c i on-n w) tt
-      go false d i = let u = m .0 .1 (leb-false (length c) (2 * half (suc l)) d) in two-where InsWhere l (half (suc l)) (min (e .key) k) c
+      go true d i = all-append InsertWhere (places s (suc l) (record { key = min (e .key) k; addr = n })) []
+          (page-where InsertWhere l (min (e .key) k) n c i on-n w) tt
+      go false d i = let u = m .0 .1 (leb-false (length c) (2 * half (suc l)) d) in two-where InsertWhere l (half (suc l)) (min (e .key) k) c
           (i, u .0, u .1) on-n (inr (inl (u .2, refl))) w
 
   -- the places below the root's list
-  root-where : (l p : ℕ) → Rooted fit rm most top r l p → InsMade r s k a n side half fit′ Cut l (chosen k (r p (suc l)))
-      → All InsWhere (gather (places s l) (atRoot (put k a) (Ins l) k l (r p (suc l))))
+  root-where : (l p : ℕ) → Rooted fit roomAt most top r l p → InsertMade r s k a n side half fit′ Cut l (chosen k (r p (suc l)))
+      → All InsertWhere (gather (places s l) (atRoot (put k a) (inserts l) k l (r p (suc l))))
   unfolding atRoot
-  root-where zero p h m = no-places InsWhere s (put k a (r p 1))
-  root-where (suc l) p h m = let g = h .least (omega arith) in edit-list-places fit fit′ rm r s keep same k (λ e. put k a (e ∷ []))
-      (named k n side half) (InsHeld k n side half s fit′ Cut) InsWhere off-where name-where (suc l) top (r p (suc (suc l))) (omega arith) k-top
+  root-where zero p h m = no-places InsertWhere s (put k a (r p 1))
+  root-where (suc l) p h m = let g = h .least (omega arith) in edit-list-places fit fit′ roomAt r s keep same k (λ e. put k a (e ∷ []))
+      (named k n side half) (InsertHeld k n side half s fit′ Cut) InsertWhere off-where name-where (suc l) top (r p (suc (suc l))) (omega arith) k-top
       (h .rises) m
 
-  root-names : (l p : ℕ) → 1 ≤ l → Rooted fit rm most top r l p → Sits k (Names n) top (atRoot (put k a) (Ins l) k l (r p (suc l)))
+  root-names : (l p : ℕ) → 1 ≤ l → Rooted fit roomAt most top r l p → Sits k (Names n) top (atRoot (put k a) (inserts l) k l (r p (suc l)))
   unfolding atRoot
   root-names zero p b h = absurd (omega arith)
   root-names (suc l) p b h = let g = h .least (omega arith) in list-sits (suc l) top (r p (suc (suc l))) (omega arith) (omega arith) k-top (h .rises)
 
-  pub stay-where : (l p : ℕ) → Rooted fit rm most top r l p → InsMade r s k a n side half fit′ Cut l (chosen k (r p (suc l)))
-      → s n (suc l) ≡ atRoot (put k a) (Ins l) k l (r p (suc l))
-      → All InsWhere (places s (suc l) (record { key = 0; addr = n }))
-  stay-where l p h m e = page-where InsWhere l 0 n (atRoot (put k a) (Ins l) k l (r p (suc l))) e
-      (inl (refl, omega arith, λ d. rw e (sits-some k (Names n) top (atRoot (put k a) (Ins l) k l (r p (suc l))) (root-names l p (omega arith) h))))
+  pub stay-where : (l p : ℕ) → Rooted fit roomAt most top r l p → InsertMade r s k a n side half fit′ Cut l (chosen k (r p (suc l)))
+      → s n (suc l) ≡ atRoot (put k a) (inserts l) k l (r p (suc l))
+      → All InsertWhere (places s (suc l) (record { key = 0; addr = n }))
+  stay-where l p h m e = page-where InsertWhere l 0 n (atRoot (put k a) (inserts l) k l (r p (suc l))) e
+      (inl (
+        refl,
+        omega arith,
+        λ d. rw e (sits-some k (Names n) top (atRoot (put k a) (inserts l) k l (r p (suc l)))
+            (root-names l p (omega arith) h)),
+      ))
       (root-where l p h m)
 
-  pub grow-where : (l p : ℕ) → Rooted fit rm most top r l p → InsMade r s k a n side half fit′ Cut l (chosen k (r p (suc l)))
-      → Halves k n side s fit′ (suc l) (2 * half (suc l)) (atRoot (put k a) (Ins l) k l (r p (suc l))) → Cut (suc l)
-      → length (atRoot (put k a) (Ins l) k l (r p (suc l))) ≡ 4 * half (suc l)
-      → s n (suc (suc l)) ≡ two k n (side (suc l)) (2 * half (suc l)) (next (atRoot (put k a) (Ins l) k l (r p (suc l))) 0)
-      (atRoot (put k a) (Ins l) k l (r p (suc l)))
-      → All InsWhere (places s (suc (suc l)) (record { key = 0; addr = n }))
-  grow-where l p h m hs cut len e = page-where InsWhere (suc l) 0 n (two k n (side (suc l)) (2 * half (suc l)) (next c 0) c) e
+  pub grow-where : (l p : ℕ) → Rooted fit roomAt most top r l p → InsertMade r s k a n side half fit′ Cut l (chosen k (r p (suc l)))
+      → Halves k n side s fit′ (suc l) (2 * half (suc l)) (atRoot (put k a) (inserts l) k l (r p (suc l))) → Cut (suc l)
+      → length (atRoot (put k a) (inserts l) k l (r p (suc l))) ≡ 4 * half (suc l)
+      → s n (suc (suc l)) ≡ two k n (side (suc l)) (2 * half (suc l)) (next (atRoot (put k a) (inserts l) k l (r p (suc l))) 0)
+      (atRoot (put k a) (inserts l) k l (r p (suc l)))
+      → All InsertWhere (places s (suc (suc l)) (record { key = 0; addr = n }))
+  grow-where l p h m hs cut len e = page-where InsertWhere (suc l) 0 n (two k n (side (suc l)) (2 * half (suc l)) (next c 0) c) e
       (inl (refl, omega arith, λ d. rw e (either (turn k (2 * half (suc l)) c))))
-      (two-where InsWhere l (2 * half (suc l)) (next c 0) c hs (inl (
+      (two-where InsertWhere l (2 * half (suc l)) (next c 0) c hs (inl (
         refl,
         omega arith,
         λ d. rw (hs .0)
-            (half-holds k (Names n) (Ok fit′ rm s l) top (2 * half (suc l)) c (omega (arith, f .some)) (f .rises)
+            (half-holds k (Names n) (Ok fit′ roomAt s l) top (2 * half (suc l)) c (omega (arith, f .some)) (f .rises)
             (root-names l p (omega arith) h)),
       )) (inr (inl (cut, refl))) (root-where l p h m))
     where
       c : List Entry
-      c = atRoot (put k a) (Ins l) k l (r p (suc l))
+      c = atRoot (put k a) (inserts l) k l (r p (suc l))
 
       f : Fresh k a n top side half most r s fit fit′ Cut fit-n fit-a keep same k-top l (r p (suc l)) c
       f = fresh k a n top side half most r s fit fit′ Cut fit-n fit-a keep same k-top l (r p (suc l)) (h .least) (h .rises) m

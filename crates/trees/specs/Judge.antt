@@ -241,48 +241,49 @@ lower-none f [] t h = refl
 lower-none f (x ∷ xs) t h = rw (h .0, and-false (ltb (x .page) t)) (lower-none f xs t (h .1))
 
 module _ (t : ℕ) (c : Chip) where
-  abbrev pls : List Place
-  pls = placesOf c
+  abbrev spots : List Place
+  spots = placesOf c
 
-  strict : (x y : Place) → Mem y pls → x .page ≡ y .page → y .level < x .level → loose (c .nodes) pls x ≡ false
+  strict : (x y : Place) → Mem y spots → x .page ≡ y .page → y .level < x .level → loose (c .nodes) spots x ≡ false
       → Some (λ e. e .addr ≡ x .page) (c .nodes (x .page) (x .level))
   unfolding loose
   strict x y m e b h =
-      let w = low-is pls (x .page) (rw e (mem-live y pls m)) in
-      let v = all-get (λ z. z .page ≡ x .page → lowLevel pls (x .page) ≤ z .level) y pls (w .1) m (sym e) in
+      let w = low-is spots (x .page) (rw e (mem-live y spots m)) in
+      let v = all-get (λ z. z .page ≡ x .page → lowLevel spots (x .page) ≤ z .level) y spots (w .1) m (sym e) in
       names-some (x .page) (c .nodes (x .page) (x .level)) (not-not (namesPage (x .page) (c .nodes (x .page) (x .level)))
-      (rw (lt-ltb (lowLevel pls (x .page)) (x .level) (omega (arith, v, b)), and-true (not (namesPage (x .page) (c .nodes (x .page) (x .level)))))
+      (rw (lt-ltb (lowLevel spots (x .page)) (x .level) (omega (arith, v, b)), and-true (not (namesPage (x .page) (c .nodes (x .page) (x .level)))))
       at h))
 
-  pub r6-tied : All (λ x. x .page < t) pls → r6 t c ≡ Good → Tied (c .nodes) pls
+  pub r6-tied : All (λ x. x .page < t) spots → r6 t c ≡ Good → Tied (c .nodes) spots
   unfolding r6
   r6-tied in-t h =
       let u = unless-good _ _ _ h in
-      let a = none-lower (loose (c .nodes) pls) pls t (leb-true t (lowestPage (loose (c .nodes) pls) pls t) (u .0)) in
-      all-map (λ x. (x .page < t → loose (c .nodes) pls x ≡ false) × (x .page < t))
-      (λ x. All (λ y. x .page ≡ y .page → y .level < x .level → Some (λ e. e .addr ≡ x .page) (c .nodes (x .page) (x .level))) pls) pls
-      (λ x i. all-map (λ y. Mem y pls) (λ y. x .page ≡ y .page → y .level < x .level → Some (λ e. e .addr ≡ x .page) (c .nodes (x .page) (x .level)))
-      pls (λ y m e b. strict x y m e b (i .0 (i .1))) (all-mem pls))
-      (all-both (λ x. x .page < t → loose (c .nodes) pls x ≡ false) (λ x. x .page < t) pls a in-t)
+      let a = none-lower (loose (c .nodes) spots) spots t (leb-true t (lowestPage (loose (c .nodes) spots) spots t) (u .0)) in
+      all-map (λ x. (x .page < t → loose (c .nodes) spots x ≡ false) × (x .page < t))
+      (λ x. All (λ y. x .page ≡ y .page → y .level < x .level → Some (λ e. e .addr ≡ x .page) (c .nodes (x .page) (x .level))) spots) spots
+      (λ x i. all-map (λ y. Mem y spots) (λ y. x .page ≡ y .page → y .level < x .level → Some (λ e. e .addr ≡ x .page)
+      (c .nodes (x .page) (x .level)))
+      spots (λ y m e b. strict x y m e b (i .0 (i .1))) (all-mem spots))
+      (all-both (λ x. x .page < t → loose (c .nodes) spots x ≡ false) (λ x. x .page < t) spots a in-t)
 
-  pub tied-r6 : Tied (c .nodes) pls → r6 t c ≡ Good
+  pub tied-r6 : Tied (c .nodes) spots → r6 t c ≡ Good
   unfolding r6 loose
   tied-r6 h =
-      let z : lowestPage (loose (c .nodes) pls) pls t ≡ t = lower-none (loose (c .nodes) pls) pls t
-      (all-map (λ x. All (λ y. x .page ≡ y .page → y .level < x .level → Some (λ e. e .addr ≡ x .page) (c .nodes (x .page) (x .level))) pls
-      × Mem x pls) (λ x. loose (c .nodes) pls x ≡ false) pls (λ x i. fast x (i .0) (i .1))
-      (all-both (λ x. All (λ y. x .page ≡ y .page → y .level < x .level → Some (λ e. e .addr ≡ x .page) (c .nodes (x .page) (x .level))) pls)
-      (λ x. Mem x pls) pls h (all-mem pls))) in
+      let z : lowestPage (loose (c .nodes) spots) spots t ≡ t = lower-none (loose (c .nodes) spots) spots t
+      (all-map (λ x. All (λ y. x .page ≡ y .page → y .level < x .level → Some (λ e. e .addr ≡ x .page) (c .nodes (x .page) (x .level))) spots
+      × Mem x spots) (λ x. loose (c .nodes) spots x ≡ false) spots (λ x i. fast x (i .0) (i .1))
+      (all-both (λ x. All (λ y. x .page ≡ y .page → y .level < x .level → Some (λ e. e .addr ≡ x .page) (c .nodes (x .page) (x .level))) spots)
+      (λ x. Mem x spots) spots h (all-mem spots))) in
       good-unless _ _ _ (rw z (le-leb t t (omega arith))) refl
     where
-      fast : (x : Place) → All (λ y. x .page ≡ y .page → y .level < x .level → Some (λ e. e .addr ≡ x .page) (c .nodes (x .page) (x .level))) pls
-          → Mem x pls → loose (c .nodes) pls x ≡ false
-      fast x i m = go (ltb (lowLevel pls (x .page)) (x .level)) refl
+      fast : (x : Place) → All (λ y. x .page ≡ y .page → y .level < x .level → Some (λ e. e .addr ≡ x .page) (c .nodes (x .page) (x .level))) spots
+          → Mem x spots → loose (c .nodes) spots x ≡ false
+      fast x i m = go (ltb (lowLevel spots (x .page)) (x .level)) refl
         where
-          go : (u : Bool) → ltb (lowLevel pls (x .page)) (x .level) ≡ u → (u & not (namesPage (x .page) (c .nodes (x .page) (x .level)))) ≡ false
+          go : (u : Bool) → ltb (lowLevel spots (x .page)) (x .level) ≡ u → (u & not (namesPage (x .page) (c .nodes (x .page) (x .level)))) ≡ false
           go false e = and-false (not (namesPage (x .page) (c .nodes (x .page) (x .level))))
           go true e =
-              let w = low-is pls (x .page) (mem-live x pls m) in
+              let w = low-is spots (x .page) (mem-live x spots m) in
               let s = all-get (λ y. x .page ≡ y .page → y .level < x .level → Some (λ e. e .addr ≡ x .page) (c .nodes (x .page) (x .level)))
-              (record { page = x .page; level = lowLevel pls (x .page) }) pls i (w .0) refl (ltb-true (lowLevel pls (x .page)) (x .level) e) in
+              (record { page = x .page; level = lowLevel spots (x .page) }) spots i (w .0) refl (ltb-true (lowLevel spots (x .page)) (x .level) e) in
               rw (and-true (not (namesPage (x .page) (c .nodes (x .page) (x .level)))), some-names (x .page) (c .nodes (x .page) (x .level)) s) refl

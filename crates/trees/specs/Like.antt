@@ -15,7 +15,7 @@ use Rattle.model.specs.Edit.{splice, gains, splits}
 use Rattle.trees.specs.Lists.{Rises, Split, split}
 use Rattle.trees.specs.Nodes.{Ok}
 use Rattle.trees.specs.Edit.{edit, Made}
-use Rattle.trees.specs.Move.{moved, MovMade}
+use Rattle.trees.specs.Move.{moved, MoveMade}
 
 -- two lists, entry by entry
 abbrev pub Likes : (Entry → Entry → Type 0) → List Entry → List Entry → Type 0
@@ -108,43 +108,43 @@ module _ (k a n : ℕ) (room : ℕ → ℕ) (r s : Nodes) (fit : ℕ → ℕ →
         (λ y x i. like-same l y x i)),
   )
 
-  abbrev Mov : ℕ → Entry → List Entry
-  Mov = moved r k a n
+  abbrev moves : ℕ → Entry → List Entry
+  moves = moved r k a n
 
   list-like : (l hi : ℕ) (es : List Entry) → 0 < length es → k < hi → Rises (Ok fit room r l) hi es
-      → ((y : ℕ) → k < y → chosen k es .key < y → Ok fit room r l y (chosen k es) → Likes (Like r s l) (chosen k es ∷ []) (Mov l (chosen k es)))
-      → Likes (Like r s l) es (splice (Mov l) k es)
+      → ((y : ℕ) → k < y → chosen k es .key < y → Ok fit room r l y (chosen k es) → Likes (Like r s l) (chosen k es ∷ []) (moves l (chosen k es)))
+      → Likes (Like r s l) es (splice (moves l) k es)
   list-like l hi es c q h step = go (split (Ok fit room r l) k hi es c q h)
     where
-      go : Split (Ok fit room r l) k hi es (chosen k es) (λ f. splice f k es) → Likes (Like r s l) es (splice (Mov l) k es)
-      go sp = subst (λ m. Likes (Like r s l) m (splice (Mov l) k es)) (sym (sp .whole))
-          (subst (λ m. Likes (Like r s l) (sp .pre ++ (chosen k es ∷ sp .post)) m) (sym (sp .spliced (Mov l)))
-          (likes-append (Like r s l) (sp .pre) (sp .pre) (chosen k es ∷ sp .post) (Mov l (chosen k es) ++ sp .post)
+      go : Split (Ok fit room r l) k hi es (chosen k es) (λ f. splice f k es) → Likes (Like r s l) es (splice (moves l) k es)
+      go sp = subst (λ m. Likes (Like r s l) m (splice (moves l) k es)) (sym (sp .whole))
+          (subst (λ m. Likes (Like r s l) (sp .pre ++ (chosen k es ∷ sp .post)) m) (sym (sp .spliced (moves l)))
+          (likes-append (Like r s l) (sp .pre) (sp .pre) (chosen k es ∷ sp .post) (moves l (chosen k es) ++ sp .post)
           (likes-self (Ok fit room r l) (Like r s l) (chosen k es .key) (sp .pre) (sp .before) (λ y x i. like-same l y x i))
-          (likes-append (Like r s l) (chosen k es ∷ []) (Mov l (chosen k es)) (sp .post) (sp .post)
+          (likes-append (Like r s l) (chosen k es ∷ []) (moves l (chosen k es)) (sp .post) (sp .post)
           (step (next (sp .post) hi) (sp .under) (sp .up) (sp .here)) (likes-self (Ok fit room r l) (Like r s l) hi (sp .post) (sp .rest)
           (λ y x i. like-same l y x i)))))
 
-  pub move-like : (l hi : ℕ) (e : Entry) → k < hi → Ok fit room r l hi e → MovMade r s k a n l e → Likes (Like r s l) (e ∷ []) (Mov l e)
+  pub move-like : (l hi : ℕ) (e : Entry) → k < hi → Ok fit room r l hi e → MoveMade r s k a n l e → Likes (Like r s l) (e ∷ []) (moves l e)
   unfolding edit Made Ok Like
   move-like zero hi e q h m = (refl, tt)
   move-like (suc l) hi e q h m = go (leb a (suc l)) refl (list-like l hi (r (e .addr) (suc l)) (h .1) q (h .4)
       (λ y u v i. move-like l y (chosen k (r (e .addr) (suc l))) u i (m .1)))
     where
       c : List Entry
-      c = splice (Mov l) k (r (e .addr) (suc l))
+      c = splice (moves l) k (r (e .addr) (suc l))
 
       go : (t : Bool) → leb a (suc l) ≡ t → Likes (Like r s l) (r (e .addr) (suc l)) c
           → Likes (Like r s (suc l)) (e ∷ []) (pick t (record { key = e .key; addr = n } ∷ []) (e ∷ []))
       go true d i = ((refl, rw (m .0 (leb-true a (suc l) d)) i), tt)
       go false d i = (like-same (suc l) hi e h, tt)
 
-  pub move-list-like : (l hi : ℕ) (es : List Entry) → 0 < length es → k < hi → Rises (Ok fit room r l) hi es → MovMade r s k a n l (chosen k es)
-      → Likes (Like r s l) es (splice (Mov l) k es)
+  pub move-list-like : (l hi : ℕ) (es : List Entry) → 0 < length es → k < hi → Rises (Ok fit room r l) hi es → MoveMade r s k a n l (chosen k es)
+      → Likes (Like r s l) es (splice (moves l) k es)
   move-list-like l hi es c q h m = list-like l hi es c q h (λ y u v i. move-like l y (chosen k es) u i m)
 
-  pub move-root-like : (l hi : ℕ) (es : List Entry) → k < hi → Rises (Ok fit room r l) hi es → MovMade r s k a n l (chosen k es)
-      → Likes (Like r s l) es (splice (Mov l) k es)
+  pub move-root-like : (l hi : ℕ) (es : List Entry) → k < hi → Rises (Ok fit room r l) hi es → MoveMade r s k a n l (chosen k es)
+      → Likes (Like r s l) es (splice (moves l) k es)
   move-root-like l hi [] q h m = tt
   move-root-like l hi (e ∷ es) q h m = move-list-like l hi (e ∷ es) (omega arith) q h m
 

@@ -12,20 +12,20 @@ use Rattle.model.specs.Tree.{Place, live, lowLevel}
 use Rattle.trees.specs.Tests.{true-false}
 use Rattle.trees.specs.Lists.{All, Mem, all-map}
 
-pub mem-live : (x : Place) (pls : List Place) → Mem x pls → live pls (x .page) ≡ true
+pub mem-live : (x : Place) (spots : List Place) → Mem x spots → live spots (x .page) ≡ true
 unfolding live
 mem-live x [] m = absurd m
-mem-live x (y ∷ pls) (inl e) = rw (eq-eqb (y .page) (x .page) (ap (λ (z : Place). z .page) e)) refl
-mem-live x (y ∷ pls) (inr m) = go (eqb (y .page) (x .page)) (mem-live x pls m)
+mem-live x (y ∷ spots) (inl e) = rw (eq-eqb (y .page) (x .page) (ap (λ (z : Place). z .page) e)) refl
+mem-live x (y ∷ spots) (inr m) = go (eqb (y .page) (x .page)) (mem-live x spots m)
   where
-    go : (t : Bool) → live pls (x .page) ≡ true → pick t true (live pls (x .page)) ≡ true
+    go : (t : Bool) → live spots (x .page) ≡ true → pick t true (live spots (x .page)) ≡ true
     go true h = refl
     go false h = h
 
-pub dead-live : (p : ℕ) (pls : List Place) → All (λ x. x .page ≡ p → ⊥) pls → live pls p ≡ false
+pub dead-live : (p : ℕ) (spots : List Place) → All (λ x. x .page ≡ p → ⊥) spots → live spots p ≡ false
 unfolding live
 dead-live p [] h = refl
-dead-live p (x ∷ pls) h = rw (ne-eqb (x .page) p (h .0)) (dead-live p pls (h .1))
+dead-live p (x ∷ spots) h = rw (ne-eqb (x .page) p (h .0)) (dead-live p spots (h .1))
 
 pub within-live : (n q : ℕ) (old new : List Place) → All (λ x. (x .page ≡ n) ⊎ Mem x old) new → (q ≡ n → ⊥) → bit (live new q) ≤ bit (live old q)
 unfolding live
@@ -48,8 +48,8 @@ live-none p (y ∷ ys) h = go (eqb (y .page) p) refl h (live-none p ys)
     go true e i k = absurd (true-false true refl i)
     go false e i k = (eqb-false (y .page) p e, k i)
 
-pub low-is : (pls : List Place) (p : ℕ) → live pls p ≡ true
-    → Mem (record { page = p; level = lowLevel pls p }) pls × All (λ x. x .page ≡ p → lowLevel pls p ≤ x .level) pls
+pub low-is : (spots : List Place) (p : ℕ) → live spots p ≡ true
+    → Mem (record { page = p; level = lowLevel spots p }) spots × All (λ x. x .page ≡ p → lowLevel spots p ≤ x .level) spots
 unfolding lowLevel live
 low-is [] p h = absurd (true-false false h refl)
 low-is (x ∷ xs) p h = go (eqb (x .page) p) (live xs p) refl refl h (low-is xs p)

@@ -25,79 +25,79 @@ same-local k = record { after = λ lo xs ys h. refl; before = λ lo hi ys zs q h
 abbrev pub moved : Nodes → ℕ → ℕ → ℕ → ℕ → Entry → List Entry
 moved r k a n l e = edit r k (λ e. e ∷ []) (renamed a n) l e
 
-abbrev pub MovHeld : ℕ → ℕ → Nodes → ℕ → Entry → List Entry → Type 0
-MovHeld a n s l e c = a ≤ l → s n l ≡ c
+abbrev pub MoveHeld : ℕ → ℕ → Nodes → ℕ → Entry → List Entry → Type 0
+MoveHeld a n s l e c = a ≤ l → s n l ≡ c
 
-abbrev pub MovMade : Nodes → Nodes → ℕ → ℕ → ℕ → ℕ → Entry → Type 0
-MovMade r s k a n l e = Made r k (λ e. e ∷ []) (renamed a n) (MovHeld a n s) l e
+abbrev pub MoveMade : Nodes → Nodes → ℕ → ℕ → ℕ → ℕ → Entry → Type 0
+MoveMade r s k a n l e = Made r k (λ e. e ∷ []) (renamed a n) (MoveHeld a n s) l e
 
 module _ (k a n top : ℕ) (half most : ℕ → ℕ) (r s : Nodes) (fit fit′ : ℕ → ℕ → Type 0) (fit-n : (l : ℕ) → fit′ (suc l) n)
     (keep : (l a : ℕ) → fit l a → fit′ l a) (same : (p l : ℕ) → fit (suc l) p → s p (suc l) ≡ r p (suc l)) where
-  abbrev rm : ℕ → ℕ
-  rm l = 2 * half l
+  abbrev roomAt : ℕ → ℕ
+  roomAt l = 2 * half l
 
-  abbrev Mov : ℕ → Entry → List Entry
-  Mov = moved r k a n
+  abbrev moves : ℕ → Entry → List Entry
+  moves = moved r k a n
 
-  abbrev MMade : ℕ → Entry → Type 0
-  MMade = MovMade r s k a n
+  abbrev Making : ℕ → Entry → Type 0
+  Making = MoveMade r s k a n
 
-  pub renamed-under : (l hi : ℕ) (e : Entry) (c : List Entry) → Ok fit rm r (suc l) hi e → MovHeld a n s (suc l) e c
+  pub renamed-under : (l hi : ℕ) (e : Entry) (c : List Entry) → Ok fit roomAt r (suc l) hi e → MoveHeld a n s (suc l) e c
       → gather (under s l) c ≡ under r (suc l) e → gather (under s (suc l)) (renamed a n (suc l) e c) ≡ under r (suc l) e
   unfolding under gather
   renamed-under l hi e c o h i = go (leb a (suc l)) refl
     where
       go : (t : Bool) → leb a (suc l) ≡ t → gather (under s (suc l)) (pick t (record { key = e .key; addr = n } ∷ []) (e ∷ [])) ≡ under r (suc l) e
       go true b = rw (h (leb-true a (suc l) b)) (append-nil (gather (under s l) c) ∙ i)
-      go false b = append-nil (under s (suc l) e) ∙ under-same fit rm fit′ r s keep same (suc l) hi e o
+      go false b = append-nil (under s (suc l) e) ∙ under-same fit roomAt fit′ r s keep same (suc l) hi e o
 
-  pub renamed-ok : (l y i : ℕ) (e : Entry) (c : List Entry) → Ok fit rm r (suc l) y e → MovHeld a n s (suc l) e c → k < y → e .key < y
-      → Rises (Ok fit′ rm s l) y c → e .key ≤ next c y
-      → 1 ≤ i → i ≤ rm (suc l) → i + 1 ≤ suc (length c) → suc (length c) ≤ i + 1
-      → Out (Ok fit′ rm s (suc l)) (λ z. z) 1 1 y (e .key) (renamed a n (suc l) e c)
+  pub renamed-ok : (l y i : ℕ) (e : Entry) (c : List Entry) → Ok fit roomAt r (suc l) y e → MoveHeld a n s (suc l) e c → k < y → e .key < y
+      → Rises (Ok fit′ roomAt s l) y c → e .key ≤ next c y
+      → 1 ≤ i → i ≤ roomAt (suc l) → i + 1 ≤ suc (length c) → suc (length c) ≤ i + 1
+      → Out (Ok fit′ roomAt s (suc l)) (λ z. z) 1 1 y (e .key) (renamed a n (suc l) e c)
   unfolding Ok
   renamed-ok l y i e c o h q b up from i1 i2 c1 c2 = go (leb a (suc l)) refl
     where
       go : (t : Bool) → leb a (suc l) ≡ t
-          → Out (Ok fit′ rm s (suc l)) (λ z. z) 1 1 y (e .key) (pick t (record { key = e .key; addr = n } ∷ []) (e ∷ []))
+          → Out (Ok fit′ roomAt s (suc l)) (λ z. z) 1 1 y (e .key) (pick t (record { key = e .key; addr = n } ∷ []) (e ∷ []))
       go true d = ((b, rw (h (leb-true a (suc l) d)) (fit-n l, omega arith, omega arith, from, up), tt), omega arith, omega arith, omega arith)
-      go false d = ((b, ok-same fit rm fit′ r s keep same (suc l) y e o, tt), omega arith, omega arith, omega arith)
+      go false d = ((b, ok-same fit roomAt fit′ r s keep same (suc l) y e o, tt), omega arith, omega arith, omega arith)
 
-  pub self-ok : (y : ℕ) (e : Entry) → k < y → e .key < y → fit 0 (e .addr) → Out (Ok fit′ rm s 0) (λ z. z) 1 1 y (e .key) (e ∷ [])
+  pub self-ok : (y : ℕ) (e : Entry) → k < y → e .key < y → fit 0 (e .addr) → Out (Ok fit′ roomAt s 0) (λ z. z) 1 1 y (e .key) (e ∷ [])
   unfolding Ok
   self-ok y e q b h = ((b, keep 0 (e .addr) h, tt), omega arith, omega arith, omega arith)
 
   pub record Carried (l : ℕ) (es c : List Entry) : Type 0 where
     pub pairs-are : gather (under s l) c ≡ gather (under r l) es
-    pub rises : Rises (Ok fit′ rm s l) top c
+    pub rises : Rises (Ok fit′ roomAt s l) top c
     pub many : length c ≡ length es
 
-  pub carried : (l : ℕ) (es : List Entry) → (0 < length es → k < top) → Rises (Ok fit rm r l) top es → MMade l (chosen k es)
-      → Carried l es (splice (Mov l) k es)
+  pub carried : (l : ℕ) (es : List Entry) → (0 < length es → k < top) → Rises (Ok fit roomAt r l) top es → Making l (chosen k es)
+      → Carried l es (splice (moves l) k es)
   carried l [] q h m = record { pairs-are = go; rises = tt; many = refl }
     where
       go : gather (under s l) [] ≡ gather (under r l) []
       go = gather-eq (under r l) (under s l) [] tt
   carried l (e ∷ es) q h m =
       let z = q (omega arith) in
-      let p = edit-list fit fit′ rm r s keep same k (λ e. e ∷ []) (renamed a n) (MovHeld a n s) (λ x. x) (same-local k)
+      let p = edit-list fit fit′ roomAt r s keep same k (λ e. e ∷ []) (renamed a n) (MoveHeld a n s) (λ x. x) (same-local k)
       (λ e. refl) renamed-under l top (e ∷ es) (omega arith) z h m in
-      let o = edit-list-ok fit fit′ rm r s keep same k (λ e. e ∷ []) (renamed a n) (MovHeld a n s) (λ z. z) 1 1 (λ z. omega arith)
+      let o = edit-list-ok fit fit′ roomAt r s keep same k (λ e. e ∷ []) (renamed a n) (MoveHeld a n s) (λ z. z) 1 1 (λ z. omega arith)
       (λ z i. omega arith) (λ y z i. omega arith) self-ok renamed-ok l top (e ∷ es) (omega arith) z h m in
       record { pairs-are = p; rises = o .up; many = omega (arith, o .few, o .many) }
 
   abbrev pub rootMoved : ℕ → ℕ → List Entry
-  rootMoved l p = splice (Mov l) k (r p (suc l))
+  rootMoved l p = splice (moves l) k (r p (suc l))
 
-  pub move-pairs : (l p : ℕ) → Rooted fit rm most top r l p → (0 < length (r p (suc l)) → k < top) → MMade l (chosen k (r p (suc l)))
+  pub move-pairs : (l p : ℕ) → Rooted fit roomAt most top r l p → (0 < length (r p (suc l)) → k < top) → Making l (chosen k (r p (suc l)))
       → s n (suc l) ≡ rootMoved l p
       → under s (suc l) (the n) ≡ under r (suc l) (the p)
   unfolding under
   move-pairs l p h q m e = rw e (carried l (r p (suc l)) q (h .rises) m .pairs-are)
 
-  pub move-ok : (l p : ℕ) → Rooted fit rm most top r l p → (0 < length (r p (suc l)) → k < top) → MMade l (chosen k (r p (suc l)))
+  pub move-ok : (l p : ℕ) → Rooted fit roomAt most top r l p → (0 < length (r p (suc l)) → k < top) → Making l (chosen k (r p (suc l)))
       → s n (suc l) ≡ rootMoved l p
-      → Rooted fit′ rm most top s l n
+      → Rooted fit′ roomAt most top s l n
   move-ok l p h q m e =
       let f = carried l (r p (suc l)) q (h .rises) m in
       record {
@@ -125,8 +125,8 @@ module _ (p a : ℕ) (half : ℕ → ℕ) (r : Nodes) (fit : ℕ → ℕ → Typ
   abbrev tied : ℕ → ℕ → Type 0
   tied l q = fit l q × Tie r p a l q
 
-  abbrev rm′ : ℕ → ℕ
-  rm′ l = 2 * half l
+  abbrev roomAt′ : ℕ → ℕ
+  roomAt′ l = 2 * half l
 
   abbrev key : ℕ
   key = next (r p a) 0
@@ -138,43 +138,45 @@ module _ (p a : ℕ) (half : ℕ → ℕ) (r : Nodes) (fit : ℕ → ℕ → Typ
   named-range P k lo hi (e ∷ es) q h (inl z) step = omega (arith, step (next es hi) e (h .1) z, next-le P hi es (h .2))
   named-range P k lo hi (e ∷ es) q h (inr z) step = named-range P k lo hi es (omega arith) (h .2) z step
 
-  at-lowest : (l y : ℕ) (e : Entry) → Ok tied rm′ r (suc l) y e → e .addr ≡ p → a ≡ suc l → (e .key ≤ key) × (key < y)
+  at-lowest : (l y : ℕ) (e : Entry) → Ok tied roomAt′ r (suc l) y e → e .addr ≡ p → a ≡ suc l → (e .key ≤ key) × (key < y)
   unfolding Ok
   at-lowest l y e h i j =
       let es = r (e .addr) (suc l) in
       let w : next (r p a) 0 ≡ next es 0 = rw (i, j) in
-      let b = first-below (Ok tied rm′ r l) y es (h .1) (h .4) in
+      let b = first-below (Ok tied roomAt′ r l) y es (h .1) (h .4) in
       let c = next-more y 0 es (h .1) in
       omega (arith, w, b, c, h .3)
 
-  pub reach : (l y : ℕ) (e : Entry) → Ok tied rm′ r (suc l) y e → e .addr ≡ p → (e .key ≤ key) × (key < y)
+  pub reach : (l y : ℕ) (e : Entry) → Ok tied roomAt′ r (suc l) y e → e .addr ≡ p → (e .key ≤ key) × (key < y)
   unfolding Ok
   reach zero y e h i = let z = h .0 .1 i in at-lowest zero y e h i (omega (arith, z .0))
   reach (suc l) y e h i =
       let z = h .0 .1 i in
       by-le (suc (suc l)) a (λ g. at-lowest (suc l) y e h i (omega (arith, z .0)))
-      (λ g. named-range (Ok tied rm′ r (suc l)) key (e .key) y (r (e .addr) (suc (suc l))) (h .3) (h .4) (rw i (z .1 g)) (λ y x. reach l y x))
+      (λ g. named-range (Ok tied roomAt′ r (suc l)) key (e .key) y (r (e .addr) (suc (suc l))) (h .3) (h .4) (rw i (z .1 g)) (λ y x. reach l y x))
 
   -- off the path of p's lowest node, p has no live node
-  pub off-path : (l y : ℕ) (e : Entry) → e .key < y → Ok tied rm′ r l y e → ((y ≤ key) ⊎ (key < e .key)) → All (λ x. x .page ≡ p → ⊥) (places r l e)
+  pub off-path : (l y : ℕ) (e : Entry) → e .key < y → Ok tied roomAt′ r l y e → ((y ≤ key) ⊎ (key < e .key))
+      → All (λ x. x .page ≡ p → ⊥) (places r l e)
   unfolding places Ok
   off-path zero y e b h o = tt
   off-path (suc l) y e b h o = (
     (λ i. apart y key (e .key) o (reach l y e h i)),
     gather-all (λ x. x .page ≡ p → ⊥) (places r l) (r (e .addr) (suc l))
-        (rises-all (λ y x. Ok tied rm′ r l y x × (e .key ≤ x .key)) (λ x. All (λ x. x .page ≡ p → ⊥) (places r l x)) y (r (e .addr) (suc l))
+        (rises-all (λ y x. Ok tied roomAt′ r l y x × (e .key ≤ x .key)) (λ x. All (λ x. x .page ≡ p → ⊥) (places r l x)) y (r (e .addr) (suc l))
         (λ y′ x c d i. off-path l y′ x c (i .0) (shift y y′ key (e .key) (x .key) d (i .1) o))
-        (rises-floor (Ok tied rm′ r l) (e .key) y (r (e .addr) (suc l)) (h .3) (h .4))),
+        (rises-floor (Ok tied roomAt′ r l) (e .key) y (r (e .addr) (suc l)) (h .3) (h .4))),
   )
 
   -- nor has it one below its lowest level
-  pub below : (l y : ℕ) (e : Entry) → l < a → Ok tied rm′ r l y e → All (λ x. x .page ≡ p → ⊥) (places r l e)
+  pub below : (l y : ℕ) (e : Entry) → l < a → Ok tied roomAt′ r l y e → All (λ x. x .page ≡ p → ⊥) (places r l e)
   unfolding places Ok
   below zero y e b h = tt
   below (suc l) y e b h = (
     (λ i. omega (arith, h .0 .1 i .0)),
     gather-all (λ x. x .page ≡ p → ⊥) (places r l) (r (e .addr) (suc l))
-        (rises-all (Ok tied rm′ r l) (λ x. All (λ x. x .page ≡ p → ⊥) (places r l x)) y (r (e .addr) (suc l)) (λ y x _ _ i. below l y x (omega arith) i)
+        (rises-all (Ok tied roomAt′ r l) (λ x. All (λ x. x .page ≡ p → ⊥) (places r l x)) y (r (e .addr) (suc l))
+        (λ y x _ _ i. below l y x (omega arith) i)
         (h .4)),
   )
 
@@ -196,44 +198,44 @@ module _ (p a n top : ℕ) (half most : ℕ → ℕ) (r s : Nodes) (fit fit′ :
   abbrev pub MoveWhere : Place → Type 0
   MoveWhere x = OnNew x ⊎ Off x
 
-  abbrev rm″ : ℕ → ℕ
-  rm″ l = 2 * half l
+  abbrev roomAt″ : ℕ → ℕ
+  roomAt″ l = 2 * half l
 
-  abbrev Mv : ℕ → Entry → List Entry
-  Mv = moved r first a n
+  abbrev moves′ : ℕ → Entry → List Entry
+  moves′ = moved r first a n
 
-  off-where : (l y : ℕ) (e : Entry) → e .key < y → Ok tie rm″ r l y e → ((y ≤ first) ⊎ (first < e .key)) → All MoveWhere (places r l e)
+  off-where : (l y : ℕ) (e : Entry) → e .key < y → Ok tie roomAt″ r l y e → ((y ≤ first) ⊎ (first < e .key)) → All MoveWhere (places r l e)
   off-where l y e b h o = all-map (λ x. (x .page ≡ p → ⊥) × ((1 ≤ x .level) × tie (x .level) (x .page))) MoveWhere (places r l e)
       (λ x i. inr (i .0, i .1 .0, i .1 .1 .0))
       (all-both (λ x. x .page ≡ p → ⊥) (λ x. (1 ≤ x .level) × tie (x .level) (x .page)) (places r l e) (off-path p a half r fit a-pos l y e b h o)
-      (places-fit tie rm″ r l y e h))
+      (places-fit tie roomAt″ r l y e h))
 
-  below-where : (l y : ℕ) (e : Entry) → l < a → Ok tie rm″ r l y e → All MoveWhere (places r l e)
+  below-where : (l y : ℕ) (e : Entry) → l < a → Ok tie roomAt″ r l y e → All MoveWhere (places r l e)
   below-where l y e b h = all-map (λ x. (x .page ≡ p → ⊥) × ((1 ≤ x .level) × tie (x .level) (x .page))) MoveWhere (places r l e)
       (λ x i. inr (i .0, i .1 .0, i .1 .1 .0))
       (all-both (λ x. x .page ≡ p → ⊥) (λ x. (1 ≤ x .level) × tie (x .level) (x .page)) (places r l e) (below p a half r fit a-pos l y e b h)
-      (places-fit tie rm″ r l y e h))
+      (places-fit tie roomAt″ r l y e h))
 
   -- above level a the moved lists name n
-  names-new : (l hi : ℕ) (es : List Entry) → a ≤ l → 0 < length es → first < hi → Rises (Ok tie rm″ r l) hi es
-      → Some (λ e. e .addr ≡ n) (splice (Mv l) first es)
+  names-new : (l hi : ℕ) (es : List Entry) → a ≤ l → 0 < length es → first < hi → Rises (Ok tie roomAt″ r l) hi es
+      → Some (λ e. e .addr ≡ n) (splice (moves′ l) first es)
   unfolding edit
   names-new zero hi es b c q h = absurd (omega arith)
-  names-new (suc l) hi es b c q h = splice-some (Ok tie rm″ r (suc l)) (λ e. e .addr ≡ n) (Mv (suc l)) first hi es c q h
+  names-new (suc l) hi es b c q h = splice-some (Ok tie roomAt″ r (suc l)) (λ e. e .addr ≡ n) (moves′ (suc l)) first hi es c q h
       (rw (le-leb a (suc l) b) (inl refl))
 
-  where-new : (l hi : ℕ) (es : List Entry) → a ≤ suc l → 0 < length es → first < hi → Rises (Ok tie rm″ r l) hi es
-      → s n (suc l) ≡ splice (Mv l) first es → OnNew (record { page = n; level = suc l })
+  where-new : (l hi : ℕ) (es : List Entry) → a ≤ suc l → 0 < length es → first < hi → Rises (Ok tie roomAt″ r l) hi es
+      → s n (suc l) ≡ splice (moves′ l) first es → OnNew (record { page = n; level = suc l })
   where-new l hi es b c q h e = (refl, b, (λ d. rw e (names-new l hi es (omega arith) c q h)))
 
-  name-where : (l y : ℕ) (e : Entry) → first < y → e .key < y → Ok tie rm″ r (suc l) y e → MovMade r s first a n (suc l) e
-      → All MoveWhere (gather (places s l) (splice (Mv l) first (r (e .addr) (suc l))))
-      → All MoveWhere (gather (places s (suc l)) (renamed a n (suc l) e (splice (Mv l) first (r (e .addr) (suc l)))))
+  name-where : (l y : ℕ) (e : Entry) → first < y → e .key < y → Ok tie roomAt″ r (suc l) y e → MoveMade r s first a n (suc l) e
+      → All MoveWhere (gather (places s l) (splice (moves′ l) first (r (e .addr) (suc l))))
+      → All MoveWhere (gather (places s (suc l)) (renamed a n (suc l) e (splice (moves′ l) first (r (e .addr) (suc l)))))
   unfolding gather places Ok Made
   name-where l y e q b h m w = go (leb a (suc l)) refl
     where
       c : List Entry
-      c = splice (Mv l) first (r (e .addr) (suc l))
+      c = splice (moves′ l) first (r (e .addr) (suc l))
 
       go : (t : Bool) → leb a (suc l) ≡ t → All MoveWhere (gather (places s (suc l)) (pick t (record { key = e .key; addr = n } ∷ []) (e ∷ [])))
       go true d = let i = leb-true a (suc l) d in (
@@ -242,10 +244,10 @@ module _ (p a n top : ℕ) (half most : ℕ → ℕ) (r s : Nodes) (fit fit′ :
             (gather (places s l) (s n (suc l))) [] (rw (m .0 i) w) tt,
       )
       go false d = all-append MoveWhere (places s (suc l) e) [] (subst (λ x. All MoveWhere x)
-          (sym (places-same tie rm″ fit′ r s keep same (suc l) y e h)) (below-where (suc l) y e (leb-false a (suc l) d) h)) tt
+          (sym (places-same tie roomAt″ fit′ r s keep same (suc l) y e h)) (below-where (suc l) y e (leb-false a (suc l) d) h)) tt
 
-  pub moved-where : (l p₀ : ℕ) → Rooted tie rm″ most top r l p₀ → (0 < length (r p₀ (suc l)) → first < top) → a ≤ suc l
-      → MovMade r s first a n l (chosen first (r p₀ (suc l))) → s n (suc l) ≡ splice (Mv l) first (r p₀ (suc l))
+  pub moved-where : (l p₀ : ℕ) → Rooted tie roomAt″ most top r l p₀ → (0 < length (r p₀ (suc l)) → first < top) → a ≤ suc l
+      → MoveMade r s first a n l (chosen first (r p₀ (suc l))) → s n (suc l) ≡ splice (moves′ l) first (r p₀ (suc l))
       → All MoveWhere (places s (suc l) (record { key = 0; addr = n }))
   unfolding places
   moved-where zero p₀ h q b m e = (inl (refl, b, (λ d. absurd (omega arith))), no-places MoveWhere s (s n 1))
@@ -254,13 +256,13 @@ module _ (p a n top : ℕ) (half most : ℕ → ℕ) (r s : Nodes) (fit fit′ :
       let g = h .least (omega arith) in
       let z = q (omega arith) in (
         inl (where-new (suc l) top es b (omega arith) z (h .rises) e),
-        rw e (edit-list-places tie fit′ rm″ r s keep same first (λ e. e ∷ []) (renamed a n) (MovHeld a n s) MoveWhere off-where name-where
+        rw e (edit-list-places tie fit′ roomAt″ r s keep same first (λ e. e ∷ []) (renamed a n) (MoveHeld a n s) MoveWhere off-where name-where
             (suc l) top es (omega arith) z (h .rises) m),
       )
 
   -- the moved page is dead
-  pub moved-dead : (l p₀ : ℕ) → (n ≡ p → ⊥) → Rooted tie rm″ most top r l p₀ → (0 < length (r p₀ (suc l)) → first < top) → a ≤ suc l
-      → MovMade r s first a n l (chosen first (r p₀ (suc l))) → s n (suc l) ≡ splice (Mv l) first (r p₀ (suc l))
+  pub moved-dead : (l p₀ : ℕ) → (n ≡ p → ⊥) → Rooted tie roomAt″ most top r l p₀ → (0 < length (r p₀ (suc l)) → first < top) → a ≤ suc l
+      → MoveMade r s first a n l (chosen first (r p₀ (suc l))) → s n (suc l) ≡ splice (moves′ l) first (r p₀ (suc l))
       → All (λ x. x .page ≡ p → ⊥) (places s (suc l) (record { key = 0; addr = n }))
   moved-dead l p₀ d h q b m e = all-map MoveWhere (λ x. x .page ≡ p → ⊥) (places s (suc l) (record { key = 0; addr = n })) go
       (moved-where l p₀ h q b m e)

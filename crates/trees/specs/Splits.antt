@@ -50,11 +50,11 @@ put-size k a hi (e ∷ es) h = go (ltb (e .key) k) (eqb (e .key) k) refl refl (p
         rw (above-none k hi es (omega (arith, w, v, h .0)) (h .2)) (omega arith)
 
 module _ (k a n : ℕ) (side half : ℕ → ℕ) (r : Nodes) (fit : ℕ → ℕ → Type 0) (absent : Bool) where
-  abbrev rm : ℕ → ℕ
-  rm l = 2 * half l
+  abbrev roomAt : ℕ → ℕ
+  roomAt l = 2 * half l
 
-  abbrev Ins : ℕ → Entry → List Entry
-  Ins = inserted r k a n side half
+  abbrev inserts : ℕ → Entry → List Entry
+  inserts = inserted r k a n side half
 
   abbrev gain : ℕ → Entry → Bool
   gain = gains r k half absent
@@ -72,43 +72,44 @@ module _ (k a n : ℕ) (side half : ℕ → ℕ) (r : Nodes) (fit : ℕ → ℕ 
       go false true false x y z = absurd (omega (arith, leb-false (length c) (2 * half l) x, eqb-true i (2 * half l) y, h, ap bit z))
       go false false v x y z = absurd (omega (arith, leb-false (length c) (2 * half l) x, eqb-false i (2 * half l) y, h, bit-le b))
 
-  list-size : (l hi : ℕ) (es : List Entry) → 0 < length es → k < hi → Rises (Ok fit rm r l) hi es → isNone (find k (gather (under r l) es)) ≡ absent
-      → ((y : ℕ) → k < y → chosen k es .key < y → Ok fit rm r l y (chosen k es) → isNone (find k (under r l (chosen k es))) ≡ absent → length
-      (Ins l (chosen k es)) ≡ 1 + bit (gain l (chosen k es)))
-      → length (splice (Ins l) k es) ≡ length es + bit (gain l (chosen k es))
+  list-size : (l hi : ℕ) (es : List Entry) → 0 < length es → k < hi → Rises (Ok fit roomAt r l) hi es
+      → isNone (find k (gather (under r l) es)) ≡ absent
+      → ((y : ℕ) → k < y → chosen k es .key < y → Ok fit roomAt r l y (chosen k es) → isNone (find k (under r l (chosen k es))) ≡ absent → length
+      (inserts l (chosen k es)) ≡ 1 + bit (gain l (chosen k es)))
+      → length (splice (inserts l) k es) ≡ length es + bit (gain l (chosen k es))
   list-size l hi es c q h f step =
-      let s = split (Ok fit rm r l) k hi es c q h in
-      let i = step (next (s .post) hi) (s .under) (s .up) (s .here) (ap isNone (sym (find-list fit rm r k l hi es c q h)) ∙ f) in
-      omega (arith, splice-length (Ok fit rm r l) (Ins l) k hi es c q h, i)
+      let s = split (Ok fit roomAt r l) k hi es c q h in
+      let i = step (next (s .post) hi) (s .under) (s .up) (s .here) (ap isNone (sym (find-list fit roomAt r k l hi es c q h)) ∙ f) in
+      omega (arith, splice-length (Ok fit roomAt r l) (inserts l) k hi es c q h, i)
 
   -- an entry gives way to two exactly if it gains
-  size : (l hi : ℕ) (e : Entry) → k < hi → e .key < hi → Ok fit rm r l hi e → isNone (find k (under r l e)) ≡ absent
-      → length (Ins l e) ≡ 1 + bit (gain l e)
+  size : (l hi : ℕ) (e : Entry) → k < hi → e .key < hi → Ok fit roomAt r l hi e → isNone (find k (under r l e)) ≡ absent
+      → length (inserts l e) ≡ 1 + bit (gain l e)
   unfolding edit gains Ok under
   size zero hi e q b h f = put-size k a hi (e ∷ []) (b, tt, tt) ∙ ap (λ t. 1 + bit t) f
   size (suc l) hi e q b h f = let es = r (e .addr) (suc l) in
-      named-size (suc l) (length es) e (splice (Ins l) k es) (gain l (chosen k es)) (h .2)
+      named-size (suc l) (length es) e (splice (inserts l) k es) (gain l (chosen k es)) (h .2)
       (list-size l hi es (h .1) q (h .4) f (λ y c d i j. size l y (chosen k es) c d i j))
 
   -- a node's list takes one more exactly if the chosen entry gains
-  pub size-list : (l hi : ℕ) (es : List Entry) → 0 < length es → k < hi → Rises (Ok fit rm r l) hi es
+  pub size-list : (l hi : ℕ) (es : List Entry) → 0 < length es → k < hi → Rises (Ok fit roomAt r l) hi es
       → isNone (find k (gather (under r l) es)) ≡ absent
-      → length (splice (Ins l) k es) ≡ length es + bit (gain l (chosen k es))
+      → length (splice (inserts l) k es) ≡ length es + bit (gain l (chosen k es))
   size-list l hi es c q h f = list-size l hi es c q h f (λ y c d i j. size l y (chosen k es) c d i j)
 
   -- the root's too, also an empty leaf
-  pub root-size : (l hi : ℕ) (es : List Entry) → (1 ≤ l → 0 < length es) → k < hi → Rises (Ok fit rm r l) hi es
+  pub root-size : (l hi : ℕ) (es : List Entry) → (1 ≤ l → 0 < length es) → k < hi → Rises (Ok fit roomAt r l) hi es
       → isNone (find k (gather (under r l) es)) ≡ absent
-      → length (atRoot (put k a) (Ins l) k l es) ≡ length es + bit (gain l (chosen k es))
+      → length (atRoot (put k a) (inserts l) k l es) ≡ length es + bit (gain l (chosen k es))
   unfolding atRoot gains under
   root-size zero hi es c q h f =
-      put-size k a hi es (rises-map (Ok fit rm r 0) (λ y x. Unit {0}) hi es (λ y x _ _ _. tt) h) ∙ ap (λ t. length es + bit t)
+      put-size k a hi es (rises-map (Ok fit roomAt r 0) (λ y x. Unit {0}) hi es (λ y x _ _ _. tt) h) ∙ ap (λ t. length es + bit t)
       (ap (λ m. isNone (find k m)) (sym (gather-one es)) ∙ f)
   root-size (suc l) hi es c q h f = size-list (suc l) hi es (c (omega arith)) q h f
 
   -- a node's list is too long exactly if the entry that names the node gains
-  pub over : (l hi : ℕ) (e : Entry) → k < hi → Ok fit rm r (suc l) hi e → isNone (find k (under r (suc l) e)) ≡ absent
-      → 2 * half (suc l) < length (splice (Ins l) k (r (e .addr) (suc l))) → gain (suc l) e ≡ true
+  pub over : (l hi : ℕ) (e : Entry) → k < hi → Ok fit roomAt r (suc l) hi e → isNone (find k (under r (suc l) e)) ≡ absent
+      → 2 * half (suc l) < length (splice (inserts l) k (r (e .addr) (suc l))) → gain (suc l) e ≡ true
   unfolding gains Ok under
   over l hi e q h f b = rw (and-pick (eqb (length es) (2 * half (suc l))) (gain l (chosen k es)))
       (go (eqb (length es) (2 * half (suc l))) (gain l (chosen k es)) refl refl (size-list l hi es (h .1) q (h .4) f))
@@ -117,14 +118,14 @@ module _ (k a n : ℕ) (side half : ℕ → ℕ) (r : Nodes) (fit : ℕ → ℕ 
       es = r (e .addr) (suc l)
 
       go : (t u : Bool) → eqb (length (r (e .addr) (suc l))) (2 * half (suc l)) ≡ t → gain l (chosen k (r (e .addr) (suc l))) ≡ u
-          → length (splice (Ins l) k (r (e .addr) (suc l))) ≡ length (r (e .addr) (suc l)) + bit u → pick t u false ≡ true
+          → length (splice (inserts l) k (r (e .addr) (suc l))) ≡ length (r (e .addr) (suc l)) + bit u → pick t u false ≡ true
       go true true x y z = refl
       go true false x y z = absurd (omega (arith, h .2, z, b))
       go false true x y z = absurd (omega (arith, h .2, z, b, eqb-false (length (r (e .addr) (suc l))) (2 * half (suc l)) x))
       go false false x y z = absurd (omega (arith, h .2, z, b))
 
-  pub long : (l hi : ℕ) (e : Entry) → k < hi → Ok fit rm r (suc l) hi e → isNone (find k (under r (suc l) e)) ≡ absent → gain (suc l) e ≡ true
-      → 2 * half (suc l) < length (splice (Ins l) k (r (e .addr) (suc l)))
+  pub long : (l hi : ℕ) (e : Entry) → k < hi → Ok fit roomAt r (suc l) hi e → isNone (find k (under r (suc l) e)) ≡ absent → gain (suc l) e ≡ true
+      → 2 * half (suc l) < length (splice (inserts l) k (r (e .addr) (suc l)))
   unfolding gains Ok under
   long l hi e q h f b =
       let es = r (e .addr) (suc l) in
@@ -150,7 +151,7 @@ module _ (k a n : ℕ) (side half : ℕ → ℕ) (r : Nodes) (fit : ℕ → ℕ 
   as-splice hi es c q h = sym (put-splice k a hi es c q h)
 
   -- of the path's nodes below the root those at levels 1 to `splits` are too long, and no others
-  pub splits-are : (l hi : ℕ) (e : Entry) → k < hi → (1 ≤ l → 0 < length (r (e .addr) (suc l))) → Rises (Ok fit rm r l) hi (r (e .addr) (suc l))
+  pub splits-are : (l hi : ℕ) (e : Entry) → k < hi → (1 ≤ l → 0 < length (r (e .addr) (suc l))) → Rises (Ok fit roomAt r l) hi (r (e .addr) (suc l))
       → isNone (find k (under r (suc l) e)) ≡ absent
       → (j : ℕ) → 1 ≤ j → j ≤ l
       → (2 * half j < length (lists l e j) → j ≤ splits r k half absent l (chosen k (r (e .addr) (suc l)))) ×
@@ -163,14 +164,14 @@ module _ (k a n : ℕ) (side half : ℕ → ℕ) (r : Nodes) (fit : ℕ → ℕ 
       es : List Entry
       es = r (e .addr) (suc (suc l))
 
-      s : Split (Ok fit rm r (suc l)) k hi es (chosen k es) (λ f. splice f k es)
-      s = split (Ok fit rm r (suc l)) k hi es (c (omega arith)) q h
+      s : Split (Ok fit roomAt r (suc l)) k hi es (chosen k es) (λ f. splice f k es)
+      s = split (Ok fit roomAt r (suc l)) k hi es (c (omega arith)) q h
 
       x : Entry
       x = chosen k es
 
       f′ : isNone (find k (under r (suc l) x)) ≡ absent
-      f′ = ap isNone (sym (find-list fit rm r k (suc l) hi es (c (omega arith)) q h)) ∙ f
+      f′ = ap isNone (sym (find-list fit roomAt r k (suc l) hi es (c (omega arith)) q h)) ∙ f
 
       Goal : Type 0
       Goal = (2 * half j < length (lists (suc l) e j) → j ≤ bit (gain (suc l) x) + splits r k half absent l (chosen k (r (x .addr) (suc l)))) ×
@@ -184,9 +185,9 @@ module _ (k a n : ℕ) (side half : ℕ → ℕ) (r : Nodes) (fit : ℕ → ℕ 
 
       here : j ≡ suc l → Goal
       here z =
-          let w : lists (suc l) e (suc l) ≡ splice (Ins l) k (r (x .addr) (suc l)) = onPath-below fit rm r k (put k a) (λ e. put k a (e ∷ []))
-          (named k n side half) as-splice l (suc l) e (omega arith) ∙ onPath-top fit rm r k (put k a) (λ e. put k a (e ∷ []))
-          (named k n side half) as-splice l x ∙ below-is fit rm r k (put k a) (λ e. put k a (e ∷ [])) (named k n side half) as-splice l
+          let w : lists (suc l) e (suc l) ≡ splice (inserts l) k (r (x .addr) (suc l)) = onPath-below fit roomAt r k (put k a) (λ e. put k a (e ∷ []))
+          (named k n side half) as-splice l (suc l) e (omega arith) ∙ onPath-top fit roomAt r k (put k a) (λ e. put k a (e ∷ []))
+          (named k n side half) as-splice l x ∙ below-is fit roomAt r k (put k a) (λ e. put k a (e ∷ [])) (named k n side half) as-splice l
           (next (s .post) hi) x (s .under) (s .here) in
           rw z (
             (λ i. let u = gain-all (over l (next (s .post) hi) x (s .under) (s .here) f′ (rw w at i)) in omega (arith, u)),
@@ -201,7 +202,7 @@ module _ (k a n : ℕ) (side half : ℕ → ℕ) (r : Nodes) (fit : ℕ → ℕ 
           (j ≤ splits r k half absent l (chosen k (r (x .addr) (suc l))) → 2 * half j < length (lists l x j))) → (j ≡ suc l → ⊥) → Goal
       there step z =
           let ih = step (omega arith) in
-          rw (onPath-below fit rm r k (put k a) (λ e. put k a (e ∷ [])) (named k n side half) as-splice l j e (omega arith)) (
+          rw (onPath-below fit roomAt r k (put k a) (λ e. put k a (e ∷ [])) (named k n side half) as-splice l j e (omega arith)) (
             (λ i. omega (arith, ih .0 i)),
             (λ i. ih .1 (low (gain (suc l) x) refl i)),
           )

@@ -11,23 +11,23 @@ use Rattle.trees.specs.Move.{Tie}
 
 -- R6: of two live nodes on one page the upper one has an entry that names the page
 abbrev pub Tied : Nodes → List Place → Type 0
-Tied r pls = All (λ x. All (λ y. x .page ≡ y .page → y .level < x .level → Some (λ e. e .addr ≡ x .page) (r (x .page) (x .level))) pls) pls
+Tied r spots = All (λ x. All (λ y. x .page ≡ y .page → y .level < x .level → Some (λ e. e .addr ≡ x .page) (r (x .page) (x .level))) spots) spots
 
 tie-at : (r : Nodes) (p a j q : ℕ) → (q ≡ p → a ≤ j) → (q ≡ p → a < j → Some (λ e. e .addr ≡ p) (r p j)) → Tie r p a j q
 tie-at r p a zero q f g = tt
 tie-at r p a (suc j) q f g = λ i. (f i, g i)
 
 -- R6 at the page p with lowest live level a
-pub tie-all : (r : Nodes) (p a : ℕ) (pls : List Place) → Tied r pls → Mem (record { page = p; level = a }) pls
-    → All (λ x. x .page ≡ p → a ≤ x .level) pls → All (λ x. Tie r p a (x .level) (x .page)) pls
-tie-all r p a pls t m low = all-map (λ x. (x .page ≡ p → a ≤ x .level) × All
-    (λ y. x .page ≡ y .page → y .level < x .level → Some (λ e. e .addr ≡ x .page) (r (x .page) (x .level))) pls) (λ x. Tie r p a (x .level)
-    (x .page)) pls
+pub tie-all : (r : Nodes) (p a : ℕ) (spots : List Place) → Tied r spots → Mem (record { page = p; level = a }) spots
+    → All (λ x. x .page ≡ p → a ≤ x .level) spots → All (λ x. Tie r p a (x .level) (x .page)) spots
+tie-all r p a spots t m low = all-map (λ x. (x .page ≡ p → a ≤ x .level) × All
+    (λ y. x .page ≡ y .page → y .level < x .level → Some (λ e. e .addr ≡ x .page) (r (x .page) (x .level))) spots) (λ x. Tie r p a (x .level)
+    (x .page)) spots
     (λ x h. tie-at r p a (x .level) (x .page) (h .0) (λ i b. subst (λ q. Some (λ e. e .addr ≡ q) (r q (x .level))) i
     (all-get (λ y. x .page ≡ y .page → y .level < x .level → Some (λ e. e .addr ≡ x .page) (r (x .page) (x .level)))
-    (record { page = p; level = a }) pls (h .1) m i b)))
+    (record { page = p; level = a }) spots (h .1) m i b)))
     (all-both (λ x. x .page ≡ p → a ≤ x .level) (λ x. All (λ y. x .page ≡ y .page → y .level < x .level → Some (λ e. e .addr ≡ x .page)
-    (r (x .page) (x .level))) pls) pls low t)
+    (r (x .page) (x .level))) spots) spots low t)
 
 -- where a place of a new tree is: on the path's page n, its lowest level there low; alone on a side page; or an old one
 abbrev pub Where : Nodes → ℕ → ℕ → (ℕ → ℕ) → (ℕ → Type 0) → (Place → Type 0) → Place → Type 0
@@ -51,16 +51,17 @@ module _ (s : Nodes) (n low : ℕ) (side : ℕ → ℕ) (Cut : ℕ → Type 0) (
   pair x y (inr (inr h)) (inr (inl i)) e b = absurd (old-side x (y .level) h (i .0) (e ∙ i .1))
   pair x y (inr (inr h)) (inr (inr i)) e b = old-tied x y h i e b
 
-  pub tied-new : (pls : List Place) → All (Where s n low side Cut Old) pls → Tied s pls
-  tied-new pls h = all-map (Where s n low side Cut Old) (λ x. All (λ y. x .page ≡ y .page → y .level < x .level → Some (λ e. e .addr ≡ x .page)
-      (s (x .page) (x .level))) pls) pls
+  pub tied-new : (spots : List Place) → All (Where s n low side Cut Old) spots → Tied s spots
+  tied-new spots h = all-map (Where s n low side Cut Old) (λ x. All (λ y. x .page ≡ y .page → y .level < x .level → Some (λ e. e .addr ≡ x .page)
+      (s (x .page) (x .level))) spots) spots
       (λ x i. all-map (Where s n low side Cut Old) (λ y. x .page ≡ y .page → y .level < x .level → Some (λ e. e .addr ≡ x .page)
-      (s (x .page) (x .level))) pls (λ y j. pair x y i j) h) h
+      (s (x .page) (x .level))) spots (λ y j. pair x y i j) h) h
 
 -- an old place: live in the old tree, and its page keeps its content
-module _ (r s : Nodes) (pls : List Place) (t : Tied r pls) (fit : ℕ → ℕ → Type 0) (same : (q l : ℕ) → fit (suc l) q → s q (suc l) ≡ r q (suc l)) where
+module _ (r s : Nodes) (spots : List Place) (t : Tied r spots) (fit : ℕ → ℕ → Type 0)
+    (same : (q l : ℕ) → fit (suc l) q → s q (suc l) ≡ r q (suc l)) where
   abbrev pub Live : Place → Type 0
-  Live x = Mem x pls × fit (x .level) (x .page)
+  Live x = Mem x spots × fit (x .level) (x .page)
 
   kept-node : (q z l : ℕ) → z < l → fit l q → s q l ≡ r q l
   kept-node q z zero b h = absurd (omega arith)
@@ -68,6 +69,7 @@ module _ (r s : Nodes) (pls : List Place) (t : Tied r pls) (fit : ℕ → ℕ �
 
   pub live-tied : (x y : Place) → Live x → Live y → x .page ≡ y .page → y .level < x .level → Some (λ e. e .addr ≡ x .page) (s (x .page) (x .level))
   live-tied x y h i e b = rw (kept-node (x .page) (y .level) (x .level) b (h .1))
-      (all-get (λ y. x .page ≡ y .page → y .level < x .level → Some (λ e. e .addr ≡ x .page) (r (x .page) (x .level))) y pls
-      (all-get (λ x. All (λ y. x .page ≡ y .page → y .level < x .level → Some (λ e. e .addr ≡ x .page) (r (x .page) (x .level))) pls) x pls t (h .0))
+      (all-get (λ y. x .page ≡ y .page → y .level < x .level → Some (λ e. e .addr ≡ x .page) (r (x .page) (x .level))) y spots
+      (all-get (λ x. All (λ y. x .page ≡ y .page → y .level < x .level → Some (λ e. e .addr ≡ x .page) (r (x .page) (x .level))) spots) x spots t
+      (h .0))
       (i .0) e b)

@@ -234,5 +234,5 @@ module _ (g : Geometry) (shape : Shape g) (n : ℕ) (three : 3 ≤ n) (img : Lis
       let e = ap (λ (x : Chip). livePages t x) formatted-chip in
       let z : placesOf d ≡ record { page = 0; level = 1 } ∷ [] = ap (λ (es : List Entry). record { page = 0; level = 1 } ∷ gather
       (places (d .nodes) 0) es) (nodes-none 1) in
-      let l = ap (λ (pls : List Place). count t (live pls)) z in
+      let l = ap (λ (spots : List Place). count t (live spots)) z in
       omega (arith, e, l, count-one t)
