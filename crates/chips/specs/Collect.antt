@@ -13,12 +13,12 @@ use Rattle.geometry.specs.Geometry.{half, rootMost}
 use Rattle.geometry.specs.Shape.{Shape}
 use Rattle.model.specs.Count.{count, least}
 use Rattle.model.specs.Image.{Chip}
-use Rattle.model.specs.Tree.{under, placesOf, live}
+use Rattle.model.specs.Tree.{mapOf, placesOf, live}
 use Rattle.model.specs.Next.{mixed, full, inBlock}
 use Rattle.model.specs.Collect.{livesIn, theVictim}
 use Rattle.trees.specs.Tests.{by-le, by-test, true-false, not-true, not-not}
 use Rattle.trees.specs.Lists.{all-map}
-use Rattle.trees.specs.Nodes.{the, fitOf}
+use Rattle.trees.specs.Nodes.{fitOf}
 use Rattle.trees.specs.Proper.{root-fit}
 use Rattle.trees.specs.Live.{dead-live}
 use Rattle.chips.specs.Count.{count-drop, count-ext, count-zero}
@@ -28,14 +28,17 @@ use Rattle.chips.specs.Whole.{some-page, Whole, Same, same-self, same-th
 use Rattle.chips.specs.Sweep.{sweep, emptied}
 use Rattle.chips.specs.Erase.{eraseBlock, erased-good, erased-pairs, erased-places, erased-alike, erased-frees}
 
+-- one round: the victim's live pages moved, then the victim erased
 unfoldable pub clear : Geometry → ℕ → Option ℕ → Chip → Chip
 clear g n none c = c
 clear g n (some v) c = eraseBlock g v (sweep g n v (g .pages) c)
 
+-- at most m rounds, while F < pages + k
 unfoldable pub collect : Geometry → ℕ → ℕ → ℕ → Chip → Chip
 collect g n k zero c = c
 collect g n k (suc m) c = pick (ltb (count (g .pages * n) (c .er)) (g .pages + k)) (collect g n k m (clear g n (theVictim (g .pages) n c) c)) c
 
+-- R7: a block's pages are erased, or some full block has no more live pages than the chip has erased ones
 abbrev pub R7 : Geometry → ℕ → Chip → Type 0
 R7 g n c = (g .pages ≤ count (g .pages * n) (c .er)) ⊎ ((b : ℕ) × (b < n) × (full (g .pages) (c .er) b ≡ true) ×
     (livesIn (g .pages) b c ≤ count (g .pages * n) (c .er)))
@@ -43,7 +46,7 @@ R7 g n c = (g .pages ≤ count (g .pages * n) (c .er)) ⊎ ((b : ℕ) × (b < n)
 -- what a round, and the collector, leave
 pub record Cleared (g : Geometry) (n : ℕ) (c c′ : Chip) : Type 0 where
   pub good : Whole g n c′
-  pub pairs-are : under (c′ .nodes) (suc (c′ .level)) (the (c′ .root)) ≡ under (c .nodes) (suc (c .level)) (the (c .root))
+  pub pairs-are : mapOf c′ ≡ mapOf c
   pub lives : count (g .pages * n) (live (placesOf c′)) ≤ count (g .pages * n) (live (placesOf c))
   pub alike : Same g c c′
 

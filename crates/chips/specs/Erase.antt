@@ -15,11 +15,11 @@ use Rattle.geometry.specs.Shape.{Shape}
 use Rattle.model.specs.Bytes.{nodeAt}
 use Rattle.model.specs.Count.{count}
 use Rattle.model.specs.Image.{Chip}
-use Rattle.model.specs.Tree.{under, placesOf, live, find}
+use Rattle.model.specs.Tree.{mapOf, placesOf, live, find}
 use Rattle.model.specs.Next.{mixed, inBlock}
 use Rattle.trees.specs.Tests.{by-eq, true-false}
 use Rattle.trees.specs.Lists.{All, Mem, all-map, all-mem}
-use Rattle.trees.specs.Nodes.{the, Rooted, rooted-with, fitOf}
+use Rattle.trees.specs.Nodes.{Rooted, rooted-with, fitOf}
 use Rattle.trees.specs.Frame.{pairs-same, root-places-same, sound-same}
 use Rattle.trees.specs.Like.{root-like-same}
 use Rattle.trees.specs.Live.{mem-live}
@@ -133,7 +133,7 @@ module _ (g : Geometry) (shape : Shape g) (n : ℕ) (v : ℕ) (v-in : v < n) (c 
         (fitOf (g .pages * n) (c′ .er)) keep same (c .level) (c .root) (record { rooted = rooted; tied = sw .good .sound .tied });
   }
 
-  pub erased-pairs : under (c′ .nodes) (suc (c′ .level)) (the (c′ .root)) ≡ under (c .nodes) (suc (c .level)) (the (c .root))
+  pub erased-pairs : mapOf c′ ≡ mapOf c
   unfolding eraseBlock
   erased-pairs = pairs-same 4294967296 (λ l. 2 * half g l) (rootMost g) (c .nodes) (c′ .nodes) fitOutside (fitOf (g .pages * n) (c′ .er)) keep same
       (c .level) (c .root) rooted

@@ -14,13 +14,13 @@ use Rattle.geometry.specs.Geometry.{half, rootMost}
 use Rattle.geometry.specs.Shape.{Shape}
 use Rattle.model.specs.Count.{count}
 use Rattle.model.specs.Image.{Chip, theRoot}
-use Rattle.model.specs.Tree.{under, placesOf, live, lowLevel, next, chosen, find}
+use Rattle.model.specs.Tree.{mapOf, placesOf, live, lowLevel, next, chosen, find}
 use Rattle.model.specs.Next.{firstIn, nextBlock, nextPage, after}
 use Rattle.model.specs.Edit.{splice, renamed, same}
 use Rattle.model.specs.Collect.{moveKey, movePart}
 use Rattle.trees.specs.Tests.{true-false}
 use Rattle.trees.specs.Lists.{All, Mem, all-get}
-use Rattle.trees.specs.Nodes.{the, fitOf}
+use Rattle.trees.specs.Nodes.{fitOf}
 use Rattle.trees.specs.Move.{moved, MoveMade}
 use Rattle.trees.specs.Proper.{places-level, root-first, root-fit, Moved, move-sound}
 use Rattle.trees.specs.Path.{same-as, same-root, root-is, onPath-top, made-from}
@@ -37,7 +37,7 @@ moveTo c p m = record { er = after m (c .er); nodes = λ q j. pick (eqb q m) (mo
 -- what a move does: sound again, the same pairs, p dead, nothing else come alive but the new page, one page fewer erased
 pub record MoveStep (g : Geometry) (n : ℕ) (c c′ : Chip) (p new : ℕ) : Type 0 where
   pub good : Whole g n c′
-  pub pairs-are : under (c′ .nodes) (suc (c′ .level)) (the (c′ .root)) ≡ under (c .nodes) (suc (c .level)) (the (c .root))
+  pub pairs-are : mapOf c′ ≡ mapOf c
   pub was : c .er new ≡ true
   pub ers : (q : ℕ) → c .er q ≡ false → c′ .er q ≡ false
   pub dead : live (placesOf c′) p ≡ false

@@ -8,11 +8,10 @@ use Rattle.geometry.specs.Tests.{pick, bit}
 use Rattle.geometry.specs.Shape.{Shape}
 use Rattle.model.specs.Count.{count}
 use Rattle.model.specs.Image.{Chip}
-use Rattle.model.specs.Tree.{under, placesOf, live}
+use Rattle.model.specs.Tree.{mapOf, placesOf, live}
 use Rattle.model.specs.Next.{nextPage}
 use Rattle.model.specs.Collect.{livesIn}
 use Rattle.trees.specs.Tests.{by-eq, true-false}
-use Rattle.trees.specs.Nodes.{the}
 use Rattle.chips.specs.Count.{count-drop}
 use Rattle.chips.specs.Whole.{Whole, Same, same-self, same-then}
 use Rattle.chips.specs.Moves.{moveTo, MoveStep, move-step}
@@ -36,7 +35,7 @@ pub record Sweeping (g : Geometry) (n : ℕ) (v j : ℕ) (c : Chip) : Type 0 whe
 
 pub record Swept (g : Geometry) (n : ℕ) (v : ℕ) (c c′ : Chip) : Type 0 where
   pub done : Sweeping g n v 0 c′
-  pub pairs-are : under (c′ .nodes) (suc (c′ .level)) (the (c′ .root)) ≡ under (c .nodes) (suc (c .level)) (the (c .root))
+  pub pairs-are : mapOf c′ ≡ mapOf c
   pub lives : count (g .pages * n) (live (placesOf c′)) ≤ count (g .pages * n) (live (placesOf c))
   pub alike : Same g c c′
   pub frees : count (g .pages * n) (c .er) ≤ count (g .pages * n) (c′ .er) + livesIn (g .pages) v c

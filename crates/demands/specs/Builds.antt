@@ -42,7 +42,7 @@ stores-length [] = refl
 stores-length (program p bs ∷ ss) = omega (arith, stores-length ss)
 stores-length (erase b ∷ ss) = omega (arith, stores-length ss)
 
--- the most stores of an update: 197
+-- the most stores of an update: 197 of the small geometry
 abbrev pub storesMost : Geometry → ℕ
 storesMost g = (g .top + 1) * (g .pages - 1) + g .top + (g .top + 1)
 
@@ -58,7 +58,7 @@ module _ (g : Geometry) (shape : Shape g) (img : List ℕ) (ready : Ready g img)
   unfolding made
   enough ss al p e h = rw (le-leb (length ss) al (omega (arith, stores-length ss, p, e, h))) refl
 
-  -- with room and 197 stores allowed an insertion is DONE; ROOM looks at live pages alone, so dead ones are used again
+  -- with room and enough stores allowed an insertion is DONE; ROOM looks at live pages alone, so dead ones are used again
   pub insert-finishes : (a al : ℕ) → a < 4294967296 → storesMost g ≤ al → worn g n img ≡ false → tooHigh g c k ≡ false
       → roomless g (freePages g n c) (needs g c k) ≡ false → insert g img k a al .answer ≡ 0
   insert-finishes a al a-low h x y z =

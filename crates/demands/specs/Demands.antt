@@ -78,7 +78,7 @@ module _ (g : Geometry) (shape : Shape g) (img : List ℕ) (ready : Ready g img)
   remove-others j d = find-remove-other k j (mapAt g img) d
 
   -- ---- Demand 3: the stores of an update that begins are each legal; after each of them stands a sound image that holds the
-  -- old map, or the new one once the last store is done; at most 191 programs and 6 erases
+  -- old map, or the new one once the last store is done; programs and erases are bounded
   pub insert-stores : (a al : ℕ) → a < 4294967296 → Began (insert g img k a al)
       → Kept g (mapAt g img) (put k a (mapAt g img)) img (insertStores g (blocksOf g img) img k a)
   insert-stores a al a-low b = insert-kept g shape img ready k k-low a al a-low b

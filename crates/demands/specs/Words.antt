@@ -46,7 +46,7 @@ pub record Kept (g : Geometry) (old new : List Entry) (img : List ℕ) (ss : Lis
   pub before : (j : ℕ) → j < length ss → Holds g old (applyAll g (take j ss) img)
   -- after the whole list: sound, and the new map
   pub end : Holds g new (applyAll g ss img)
-  -- at most 191 programs and 6 erases
+  -- 191 programs and 6 erases of the small geometry
   pub programmed : programs ss ≤ (g .top + 1) * (g .pages - 1) + g .top
   pub wiped : erases ss ≤ g .top + 1
 
@@ -59,7 +59,8 @@ abbrev pub OneOf : ℕ → List ℕ → Type 0
 OneOf x [] = ⊥
 OneOf x (y ∷ ys) = (x ≡ y) ⊎ OneOf x ys
 
--- own pages: the list is the collection's stores, then stores with as many programs as `needs` counts, 1 + splits + grow, at most 5
+-- own pages: the list is the collection's stores, then stores with as many programs as `needs` counts, 1 + splits + grow,
+-- at most `top`
 pub record Own (g : Geometry) (n : ℕ) (img : List ℕ) (k a : ℕ) : Type 0 where
   pub own : List Store
   pub list-is : insertStores g n img k a ≡ collectStores g n (needs g (chipOf g n img) k) (suc (needs g (chipOf g n img) k)) img ++ own
