@@ -3,3 +3,4 @@ pub mod Least
 pub mod Tally
 pub mod Peak
 pub mod Lowest
+pub mod Blocks

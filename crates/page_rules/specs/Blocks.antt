@@ -13,28 +13,26 @@ use Rattle.model.specs.Count.{least, any}
 use Rattle.model.specs.Next.{mixed, firstIn}
 use Rattle.model.specs.Rules.{unless, inOrder, secondMixed, r2}
 use Rattle.counts.specs.Least.{by-lt, least-zero, least-none, least-go, least-hit, least-end, any-none, any-hit}
+use Rattle.counts.specs.Blocks.{within}
 use Rattle.counts.specs.Lowest.{unless-true, unless-false}
 
 -- the first erased page of a block
-unfoldable pub at : ℕ → (ℕ → Bool) → ℕ → ℕ → Bool
-at p er b j = er (p * b + j)
-
 module _ (p : ℕ) (er : ℕ → Bool) (b : ℕ) where
-  pub erased-start : least 0 (at p er b) ≡ 0
-  erased-start = sym (least-zero (at p er b))
+  pub erased-start : least 0 (within p er b) ≡ 0
+  erased-start = sym (least-zero (within p er b))
 
-  pub erased-go : (i q : ℕ) (r : Bool) → least i (at p er b) ≡ i → q ≡ p * b + i → r ≡ er q → r ≡ false
-      → least (i + 1) (at p er b) ≡ i + 1
-  unfolding at
-  erased-go i q r e eq er′ f = least-go (at p er b) i e (rw (← eq, ← er′) f)
+  pub erased-go : (i q : ℕ) (r : Bool) → least i (within p er b) ≡ i → q ≡ p * b + i → r ≡ er q → r ≡ false
+      → least (i + 1) (within p er b) ≡ i + 1
+  unfolding within
+  erased-go i q r e eq er′ f = least-go (within p er b) i e (rw (← eq, ← er′) f)
 
-  pub erased-hit : (i q : ℕ) (r : Bool) → least i (at p er b) ≡ i → q ≡ p * b + i → r ≡ er q → r ≡ true → i < p → i ≡ firstIn p er b
-  unfolding at
-  erased-hit i q r e eq er′ f h = sym (least-hit (at p er b) p i e (rw (← eq, ← er′) f) h)
+  pub erased-hit : (i q : ℕ) (r : Bool) → least i (within p er b) ≡ i → q ≡ p * b + i → r ≡ er q → r ≡ true → i < p → i ≡ firstIn p er b
+  unfolding within
+  erased-hit i q r e eq er′ f h = sym (least-hit (within p er b) p i e (rw (← eq, ← er′) f) h)
 
-  pub erased-end : (i : ℕ) → least i (at p er b) ≡ i → i ≤ p → p ≤ i → i ≡ firstIn p er b
-  unfolding at
-  erased-end i e h k = sym (least-end (at p er b) p i e h k)
+  pub erased-end : (i : ℕ) → least i (within p er b) ≡ i → i ≤ p → p ≤ i → i ≡ firstIn p er b
+  unfolding within
+  erased-end i e h k = sym (least-end (within p er b) p i e h k)
 
 -- a programmed page after it
 unfoldable pub late : ℕ → (ℕ → Bool) → ℕ → ℕ → ℕ → Bool

@@ -2,7 +2,7 @@ use Prim.Native.Nat.{_≤_, _<_, _+_, _*_, _-_}
 use mathlib.Core.Path.{_≡_}
 use Rattle.model.specs.Count.{least}
 use Rattle.model.specs.Bytes.{erased}
-use Rattle.page_rules.specs.Blocks.{at}
+use Rattle.counts.specs.Blocks.{within}
 use borrow.Author.Needs.{needs}
 use Rattle.page_rules.specs.Laws.{page-laws}
 use Rattle.page_rules.proofs.first_in.Statement.{statement}
@@ -16,7 +16,7 @@ ruleset all = (needs, page-laws)
 
 abbrev Inv-loop : tie.InvT-loop
 Inv-loop g img block j₀ j =
-    (j ≤ g .pages) × (least j (at (g .pages) (erased g img) block) ≡ j)
+    (j ≤ g .pages) × (least j (within (g .pages) (erased g img) block) ≡ j)
 
 abbrev μ-loop : tie.MeasureT-loop
 μ-loop g img block j₀ j = g .pages - j

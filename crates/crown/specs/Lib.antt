@@ -1,0 +1,3 @@
+-- The top of an update, and its laws.
+pub mod Crown
+pub mod Laws

@@ -1,0 +1,62 @@
+-- Delete's own store by its job. Definitions alone; assumes nothing.
+use Prim.Native.Nat.{ℕ, suc, _+_, _-_, _<_, _≤_}
+use mathlib.Core.Path.{_≡_}
+use mathlib.Core.List.{List, [], _∷_, _++_}
+use lib.Dec.{eqb}
+use lib.ListN.{take}
+use Rattle.geometry.specs.declared.Geometry.{Geometry}
+use Rattle.geometry.specs.declared.Entry.{Entry}
+use Rattle.geometry.specs.Geometry.{pageBytes}
+use Rattle.geometry.specs.Tests.{pick}
+use Rattle.model.specs.Bytes.{erased, nodeAt}
+use Rattle.model.specs.Edit.{collapse}
+use Rattle.model.specs.Image.{Nodes}
+use Rattle.model.specs.Next.{nextPage}
+use Rattle.model.specs.Page.{sealed, built, only}
+use Rattle.model.specs.Stores.{Store, program}
+use Rattle.node.specs.Node.{entries}
+use Rattle.page.specs.Page.{blanks, laidLevel, laid, bare}
+use Rattle.step.specs.declared.Change.the-variants.{Remove}
+use Rattle.step.specs.declared.Job.{Job}
+use Rattle.edit.specs.Edit.{changed, partsOf}
+use Rattle.deletion.specs.declared.Top.{Top}
+
+-- the entry that names the root
+abbrev pub rootAt : ℕ → Entry
+rootAt p = record { key = 0; addr = p }
+
+unfoldable pub firstOf : List Entry → Entry
+firstOf [] = record { key = 0; addr = 0 }
+firstOf (e ∷ es) = e
+
+pub record Collapses (r : Nodes) (l : ℕ) (c : List Entry) (t : Top) : Type 0 where
+  pub level : t .level ≡ collapse r l c .level
+  pub list : entries (t .node) ≡ collapse r l c .list
+  pub few : t .node .count ≤ 256
+  pub low : t .level ≤ l
+
+-- page N where the root c stays above the levels laid on the buffer p
+unfoldable pub pathStore : Geometry → ℕ → ℕ → ℕ → List Entry → List ℕ → Store
+pathStore g at seq l c p =
+    program at (take (pageBytes g) (sealed g (bare g (suc l) (g .top - suc l) (laidLevel g p (suc l) c)) seq (suc l)))
+
+-- page N where the new root stands alone
+unfoldable pub topStore : Geometry → ℕ → ℕ → ℕ → List Entry → Store
+topStore g at seq l c = program at (built g seq (suc l) (only (suc l) c))
+
+unfoldable pub rootStore : Geometry → Job → ℕ → List ℕ → List ℕ → List Entry → Store
+rootStore g j l i p c = pick (eqb (collapse (nodeAt g i) l c .level) l)
+    (pathStore g (j .page) (suc (j .seq)) l c p)
+    (topStore g (j .page) (suc (j .seq)) (collapse (nodeAt g i) l c .level) (collapse (nodeAt g i) l c .list))
+
+-- the whole, with the path laid on a blank buffer
+unfoldable pub storeBy : Geometry → Job → ℕ → Entry → List ℕ → Store
+storeBy g j l e i = rootStore g j l i (laid g (partsOf g j i l e) l (blanks 2112)) (changed g j i l e)
+
+-- the job of removing key k
+pub record Removes (g : Geometry) (n : ℕ) (i : List ℕ) (seq k : ℕ) (j : Job) : Type 0 where
+  pub key : j .key ≡ k
+  pub change : j .change ≡ Remove
+  pub number : j .seq ≡ seq
+  pub small : j .seq < 4294967296
+  pub page : j .page ≡ nextPage (g .pages) n (erased g i)

@@ -1,0 +1,169 @@
+// Delete's own store: page N with the root and the path's nodes left below it.
+ghost use mathlib.Core.Path.{_≡_};
+ghost use mathlib.Core.List.{[], _∷_};
+ghost use Prim.Native.Nat.{ℕ, suc, _+_, _*_, _-_, _≤_, _<_};
+ghost use Rattle.geometry.specs.Geometry.{pageBytes};
+ghost use Rattle.model.specs.Bytes.{nodeAt};
+ghost use Rattle.model.specs.Update.{deleteStore};
+ghost use Rattle.node.specs.Node.{entries};
+ghost use Rattle.plan.specs.Plan.{chipBy};
+ghost use Rattle.stores.specs.Run.{Ran};
+ghost use Rattle.deletion.specs.Own.{firstOf, Collapses, Removes, pathStore, topStore, rootStore, storeBy, rootAt};
+ghost use Rattle.step.specs.declared.Change.{Change};
+use edit::Changed;
+use geometry::Entry;
+use geometry::Geometry;
+use node::Node;
+use step::Change;
+use step::Job;
+use stores::Budget;
+
+// The root that is left, and the levels below it.
+pub struct Top {
+    pub level: u32,
+    pub node: Node,
+}
+
+fn first_entry(c: Node) -> Entry
+    ensures { λ r. ⌜ r ≡ firstOf (entries c) ⌝ }
+{
+    if c.count == 0 {
+        return Entry { key: 0, addr: 0 };
+    }
+    c.e[0]
+}
+
+// While a root above level 1 has one entry, the node it names becomes the root.
+fn collapse(g: Geometry, img: &[u8], level: u32, c: Node) -> Top
+    requires { ⌜ c .count ≤ 256 ⌝ }
+    ensures { λ r. ⌜ Collapses (nodeAt g (now (img .entry))) level (entries c) r ⌝ }
+{
+    if level == 0 {
+        return Top { level: 0, node: c };
+    }
+    if node::size(c) != 1 {
+        return Top {
+            level: level,
+            node: c,
+        };
+    }
+    let x = first_entry(c);
+    let d = load::load_node(g, img, x.addr, level);
+    collapse(g, img, level - 1, d)
+}
+
+// Page N where the root stays: the path is laid already.
+fn store_path(
+    g: Geometry,
+    img: &mut [u8],
+    page: &mut [u8],
+    b: Budget,
+    at: u32,
+    seq: u64,
+    level: u32,
+    c: Node,
+) -> Budget
+    requires { ⌜ (c .count ≤ 256) × (level < 255) × (b .left + b .programmed + b .erased < 4294967296) ⌝ }
+    ensures { λ r. ⌜ Ran g (pathStore g at seq level (entries c) (now (page .entry)) ∷ []) b r (now (img .entry)) (now (img .exit)) ⌝ }
+{
+    page::lay_level(g, &mut *page, level + 1, c);
+    crown::store_last(g, &mut *img, &mut *page, b, at, level + 1, seq, level + 1)
+}
+
+// Page N where the tree shrinks: the new root alone.
+fn store_top(g: Geometry, img: &mut [u8], b: Budget, at: u32, seq: u64, t: Top) -> Budget
+    requires { ⌜ (t .node .count ≤ 256) × (t .level < 255) × (pageBytes g ≤ 2112) × (b .left + b .programmed + b .erased < 4294967296) ⌝ }
+    ensures { λ r. ⌜ Ran g (topStore g at seq (t .level) (entries (t .node)) ∷ []) b r (now (img .entry)) (now (img .exit)) ⌝ }
+{
+    let level = t.level + 1;
+    let n = t.node;
+    let bytes = page::only_bytes(g, seq, level, level, n);
+    stores::put_page(g, &mut *img, b, at, &bytes)
+}
+
+// Page N, once the path is changed.
+fn store_root(
+    g: Geometry,
+    img: &mut [u8],
+    page: &mut [u8],
+    job: Job,
+    level: u32,
+    u: Changed,
+) -> Budget
+    requires { ⌜ (u .node .count ≤ 256) × (level < 255) × (pageBytes g ≤ 2112) × (job .seq < 4294967296) × (u .budget .left + u .budget .programmed + u .budget .erased < 4294967296) ⌝ }
+    ensures { λ r. ⌜ Ran g (rootStore g job level (now (img .entry)) (now (page .entry)) (entries (u .node)) ∷ []) (u .budget) r (now (img .entry)) (now (img .exit)) ⌝ }
+{
+    let c = u.node;
+    let left = u.budget;
+    let t = collapse(g, &*img, level, c);
+    if t.level == level {
+        return store_path(
+            g,
+            &mut *img,
+            &mut *page,
+            left,
+            job.page,
+            job.seq + 1,
+            level,
+            c,
+        );
+    }
+    store_top(g, &mut *img, left, job.page, job.seq + 1, t)
+}
+
+// The store of a job of removing.
+fn delete_with(g: Geometry, img: &mut [u8], b: Budget, job: Job, level: u32, root: u32) -> Budget
+    requires { ⌜ (level < 255) × (pageBytes g ≤ 2112) × (job .seq < 4294967296) × (b .left + b .programmed + b .erased < 4294967296) × (job .change ≡ Change.Remove) ⌝ }
+    ensures { λ r. ⌜ Ran g (storeBy g job level (rootAt root) (now (img .entry)) ∷ []) b r (now (img .entry)) (now (img .exit)) ⌝ }
+{
+    let mut page = page::blank();
+    let u = edit::change(
+        g,
+        &mut *img,
+        &mut page,
+        b,
+        job,
+        level,
+        Entry { key: 0, addr: root },
+    );
+    store_root(g, &mut *img, &mut page, job, level, u)
+}
+
+fn long(x: u32) -> u64
+    ensures { λ r. ⌜ (r ≡ x) × (r < 4294967296) ⌝ }
+{
+    x as u64
+}
+
+fn delete_job(g: Geometry, img: &[u8], n: u16, seq: u32, key: u32) -> Job
+    ensures { λ r. ⌜ Removes g n (now (img .entry)) seq key r ⌝ }
+{
+    let page = next::next_page(g, img, n);
+    let none = next::no_pages();
+    let last = long(seq);
+    Job {
+        key: key,
+        page: page,
+        seq: last,
+        sides: none,
+        change: Change::Remove,
+    }
+}
+
+// The store of a delete on an image of n blocks, its largest number, root and levels given.
+pub fn delete_own(
+    g: Geometry,
+    img: &mut [u8],
+    n: u16,
+    b: Budget,
+    seq: u32,
+    level: u32,
+    root: u32,
+    key: u32,
+) -> Budget
+    requires { ⌜ (level < 255) × (pageBytes g ≤ 2112) × (b .left + b .programmed + b .erased < 4294967296) ⌝ }
+    ensures { λ r. ⌜ Ran g (deleteStore g n seq (chipBy g (now (img .entry)) level root) key ∷ []) b r (now (img .entry)) (now (img .exit)) ⌝ }
+{
+    let job = delete_job(g, &*img, n, seq, key);
+    delete_with(g, &mut *img, b, job, level, root)
+}

@@ -1,0 +1,28 @@
+use Rattle.insertion.specs.Tie.{tie-laws}
+use borrow.Author.Needs.{needs}
+use Rattle.insertion.specs.Laws.{insertion-laws}
+use Rattle.insertion.proofs.insert_job.Statement.{statement}
+use Rattle.insertion.proofs.insert_job.Tie as tie
+use Rattle.insertion.proofs.insert_job.Reads as reads
+use Rattle.insertion.proofs.insert_job.Lts as lts
+use Rattle.geometry.proofs.index.Reads as index-reads
+use Rattle.insertion.proofs.larger.Reads as larger-reads
+use Rattle.insertion.proofs.number.Reads as number-reads
+use Rattle.next.proofs.coming.Reads as coming-reads
+
+ruleset all = (needs, insertion-laws, tie-laws)
+
+pub insert-job-spec : {M : Type 1} → statement M
+insert-job-spec =
+    tie.close
+    (tie.spec
+    (λ c κs. search all)
+    (λ c κs. search all)
+    (λ c. search all)
+    (λ c κs. search all)
+    (λ c κs. search all)
+    (λ c. search all)
+    (λ c. search all)
+    (λ c. search all)
+    (λ c κs. search all)
+    (λ c. search all))

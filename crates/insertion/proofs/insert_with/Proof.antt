@@ -1,0 +1,25 @@
+use Rattle.insertion.specs.Tie.{tie-laws}
+use borrow.Author.Needs.{needs}
+use Rattle.insertion.specs.Laws.{insertion-laws}
+use Rattle.insertion.proofs.insert_with.Statement.{statement}
+use Rattle.insertion.proofs.insert_with.Tie as tie
+use Rattle.insertion.proofs.insert_with.Reads as reads
+use Rattle.insertion.proofs.insert_with.Lts as lts
+use Rattle.crown.proofs.store_last.Reads as store-last-reads
+use Rattle.insertion.proofs.climb.Reads as climb-reads
+use Rattle.page.proofs.blank.Reads as blank-reads
+
+ruleset all = (needs, insertion-laws, tie-laws)
+
+pub insert-with-spec : {M : Type 1} → statement M
+insert-with-spec =
+    tie.close
+    (tie.spec
+    (λ c κs. search all)
+    (λ c. search all)
+    (λ c κs. search all)
+    (λ c. search all)
+    (λ c. search all)
+    (λ c κs. search all)
+    (λ c. search all)
+    (λ c. search all))

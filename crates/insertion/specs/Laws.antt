@@ -1,0 +1,106 @@
+-- Laws of insert's own stores, in the form in which the code has the premises. Assumes nothing.
+use Prim.Native.Nat.{ℕ, zero, suc, _+_, _-_, _*_, _<_, _≤_, max}
+use mathlib.Core.Bool.{Bool, true, false}
+use mathlib.Core.Path.{_≡_, refl, sym, ap, _∙_}
+use mathlib.Core.List.{List, [], _∷_, _++_}
+use lib.Dec.{leb, eqb}
+use lib.ListN.{take, getD, length}
+use native.Mathlib.Omega.{arith}
+use native.Mathlib.Numerals.{add-one}
+use native.Mathlib.Nat.{max-eq-left, max-eq-right}
+use borrow.Author.Tests.{le-leb, lt-leb, eq-eqb, ne-eqb}
+use Rattle.geometry.specs.declared.Geometry.{Geometry}
+use Rattle.geometry.specs.declared.Entry.{Entry}
+use Rattle.geometry.specs.Geometry.{pageBytes}
+use Rattle.geometry.specs.Tests.{pick}
+use Rattle.model.specs.Bytes.{erased}
+use Rattle.model.specs.Next.{nth}
+use Rattle.model.specs.Page.{sealed, built}
+use Rattle.model.specs.Stores.{Store, program}
+use Rattle.model.specs.Update.{fills, crownPart, crownStore, crownHeight}
+use Rattle.node.specs.declared.Node.{Node}
+use Rattle.node.specs.Node.{entries}
+use Rattle.page.specs.Page.{blanks, laidLevel, laid, bare}
+use Rattle.page.specs.Levels.{laid-more, laid-agree, page-is}
+use Rattle.stores.specs.declared.Budget.{Budget}
+use Rattle.stores.specs.Run.{Ran}
+use Rattle.stores.specs.Runs.{ran-then}
+use Rattle.step.specs.declared.Change.the-variants.{Put}
+use Rattle.step.specs.declared.Job.{Job}
+use Rattle.step.specs.Step.{sideOf}
+use Rattle.edit.specs.declared.Changed.{Changed}
+use Rattle.edit.specs.Edit.{changed, pathOf, partsOf, sidesUp, Changes}
+use Rattle.crown.specs.declared.Summit.{Summit}
+use Rattle.crown.specs.Crown.{topPart, Crowned}
+use Rattle.next.specs.Coming.{Coming}
+use Rattle.insertion.specs.Own.{crownParts, ownBy, Climbs, Puts}
+
+append-two : (xs ys zs : List Store) → (xs ++ ys) ++ zs ≡ xs ++ (ys ++ zs)
+append-two [] ys zs = refl
+append-two (x ∷ xs) ys zs = ap (λ (l : List Store). x ∷ l) (append-two xs ys zs)
+
+-- ---- the levels of page N
+module _ (g : Geometry) (j : Job) (i : List ℕ) (l : ℕ) (e : Entry) where
+  lower : (m : ℕ) → m ≤ l → partsOf g j i l e m ≡ crownParts g j i l e m
+  unfolding crownParts
+  lower m h = rw (le-leb m l h)
+
+  upper : (m : ℕ) → l < m → topPart g j (suc l) (changed g j i l e) m ≡ crownParts g j i l e m
+  unfolding crownParts
+  upper m h = rw (lt-leb m l h)
+
+  pub no-more : (m : ℕ) → suc (suc l) < m → crownParts g j i l e m ≡ []
+  unfolding topPart crownPart
+  no-more m h =
+      let a : eqb m (suc l) ≡ false = ne-eqb m (suc l) (λ q. let z : m ≡ suc l = q in absurd (omega arith)) in
+      let b : eqb m (suc (suc l)) ≡ false = ne-eqb m (suc (suc l)) (λ q. let z : m ≡ suc (suc l) = q in absurd (omega arith)) in
+      sym (upper m (omega arith)) ∙ rw (a, b) (neither (fills g (suc l) (length (changed g j i l e))))
+    where
+      neither : (t : Bool) → pick {A = List Entry} t [] [] ≡ []
+      neither true = refl
+      neither false = refl
+
+  laid-up : (p : List ℕ) → laidLevel g (laidLevel g (laid g (partsOf g j i l e) l p) (suc l) (topPart g j (suc l) (changed g j i l e) (suc l))) (suc (suc l)) (topPart g j (suc l) (changed g j i l e) (suc (suc l)))
+      ≡ laid g (crownParts g j i l e) (suc (suc l)) p
+  laid-up p =
+      rw (laid-agree g (partsOf g j i l e) (crownParts g j i l e) l p (λ m a h. lower m h), upper (suc l) (omega arith), upper (suc (suc l)) (omega arith), laid-more g (crownParts g j i l e) l p)
+      (laid-more g (crownParts g j i l e) (suc l) p)
+
+pub climbs : (g : Geometry) (j : Job) (l : ℕ) (e : Entry) (b : Budget) (u : Changed) (r : Summit) (i h o p d q : List ℕ)
+    → Crowned g j (l + 1) (entries (u .node)) (u .budget) r h o d q → Changes g j l e b u i h p d → Climbs g j l e b r i o p q
+climbs g j l e b u r i h o p d q cr ch =
+    let s : l + 1 ≡ suc l = add-one l in
+    record {
+      page = cr .page ∙ rw (s, ch .node, ch .page) (laid-up g j i l e p);
+      height = cr .height ∙ rw (s, ch .node);
+      ran = ran-then g _ _ _ _ _ _ _ _ (ch .ran) (rw (s, ch .node) at (cr .ran));
+    }
+
+pub inserts : (g : Geometry) (j : Job) (l : ℕ) (e : Entry) (b r : Budget) (w : Summit) (last : ℕ) (i h o p q : List ℕ)
+    → Ran g (program (j .page) (take (pageBytes g) (sealed g (bare g (l + 2) (g .top - (l + 2)) q) last (w .height))) ∷ []) (w .budget) r h o
+    → Climbs g j l e b w i h p q → p ≡ blanks 2112 → pageBytes g ≤ 2112 → Ran g (ownBy g j i last l e) b r i o
+unfolding ownBy
+inserts g j l e b r w last i h o p q run c ep le =
+    let s : l + 2 ≡ suc (suc l) = omega arith in
+    let bytes : take (pageBytes g) (sealed g (bare g (l + 2) (g .top - (l + 2)) q) last (w .height)) ≡ built g last (crownHeight g (suc l) (changed g j i l e)) (crownParts g j i l e) =
+    rw (s, c .page, c .height) (page-is g (crownParts g j i l e) (suc (suc l)) last (crownHeight g (suc l) (changed g j i l e)) p _ refl ep le (no-more g j i l e)) in
+    rw (← append-two) (ran-then g _ _ _ _ _ _ _ _ (c .ran) (rw bytes at run))
+
+pub larger-right : (a b : ℕ) → a < b → b ≡ max a b
+larger-right a b h = omega arith
+
+pub larger-left : (a b : ℕ) → b ≤ a → a ≡ max a b
+larger-left a b h = omega arith
+
+pub puts : (g : Geometry) (n : ℕ) (i : List ℕ) (seq l m k a : ℕ) (ps : List ℕ) (c x y s : ℕ) → Coming (g .pages) n (erased g i) c ps → c ≡ max x (y + 1) → x ≡ m → y ≡ l → s ≡ seq + 0 → 1 ≤ m
+    → Puts g n i seq l m k a (record { key = k; page = getD ps (x - 1) 0; seq = s; sides = ps; change = Put a })
+unfolding sideOf
+puts g n i seq l m k a ps c x y s cm ec ex ey es h = record {
+  key = refl;
+  change = refl;
+  number = es ∙ omega arith;
+  page = cm .at (x - 1) (omega arith) ∙ rw ex;
+  sides = λ z lo hi. cm .at (z - 1) (omega arith);
+}
+
+pub ruleset insertion-laws = (climbs, inserts, larger-right, larger-left, puts)

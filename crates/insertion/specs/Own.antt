@@ -1,0 +1,50 @@
+-- Insert's own stores by its job. Definitions alone; assumes nothing.
+use Prim.Native.Nat.{ℕ, suc, _+_, _-_, _<_, _≤_}
+use mathlib.Core.Path.{_≡_}
+use mathlib.Core.List.{List, [], _∷_, _++_}
+use lib.Dec.{leb}
+use Rattle.geometry.specs.declared.Geometry.{Geometry}
+use Rattle.geometry.specs.declared.Entry.{Entry}
+use Rattle.geometry.specs.Tests.{pick}
+use Rattle.model.specs.Bytes.{erased}
+use Rattle.model.specs.Next.{nth}
+use Rattle.model.specs.Page.{built}
+use Rattle.model.specs.Stores.{Store, program}
+use Rattle.model.specs.Update.{crownStore, crownHeight}
+use Rattle.page.specs.Page.{laid}
+use Rattle.stores.specs.Run.{Ran}
+use Rattle.stores.specs.declared.Budget.{Budget}
+use Rattle.step.specs.declared.Change.the-variants.{Put}
+use Rattle.step.specs.declared.Job.{Job}
+use Rattle.step.specs.Step.{sideOf}
+use Rattle.edit.specs.Edit.{changed, pathOf, partsOf, sidesUp}
+use Rattle.crown.specs.declared.Summit.{Summit}
+use Rattle.crown.specs.Crown.{topPart}
+
+-- the entry that names the root
+abbrev pub rootAt : ℕ → Entry
+rootAt p = record { key = 0; addr = p }
+
+-- what page N takes at level m
+unfoldable pub crownParts : Geometry → Job → List ℕ → ℕ → Entry → ℕ → List Entry
+crownParts g j i l e m = pick (leb m l) (partsOf g j i l e m) (topPart g j (suc l) (changed g j i l e) m)
+
+-- the other halves, then page N
+unfoldable pub ownBy : Geometry → Job → List ℕ → ℕ → ℕ → Entry → List Store
+ownBy g j i last l e =
+    sidesUp g j (pathOf g j i l e) l
+    ++ (crownStore g (j .seq) (j .key) (sideOf j) (suc l) (changed g j i l e)
+    ++ (program (j .page) (built g last (crownHeight g (suc l) (changed g j i l e)) (crownParts g j i l e)) ∷ []))
+
+pub record Climbs (g : Geometry) (j : Job) (l : ℕ) (e : Entry) (b : Budget) (r : Summit) (i o p q : List ℕ) : Type 0 where
+  pub page : q ≡ laid g (crownParts g j i l e) (suc (suc l)) p
+  pub height : r .height ≡ crownHeight g (suc l) (changed g j i l e)
+  pub ran : Ran g (sidesUp g j (pathOf g j i l e) l ++ crownStore g (j .seq) (j .key) (sideOf j) (suc l) (changed g j i l e)) b (r .budget) i o
+
+-- the job of putting key k at address a
+pub record Puts (g : Geometry) (n : ℕ) (i : List ℕ) (seq l m k a : ℕ) (j : Job) : Type 0 where
+  pub key : j .key ≡ k
+  pub change : j .change ≡ Put a
+  pub number : j .seq ≡ seq
+  pub page : j .page ≡ nth (g .pages) n (erased g i) (m - 1)
+  pub sides : (x : ℕ) → 1 ≤ x → x ≤ suc l → sideOf j x ≡ nth (g .pages) n (erased g i) (x - 1)

@@ -1,0 +1,132 @@
+// Insert's own stores: other halves, lower level first, then page N.
+ghost use mathlib.Core.Path.{_≡_};
+ghost use Prim.Native.Nat.{ℕ, _+_, _*_, _-_, _≤_, _<_, max};
+ghost use Rattle.geometry.specs.Geometry.{pageBytes};
+ghost use Rattle.model.specs.Update.{ownStores};
+ghost use Rattle.plan.specs.Plan.{chipBy};
+ghost use Rattle.stores.specs.Run.{Ran};
+ghost use Rattle.insertion.specs.Own.{Climbs, ownBy, rootAt, Puts};
+use crown::Summit;
+use geometry::Entry;
+use geometry::Geometry;
+use step::Change;
+use step::Job;
+use stores::Budget;
+
+// The path changed and laid on page N, the other halves stored.
+fn climb(
+    g: Geometry,
+    img: &mut [u8],
+    page: &mut [u8],
+    b: Budget,
+    job: Job,
+    level: u32,
+    root: u32,
+) -> Summit
+    requires { ⌜ (level < 255) × (pageBytes g ≤ 2112) × (job .seq < 4294967296) × (b .left + b .programmed + b .erased < 4294967296) ⌝ }
+    ensures { λ r. ⌜ Climbs g job level (rootAt root) b r (now (img .entry)) (now (img .exit)) (now (page .entry)) (now (page .exit)) ⌝ }
+{
+    let u = edit::change(
+        g,
+        &mut *img,
+        &mut *page,
+        b,
+        job,
+        level,
+        Entry { key: 0, addr: root },
+    );
+    let c = u.node;
+    let left = u.budget;
+    crown::settle(g, &mut *img, &mut *page, left, job, level + 1, c)
+}
+
+// All stores of a job, page N with the number `last`.
+fn insert_with(
+    g: Geometry,
+    img: &mut [u8],
+    b: Budget,
+    job: Job,
+    last: u64,
+    level: u32,
+    root: u32,
+) -> Budget
+    requires { ⌜ (level < 255) × (pageBytes g ≤ 2112) × (job .seq < 4294967296) × (b .left + b .programmed + b .erased < 4294967296) ⌝ }
+    ensures { λ r. ⌜ Ran g (ownBy g job (now (img .entry)) last level (rootAt root)) b r (now (img .entry)) (now (img .exit)) ⌝ }
+{
+    let mut page = page::blank();
+    let w = climb(g, &mut *img, &mut page, b, job, level, root);
+    let left = w.budget;
+    crown::store_last(
+        g,
+        &mut *img,
+        &mut page,
+        left,
+        job.page,
+        level + 2,
+        last,
+        w.height,
+    )
+}
+
+fn larger(a: usize, b: usize) -> usize
+    ensures { λ r. ⌜ r ≡ max a b ⌝ }
+{
+    if a < b {
+        return b;
+    }
+    a
+}
+
+fn number(seq: u32, more: u32) -> u64
+    ensures { λ r. ⌜ r ≡ seq + more ⌝ }
+{
+    (seq as u64) + (more as u64)
+}
+
+// The job of putting a key at an address, with m pages of the image to come.
+fn insert_job(
+    g: Geometry,
+    img: &[u8],
+    n: u16,
+    seq: u32,
+    level: u32,
+    m: u32,
+    key: u32,
+    addr: u32,
+) -> Job
+    requires { ⌜ (level < 255) × (1 ≤ m) × (m ≤ 256) ⌝ }
+    ensures { λ r. ⌜ Puts g n (now (img .entry)) seq level m key addr r ⌝ }
+{
+    let k = geometry::index(m);
+    let count = larger(k, geometry::index(level) + 1);
+    let sides = next::coming(g, img, n, count);
+    let page = sides[k - 1];
+    let seq = number(seq, 0);
+    Job {
+        key: key,
+        page: page,
+        seq: seq,
+        sides: sides,
+        change: Change::Put(addr),
+    }
+}
+
+// The stores of an insert of m pages on an image of n blocks, its largest number, root and levels given.
+pub fn insert_own(
+    g: Geometry,
+    img: &mut [u8],
+    n: u16,
+    b: Budget,
+    seq: u32,
+    level: u32,
+    root: u32,
+    m: u32,
+    key: u32,
+    addr: u32,
+) -> Budget
+    requires { ⌜ (level < 255) × (1 ≤ m) × (m ≤ 256) × (pageBytes g ≤ 2112) × (b .left + b .programmed + b .erased < 4294967296) ⌝ }
+    ensures { λ r. ⌜ Ran g (ownStores g n seq (chipBy g (now (img .entry)) level root) m key addr) b r (now (img .entry)) (now (img .exit)) ⌝ }
+{
+    let job = insert_job(g, &*img, n, seq, level, m, key, addr);
+    insert_with(g, &mut *img, b, job, number(seq, m), level, root)
+}

@@ -1,0 +1,26 @@
+use borrow.Author.Needs.{needs}
+use Rattle.numbers.specs.Laws.{number-laws}
+use Rattle.numbers.proofs.ranges_differ.Statement.{statement}
+use Rattle.numbers.proofs.ranges_differ.Tie as tie
+use Rattle.numbers.proofs.ranges_differ.Reads as reads
+use Rattle.numbers.proofs.ranges_differ.Lts as lts
+use Rattle.geometry.proofs.wide.Reads as wide-reads
+use Rattle.numbers.proofs.all_apart.Reads as all-apart-reads
+use Rattle.numbers.proofs.all_rise.Reads as all-rise-reads
+
+ruleset all = (needs, number-laws)
+
+pub ranges-differ-spec : {M : Type 1} → statement M
+ranges-differ-spec =
+    tie.close
+    (tie.spec
+    (λ c. search all)
+    (λ c. search all)
+    (λ c. search all)
+    (λ c κs. search all)
+    (λ c. search all)
+    (λ c. search all)
+    (λ c. search all)
+    (λ c κs. search all)
+    (λ c κs. search all)
+    (λ c. search all))

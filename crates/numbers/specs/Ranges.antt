@@ -1,0 +1,54 @@
+-- The ranges of the blocks' numbers. `er` tells the erased pages, `seq` the numbers. Definitions alone; assumes nothing.
+use Prim.Native.Nat.{ℕ, zero, suc, _+_, _*_, _<_}
+use mathlib.Core.Bool.{Bool, true, false}
+use mathlib.Core.Path.{_≡_}
+use mathlib.Core.List.{List}
+use lib.Dec.{eqb, leb, ltb}
+use lib.ListN.{getD}
+use Rattle.geometry.specs.Tests.{pick}
+use Rattle.numbers.specs.declared.Range.{Range}
+
+-- a range with a number that is not above it, and with one that is
+abbrev pub fallen : Range → Range
+fallen s = record { rising = false; low = s .low; high = s .high }
+
+abbrev pub grown : Range → ℕ → Range
+grown s n = record { rising = s .rising; low = pick (eqb (s .high) 0) n (s .low); high = n }
+
+-- a range with page p too
+unfoldable pub extended : (ℕ → Bool) → (ℕ → ℕ) → ℕ → Range → Range
+extended er seq p s = pick (er p) s (pick (leb (seq p) (s .high)) (fallen s) (grown s (seq p)))
+
+-- of the pages base to base + j - 1
+unfoldable pub rangeTo : (ℕ → Bool) → (ℕ → ℕ) → ℕ → ℕ → Range
+rangeTo er seq base zero = record { rising = true; low = 0; high = 0 }
+rangeTo er seq base (suc j) = extended er seq (base + j) (rangeTo er seq base j)
+
+-- two ranges have no number in common
+unfoldable pub apartOf : ℕ → ℕ → ℕ → ℕ → Bool
+apartOf low high low′ high′ = pick (eqb high 0) true (pick (eqb high′ 0) true (pick (ltb high low′) true (ltb high′ low)))
+
+-- an answer of true shows A
+pub record Shows (b : Bool) (A : Type 0) : Type 0 where
+  pub holds : b ≡ true → A
+
+-- the numbers of the blocks below n, p pages each, rise; their ranges stand in two lists
+pub record Ranges (er : ℕ → Bool) (seq : ℕ → ℕ) (p n : ℕ) (lows highs : List ℕ) : Type 0 where
+  pub rise : (b : ℕ) → b < n → rangeTo er seq (p * b) p .rising ≡ true
+  pub low : (b : ℕ) → b < n → getD lows b 0 ≡ rangeTo er seq (p * b) p .low
+  pub high : (b : ℕ) → b < n → getD highs b 0 ≡ rangeTo er seq (p * b) p .high
+
+-- the range of block b lies apart from those of the blocks below i
+pub record ClearTo (lows highs : List ℕ) (b i : ℕ) : Type 0 where
+  pub apart : (a : ℕ) → a < i → apartOf (getD lows a 0) (getD highs a 0) (getD lows b 0) (getD highs b 0) ≡ true
+
+pub record Clear (lows highs : List ℕ) (b : ℕ) : Type 0 where
+  pub clear : ClearTo lows highs b b
+
+-- the ranges of all blocks below n lie apart
+pub record AllClear (lows highs : List ℕ) (n : ℕ) : Type 0 where
+  pub each : (b : ℕ) → b < n → Clear lows highs b
+
+-- the numbers of the programmed pages below t differ
+pub record Differ (er : ℕ → Bool) (seq : ℕ → ℕ) (t : ℕ) : Type 0 where
+  pub differ : (p q : ℕ) → q < p → p < t → er p ≡ false → er q ≡ false → seq q ≡ seq p → ⊥

@@ -1,0 +1,148 @@
+// The live-page walk: from the root to all nodes it reaches. A lent table takes each page's lowest live level.
+ghost use mathlib.Core.Path.{_≡_};
+ghost use Prim.Native.Nat.{ℕ, _+_, _*_, _-_, _≤_, _<_};
+ghost use lib.ListN.{length, getD};
+ghost use Rattle.geometry.specs.Tests.{bit};
+ghost use Rattle.model.specs.Bytes.{nodeAt};
+ghost use Rattle.model.specs.Count.{count};
+ghost use Rattle.model.specs.Next.{inBlock};
+ghost use Rattle.model.specs.Tree.{places};
+ghost use Rattle.chip.specs.Chip.{chipWith};
+ghost use Rattle.walk.specs.Table.{named, lower, noteAll, noteOne, Zeros, Marked, liveIn};
+use geometry::Geometry;
+
+fn byte_of(b: u8) -> u32
+    ensures { λ r. ⌜ (r ≡ b) × (r < 256) ⌝ }
+{
+    b as u32
+}
+
+fn narrow(x: u32) -> u8
+    requires { ⌜ x < 256 ⌝ }
+    ensures { λ r. ⌜ r ≡ x ⌝ }
+{
+    x as u8
+}
+
+// The level noted for a page, 0 for none.
+pub fn noted(table: &[u8], page: u32) -> u32
+    ensures { λ r. ⌜ (r ≡ getD (now (table .entry)) page 0) × (r < 256) ⌝ }
+{
+    let at = geometry::index(page);
+    if at < table.len() {
+        return byte_of(table[at]);
+    }
+    0
+}
+
+// The lower of two levels, 0 being none.
+fn lower_level(old: u32, level: u32) -> u32
+    requires { ⌜ level < 256 ⌝ }
+    ensures { λ r. ⌜ (r ≡ lower old level) × (r < 256) ⌝ }
+{
+    if old == 0 {
+        return level;
+    }
+    if level <= old {
+        return level;
+    }
+    old
+}
+
+// Notes a level for a page, unless a lower one stands there.
+fn note(table: &mut [u8], page: u32, level: u32)
+    requires { ⌜ level < 256 ⌝ }
+    ensures { λ _. ⌜ now (table .exit) ≡ noteOne (now (table .entry)) page level ⌝ }
+{
+    let at = geometry::index(page);
+    if at < table.len() {
+        table[at] = narrow(lower_level(byte_of(table[at]), level));
+    }
+}
+
+// Notes the node at a level of a page and all that it reaches.
+fn note_nodes(g: Geometry, img: &[u8], table: &mut [u8], level: u32, page: u32)
+    requires { ⌜ level < 256 ⌝ }
+    ensures { λ _.
+        ⌜ now (table .exit) ≡ noteAll (places (nodeAt g (now (img .entry))) level (named page)) (now (table .entry)) ⌝ }
+{
+    if level == 0 {
+        return;
+    }
+    note(&mut *table, page, level);
+    if level == 1 {
+        return;
+    }
+    let at = chip::node_place(g, page, level);
+    let n = chip::node_count(g, img, page, level);
+    let mut i: usize = 0;
+    while i < n {
+        let below = chip::read_u32(img, at + 8 * i + 4);
+        note_nodes(g, img, &mut *table, level - 1, below);
+        i += 1;
+    }
+}
+
+fn clear(table: &mut [u8])
+    ensures { λ _. ⌜ length (now (table .exit)) ≡ length (now (table .entry)) ⌝ }
+    ensures { λ _. ⌜ Zeros (now (table .exit)) (length (now (table .entry))) ⌝ }
+{
+    let mut i: usize = 0;
+    while i < table.len() {
+        table[i] = 0;
+        i += 1;
+    }
+}
+
+// Fills the table with the lowest live level of each page, 0 for a dead one.
+pub fn fill(g: Geometry, img: &[u8], table: &mut [u8], level: u32, root: u32)
+    requires { ⌜ level < 255 ⌝ }
+    ensures { λ _. ⌜ length (now (table .exit)) ≡ length (now (table .entry)) ⌝ }
+    ensures { λ _. ⌜ Marked (chipWith g (now (img .entry)) level root) (now (table .exit)) ⌝ }
+{
+    clear(&mut *table);
+    note_nodes(g, img, &mut *table, level + 1, root);
+}
+
+// Whether a page is noted as live.
+pub fn is_live(table: &[u8], page: u32) -> bool
+    ensures { λ r. ⌜ r ≡ liveIn (now (table .entry)) page ⌝ }
+{
+    noted(table, page) != 0
+}
+
+// 1 for a live page.
+fn live_bit(table: &[u8], page: u32) -> u32
+    ensures { λ r. ⌜ (r ≡ bit (liveIn (now (table .entry)) page)) × (r ≤ 1) ⌝ }
+{
+    if is_live(table, page) {
+        return 1;
+    }
+    0
+}
+
+// The live pages below a number.
+pub fn live_pages(table: &[u8], pages: u32) -> u32
+    ensures { λ r. ⌜ (r ≡ count pages (liveIn (now (table .entry)))) × (r ≤ pages) ⌝ }
+{
+    let mut lives: u32 = 0;
+    let mut page: u32 = 0;
+    while page < pages {
+        lives = live_bit(table, page) + lives;
+        page += 1;
+    }
+    lives
+}
+
+// The live pages of a block.
+pub fn lives_in(g: Geometry, table: &[u8], block: u16) -> u32
+    ensures { λ r. ⌜ (r ≡ inBlock (g .pages) (liveIn (now (table .entry))) block) × (r ≤ g .pages) ⌝ }
+{
+    let mut lives: u32 = 0;
+    let mut j: u16 = 0;
+    while j < g.pages {
+        lives = live_bit(table, chip::page_of(g, block, j)) + lives;
+        j += 1;
+    }
+    lives
+}
