@@ -2,7 +2,6 @@
 use mathlib.Core.Path.{_≡_, refl, ap, sym, _∙_}
 use mathlib.Core.List.{List, [], _∷_}
 use mathlib.Core.Bool.{Bool, true, false}
-use mathlib.Core.Option.{none}
 use Prim.Native.Nat.{ℕ, suc, _+_, _-_, _*_, _<_, _≤_}
 use native.Mathlib.Omega.{arith}
 use lib.ListN.{length}
@@ -233,14 +232,14 @@ module _ (g : Geometry) (shape : Shape g) (n k a : ℕ) (k-low : k < 4294967296)
         let u = grow-all e in
         let lt : suc l < m = omega (arith, needs-is, u .2, ap bit e) in
         let small : leb (suc l) l ≡ false = lt-leb (suc l) l (omega arith) in
-        let none : leb (suc (suc l)) l ≡ false = lt-leb (suc (suc l)) l (omega arith) in
+        let small′ : leb (suc (suc l)) l ≡ false = lt-leb (suc (suc l)) l (omega arith) in
         let ne : eqb (suc (suc l)) (suc l) ≡ false = ne-eqb (suc (suc l)) (suc l) (λ z. omega (arith, z)) in
         let path : s N (suc l) ≡ pathHalf k (2 * h) rootList = at-N (suc l) (omega arith) high ∙ rw (small, e, eq-eqb (suc l) (suc l) refl)
         (ap (pathHalf k (2 * h)) root-list) in
         let other : s (side (suc l)) (suc l) ≡ sideHalf k (2 * h) rootList = at-side (suc l) (omega arith) lt ∙ rw small
         (ap (sideHalf k (2 * h)) root-list) in
         let crown : s N (suc (suc l)) ≡ two k N (side (suc l)) (2 * h) (next rootList 0) rootList =
-        at-N (suc (suc l)) (omega arith) (omega (arith, u .0)) ∙ rw (none, e, ne, eq-eqb (suc (suc l)) (suc (suc l)) refl)
+        at-N (suc (suc l)) (omega arith) (omega (arith, u .0)) ∙ rw (small′, e, ne, eq-eqb (suc (suc l)) (suc (suc l)) refl)
         (ap (λ x. two k N (side (suc l)) (2 * h) (next x 0) x) root-list) in
         let w = insert-grow N 4294967296 (half g) (rootMost g) r s fit fit′ (λ l. fit-side g shape n c (good .r2) m free m (suc l) some-m
         (omega arith)) (keep g shape n c (good .r2) m free) stays (λ l. new-side g shape n c (good .r2) m free m l some-m (omega arith))
