@@ -21,7 +21,8 @@ use Rattle.model.specs.Next.{mixed, after}
 use Rattle.model.specs.Page.{built}
 use Rattle.model.specs.Stores.{program, erase, applyStore, applyAll}
 use Rattle.model.specs.Update.{rootNode, erasures, formatStores}
-use Rattle.trees.specs.Tests.{by-eq, by-le, true-false, bit-le}
+use Rattle.counts.specs.Tally.{bit-most}
+use Rattle.trees.specs.Tests.{by-eq, by-le, true-false}
 use Rattle.trees.specs.Nodes.{fitOf}
 use Rattle.trees.specs.Tied.{Tied}
 use Rattle.trees.specs.Proper.{Proper}
@@ -78,7 +79,7 @@ count-one : (s : ℕ) → count s (λ q. pick (eqb 0 q) true false) ≤ 1
 unfolding count
 count-one zero = omega arith
 count-one (suc s) = by-eq 0 s (λ e. let z : count s (λ q. pick (eqb 0 q) true false) ≡ 0 =
-    subst (λ m. count m (λ q. pick (eqb 0 q) true false) ≡ 0) e refl in let b = bit-le (pick (eqb 0 s) true false) in omega (arith, z, b))
+    subst (λ m. count m (λ q. pick (eqb 0 q) true false) ≡ 0) e refl in let b = bit-most (pick (eqb 0 s) true false) in omega (arith, z, b))
     (λ e. rw (ne-eqb 0 s e) (omega (arith, count-one s)))
 
 module _ (g : Geometry) (shape : Shape g) (n : ℕ) (three : 3 ≤ n) (img : List ℕ) (image : Image g n img) (bytes : Small img) where

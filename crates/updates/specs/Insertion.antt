@@ -1,6 +1,6 @@
 -- An insertion's own stores on bytes: the other halves, lower level first, then N. Assumes nothing.
 use mathlib.Core.Path.{_≡_, refl, ap, sym, subst, _∙_}
-use mathlib.Core.List.{List, [], _∷_, _++_, append-assoc}
+use mathlib.Core.List.{List, [], _∷_, _++_, append-assoc, append-nil}
 use mathlib.Core.Bool.{Bool, true, false}
 use Prim.Native.Nat.{ℕ, zero, suc, _+_, _-_, _*_, _<_, _≤_, min}
 use native.Mathlib.Omega.{arith}
@@ -20,8 +20,9 @@ use Rattle.model.specs.Page.{built, only}
 use Rattle.model.specs.Stores.{Store, program, applyStore, applyAll, programs}
 use Rattle.model.specs.Edit.{put, sideHalf, splits}
 use Rattle.model.specs.Update.{isNone, rootNode, fills, needs, tooHigh, insertList, sideStore, splitStore, sideStores, crownStore, crownHeight, sidePage, ownStores}
-use Rattle.trees.specs.Tests.{by-eq, by-le, by-test, bit-le}
-use Rattle.trees.specs.Lists.{All, append-nil}
+use Rattle.counts.specs.Tally.{bit-most}
+use Rattle.trees.specs.Tests.{by-eq, by-le, by-test}
+use Rattle.trees.specs.Lists.{All}
 use Rattle.trees.specs.Nodes.{fitOf}
 use Rattle.chips.specs.Next.{step}
 use Rattle.chips.specs.Whole.{some-page, Whole}
@@ -113,7 +114,7 @@ module _ (g : Geometry) (shape : Shape g) (n : ℕ) (few : pagesOf g n + g .page
     next-side = ap (nextPage (g .pages) n) (laid .er-is)
 
     top : suc i ≤ g .top
-    top = by-test grows (λ e. let u = grow-all g shape n k a k-low c whole e in omega (arith, lt, m-is, cut-le, u .0, bit-le grows))
+    top = by-test grows (λ e. let u = grow-all g shape n k a k-low c whole e in omega (arith, lt, m-is, cut-le, u .0, bit-most grows))
         (λ e. omega (arith, lt, m-is, cut-le, high, ap bit e))
 
     here : (q : ℕ) → q ≡ side (suc i) → d′ .nodes q (suc i) ≡ sideList g n c k a (suc i)
