@@ -24,7 +24,7 @@ use Rattle.model.specs.Update.{isNone, rootNode, rootGains, fills, needs, tooHi
 use Rattle.model.specs.Calls.{Outcome, refused, made, answered, lookup, worn, roomless, freePages, insert, delete, format}
 use Rattle.counts.specs.Tally.{bit-most}
 use Rattle.trees.specs.Splits.{splits-le}
-use Rattle.images.specs.Stores.{block-in}
+use Rattle.chips.specs.Next.{block-in}
 use Rattle.images.specs.Held.{held-sound}
 use Rattle.images.specs.Lengths.{Blocks, good-blocks, blocks-same, length-same, length-all}
 use Rattle.updates.specs.Along.{Keeps}

@@ -67,7 +67,7 @@ module _ (g : Geometry) (shape : Shape g) (n : ℕ) (img : List ℕ) (held : Hel
     found : (nextBlock (g .pages) n (c .er) < n) × (firstIn (g .pages) (c .er) (nextBlock (g .pages) n (c .er)) < g .pages) × (c .er N ≡ true)
     found = next-found (g .pages) n (c .er) (some-page g shape) (held .whole .r2) free
 
-    pub N-in : N < t
+    N-in : N < t
     N-in = next-in (g .pages) n (c .er) (some-page g shape) (held .whole .r2) free
 
     pub next-free : c .er N ≡ true
