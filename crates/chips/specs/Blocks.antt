@@ -12,6 +12,7 @@ use Rattle.geometry.specs.Tests.{pick, bit}
 use Rattle.model.specs.Count.{count}
 use Rattle.model.specs.Next.{inBlock}
 use Rattle.model.specs.Collect.{better, victim}
+use Rattle.counts.specs.Least.{by-lt}
 use Rattle.trees.specs.Tests.{true-false}
 use Rattle.chips.specs.Count.{sum, count-blocks, count-three}
 
@@ -52,11 +53,7 @@ Found full lv b none = (c : ℕ) → c < b → full c ≡ false
 Found full lv b (some v) = Victim full lv b v
 
 by-last : {C : Type 0} (c b : ℕ) → c < suc b → (c < b → C) → (c ≡ b → C) → C
-by-last {C} c b q f g = go (ltb c b) refl
-  where
-    go : (t : Bool) → ltb c b ≡ t → C
-    go true e = f (ltb-true c b e)
-    go false e = let z = ltb-false c b e in g (omega arith)
+by-last c b q f g = by-lt c b f (λ z. g (omega arith))
 
 better-is : (full : ℕ → Bool) (lv : ℕ → ℕ) (b : ℕ) (o : Option ℕ) → Found full lv b o → Found full lv (suc b) (better full lv b o)
 unfolding better

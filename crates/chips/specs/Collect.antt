@@ -6,7 +6,7 @@ use mathlib.Core.Option.{Option, none, some}
 use Prim.Native.Nat.{ℕ, zero, suc, _+_, _-_, _*_, _<_, _≤_}
 use native.Mathlib.Omega.{arith}
 use lib.Dec.{ltb}
-use borrow.Author.Tests.{ltb-true, ltb-false}
+use borrow.Author.Tests.{not-true, not-false, ltb-true, ltb-false}
 use Rattle.geometry.specs.declared.Geometry.{Geometry}
 use Rattle.geometry.specs.Tests.{pick, bit}
 use Rattle.geometry.specs.Geometry.{half, rootMost}
@@ -16,13 +16,14 @@ use Rattle.model.specs.Image.{Chip}
 use Rattle.model.specs.Tree.{mapOf, placesOf, live}
 use Rattle.model.specs.Next.{mixed, full, inBlock}
 use Rattle.model.specs.Collect.{livesIn, theVictim}
-use Rattle.trees.specs.Tests.{by-le, by-test, true-false, not-true, not-not}
+use Rattle.counts.specs.Least.{Least, least-is}
+use Rattle.counts.specs.Tally.{count-same}
+use Rattle.trees.specs.Tests.{by-le, by-test, true-false}
 use Rattle.trees.specs.Lists.{all-map}
-use Rattle.trees.specs.Nodes.{fitOf}
+use Rattle.trees.specs.Nodes.{fitOf, fit-page}
 use Rattle.trees.specs.Proper.{root-fit}
 use Rattle.trees.specs.Live.{dead-live}
-use Rattle.chips.specs.Count.{count-drop, count-ext, count-zero}
-use Rattle.chips.specs.Next.{Least, least-is}
+use Rattle.chips.specs.Count.{count-drop, count-none}
 use Rattle.chips.specs.Blocks.{Found, victim-is, dead-block}
 use Rattle.chips.specs.Whole.{some-page, Whole, Same, same-self, same-then}
 use Rattle.chips.specs.Sweep.{sweep, emptied}
@@ -56,12 +57,9 @@ module _ (g : Geometry) (shape : Shape g) (n k : ℕ) where
     live-kept : (q : ℕ) → c .er q ≡ true → live (placesOf c) q ≡ false
     live-kept q e = dead-live q (placesOf c) (all-map (λ x. (1 ≤ x .level) × fitOf (g .pages * n) (c .er) (x .level) (x .page)) (λ x. x .page ≡ q → ⊥)
         (placesOf c)
-        (λ x i z. go (x .level) (x .page) i z) (root-fit (fitOf (g .pages * n) (c .er)) (λ l. 2 * half g l) (rootMost g) (c .nodes) (c .level)
+        (λ x i z. true-false (c .er q) e (subst (λ m. c .er m ≡ false) z
+        (fit-page (g .pages * n) (c .er) (x .level) (x .page) (i .0) (i .1) .1))) (root-fit (fitOf (g .pages * n) (c .er)) (λ l. 2 * half g l) (rootMost g) (c .nodes) (c .level)
         (c .root) 4294967296 (h .sound .rooted)))
-      where
-        go : (j p : ℕ) → (1 ≤ j) × fitOf (g .pages * n) (c .er) j p → p ≡ q → ⊥
-        go zero p i z = omega (arith, i .0)
-        go (suc j) p i z = true-false (c .er q) e (subst (λ m. c .er m ≡ false) z (i .1 .1))
 
     deadPage : ℕ → Bool
     deadPage q = pick (c .er q) false (pick (live (placesOf c) q) false true)
@@ -87,9 +85,9 @@ module _ (g : Geometry) (shape : Shape g) (n k : ℕ) where
     mixedBlock : ℕ
     mixedBlock = least n (mixed (g .pages) (c .er))
 
-    mixed-is : Least n (mixed (g .pages) (c .er)) mixedBlock
+    mixed-is : Least (mixed (g .pages) (c .er)) n mixedBlock
     unfolding mixedBlock
-    mixed-is = least-is n (mixed (g .pages) (c .er))
+    mixed-is = least-is (mixed (g .pages) (c .er)) n
 
     mixed-last : (b : ℕ) → mixed (g .pages) (c .er) b ≡ true → c .er (g .pages * b + (g .pages - 1)) ≡ true
     mixed-last b z = go (c .er (g .pages * b + 0)) z
@@ -102,20 +100,20 @@ module _ (g : Geometry) (shape : Shape g) (n k : ℕ) where
     some-er q = let p = some-page g shape in omega (
       arith,
       count-drop (g .pages) (g .pages - 1) (λ i. c .er (g .pages * mixedBlock + i)) (λ _. false)
-          (omega (arith, p)) (mixed-last mixedBlock (mixed-is .hit q)) refl (λ i _. omega arith),
+          (omega (arith, p)) (mixed-last mixedBlock (mixed-is .there q)) refl (λ i _. omega arith),
     )
 
     -- a block that is neither full nor mixed has no dead page
     clean : (b : ℕ) → b < n → full (g .pages) (c .er) b ≡ false → (b ≡ mixedBlock → ⊥) → inBlock (g .pages) deadPage b ≡ 0
     unfolding deadPage
     clean b q f d = by-test (c .er (g .pages * b + 0))
-        (λ i. count-ext (g .pages) (λ j. deadPage (g .pages * b + j)) (λ _. false) (λ j w. rw (h .r2 .mono b 0 j q (omega arith) w i) refl)
-        ∙ count-zero
+        (λ i. count-same (λ j. deadPage (g .pages * b + j)) (λ _. false) (g .pages) (λ j w. rw (h .r2 .mono b 0 j q (omega arith) w i) refl)
+        ∙ count-none
         (g .pages))
-        (λ i. let z : mixed (g .pages) (c .er) b ≡ true = rw (i, not-not (c .er (g .pages * b + (g .pages - 1))) f) refl in
+        (λ i. let z : mixed (g .pages) (c .er) b ≡ true = rw (i, not-false (c .er (g .pages * b + (g .pages - 1))) f) refl in
         let w : mixedBlock < n = by-le mixedBlock b (λ y. omega (arith, q, y))
         (λ y. absurd (true-false (mixed (g .pages) (c .er) b) z (mixed-is .before b y))) in
-        absurd (d (h .r2 .one b mixedBlock q w z (mixed-is .hit w))))
+        absurd (d (h .r2 .one b mixedBlock q w z (mixed-is .there w))))
 
     -- the victim of a round
     pub round-victim : R7 g n c → count (g .pages * n) (live (placesOf c)) + (2 * g .pages + k) ≤ suc (g .pages * n)
@@ -169,37 +167,41 @@ module _ (g : Geometry) (shape : Shape g) (n k : ℕ) where
             (livesIn (g .pages) v c ≤ count (g .pages * n) (c .er)) → Out (clear g n (theVictim (g .pages) n c) c)
         go w = subst (λ o. Out (clear g n o c)) (sym (w .1)) (at (w .0) (w .2) (w .3) (w .4) (w .5))
 
-  -- with at least (g .pages) pages erased and m rounds for what is lacking
-  more-rounds : (m : ℕ) (c : Chip) → Whole g n c → g .pages ≤ count (g .pages * n) (c .er) → g .pages + k ≤ count (g .pages * n) (c .er) + m
+  -- m rounds are enough for what is lacking, or for k pages more than the first one leaves
+  rounds : (m : ℕ) (c : Chip) → Whole g n c → R7 g n c → (g .pages + k ≤ count (g .pages * n) (c .er) + m) ⊎ (suc k ≤ m)
       → count (g .pages * n) (live (placesOf c)) + (2 * g .pages + k) ≤ suc (g .pages * n)
       → Cleared g n c (collect g n k m c) × (g .pages + k ≤ count (g .pages * n) (collect g n k m c .er))
   unfolding collect
-  more-rounds zero c h a b room = (record { good = h; pairs-are = refl; lives = omega arith; alike = same-self g c }, omega arith)
-  more-rounds (suc m) c h a b room = go (ltb (count (g .pages * n) (c .er)) (g .pages + k)) refl
-      (more-rounds m (clear g n (theVictim (g .pages) n c) c))
+  rounds zero c h r7 (inl b) room = (record { good = h; pairs-are = refl; lives = omega arith; alike = same-self g c }, omega (arith, b))
+  rounds zero c h r7 (inr b) room = absurd (omega (arith, b))
+  rounds (suc m) c h r7 b room = go (ltb (count (g .pages * n) (c .er)) (g .pages + k)) refl
+      (rounds m (clear g n (theVictim (g .pages) n c) c))
     where
       c′ : Chip
       c′ = clear g n (theVictim (g .pages) n c) c
 
+      left : (g .pages + k ≤ count (g .pages * n) (c .er) + suc m) ⊎ (suc k ≤ suc m) → g .pages ≤ count (g .pages * n) (c′ .er)
+          → count (g .pages * n) (c .er) < count (g .pages * n) (c′ .er) → g .pages + k ≤ count (g .pages * n) (c′ .er) + m
+      left (inl b) x y = omega (arith, b, y)
+      left (inr b) x y = omega (arith, b, x)
+
       go : (t : Bool) → ltb (count (g .pages * n) (c .er)) (g .pages + k) ≡ t
-          → (Whole g n c′ → g .pages ≤ count (g .pages * n) (c′ .er) → g .pages + k ≤ count (g .pages * n) (c′ .er) + m → count (g .pages * n)
-          (live (placesOf c′)) + (2 * g .pages + k) ≤ suc (g .pages * n)
+          → (Whole g n c′ → R7 g n c′ → (g .pages + k ≤ count (g .pages * n) (c′ .er) + m) ⊎ (suc k ≤ m)
+          → count (g .pages * n) (live (placesOf c′)) + (2 * g .pages + k) ≤ suc (g .pages * n)
           → Cleared g n c′ (collect g n k m c′) × (g .pages + k ≤ count (g .pages * n) (collect g n k m c′ .er)))
           → Cleared g n c (pick t (collect g n k m c′) c) × (g .pages + k ≤ count (g .pages * n) (pick t (collect g n k m c′) c .er))
       go false e ih = (
         record { good = h; pairs-are = refl; lives = omega arith; alike = same-self g c },
-        ltb-false (count (g .pages * n) (c .er))
-            (g .pages + k) e,
+        ltb-false (count (g .pages * n) (c .er)) (g .pages + k) e,
       )
       go true e ih =
-          let r = round c h (inl a) room (ltb-true (count (g .pages * n) (c .er)) (g .pages + k) e) in
-          let w = ih (r .0 .good) (r .1) (omega (arith, r .2)) (omega (arith, r .0 .lives)) in (
+          let r = round c h r7 room (ltb-true (count (g .pages * n) (c .er)) (g .pages + k) e) in
+          let w = ih (r .0 .good) (inl (r .1)) (inl (left b (r .1) (r .2))) (omega (arith, r .0 .lives, room)) in (
             record {
               good = w .0 .good;
               pairs-are = w .0 .pairs-are ∙ r .0 .pairs-are;
               lives = omega (arith, w .0 .lives, r .0 .lives);
-              alike =
-                  same-then g c c′ _ (r .0 .alike) (w .0 .alike);
+              alike = same-then g c c′ _ (r .0 .alike) (w .0 .alike);
             },
             w .1,
           )
@@ -207,28 +209,4 @@ module _ (g : Geometry) (shape : Shape g) (n k : ℕ) where
   -- the collector: k + 1 rounds are enough
   pub collected : (c : Chip) → Whole g n c → R7 g n c → count (g .pages * n) (live (placesOf c)) + (2 * g .pages + k) ≤ suc (g .pages * n)
       → Cleared g n c (collect g n k (suc k) c) × (g .pages + k ≤ count (g .pages * n) (collect g n k (suc k) c .er))
-  unfolding collect
-  collected c h r7 room = go (ltb (count (g .pages * n) (c .er)) (g .pages + k)) refl
-    where
-      c′ : Chip
-      c′ = clear g n (theVictim (g .pages) n c) c
-
-      go : (t : Bool) → ltb (count (g .pages * n) (c .er)) (g .pages + k) ≡ t
-          → Cleared g n c (pick t (collect g n k k c′) c) × (g .pages + k ≤ count (g .pages * n) (pick t (collect g n k k c′) c .er))
-      go false e = (
-        record { good = h; pairs-are = refl; lives = omega arith; alike = same-self g c },
-        ltb-false (count (g .pages * n) (c .er))
-            (g .pages + k) e,
-      )
-      go true e =
-          let r = round c h r7 room (ltb-true (count (g .pages * n) (c .er)) (g .pages + k) e) in
-          let w = more-rounds k c′ (r .0 .good) (r .1) (omega (arith, r .1)) (omega (arith, r .0 .lives)) in (
-            record {
-              good = w .0 .good;
-              pairs-are = w .0 .pairs-are ∙ r .0 .pairs-are;
-              lives = omega (arith, w .0 .lives, r .0 .lives);
-              alike =
-                  same-then g c c′ _ (r .0 .alike) (w .0 .alike);
-            },
-            w .1,
-          )
+  collected c h r7 room = rounds (suc k) c h r7 (inr (omega arith)) room

@@ -12,11 +12,12 @@ use Rattle.geometry.specs.Tests.{pick, bit}
 use Rattle.model.specs.Count.{count}
 use Rattle.model.specs.Tree.{Place, live}
 use Rattle.model.specs.Next.{inBlock, after}
-use Rattle.trees.specs.Tests.{by-eq, bit-le}
+use Rattle.counts.specs.Tally.{bit-most}
+use Rattle.trees.specs.Tests.{by-eq}
 use Rattle.trees.specs.Lists.{All, Mem}
 use Rattle.trees.specs.Live.{mem-live, dead-live, within-live}
 
-pub below-suc : (n t : ℕ) → bit (ltb n (suc t)) ≡ bit (ltb n t) + bit (eqb t n)
+below-suc : (n t : ℕ) → bit (ltb n (suc t)) ≡ bit (ltb n t) + bit (eqb t n)
 below-suc n t = go (ltb n t) (eqb t n) refl refl
   where
     go : (u v : Bool) → ltb n t ≡ u → eqb t n ≡ v → bit (ltb n (suc t)) ≡ bit u + bit v
@@ -26,7 +27,7 @@ below-suc n t = go (ltb n t) (eqb t n) refl refl
     go false false e i = let a = eqb-false t n i in let b = ltb-false n t e in rw (le-ltb n (suc t) (omega arith)) refl
 
 -- one page goes, one comes
-pub count-swap : (t p n : ℕ) (f g : ℕ → Bool) → (p ≡ n → ⊥) → f p ≡ true → g p ≡ false → ((q : ℕ) → (q ≡ n → ⊥) → bit (g q) ≤ bit (f q))
+count-swap : (t p n : ℕ) (f g : ℕ → Bool) → (p ≡ n → ⊥) → f p ≡ true → g p ≡ false → ((q : ℕ) → (q ≡ n → ⊥) → bit (g q) ≤ bit (f q))
     → count t g + bit (ltb p t) ≤ count t f + bit (ltb n t)
 unfolding count
 count-swap zero p n f g d fp gp le = rw (le-ltb p 0 (omega arith), le-ltb n 0 (omega arith)) (omega arith)
@@ -39,7 +40,7 @@ count-swap (suc t) p n f g d fp gp le = let i = count-swap t p n f g d fp gp le 
         let a : bit (g t) ≡ 0 = rw (eqb-true t p e, gp) refl in
         let b : bit (f t) ≡ 1 = rw (eqb-true t p e, fp) refl in
         omega arith
-    go false true e i = omega (arith, bit-le (g t))
+    go false true e i = omega (arith, bit-most (g t))
     go false false e i = omega (arith, le t (eqb-false t n i))
 
 pub count-le : (t : ℕ) (f h : ℕ → Bool) → ((j : ℕ) → j < t → bit (h j) ≤ bit (f j)) → count t h ≤ count t f
@@ -56,20 +57,15 @@ count-drop (suc t) i f h q a b le = by-eq i t
     omega (arith, count-le t f h (λ j q. le j (omega arith))))
     (λ e. omega (arith, le t (omega arith), count-drop t i f h (omega arith) a b (λ j q. le j (omega arith))))
 
-pub count-ext : (t : ℕ) (f h : ℕ → Bool) → ((j : ℕ) → j < t → f j ≡ h j) → count t f ≡ count t h
+pub count-all : (t : ℕ) → count t (λ _. true) ≡ t
 unfolding count
-count-ext zero f h e = refl
-count-ext (suc t) f h e = rw (e t (omega arith), count-ext t f h (λ j q. e j (omega arith))) refl
+count-all zero = refl
+count-all (suc t) = omega (arith, count-all t)
 
-pub count-const : (t : ℕ) → count t (λ _. true) ≡ t
+pub count-none : (t : ℕ) → count t (λ _. false) ≡ 0
 unfolding count
-count-const zero = refl
-count-const (suc t) = omega (arith, count-const t)
-
-pub count-zero : (t : ℕ) → count t (λ _. false) ≡ 0
-unfolding count
-count-zero zero = refl
-count-zero (suc t) = omega (arith, count-zero t)
+count-none zero = refl
+count-none (suc t) = omega (arith, count-none t)
 
 -- the sum of f 0 to f (t - 1)
 unfoldable pub sum : ℕ → (ℕ → ℕ) → ℕ
@@ -114,7 +110,7 @@ some-true (suc t) f h = go (f t) refl h (some-true t f)
     go false e i k = let w = k (omega arith) in (w .0, omega (arith, w .1), w .2)
 
 -- one that passed passes no more
-pub count-after : (t p : ℕ) (f : ℕ → Bool) → f p ≡ true → count t f ≡ bit (ltb p t) + count t (after p f)
+count-after : (t p : ℕ) (f : ℕ → Bool) → f p ≡ true → count t f ≡ bit (ltb p t) + count t (after p f)
 unfolding count
 count-after zero p f h = rw (le-ltb p 0 (omega arith)) refl
 count-after (suc t) p f h = go (eqb t p) refl (count-after t p f h)
@@ -124,6 +120,9 @@ count-after (suc t) p f h = go (eqb t p) refl (count-after t p f h)
     go true e i = let z = eqb-true t p e in let a : bit (f t) ≡ 1 = rw (z, h) refl in omega (arith, below-suc p t, ap bit e, a, i)
     go false e i = omega (arith, below-suc p t, ap bit e, i)
 
+pub count-gone : (t p : ℕ) (f : ℕ → Bool) → p < t → f p ≡ true → count t f ≡ suc (count t (after p f))
+count-gone t p f q h = omega (arith, count-after t p f h, ap bit (lt-ltb p t q))
+
 -- pages below t: the moved page and the new one are two of them
 pub count-moved : (t p n a : ℕ) (old new : List Place) → p < t → n < t → (p ≡ n → ⊥) → Mem (record { page = p; level = a }) old
     → All (λ x. x .page ≡ p → ⊥) new → All (λ x. (x .page ≡ n) ⊎ Mem x old) new
@@ -131,6 +130,4 @@ pub count-moved : (t p n a : ℕ) (old new : List Place) → p < t → n < t →
 count-moved t p n a old new pt nt d m dd w =
     let i = count-swap t p n (live old) (live new) d (mem-live (record { page = p; level = a }) old m) (dead-live p new dd)
     (λ q. within-live n q old new w) in
-    let u : bit (ltb p t) ≡ 1 = rw (lt-ltb p t pt) refl in
-    let v : bit (ltb n t) ≡ 1 = rw (lt-ltb n t nt) refl in
-    omega arith
+    omega (arith, i, ap bit (lt-ltb p t pt), ap bit (lt-ltb n t nt))

@@ -17,13 +17,14 @@ use Rattle.model.specs.Count.{count}
 use Rattle.model.specs.Image.{Chip}
 use Rattle.model.specs.Tree.{mapOf, placesOf, live, find}
 use Rattle.model.specs.Next.{mixed, inBlock}
+use Rattle.counts.specs.Tally.{count-same}
 use Rattle.trees.specs.Tests.{by-eq, true-false}
 use Rattle.trees.specs.Lists.{All, Mem, all-map, all-mem}
 use Rattle.trees.specs.Nodes.{Rooted, rooted-with, fitOf}
 use Rattle.trees.specs.Frame.{pairs-same, root-places-same, sound-same}
 use Rattle.trees.specs.Like.{root-like-same}
 use Rattle.trees.specs.Live.{mem-live}
-use Rattle.chips.specs.Count.{count-ext, count-const, count-zero, sum-point, count-blocks}
+use Rattle.chips.specs.Count.{count-all, count-none, sum-point, count-blocks}
 use Rattle.chips.specs.Next.{page-inj, R2}
 use Rattle.chips.specs.Whole.{Whole, sought-map, Same, same-like}
 use Rattle.chips.specs.Sweep.{Sweeping}
@@ -154,10 +155,10 @@ module _ (g : Geometry) (shape : Shape g) (n : ℕ) (v : ℕ) (v-in : v < n) (c 
 
   pub erased-frees : count (g .pages * n) (c′ .er) ≡ count (g .pages * n) (c .er) + g .pages
   erased-frees =
-      let a : inBlock (g .pages) (c′ .er) v ≡ g .pages = count-ext (g .pages) (λ j. c′ .er (g .pages * v + j)) (λ _. true) er-own ∙ count-const
+      let a : inBlock (g .pages) (c′ .er) v ≡ g .pages = count-same (λ j. c′ .er (g .pages * v + j)) (λ _. true) (g .pages) er-own ∙ count-all
       (g .pages) in
-      let b : inBlock (g .pages) (c .er) v ≡ 0 = count-ext (g .pages) (λ j. c .er (g .pages * v + j)) (λ _. false) (sw .full) ∙ count-zero
+      let b : inBlock (g .pages) (c .er) v ≡ 0 = count-same (λ j. c .er (g .pages * v + j)) (λ _. false) (g .pages) (sw .full) ∙ count-none
       (g .pages) in
       let p = sum-point n v (g .pages) (inBlock (g .pages) (c .er)) (inBlock (g .pages) (c′ .er)) (omega (arith, a, b))
-      (λ b d. count-ext (g .pages) (λ j. c′ .er (g .pages * b + j)) (λ j. c .er (g .pages * b + j)) (λ j w. er-other b j w d)) .1 v-in in
+      (λ b d. count-same (λ j. c′ .er (g .pages * b + j)) (λ j. c .er (g .pages * b + j)) (g .pages) (λ j w. er-other b j w d)) .1 v-in in
       omega (arith, count-blocks (g .pages) n (c′ .er), count-blocks (g .pages) n (c .er), p)

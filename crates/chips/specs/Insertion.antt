@@ -18,7 +18,8 @@ use Rattle.model.specs.Tree.{under, mapOf, next, chosen, find, sought}
 use Rattle.model.specs.Next.{taken}
 use Rattle.model.specs.Edit.{put, pathHalf, sideHalf, two, named, pathPart, gains, splits}
 use Rattle.model.specs.Update.{isNone, rootNode, rootGains, fills, needs, tooHigh, insertList, crownPart, insertPart, crownHeight, sidePage}
-use Rattle.trees.specs.Tests.{by-eq, by-test, true-false, bit-le}
+use Rattle.counts.specs.Tally.{bit-most}
+use Rattle.trees.specs.Tests.{by-eq, by-test, true-false}
 use Rattle.trees.specs.Nodes.{the, fitOf}
 use Rattle.trees.specs.Edit.{atRoot}
 use Rattle.trees.specs.Insert.{put-splice, inserted, InsertMade}
@@ -148,14 +149,14 @@ module _ (g : Geometry) (shape : Shape g) (n k a : ℕ) (k-low : k < 4294967296)
           let w = eqb-false (length (lists (suc (c .level)))) (rootSlots g (suc (c .level))) ne in
           let d = shape .double (suc (c .level)) (omega arith) lo in
           let s = shape .some (suc (c .level)) (omega arith) lo in
-          omega (arith, w, am, d, s, root-length, bit-le gained)
+          omega (arith, w, am, d, s, root-length, bit-most gained)
 
       at-top : g .top ≤ suc (c .level) → length es ≤ rootSlots g (suc (c .level)) → length (lists (suc (c .level))) ≤ rootSlots g (suc (c .level))
       at-top lo am = by-test gained
           (λ z. by-eq (length es) (rootSlots g (suc (c .level)))
           (λ y. absurd (true-false _ (and-both _ _ (and-both _ _ (eq-eqb (suc (c .level)) (g .top) (omega (arith, lo, hi)))
           (eq-eqb (length es) (rootSlots g (suc (c .level))) y)) z) small))
-          (λ y. omega (arith, root-length, am, y, bit-le gained)))
+          (λ y. omega (arith, root-length, am, y, bit-most gained)))
           (λ z. omega (arith, root-length, am, ap bit z))
 
   -- a level above a root that grows has room for two entries

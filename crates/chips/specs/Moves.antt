@@ -1,12 +1,12 @@
 -- One move of the collector on an abstract chip. Assumes nothing.
 use mathlib.Core.Path.{_≡_, refl, ap, sym, subst, _∙_}
 use mathlib.Core.List.{List, [], _∷_}
-use mathlib.Core.Bool.{Bool, true, false}
-use Prim.Native.Nat.{ℕ, zero, suc, _*_, _<_, _≤_}
+use mathlib.Core.Bool.{true, false}
+use Prim.Native.Nat.{ℕ, suc, _*_, _<_, _≤_}
 use native.Mathlib.Omega.{arith}
 use lib.ListN.{length}
-use lib.Dec.{eqb, ltb}
-use borrow.Author.Tests.{lt-ltb, le-leb, eq-eqb, ne-eqb}
+use lib.Dec.{eqb}
+use borrow.Author.Tests.{le-leb, eq-eqb, ne-eqb}
 use Rattle.geometry.specs.declared.Geometry.{Geometry}
 use Rattle.geometry.specs.declared.Entry.{Entry}
 use Rattle.geometry.specs.Tests.{pick, bit}
@@ -20,15 +20,16 @@ use Rattle.model.specs.Edit.{splice, renamed, same}
 use Rattle.model.specs.Collect.{moveKey, movePart}
 use Rattle.trees.specs.Tests.{true-false}
 use Rattle.trees.specs.Lists.{All, Mem, all-get}
-use Rattle.trees.specs.Nodes.{fitOf}
+use Rattle.trees.specs.Nodes.{fitOf, fit-page}
 use Rattle.trees.specs.Move.{moved, MoveMade}
 use Rattle.trees.specs.Proper.{places-level, root-first, root-fit, Moved, move-sound}
 use Rattle.trees.specs.Path.{same-as, same-root, root-is, onPath-top, made-from}
 use Rattle.trees.specs.Like.{Likes, Like, move-root-like}
 use Rattle.trees.specs.Live.{dead-live, within-live, low-is}
-use Rattle.chips.specs.Count.{some-true, count-after, count-moved}
-use Rattle.chips.specs.Next.{in-range, by-block, next-erased, r2-next}
+use Rattle.chips.specs.Count.{count-gone, count-moved}
+use Rattle.chips.specs.Next.{after-false, next-found, next-in, r2-next}
 use Rattle.chips.specs.Whole.{some-page, Whole, sought-map, Same, same-like}
+use Rattle.chips.specs.Pages.{fit-after}
 
 -- the chip after page p has moved to page m
 unfoldable pub moveTo : Chip → ℕ → ℕ → Chip
@@ -55,21 +56,13 @@ module _ (g : Geometry) (shape : Shape g) (n : ℕ) (c : Chip) (good : Whole g n
   c′ = moveTo c p new
 
   found : (nextBlock (g .pages) n (c .er) < n) × (firstIn (g .pages) (c .er) (nextBlock (g .pages) n (c .er)) < g .pages) × (c .er new ≡ true)
-  found =
-      let f = some-true (g .pages * n) (c .er) free in
-      let w = by-block (g .pages) n (f .0) (f .1) in
-      next-erased (g .pages) n (c .er) (some-page g shape) (good .r2) (w .0) (w .1) (w .2) (w .3) (rw (← (w .4)) (f .2))
+  found = next-found (g .pages) n (c .er) (some-page g shape) (good .r2) free
 
   new-in : new < g .pages * n
-  new-in = in-range (g .pages) n (nextBlock (g .pages) n (c .er)) (firstIn (g .pages) (c .er) (nextBlock (g .pages) n (c .er))) (found .0) (found .1)
+  new-in = next-in (g .pages) n (c .er) (some-page g shape) (good .r2) free
 
   keep : (l b : ℕ) → fitOf (g .pages * n) (c .er) l b → fitOf (g .pages * n) (after new (c .er)) l b
-  keep zero b h = tt
-  keep (suc l) b h = (h .0, go (eqb b new))
-    where
-      go : (t : Bool) → pick t false (c .er b) ≡ false
-      go true = refl
-      go false = h .1
+  keep = fit-after (g .pages * n) new (c .er)
 
   not-new : (q l : ℕ) → fitOf (g .pages * n) (c .er) (suc l) q → q ≡ new → ⊥
   not-new q l h e = true-false (c .er new) (found .2) (rw (← e) (h .1))
@@ -139,14 +132,13 @@ module _ (g : Geometry) (shape : Shape g) (n : ℕ) (c : Chip) (good : Whole g n
         good = good′;
         pairs-are = the-move .pairs-are;
         was = found .2;
-        ers = λ q h. still q h (eqb q new);
+        ers = λ q h. after-false new q (c .er) h;
         dead = dead-live p (placesOf c′) (the-move .dead);
         others = λ q d. within-live new q (placesOf c) (placesOf c′) (the-move .within) d;
         lives = count-moved (g .pages * n) p new (lowLevel (placesOf c) p) (placesOf c) (placesOf c′) (old-p .0) new-in
             (λ e. true-false (c .er new) (found .2) (rw (← e) (old-p .1))) (low .0) (the-move .dead) (the-move .within);
         alike = alike′;
-        frees = let u : bit (ltb new (g .pages * n)) ≡ 1 = rw (lt-ltb new (g .pages * n) new-in) refl in
-            omega (arith, count-after (g .pages * n) new (c .er) (found .2), u);
+        frees = count-gone (g .pages * n) new (c .er) new-in (found .2);
       }
     where
       good′ : Whole g n c′
@@ -159,16 +151,9 @@ module _ (g : Geometry) (shape : Shape g) (n : ℕ) (c : Chip) (good : Whole g n
           (good .sound .rooted .rises) made))
           (λ k q. sought-map g n c′ good′ k q ∙ ap (find k) (the-move .pairs-are) ∙ sym (sought-map g n c good k q))
 
-      still : (q : ℕ) → c .er q ≡ false → (t : Bool) → pick t false (c .er q) ≡ false
-      still q h true = refl
-      still q h false = h
-
-      above : (a : ℕ) → (1 ≤ a) × fitOf (g .pages * n) (c .er) a p → (p < g .pages * n) × (c .er p ≡ false)
-      above zero h = absurd (omega (arith, h .0))
-      above (suc a) h = h .1
-
       old-p : (p < g .pages * n) × (c .er p ≡ false)
-      old-p = above (lowLevel (placesOf c) p) (all-get (λ x. (1 ≤ x .level) × fitOf (g .pages * n) (c .er) (x .level) (x .page))
+      old-p = let z = all-get (λ x. (1 ≤ x .level) × fitOf (g .pages * n) (c .er) (x .level) (x .page))
           (record { page = p; level = lowLevel (placesOf c) p }) (placesOf c)
           (root-fit (fitOf (g .pages * n) (c .er)) (λ l. 2 * half g l) (rootMost g) (c .nodes) (c .level) (c .root) 4294967296 (good .sound .rooted))
-          (low .0))
+          (low .0) in
+          fit-page (g .pages * n) (c .er) (lowLevel (placesOf c) p) p (z .0) (z .1)

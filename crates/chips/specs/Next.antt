@@ -6,54 +6,31 @@ use Prim.Native.Nat.{ℕ, zero, suc, _+_, _-_, _*_, _<_, _≤_}
 use native.Mathlib.Omega.{arith}
 use native.Mathlib.Nat.{mul-suc, mul-zero, mul-le-mul-left}
 use lib.Dec.{eqb, ltb}
-use borrow.Author.Tests.{lt-ltb, ne-eqb, ltb-true, ltb-false, eqb-false}
-use Rattle.geometry.specs.Tests.{pick, bit}
+use borrow.Author.Tests.{ne-eqb, ltb-true, ltb-false, eqb-false}
+use Rattle.geometry.specs.Tests.{pick}
 use Rattle.model.specs.Count.{count, least}
 use Rattle.model.specs.Next.{mixed, firstIn, nextBlock, nextPage, after, taken, nth}
+use Rattle.counts.specs.Least.{Least, least-is}
 use Rattle.trees.specs.Tests.{by-eq, true-false}
-use Rattle.chips.specs.Count.{some-true, count-after}
+use Rattle.chips.specs.Count.{some-true, count-gone}
 
--- the least number that passes
-pub record Least (n : ℕ) (f : ℕ → Bool) (i : ℕ) : Type 0 where
-  pub upto : i ≤ n
-  pub hit : i < n → f i ≡ true
-  pub before : (j : ℕ) → j < i → f j ≡ false
-
-pub least-is : (n : ℕ) (f : ℕ → Bool) → Least n f (least n f)
-unfolding least
-least-is zero f = record { upto = omega arith; hit = λ q. absurd (omega arith); before = λ j q. absurd (omega arith) }
-least-is (suc n) f = go (ltb (least n f) n) (f n) refl refl (least-is n f)
-  where
-    go : (t u : Bool) → ltb (least n f) n ≡ t → f n ≡ u → Least n f (least n f) → Least (suc n) f (pick t (least n f) (pick u n (suc n)))
-    go true u a b h = let w = ltb-true (least n f) n a in record { upto = omega arith; hit = λ _. h .hit w; before = h .before }
-    go false true a b h = let w = ltb-false (least n f) n a in record { upto = omega arith; hit = λ _. b; before = λ j q. h .before j (omega arith) }
-    go false false a b h = let w = ltb-false (least n f) n a in record {
-      upto = omega arith;
-      hit = λ q. absurd (omega arith);
-      before = λ j q. pre j q
-          (ltb j n) refl;
-    }
-      where
-        pre : (j : ℕ) → j < suc n → (t : Bool) → ltb j n ≡ t → f j ≡ false
-        pre j q true e = let z = ltb-true j n e in h .before j (omega (arith, ltb-false (least n f) n a))
-        pre j q false e = let z = ltb-false j n e in let y : j ≡ n = omega arith in rw y b
+-- a block ends before the next one begins
+pub block-in : (g b n : ℕ) → b < n → g * b + g ≤ g * n
+block-in g b n h = rw mul-suc at (mul-le-mul-left g h)
 
 -- pages of different blocks differ
 pub page-inj : (g b c i j : ℕ) → i < g → j < g → g * b + i ≡ g * c + j → (b ≡ c) × (i ≡ j)
 page-inj g b c i j p q e = go (ltb b c) (ltb c b) refl refl
   where
-    up : (b c : ℕ) → b < c → g * b + g ≤ g * c
-    up b c h = rw mul-suc at (mul-le-mul-left g h)
-
     go : (t u : Bool) → ltb b c ≡ t → ltb c b ≡ u → (b ≡ c) × (i ≡ j)
-    go true u x y = absurd (omega (arith, up b c (ltb-true b c x)))
-    go false true x y = absurd (omega (arith, up c b (ltb-true c b y)))
+    go true u x y = absurd (omega (arith, block-in g b c (ltb-true b c x)))
+    go false true x y = absurd (omega (arith, block-in g c b (ltb-true c b y)))
     go false false x y = let z : b ≡ c = omega (arith, ltb-false b c x, ltb-false c b y) in let w = ap (λ m. g * m) z in (z, omega (arith, w))
 
 pub in-range : (g n b j : ℕ) → b < n → j < g → g * b + j < g * n
-in-range g n b j p q = let u : g * b + g ≤ g * n = rw mul-suc at (mul-le-mul-left g p) in omega arith
+in-range g n b j p q = omega (arith, block-in g b n p)
 
-pub by-block : (g n q : ℕ) → q < g * n → (c : ℕ) × (j : ℕ) × (c < n) × (j < g) × (q ≡ g * c + j)
+by-block : (g n q : ℕ) → q < g * n → (c : ℕ) × (j : ℕ) × (c < n) × (j < g) × (q ≡ g * c + j)
 by-block g zero q h = absurd (omega (arith, mul-zero g))
 by-block g (suc n) q h = go (ltb q (g * n)) refl (by-block g n q)
   where
@@ -61,6 +38,14 @@ by-block g (suc n) q h = go (ltb q (g * n)) refl (by-block g n q)
         → (c : ℕ) × (j : ℕ) × (c < suc n) × (j < g) × (q ≡ g * c + j)
     go true e k = let w = k (ltb-true q (g * n) e) in (w .0, w .1, omega (arith, w .2), w .3, w .4)
     go false e k = let z = ltb-false q (g * n) e in (n, q - g * n, omega arith, omega (arith, mul-suc g n), omega arith)
+
+-- a page that is not erased does not become so
+pub after-false : (p q : ℕ) (er : ℕ → Bool) → er q ≡ false → after p er q ≡ false
+after-false p q er h = go (eqb q p)
+  where
+    go : (t : Bool) → pick t false (er q) ≡ false
+    go true = refl
+    go false = h
 
 -- R2: in a block programmed pages come before erased ones; at most one block has both
 pub record R2 (g n : ℕ) (er : ℕ → Bool) : Type 0 where
@@ -77,21 +62,21 @@ module _ (g n : ℕ) (er : ℕ → Bool) (g-pos : 1 ≤ g) (r2 : R2 g n er) wher
 
   -- the first erased page of a block that has one
   first-in : (b j : ℕ) → j < g → er (g * b + j) ≡ true → (firstIn g er b ≤ j) × (er (g * b + firstIn g er b) ≡ true)
-  first-in b j q h = let l = least-is g (λ j. er (g * b + j)) in go l (ltb j (firstIn g er b)) refl
+  first-in b j q h = let l = least-is (λ j. er (g * b + j)) g in go l (ltb j (firstIn g er b)) refl
     where
-      go : Least g (λ j. er (g * b + j)) (firstIn g er b) → (t : Bool) → ltb j (firstIn g er b) ≡ t
+      go : Least (λ j. er (g * b + j)) g (firstIn g er b) → (t : Bool) → ltb j (firstIn g er b) ≡ t
           → (firstIn g er b ≤ j) × (er (g * b + firstIn g er b) ≡ true)
       go l true e = absurd (true-false (er (g * b + j)) h (l .before j (ltb-true j (firstIn g er b) e)))
-      go l false e = let z = ltb-false j (firstIn g er b) e in (z, l .hit (omega arith))
+      go l false e = let z = ltb-false j (firstIn g er b) e in (z, l .there (omega arith))
 
   -- if a page is erased, the next page is one of them
-  pub next-erased : (c j : ℕ) → c < n → j < g → er (g * c + j) ≡ true
+  next-erased : (c j : ℕ) → c < n → j < g → er (g * c + j) ≡ true
       → (nextBlock g n er < n) × (firstIn g er (nextBlock g n er) < g) × (er (nextPage g n er) ≡ true)
   unfolding nextBlock
-  next-erased c j q w h = go (ltb (least n (mixed g er)) n) refl (least-is n (mixed g er)) (least-is n (λ b. er (g * b + 0)))
+  next-erased c j q w h = go (ltb (least n (mixed g er)) n) refl (least-is (mixed g er) n) (least-is (λ b. er (g * b + 0)) n)
     where
-      go : (t : Bool) → ltb (least n (mixed g er)) n ≡ t → Least n (mixed g er) (least n (mixed g er))
-          → Least n (λ b. er (g * b + 0)) (least n (λ b. er (g * b + 0)))
+      go : (t : Bool) → ltb (least n (mixed g er)) n ≡ t → Least (mixed g er) n (least n (mixed g er))
+          → Least (λ b. er (g * b + 0)) n (least n (λ b. er (g * b + 0)))
           → (pick t (least n (mixed g er)) (least n (λ b. er (g * b + 0))) < n) ×
           (firstIn g er (pick t (least n (mixed g er)) (least n (λ b. er (g * b + 0)))) < g)
           × (er (g * pick t (least n (mixed g er)) (least n (λ b. er (g * b + 0))) + firstIn g er
@@ -99,7 +84,7 @@ module _ (g n : ℕ) (er : ℕ → Bool) (g-pos : 1 ≤ g) (r2 : R2 g n er) wher
       go true e l k =
           let b = least n (mixed g er) in
           let z = ltb-true b n e in
-          let f = first-in b (g - 1) (omega arith) (mixed-first b (l .hit z) .1) in
+          let f = first-in b (g - 1) (omega arith) (mixed-first b (l .there z) .1) in
           (z, omega (arith, f .0), f .1)
       go false e l k =
           let b = least n (λ b. er (g * b + 0)) in
@@ -108,7 +93,7 @@ module _ (g n : ℕ) (er : ℕ → Bool) (g-pos : 1 ≤ g) (r2 : R2 g n er) wher
           let last = r2 .mono c j (g - 1) q (omega arith) (omega arith) h in
           let blank = is-blank (er (g * c + 0)) refl no last in
           let b-in = small (ltb c b) refl blank k in
-          let f = first-in b 0 (omega arith) (k .hit b-in) in
+          let f = first-in b 0 (omega arith) (k .there b-in) in
           (b-in, omega (arith, f .0), f .1)
         where
           is-blank : (t : Bool) → er (g * c + 0) ≡ t → pick t false (er (g * c + (g - 1))) ≡ false → er (g * c + (g - 1)) ≡ true
@@ -117,18 +102,28 @@ module _ (g n : ℕ) (er : ℕ → Bool) (g-pos : 1 ≤ g) (r2 : R2 g n er) wher
           is-blank false x y v = absurd (true-false (er (g * c + (g - 1))) v y)
 
           small : (t : Bool) → ltb c (least n (λ b. er (g * b + 0))) ≡ t → er (g * c + 0) ≡ true
-              → Least n (λ b. er (g * b + 0)) (least n (λ b. er (g * b + 0))) → least n (λ b. er (g * b + 0)) < n
+              → Least (λ b. er (g * b + 0)) n (least n (λ b. er (g * b + 0))) → least n (λ b. er (g * b + 0)) < n
           small true x y v = absurd (true-false (er (g * c + 0)) y (v .before c (ltb-true c (least n (λ b. er (g * b + 0))) x)))
           small false x y v = let z = ltb-false c (least n (λ b. er (g * b + 0))) x in omega arith
+
+  -- it is one while there is one
+  pub next-found : 1 ≤ count (g * n) er → (nextBlock g n er < n) × (firstIn g er (nextBlock g n er) < g) × (er (nextPage g n er) ≡ true)
+  next-found h =
+      let f = some-true (g * n) er h in
+      let w = by-block g n (f .0) (f .1) in
+      next-erased (w .0) (w .1) (w .2) (w .3) (rw (← (w .4)) (f .2))
+
+  pub next-in : 1 ≤ count (g * n) er → nextPage g n er < g * n
+  next-in h = in-range g n (nextBlock g n er) (firstIn g er (nextBlock g n er)) (next-found h .0) (next-found h .1)
 
   -- a mixed block is the next one
   mixed-next : (b : ℕ) → b < n → mixed g er b ≡ true → b ≡ nextBlock g n er
   unfolding nextBlock
-  mixed-next b q h = go (ltb (least n (mixed g er)) n) refl (least-is n (mixed g er))
+  mixed-next b q h = go (ltb (least n (mixed g er)) n) refl (least-is (mixed g er) n)
     where
-      go : (t : Bool) → ltb (least n (mixed g er)) n ≡ t → Least n (mixed g er) (least n (mixed g er))
+      go : (t : Bool) → ltb (least n (mixed g er)) n ≡ t → Least (mixed g er) n (least n (mixed g er))
           → b ≡ pick t (least n (mixed g er)) (least n (λ b. er (g * b + 0)))
-      go true e l = let z = ltb-true (least n (mixed g er)) n e in r2 .one b (least n (mixed g er)) q z h (l .hit z)
+      go true e l = let z = ltb-true (least n (mixed g er)) n e in r2 .one b (least n (mixed g er)) q z h (l .there z)
       go false e l = let z = ltb-false (least n (mixed g er)) n e in absurd (true-false (mixed g er b) h (l .before b (omega arith)))
 
   module _ (here : nextBlock g n er < n) (inside : firstIn g er (nextBlock g n er) < g) where
@@ -155,7 +150,7 @@ module _ (g n : ℕ) (er : ℕ → Bool) (g-pos : 1 ≤ g) (r2 : R2 g n er) wher
             let o = true-old (g * b + i) h in
             elsewhere b j w (λ e f. by-eq i j
             (λ z. o .1 (rw (z, e, f) refl))
-            (λ z. true-false (er (g * b + i)) (o .0) (rw e (least-is g (λ j. er (g * nextBlock g n er + j)) .before i (omega arith)))))
+            (λ z. true-false (er (g * b + i)) (o .0) (rw e (least-is (λ j. er (g * nextBlock g n er + j)) g .before i (omega arith)))))
             ∙ r2 .mono b i j p q w (o .0)
 
         there : (b : ℕ) → b < n → mixed g er′ b ≡ true → b ≡ nextBlock g n er
@@ -172,10 +167,7 @@ module _ (g n : ℕ) (er : ℕ → Bool) (g-pos : 1 ≤ g) (start : R2 g n er) w
   now-erased : (i : ℕ) → Step g n er i → i < count (g * n) er
       → (nextBlock g n (taken g n er i) < n) × (firstIn g (taken g n er i) (nextBlock g n (taken g n er i)) < g) ×
       (taken g n er i (nth g n er i) ≡ true)
-  now-erased i s h =
-      let f = some-true (g * n) (taken g n er i) (omega (arith, s .left)) in
-      let w = by-block g n (f .0) (f .1) in
-      next-erased g n (taken g n er i) g-pos (s .r2) (w .0) (w .1) (w .2) (w .3) (rw (← (w .4)) (f .2))
+  now-erased i s h = next-found g n (taken g n er i) g-pos (s .r2) (omega (arith, s .left))
 
   pub step : (i : ℕ) → i ≤ count (g * n) er → Step g n er i
   unfolding taken
@@ -183,10 +175,9 @@ module _ (g n : ℕ) (er : ℕ → Bool) (g-pos : 1 ≤ g) (start : R2 g n er) w
   step (suc i) h =
       let s = step i (omega arith) in
       let w = now-erased i s h in
-      let p = in-range g n (nextBlock g n (taken g n er i)) (firstIn g (taken g n er i) (nextBlock g n (taken g n er i))) (w .0) (w .1) in
-      let c = count-after (g * n) (nth g n er i) (taken g n er i) (w .2) in
-      let u : bit (ltb (nth g n er i) (g * n)) ≡ 1 = rw (lt-ltb (nth g n er i) (g * n) p) refl in
-      record { r2 = r2-next g n (taken g n er i) g-pos (s .r2) (w .0) (w .1); left = omega (arith, s .left, c, u) }
+      let p = next-in g n (taken g n er i) g-pos (s .r2) (omega (arith, s .left)) in
+      let c = count-gone (g * n) (nth g n er i) (taken g n er i) p (w .2) in
+      record { r2 = r2-next g n (taken g n er i) g-pos (s .r2) (w .0) (w .1); left = omega (arith, s .left, c) }
 
   earlier : (i q : ℕ) → taken g n er i q ≡ true → (er q ≡ true) × ((j : ℕ) → j < i → q ≡ nth g n er j → ⊥)
   unfolding taken
@@ -200,11 +191,9 @@ module _ (g n : ℕ) (er : ℕ → Bool) (g-pos : 1 ≤ g) (start : R2 g n er) w
       go false e k f = (f k .0, λ j z. by-eq j i (λ w y. eqb-false q (nth g n er i) e (y ∙ ap (nth g n er) w)) (λ w. f k .1 j (omega arith)))
 
   pub nth-erased : (i : ℕ) → i < count (g * n) er → (er (nth g n er i) ≡ true) × (nth g n er i < g * n)
-  nth-erased i h = let w = now-erased i (step i (omega arith)) h in (
-    earlier i (nth g n er i) (w .2) .0,
-    in-range g n (nextBlock g n (taken g n er i))
-        (firstIn g (taken g n er i) (nextBlock g n (taken g n er i))) (w .0) (w .1),
-  )
+  nth-erased i h =
+      let s = step i (omega arith) in
+      (earlier i (nth g n er i) (now-erased i s h .2) .0, next-in g n (taken g n er i) g-pos (s .r2) (omega (arith, s .left)))
 
   pub nth-apart : (i j : ℕ) → j < i → i < count (g * n) er → nth g n er i ≡ nth g n er j → ⊥
   nth-apart i j q h = earlier i (nth g n er i) (now-erased i (step i (omega arith)) h .2) .1 j q

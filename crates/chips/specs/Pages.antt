@@ -4,52 +4,50 @@ use mathlib.Core.Bool.{Bool, true, false}
 use Prim.Native.Nat.{ℕ, zero, suc, _+_, _*_, _<_, _≤_}
 use native.Mathlib.Omega.{arith}
 use native.Mathlib.Nat.{mul-le-mul-left}
-use lib.Dec.{eqb, ltb}
+use lib.Dec.{ltb}
 use borrow.Author.Tests.{eq-eqb}
 use Rattle.geometry.specs.declared.Geometry.{Geometry}
 use Rattle.geometry.specs.Tests.{pick}
 use Rattle.geometry.specs.Shape.{Shape}
 use Rattle.model.specs.Count.{count, least}
 use Rattle.model.specs.Image.{Chip}
-use Rattle.model.specs.Next.{mixed, nextBlock, nextPage, taken, nth}
+use Rattle.model.specs.Next.{mixed, nextBlock, nextPage, after, taken, nth}
 use Rattle.model.specs.Update.{sidePage}
+use Rattle.counts.specs.Least.{least-most}
 use Rattle.trees.specs.Tests.{by-eq, by-le, true-false}
 use Rattle.trees.specs.Nodes.{fitOf}
-use Rattle.chips.specs.Next.{least-is, R2, nth-erased, nth-apart}
+use Rattle.chips.specs.Next.{after-false, R2, nth-erased, nth-apart}
 use Rattle.chips.specs.Whole.{some-page}
 
-pub taken-false : (p n m q : ℕ) (er : ℕ → Bool) → er q ≡ false → taken p n er m q ≡ false
+taken-false : (p n m q : ℕ) (er : ℕ → Bool) → er q ≡ false → taken p n er m q ≡ false
 unfolding taken
 taken-false p n zero q er h = h
-taken-false p n (suc m) q er h = go (eqb q (nth p n er m)) (taken-false p n m q er h)
-  where
-    go : (t : Bool) → taken p n er m q ≡ false → pick t false (taken p n er m q) ≡ false
-    go true i = refl
-    go false i = i
+taken-false p n (suc m) q er h = after-false (nth p n er m) q (taken p n er m) (taken-false p n m q er h)
 
 taken-nth : (p n m i : ℕ) (er : ℕ → Bool) → i < m → taken p n er m (nth p n er i) ≡ false
 unfolding taken
 taken-nth p n zero i er h = absurd (omega arith)
 taken-nth p n (suc m) i er h = by-eq i m (λ e. rw (e, eq-eqb (nth p n er m) (nth p n er m) refl) refl)
-    (λ e. go (eqb (nth p n er i) (nth p n er m)) (taken-nth p n m i er (omega arith)))
-  where
-    go : (t : Bool) → taken p n er m (nth p n er i) ≡ false → pick t false (taken p n er m (nth p n er i)) ≡ false
-    go true z = refl
-    go false z = z
+    (λ e. after-false (nth p n er m) (nth p n er i) (taken p n er m) (taken-nth p n m i er (omega arith)))
 
 -- wherever it is asked, the next page is at most T + p
-pub next-most : (p n : ℕ) (er : ℕ → Bool) → nextPage p n er ≤ p * n + p
+next-most : (p n : ℕ) (er : ℕ → Bool) → nextPage p n er ≤ p * n + p
 unfolding nextBlock
-next-most p n er = let b = least-is p (λ j. er (p * nextBlock p n er + j)) .upto in let w = mul-le-mul-left p (block (ltb (least n (mixed p er)) n))
+next-most p n er = let b = least-most (λ j. er (p * nextBlock p n er + j)) p in let w = mul-le-mul-left p (block (ltb (least n (mixed p er)) n))
     in omega (arith, b, w)
   where
     block : (t : Bool) → pick t (least n (mixed p er)) (least n (λ b. er (p * b + 0))) ≤ n
-    block true = least-is n (mixed p er) .upto
-    block false = least-is n (λ b. er (p * b + 0)) .upto
+    block true = least-most (mixed p er) n
+    block false = least-most (λ b. er (p * b + 0)) n
 
 pub side-most : (g : Geometry) (n : ℕ) (c : Chip) (l : ℕ) → sidePage g n c l ≤ g .pages * n + g .pages
 side-most g n c zero = next-most (g .pages) n (taken (g .pages) n (c .er) 0)
 side-most g n c (suc l) = next-most (g .pages) n (taken (g .pages) n (c .er) l)
+
+-- what may be named may be named once a page is taken
+pub fit-after : (t p : ℕ) (er : ℕ → Bool) (l q : ℕ) → fitOf t er l q → fitOf t (after p er) l q
+fit-after t p er zero q h = tt
+fit-after t p er (suc l) q h = (h .0, after-false p q er (h .1))
 
 -- m pages are left
 module _ (g : Geometry) (shape : Shape g) (n : ℕ) (c : Chip) (r2 : R2 (g .pages) n (c .er)) (m : ℕ) (free : m ≤ count (g .pages * n) (c .er)) where

@@ -1,10 +1,11 @@
 -- From the words of the demands to the theorems about images and updates, and back. Assumes nothing.
 use mathlib.Core.Path.{_≡_, refl, ap, sym, subst, _∙_}
 use mathlib.Core.List.{List, [], _∷_, _++_}
-use Prim.Native.Nat.{ℕ, zero, suc, _+_, _-_, _*_, _<_, _≤_}
+use Prim.Native.Nat.{ℕ, suc, _+_, _-_, _*_, _<_, _≤_}
 use native.Mathlib.Omega.{arith}
 use native.Mathlib.Nat.{mul-le-mul-right}
 use lib.ListN.{length, take, length-append}
+use lib.Seq.{take-append-le}
 use Rattle.geometry.specs.declared.Geometry.{Geometry}
 use Rattle.geometry.specs.declared.Entry.{Entry}
 use Rattle.geometry.specs.Shape.{Shape}
@@ -12,8 +13,8 @@ use Rattle.model.specs.Image.{blocksOf, pagesOf, chipOf}
 use Rattle.model.specs.Tree.{mapOf}
 use Rattle.model.specs.Rules.{verdict}
 use Rattle.model.specs.Stores.{Store, applyStore, applyAll}
+use Rattle.chips.specs.Next.{block-in}
 use Rattle.chips.specs.Whole.{some-page}
-use Rattle.images.specs.Stores.{block-in}
 use Rattle.images.specs.Held.{sound-held, held-sound}
 use Rattle.images.specs.Writes.{Legal}
 use Rattle.images.specs.Lengths.{Blocks, good-blocks, blocks-same, length-same, length-all, few-pages}
@@ -40,7 +41,7 @@ module _ (g : Geometry) (shape : Shape g) (img : List ℕ) (ready : Ready g img)
       record { held = z .0; r7 = z .1; map-is = refl }
 
   -- an image of the same length
-  pub keeps-holds : (map : List Entry) (x : List ℕ) → length x ≡ length img → Keeps g n map x → Holds g map x
+  keeps-holds : (map : List Entry) (x : List ℕ) → length x ≡ length img → Keeps g n map x → Holds g map x
   keeps-holds map x e h =
       let b = blocks-same g img x e in
       record {
@@ -51,18 +52,6 @@ module _ (g : Geometry) (shape : Shape g) (img : List ℕ) (ready : Ready g img)
         };
         map-is = ap (λ m. mapOf (chipOf g m x)) b ∙ h .map-is;
       }
-
--- ---- lists of stores
-pub take-all : {A : Type 0} (j : ℕ) (xs : List A) → length xs ≤ j → take j xs ≡ xs
-take-all zero [] h = refl
-take-all zero (x ∷ xs) h = absurd (omega arith)
-take-all (suc j) [] h = refl
-take-all (suc j) (x ∷ xs) h = ap (λ m. x ∷ m) (take-all j xs (omega arith))
-
-take-first : {A : Type 0} (j : ℕ) (xs ys : List A) → j ≤ length xs → take j (xs ++ ys) ≡ take j xs
-take-first zero xs ys h = refl
-take-first (suc j) [] ys h = absurd (omega arith)
-take-first (suc j) (x ∷ xs) ys h = ap (λ m. x ∷ m) (take-first j xs ys (omega arith))
 
 along-lawful : (g : Geometry) (n : ℕ) (P : List ℕ → Type 0) (img : List ℕ) (ss : List Store) (s : Store) → Along g n P img ss
     → Legal g n (applyAll g ss img) s → Lawful g n img (ss ++ (s ∷ []))
@@ -81,7 +70,7 @@ updated-kept g shape img ready old new ss m h u =
     (let z : suc m ≤ g .top + 1 = omega (arith, h) in z) in
     record {
       lawful = subst (Lawful g n img) (sym e) (along-lawful g n (Keeps g n old) img (u .init) (u .last) (u .along) (u .legal));
-      before = λ j q. let f : take j ss ≡ take j (u .init) = ap (take j) e ∙ take-first j (u .init) (u .last ∷ []) (omega (arith, q, len)) in
+      before = λ j q. let f : take j ss ≡ take j (u .init) = ap (take j) e ∙ take-append-le j (u .init) (u .last ∷ []) (omega (arith, q, len)) in
           keeps-holds g shape img ready old (applyAll g (take j ss) img) (length-all g (take j ss) img)
           (subst (λ (x : List Store). Keeps g n old (applyAll g x img)) (sym f) (along-take g n (Keeps g n old) img (u .init) j (u .along)));
       end = keeps-holds g shape img ready new (applyAll g ss img) (length-all g ss img) (u .end);

@@ -22,9 +22,9 @@ use Rattle.model.specs.Stores.{Store, program, erase, applyAll, programs, erase
 use Rattle.model.specs.Edit.{put}
 use Rattle.model.specs.Update.{isNone, rootNode, rootGains, fills, needs, tooHigh, insertStores, deleteStores, formatStores}
 use Rattle.model.specs.Calls.{Outcome, refused, made, answered, lookup, worn, roomless, freePages, insert, delete, format}
-use Rattle.trees.specs.Tests.{bit-le}
+use Rattle.counts.specs.Tally.{bit-most}
 use Rattle.trees.specs.Splits.{splits-le}
-use Rattle.images.specs.Stores.{block-in}
+use Rattle.chips.specs.Next.{block-in}
 use Rattle.images.specs.Held.{held-sound}
 use Rattle.images.specs.Lengths.{Blocks, good-blocks, blocks-same, length-same, length-all}
 use Rattle.updates.specs.Along.{Keeps}
@@ -164,7 +164,7 @@ module _ (g : Geometry) (shape : Shape g) (some-worn : 1 ≤ g .worn) (img : Lis
         let l = ap length root-is in
         let f : eqb (length (rootNode fresh) + bit (rootGains g fresh k)) (rootSlots g (suc (fresh .level))) ≡ false = ne-eqb
         (length (rootNode fresh) + bit (rootGains g fresh k)) (rootSlots g (suc (fresh .level)))
-        (λ z. let y = bit-le (rootGains g fresh k) in omega (arith, z, y, l, r, dd, ss)) in
+        (λ z. let y = bit-most (rootGains g fresh k) in omega (arith, z, y, l, r, dd, ss)) in
         let h : (ltb (suc (fresh .level)) (g .top) & eqb (length (rootNode fresh) + bit (rootGains g fresh k))
         (rootSlots g (suc (fresh .level)))) ≡ false = rw (lt-ltb (suc (fresh .level)) (g .top) (omega (arith, one, t)), f, and-true false) refl in
         let z = ap bit h in

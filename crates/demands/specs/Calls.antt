@@ -6,6 +6,7 @@ use mathlib.Core.Logic.{inl, inr}
 use Prim.Native.Nat.{ℕ, _<_, _≤_}
 use native.Mathlib.Omega.{arith}
 use lib.ListN.{length, take}
+use lib.Seq.{take-all}
 use lib.Dec.{leb}
 use borrow.Author.Tests.{ltb-false, leb-true, leb-false}
 use Rattle.geometry.specs.declared.Geometry.{Geometry}
@@ -17,7 +18,6 @@ use Rattle.model.specs.Stores.{Store, applyAll}
 use Rattle.model.specs.Update.{isNone, needs, tooHigh, insertStores, deleteStores}
 use Rattle.model.specs.Calls.{Outcome, refused, made, judged, worn, roomless, freePages, insertRest, insert, deleteRest, delete}
 use Rattle.demands.specs.Words.{Ready, Began}
-use Rattle.demands.specs.Bridges.{take-all}
 
 pub judged-ready : (g : Geometry) (img : List ℕ) (rest : Outcome) → Ready g img → judged g img rest ≡ rest
 unfolding judged

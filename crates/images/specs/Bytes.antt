@@ -15,7 +15,7 @@ use Rattle.geometry.specs.Tests.{and-left, and-right, and-both}
 use Rattle.model.specs.Bytes.{byteAt, u32At, blank, entriesAt}
 use Rattle.model.specs.Page.{putU32, putEntry, putEntries}
 use Rattle.model.specs.Stores.{written}
-use Rattle.trees.specs.Tests.{by-eq}
+use Rattle.lists.specs.Written.{written-before, written-after}
 use Rattle.trees.specs.Lists.{All}
 
 -- ---- the n bytes of b from q on are those of a from p on: what is read there is alike
@@ -69,26 +69,12 @@ blank-get img (suc n) at zero e h = rw add-zero (eqb-true (byteAt img at) 255 (a
 blank-get img (suc n) at (suc k) e h = let f : at + suc k ≡ at + 1 + k = omega arith in rw f
     (blank-get img n (at + 1) k (and-right _ _ e) (omega arith))
 
-pub length-written : (l : List ℕ) (at : ℕ) (f : ℕ → ℕ) (n : ℕ) → length (written l at f n) ≡ length l
-unfolding written
-length-written l at f zero = refl
-length-written l at f (suc n) = length-set (written l at f n) (at + n) (f n) ∙ length-written l at f n
-
 abbrev pub Off : ℕ → ℕ → ℕ → Type 0
 Off i at n = (i < at) ⊎ (at + n ≤ i)
 
 pub written-off : (l : List ℕ) (at : ℕ) (f : ℕ → ℕ) (n i : ℕ) → Off i at n → byteAt (written l at f n) i ≡ byteAt l i
-unfolding written
-written-off l at f zero i h = refl
-written-off l at f (suc n) i (inl h) = getD-set-other (written l at f n) (at + n) i (f n) 0 (omega arith) ∙ written-off l at f n i (inl h)
-written-off l at f (suc n) i (inr h) = getD-set-other (written l at f n) (at + n) i (f n) 0 (omega arith) ∙ written-off l at f n i (inr (omega arith))
-
-pub written-in : (l : List ℕ) (at : ℕ) (f : ℕ → ℕ) (n k : ℕ) → at + n ≤ length l → k < n → byteAt (written l at f n) (at + k) ≡ f k
-unfolding written
-written-in l at f zero k h q = absurd (omega arith)
-written-in l at f (suc n) k h q = by-eq k n
-    (λ e. rw e (getD-set-same (written l at f n) (at + n) (f n) 0 (omega (arith, length-written l at f n))))
-    (λ e. getD-set-other (written l at f n) (at + n) (at + k) (f n) 0 (omega arith) ∙ written-in l at f n k (omega arith) (omega arith))
+written-off l at f n i (inl h) = written-before l at f n i 0 h
+written-off l at f n i (inr h) = written-after l at f n i 0 h
 
 -- ---- a number of 32 bits
 -- four bytes set one after the other

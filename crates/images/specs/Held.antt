@@ -1,12 +1,12 @@
 -- The rules R1 to R6 of an image as statements, and that the verdict is those and R7, both ways. Assumes nothing.
-use mathlib.Core.Path.{_≡_, refl, sym, subst, _∙_}
+use mathlib.Core.Path.{_≡_, refl, ap, sym, subst, _∙_}
 use mathlib.Core.List.{List}
 use mathlib.Core.Bool.{Bool, true, false, not}
-use Prim.Native.Nat.{ℕ, zero, suc, _+_, _-_, _*_, _<_, _≤_}
+use Prim.Native.Nat.{ℕ, suc, _+_, _-_, _*_, _<_, _≤_}
 use native.Mathlib.Omega.{arith}
 use native.Mathlib.Nat.{mul-zero}
 use lib.Dec.{eqb, leb}
-use borrow.Author.Tests.{le-leb, eq-eqb, ne-eqb, leb-true}
+use borrow.Author.Tests.{not-false, le-leb, eq-eqb, ne-eqb, leb-true}
 use Rattle.geometry.specs.declared.Geometry.{Geometry}
 use Rattle.geometry.specs.declared.Finding.{Finding}
 use Rattle.geometry.specs.declared.Finding.the-variants.{Good, Bad}
@@ -16,21 +16,25 @@ use Rattle.geometry.specs.Tests.{pick, _&_, and-true, and-false, and-left, and-
 use Rattle.geometry.specs.Geometry.{pageBytes, pageBase, half, rootMost}
 use Rattle.geometry.specs.Shape.{Shape}
 use Rattle.model.specs.Bytes.{byteAt, u32At, blank, erased, seqAt, heightAt, tailAt}
-use Rattle.model.specs.Count.{least, any}
+use Rattle.model.specs.Count.{any}
 use Rattle.model.specs.Image.{pagesOf, seqOf, heightOf, rootScore, rootOf, chipOf}
 use Rattle.model.specs.Tree.{placesOf}
 use Rattle.model.specs.Rules.{lowest, wellFormed, r1, repeated, r3, r4, orElse, verdict}
-use Rattle.trees.specs.Tests.{by-eq, by-le, true-false, not-false, not-not}
+use Rattle.counts.specs.Least.{least-none, any-clear}
+use Rattle.counts.specs.Peak.{arg-less}
+use Rattle.counts.specs.Lowest.{lowest-good, good-lowest, good-unless}
+use Rattle.trees.specs.Tests.{by-eq, by-le, true-false}
 use Rattle.trees.specs.Lists.{all-map}
-use Rattle.trees.specs.Nodes.{fitOf}
+use Rattle.trees.specs.Nodes.{fitOf, fit-page}
 use Rattle.trees.specs.Proper.{root-fit}
-use Rattle.trees.specs.Judge.{bad-good, unless-good, good-unless, r5-rooted, rooted-r5, r6-tied, tied-r6}
+use Rattle.trees.specs.Judge.{unless-both, r5-rooted, rooted-r5, r6-tied, tied-r6}
 use Rattle.chips.specs.Whole.{some-page, Whole}
+use Rattle.chips.specs.Next.{block-in}
 use Rattle.chips.specs.Collect.{R7}
-use Rattle.chips.specs.Tests.{any-none, none-any, any-one, r2-holds, holds-r2, r7-holds, holds-r7}
-use Rattle.images.specs.Views.{arg-at, Views, rootAt, R1, R3, AllR1, R4, root-in}
+use Rattle.chips.specs.Tests.{any-one, r2-holds, holds-r2, r7-holds, holds-r7}
+use Rattle.images.specs.Views.{Views, rootAt, R1, R3, AllR1, R4, root-in}
 use Rattle.images.specs.Page.{nodeFrom, viewFrom, views}
-use Rattle.images.specs.Stores.{Image, block-in}
+use Rattle.images.specs.Stores.{Image}
 use Rattle.images.specs.Small.{Small}
 
 pub record Held (g : Geometry) (n : ℕ) (img : List ℕ) : Type 0 where
@@ -41,18 +45,9 @@ pub record Held (g : Geometry) (n : ℕ) (img : List ℕ) : Type 0 where
   pub r4 : R4 (pagesOf g n) (views g img)
   pub whole : Whole g n (chipOf g n img)
 
--- ---- a rule that looks for the lowest bad page
-lowest-none : (t : ℕ) (f : ℕ → Bool) → lowest t f ≡ Good → (p : ℕ) → p < t → f p ≡ false
-unfolding lowest
-lowest-none t f h = any-none t f (go (any t f) h)
-  where
-    go : (b : Bool) → pick b (Bad (least t f)) Good ≡ Good → b ≡ false
-    go true i = absurd (bad-good (least t f) i)
-    go false i = refl
-
+-- a rule that looks for the lowest bad page
 none-lowest : (t : ℕ) (f : ℕ → Bool) → ((p : ℕ) → p < t → f p ≡ false) → lowest t f ≡ Good
-unfolding lowest
-none-lowest t f h = rw (none-any t f h) refl
+none-lowest t f h = sym (lowest-good f t (least-none f t h))
 
 module _ (g : Geometry) (n : ℕ) (img : List ℕ) where
   abbrev t : ℕ
@@ -113,8 +108,8 @@ module _ (g : Geometry) (n : ℕ) (img : List ℕ) where
   unfolding repeated
   repeat p q w ep eq e =
       let f : ℕ → Bool = λ q. not (erased g img q) & eqb (seqAt g img q) (seqAt g img p) in
-      and-both _ _ (not-false (erased g img p) (sym (er-at p) ∙ ep))
-      (any-one p q f w (and-both _ _ (not-false (erased g img q) (sym (er-at q) ∙ eq)) (eq-eqb _ _ (sym (seq-at q eq) ∙ sym e ∙ seq-at p ep))))
+      and-both _ _ (ap not (sym (er-at p) ∙ ep))
+      (any-one p q f w (and-both _ _ (ap not (sym (er-at q) ∙ eq)) (eq-eqb _ _ (sym (seq-at q eq) ∙ sym e ∙ seq-at p ep))))
 
   differ : ((p : ℕ) → p < t → repeated (erased g img) (seqAt g img) p ≡ false) → R3 t v
   differ h = record {
@@ -135,7 +130,7 @@ module _ (g : Geometry) (n : ℕ) (img : List ℕ) where
 
       go : (b : Bool) → erased g img p ≡ b → (not b & any p (λ q. not (erased g img q) & eqb (seqAt g img q) (seqAt g img p))) ≡ false
       go true e = and-false _
-      go false e = and-true _ ∙ none-any p (λ q. not (erased g img q) & eqb (seqAt g img q) (seqAt g img p))
+      go false e = and-true _ ∙ any-clear (λ q. not (erased g img q) & eqb (seqAt g img q) (seqAt g img p)) p
           (λ q w. inner q w e (erased g img q) refl)
 
   -- ---- R4
@@ -153,7 +148,7 @@ module _ (g : Geometry) (n : ℕ) (img : List ℕ) where
 
   root-below : 1 ≤ t → rootOf g n img < t
   unfolding rootOf
-  root-below h = arg-at t (rootScore g img) h .inside
+  root-below h = arg-less (rootScore g img) t h
 
 -- ---- the verdict
 broken-sound : (r p : ℕ) → Broken r p ≡ Sound → ⊥
@@ -186,26 +181,22 @@ module _ (g : Geometry) (shape : Shape g) (n : ℕ) (img : List ℕ) where
       let k = or-sound _ _ _ (f .1) in
       let t = pagesOf g n in
       let chip = chipOf g n img in
-      let high = leb-true 1 (heightOf g img (rootOf g n img)) (unless-good _ _ _ (d .0) .0) in
+      let high = leb-true 1 (heightOf g img (rootOf g n img)) (good-unless _ _ _ (d .0) .0) in
       let pages : 1 ≤ t = let z = block-in (g .pages) 0 n pos in let w = some-page g shape in omega (arith, z, w, mul-zero (g .pages)) in
       let root = r5-rooted g shape t chip (root-below g n img pages, root-er g n img high) (e .0) in
       let fits = root-fit (fitOf t (chip .er)) (λ l. 2 * half g l) (rootMost g) (chip .nodes) (chip .level) (chip .root) 4294967296 root in
       let tied = r6-tied t chip (all-map (λ x. (1 ≤ x .level) × fitOf t (chip .er) (x .level) (x .page)) (λ x. x .page < t) (placesOf chip)
-      (λ x i. below (chip .er) t (x .level) (x .page) (i .0) (i .1)) fits) (f .0) in (
+      (λ x i. fit-page t (chip .er) (x .level) (x .page) (i .0) (i .1) .0) fits) (f .0) in (
         record {
           image = image;
           bytes = bytes;
-          r1 = λ p q. page-r1 g n img p (not-not (wellFormed g img p) (lowest-none t (λ p. not (wellFormed g img p)) (a .0) p q));
-          r3 = differ g n img (lowest-none t (repeated (erased g img) (seqAt g img)) (c .0));
+          r1 = λ p q. page-r1 g n img p (not-false (wellFormed g img p) (good-lowest (λ p. not (wellFormed g img p)) t (a .0) p q));
+          r3 = differ g n img (good-lowest (repeated (erased g img) (seqAt g img)) t (c .0));
           r4 = subst (λ m. 1 ≤ m) (sym (root-height g n img)) high;
           whole = record { r2 = r2-holds (g .pages) n (erased g img) (b .0); sound = record { rooted = root; tied = tied } };
         },
         r7-holds g n chip (k .0),
       )
-    where
-      below : (er : ℕ → Bool) (t l p : ℕ) → 1 ≤ l → fitOf t er l p → p < t
-      below er t zero p i f = absurd (omega arith)
-      below er t (suc l) p i f = f .0
 
   pub held-sound : Held g n img → R7 g n (chipOf g n img) → verdict g n img ≡ Sound
   unfolding verdict r1 r3 r4
@@ -215,7 +206,7 @@ module _ (g : Geometry) (shape : Shape g) (n : ℕ) (img : List ℕ) where
       sound-or _ _ _ (none-lowest t (λ p. not (wellFormed g img p)) (λ p q. rw (r1-page g n img p (h .r1 p q)) refl))
       (sound-or _ _ _ (holds-r2 (g .pages) n (erased g img) (h .whole .r2))
       (sound-or _ _ _ (none-lowest t (repeated (erased g img) (seqAt g img)) (no-repeat g n img (h .r3)))
-      (sound-or _ _ _ (good-unless _ _ _ (le-leb 1 (heightOf g img (rootOf g n img)) high) refl)
+      (sound-or _ _ _ (unless-both _ _ _ (le-leb 1 (heightOf g img (rootOf g n img)) high) refl)
       (sound-or _ _ _ (rooted-r5 g shape t (chipOf g n img) (h .whole .sound .rooted))
       (sound-or _ _ _ (tied-r6 t (chipOf g n img) (h .whole .sound .tied))
       (sound-or _ _ _ (holds-r7 g n (chipOf g n img) s) refl))))))

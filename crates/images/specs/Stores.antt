@@ -5,7 +5,7 @@ use mathlib.Core.Bool.{Bool, true, false}
 use mathlib.Core.Logic.{inl, inr}
 use Prim.Native.Nat.{ℕ, suc, _+_, _-_, _*_, _<_, _≤_}
 use native.Mathlib.Omega.{arith}
-use native.Mathlib.Nat.{zero-add, mul-suc, add-mul, mul-le-mul-left, mul-le-mul-right}
+use native.Mathlib.Nat.{zero-add, add-mul, mul-le-mul-right}
 use lib.ListN.{length}
 use lib.Dec.{eqb, ltb}
 use borrow.Author.Tests.{lt-ltb, le-leb, eq-eqb, ne-eqb, ltb-true, ltb-false}
@@ -18,9 +18,11 @@ use Rattle.model.specs.Bytes.{byteAt}
 use Rattle.model.specs.Image.{pagesOf, Chip, chipOf}
 use Rattle.model.specs.Page.{built}
 use Rattle.model.specs.Stores.{Store, program, erase, written, applyStore}
+use Rattle.lists.specs.Written.{length-written, written-inside}
 use Rattle.trees.specs.Tests.{by-eq, true-false}
+use Rattle.chips.specs.Next.{block-in}
 use Rattle.chips.specs.Erase.{inB, range, eraseBlock}
-use Rattle.images.specs.Bytes.{length-written, Off, written-off, written-in}
+use Rattle.images.specs.Bytes.{Off, written-off}
 use Rattle.images.specs.Views.{noView, topOf, rootAt, chip, laid, wipe, rooted, beside, chip-root, chip-beside, chip-wipe, R3, AllR1, r1-put, r1-wipe, r3-put, r3-wipe, R4, r4-root, r4-beside, r4-wipe, max-put, max-wipe}
 use Rattle.images.specs.Page.{viewFrom, views, view-chip, copy-view, view-erased, view-none, Parts, builtView, view-built}
 
@@ -40,9 +42,6 @@ base-add g p q = add-mul p q (pageBytes g)
 pub base-le : (g : Geometry) (p q : ℕ) → p ≤ q → pageBase g p ≤ pageBase g q
 unfolding pageBase
 base-le g p q h = mul-le-mul-right (pageBytes g) h
-
-pub block-in : (p b n : ℕ) → b < n → p * b + p ≤ p * n
-block-in p b n h = rw mul-suc at (mul-le-mul-left p h)
 
 -- pages do not overlap
 pub page-off : (g : Geometry) (p q k : ℕ) → (q ≡ p → ⊥) → k < pageBytes g → Off (pageBase g q + k) (pageBase g p) (pageBytes g)
@@ -71,7 +70,7 @@ module _ (g : Geometry) (shape : Shape g) (img : List ℕ) where
           (viewFrom g img (pageBase g q))
       at q = by-eq q p
           (λ e. rw (eq-eqb q p e, e) (copy-view g shape bs 0 (written img (pageBase g p) (byteAt bs) (pageBytes g)) (pageBase g p)
-          (λ k h. rw zero-add (written-in img (pageBase g p) (byteAt bs) (pageBytes g) k room h))))
+          (λ k h. rw zero-add (written-inside img (pageBase g p) (byteAt bs) (pageBytes g) k 0 room h))))
           (λ e. rw (ne-eqb q p e) (copy-view g shape img (pageBase g q) (written img (pageBase g p) (byteAt bs) (pageBytes g)) (pageBase g q)
           (λ k h. written-off img (pageBase g p) (byteAt bs) (pageBytes g) (pageBase g q + k) (page-off g p q k e h))))
 
@@ -89,7 +88,7 @@ module _ (g : Geometry) (shape : Shape g) (img : List ℕ) where
           (q - g .pages * b) in
           let w = base-apart g (q - g .pages * b) (g .pages) (omega (arith, r)) in
           let f : pageBase g q + k ≡ pageBase g (g .pages * b) + (pageBase g (q - g .pages * b) + k) = omega (arith, e) in
-          rw f (written-in img (pageBase g (g .pages * b)) (λ k. 255) (pageBase g (g .pages)) (pageBase g (q - g .pages * b) + k) room
+          rw f (written-inside img (pageBase g (g .pages * b)) (λ k. 255) (pageBase g (g .pages)) (pageBase g (q - g .pages * b) + k) 0 room
           (omega (arith, w, h)))
 
       outside : (q k : ℕ) → inB (g .pages) b q ≡ false → k < pageBytes g → Off (pageBase g q + k) (pageBase g (g .pages * b)) (pageBase g (g .pages))

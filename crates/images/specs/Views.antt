@@ -6,13 +6,15 @@ use mathlib.Core.Bool.{Bool, true, false}
 use Prim.Native.Nat.{ℕ, zero, suc, _-_, _<_, _≤_}
 use native.Mathlib.Omega.{arith}
 use lib.Dec.{eqb, leb, ltb}
-use borrow.Author.Tests.{le-leb, eq-eqb, ne-eqb, ltb-true, ltb-false, eqb-true}
+use borrow.Author.Tests.{le-leb, eq-eqb, ne-eqb, ltb-true, eqb-true}
 use Rattle.geometry.specs.declared.Geometry.{Geometry}
 use Rattle.geometry.specs.declared.Entry.{Entry}
 use Rattle.geometry.specs.Tests.{pick}
 use Rattle.model.specs.Count.{peak, arg}
 use Rattle.model.specs.Image.{Chip}
 use Rattle.model.specs.Next.{after}
+use Rattle.counts.specs.Least.{by-lt}
+use Rattle.counts.specs.Peak.{peak-at, arg-less}
 use Rattle.trees.specs.Tests.{by-eq, true-false}
 use Rattle.chips.specs.Erase.{inB, blankNode, eraseBlock}
 
@@ -32,55 +34,34 @@ unfolding peak
 peak-le zero f i h = absurd (omega arith)
 peak-le (suc n) f i h = by-eq i n (λ e. let q = ap f e in omega (arith, q)) (λ e. let q = peak-le n f i (omega arith) in omega (arith, q))
 
+-- the first place where the largest stands
 pub record Arg (n : ℕ) (f : ℕ → ℕ) (i : ℕ) : Type 0 where
   pub before : (j : ℕ) → j < i → f j < f i
   pub all : (j : ℕ) → j < n → f j ≤ f i
   pub inside : i < n
 
-pub arg-is : (n : ℕ) (f : ℕ → ℕ) → Arg (suc n) f (arg (suc n) f)
-unfolding arg
-arg-is zero f = go (ltb (f 0) (f 0))
-  where
-    here : Arg 1 f 0
-    here = record {
-      before = λ j h. absurd (omega arith);
-      all = λ j h. let e : j ≡ 0 = omega arith in let q = ap f e in omega (arith, q);
-      inside =
-          omega arith;
-    }
+arg-all : (n : ℕ) (f : ℕ → ℕ) (j : ℕ) → j < n → f j ≤ f (arg n f)
+arg-all n f j q = omega (arith, peak-le n f j q, peak-at f n (omega arith))
 
-    go : (t : Bool) → Arg 1 f (pick t 0 0)
-    go true = here
-    go false = here
-arg-is (suc n) f = go (arg (suc n) f) (arg-is n f) (ltb (f (arg (suc n) f)) (f (suc n))) refl
+arg-before : (n : ℕ) (f : ℕ → ℕ) (j : ℕ) → j < arg n f → f j < f (arg n f)
+unfolding arg
+arg-before zero f j h = absurd (omega arith)
+arg-before (suc n) f j h = go (ltb (f (arg n f)) (f n)) refl h (arg-before n f j)
   where
-    go : (a : ℕ) → Arg (suc n) f a → (t : Bool) → ltb (f a) (f (suc n)) ≡ t → Arg (suc (suc n)) f (pick t (suc n) a)
-    go a h true e = let w = ltb-true (f a) (f (suc n)) e in
-        record {
-          before = λ j q. let z = h .all j q in omega (arith, z, w);
-          all = λ j q. by-eq j (suc n) (λ d. let y = ap f d in omega (arith, y)) (λ d. let z = h .all j (omega arith) in omega (arith, z, w));
-          inside = omega arith;
-        }
-    go a h false e = let w = ltb-false (f a) (f (suc n)) e in
-        record {
-          before = h .before;
-          all = λ j q. by-eq j (suc n) (λ d. let y = ap f d in omega (arith, y, w)) (λ d. h .all j (omega arith));
-          inside = omega (arith, h .inside);
-        }
+    go : (t : Bool) → ltb (f (arg n f)) (f n) ≡ t → j < pick t n (arg n f) → (j < arg n f → f j < f (arg n f)) → f j < f (pick t n (arg n f))
+    go true e q ih = omega (arith, arg-all n f j q, ltb-true (f (arg n f)) (f n) e)
+    go false e q ih = ih q
 
 pub arg-at : (n : ℕ) (f : ℕ → ℕ) → 1 ≤ n → Arg n f (arg n f)
-arg-at zero f h = absurd (omega arith)
-arg-at (suc n) f h = arg-is n f
+arg-at n f h = record { before = arg-before n f; all = arg-all n f; inside = arg-less f n h }
 
-pub arg-unique : (n : ℕ) (f : ℕ → ℕ) (i j : ℕ) → Arg n f i → Arg n f j → i ≡ j
-arg-unique n f i j a b = by-eq i j (λ e. e) (λ e. absurd (go (ltb i j) refl e))
-  where
-    go : (t : Bool) → ltb i j ≡ t → (i ≡ j → ⊥) → ⊥
-    go true e d = let x = b .before i (ltb-true i j e) in let y = a .all j (b .inside) in omega (arith, x, y)
-    go false e d = let w = ltb-false i j e in let x = a .before j (omega (arith, w, d)) in let y = b .all i (a .inside) in omega (arith, x, y)
+arg-unique : (n : ℕ) (f : ℕ → ℕ) (i j : ℕ) → Arg n f i → Arg n f j → i ≡ j
+arg-unique n f i j a b = by-lt i j
+    (λ e. absurd (omega (arith, b .before i e, a .all j (b .inside))))
+    (λ e. by-lt j i (λ d. absurd (omega (arith, a .before j d, b .all i (a .inside)))) (λ d. omega arith))
 
 -- a strictly largest one is found
-pub arg-new : (n : ℕ) (f : ℕ → ℕ) (i : ℕ) → i < n → ((j : ℕ) → j < n → (j ≡ i → ⊥) → f j < f i) → arg n f ≡ i
+arg-new : (n : ℕ) (f : ℕ → ℕ) (i : ℕ) → i < n → ((j : ℕ) → j < n → (j ≡ i → ⊥) → f j < f i) → arg n f ≡ i
 arg-new n f i h s = arg-unique n f (arg n f) i (arg-at n f (omega arith)) (record {
   before = λ j q. s j (omega arith) (λ e. omega (arith, e));
   all = λ j q. by-eq j i (λ e. let y = ap f e in omega (arith, y)) (λ e. let z = s j q e in omega (arith, z));
@@ -88,8 +69,8 @@ arg-new n f i h s = arg-unique n f (arg n f) i (arg-at n f (omega arith)) (recor
 })
 
 -- lowering others leaves it
-pub arg-less : (n : ℕ) (f h : ℕ → ℕ) → 1 ≤ n → ((j : ℕ) → h j ≤ f j) → h (arg n f) ≡ f (arg n f) → arg n h ≡ arg n f
-arg-less n f h p le e = let a = arg-at n f p in arg-unique n h (arg n h) (arg n f) (arg-at n h p) (record {
+arg-lower : (n : ℕ) (f h : ℕ → ℕ) → 1 ≤ n → ((j : ℕ) → h j ≤ f j) → h (arg n f) ≡ f (arg n f) → arg n h ≡ arg n f
+arg-lower n f h p le e = let a = arg-at n f p in arg-unique n h (arg n h) (arg n f) (arg-at n h p) (record {
   before = λ j q. let x = a .before j q in let y = le j in omega (arith, x, y, e);
   all = λ j q. let x = a .all j q in let y = le j in omega (arith, x, y, e);
   inside = a .inside;
@@ -198,7 +179,7 @@ module _ (g : Geometry) (t : ℕ) (v : Views) (p : ℕ) (w : View) (written : w 
 -- the erase of a block that the root is not in
 pub root-wipe : (t : ℕ) (g : Geometry) (b : ℕ) (v : Views) → 1 ≤ t → inB (g .pages) b (rootAt t v) ≡ false → rootAt t (wipe g b v) ≡ rootAt t v
 unfolding rootAt
-root-wipe t g b v h k = arg-less t (λ q. score (v q)) (λ q. score (wipe g b v q)) h (λ j. low j (inB (g .pages) b j))
+root-wipe t g b v h k = arg-lower t (λ q. score (v q)) (λ q. score (wipe g b v q)) h (λ j. low j (inB (g .pages) b j))
     (ap (λ s. score (pick s (noView g) (v (arg t (λ q. score (v q)))))) k)
   where
     low : (j : ℕ) (s : Bool) → score (pick s (noView g) (v j)) ≤ score (v j)
@@ -272,30 +253,6 @@ r3-wipe t g b v h = record { differ = λ p q hp hq ep eq e. go p q hp hq (inB (g
 -- R4: some page carries a root. Then the chosen one does
 abbrev pub R4 : ℕ → Views → Type 0
 R4 t v = 1 ≤ v (rootAt t v) .height
-
-pub r4-some : (top t : ℕ) (v : Views) (q : ℕ) → AllR1 top t v → q < t → v q .er ≡ false → 1 ≤ v q .height → R4 t v
-unfolding rootAt
-r4-some top t v q r h e k = go (v (arg t (λ q. score (v q))) .height) refl
-  where
-    a : Arg t (λ q. score (v q)) (arg t (λ q. score (v q)))
-    a = arg-at t (λ q. score (v q)) (omega arith)
-
-    go : (m : ℕ) → v (arg t (λ q. score (v q))) .height ≡ m → 1 ≤ m
-    go zero z = let x = a .all q h in let y = r q h .some e in absurd (omega (
-      arith,
-      x,
-      y,
-      score-root (v q) k,
-      score-none
-          (v (arg t (λ q. score (v q)))) z,
-    ))
-    go (suc m) z = omega arith
-
--- of the pages that carry a root, the root's number is the largest
-pub root-largest : (t : ℕ) (v : Views) (q : ℕ) → q < t → 1 ≤ v q .height → v q .seq ≤ v (rootAt t v) .seq
-unfolding rootAt
-root-largest t v q h k = let a = arg-at t (λ q. score (v q)) (omega arith) in let x = a .all q h in let y = score-le (v (arg t (λ q. score (v q)))) in
-    omega (arith, x, y, score-root (v q) k)
 
 pub root-in : (t : ℕ) (v : Views) → 1 ≤ t → rootAt t v < t
 unfolding rootAt

@@ -2,15 +2,13 @@
 -- What is held stays held. Assumes nothing.
 use mathlib.Core.Path.{_≡_, refl, ap, sym, subst, _∙_}
 use mathlib.Core.List.{List}
-use mathlib.Core.Bool.{Bool, true, false}
-use Prim.Native.Nat.{ℕ, zero, suc, _+_, _-_, _*_, _<_, _≤_}
+use mathlib.Core.Bool.{true, false}
+use Prim.Native.Nat.{ℕ, suc, _+_, _-_, _*_, _<_, _≤_}
 use native.Mathlib.Omega.{arith}
 use lib.ListN.{length}
-use lib.Dec.{eqb, ltb}
-use borrow.Author.Tests.{lt-ltb, eq-eqb, ne-eqb}
+use borrow.Author.Tests.{eq-eqb, ne-eqb}
 use Rattle.geometry.specs.declared.Geometry.{Geometry}
 use Rattle.geometry.specs.declared.Entry.{Entry}
-use Rattle.geometry.specs.Tests.{pick, bit}
 use Rattle.geometry.specs.Geometry.{pageBytes, half, rootMost}
 use Rattle.geometry.specs.Shape.{Shape}
 use Rattle.model.specs.Bytes.{u32At, erased}
@@ -23,9 +21,10 @@ use Rattle.model.specs.Stores.{Store, program, erase, applyStore}
 use Rattle.trees.specs.Tests.{by-test, true-false}
 use Rattle.trees.specs.Nodes.{fitOf}
 use Rattle.trees.specs.Frame.{pairs-same, sound-same}
-use Rattle.chips.specs.Count.{some-true, count-after}
-use Rattle.chips.specs.Next.{in-range, by-block, next-erased, r2-next}
+use Rattle.chips.specs.Count.{count-gone}
+use Rattle.chips.specs.Next.{next-found, next-in, r2-next}
 use Rattle.chips.specs.Whole.{some-page, Whole}
+use Rattle.chips.specs.Pages.{fit-after}
 use Rattle.chips.specs.Erase.{inB, range, eraseBlock}
 use Rattle.images.specs.Views.{View, peak-le, Views, topOf, rootAt, laid, rooted, beside, R3, AllR1, max-put}
 use Rattle.images.specs.Page.{views, view-chip, view-max, Parts, builtView, length-built, built-seq}
@@ -66,28 +65,16 @@ module _ (g : Geometry) (shape : Shape g) (n : ℕ) (img : List ℕ) (held : Hel
     N = nextPage (g .pages) n (c .er)
 
     found : (nextBlock (g .pages) n (c .er) < n) × (firstIn (g .pages) (c .er) (nextBlock (g .pages) n (c .er)) < g .pages) × (c .er N ≡ true)
-    found =
-        let f = some-true t (c .er) free in
-        let w = by-block (g .pages) n (f .0) (f .1) in
-        next-erased (g .pages) n (c .er) (some-page g shape) (held .whole .r2) (w .0) (w .1) (w .2) (w .3) (rw (← (w .4)) (f .2))
+    found = next-found (g .pages) n (c .er) (some-page g shape) (held .whole .r2) free
 
-    pub next-in : N < t
-    next-in = in-range (g .pages) n (nextBlock (g .pages) n (c .er)) (firstIn (g .pages) (c .er) (nextBlock (g .pages) n (c .er))) (found .0)
-        (found .1)
+    N-in : N < t
+    N-in = next-in (g .pages) n (c .er) (some-page g shape) (held .whole .r2) free
 
     pub next-free : c .er N ≡ true
     next-free = found .2
 
     view-free : views g img N .er ≡ true
     view-free = er-at g n img N ∙ next-free
-
-    keep-next : (l b : ℕ) → fitOf t (c .er) l b → fitOf t (after N (c .er)) l b
-    keep-next zero b h = tt
-    keep-next (suc l) b h = (h .0, go (eqb b N))
-      where
-        go : (u : Bool) → pick u false (c .er b) ≡ false
-        go true = refl
-        go false = h .1
 
     module _ (parts : ℕ → List Entry) (ok : Parts g parts) (low : suc (maxSeq g n img) < 4294967295) (h : ℕ) (high : h ≤ g .top) where
       abbrev next : List ℕ
@@ -103,7 +90,7 @@ module _ (g : Geometry) (shape : Shape g) (n : ℕ) (img : List ℕ) (held : Hel
       unfolding Legal nextStore
       put-legal = (
         refl,
-        next-in,
+        N-in,
         next-free,
         length-built g shape parts (suc (maxSeq g n img)) h,
         built-seq g shape parts ok
@@ -112,8 +99,8 @@ module _ (g : Geometry) (shape : Shape g) (n : ℕ) (img : List ℕ) (held : Hel
 
       pub put-max : maxSeq g n next ≡ suc (maxSeq g n img)
       unfolding nextStore
-      put-max = sym (view-max g n next) ∙ ap (topOf t) (views-built g shape img n (held .image) N next-in (suc (maxSeq g n img)) h parts ok low h-low)
-          ∙ max-new t (views g img) N (builtView g (suc (maxSeq g n img)) h parts) next-in seq-is ∙ sym seq-is
+      put-max = sym (view-max g n next) ∙ ap (topOf t) (views-built g shape img n (held .image) N N-in (suc (maxSeq g n img)) h parts ok low h-low)
+          ∙ max-new t (views g img) N (builtView g (suc (maxSeq g n img)) h parts) N-in seq-is ∙ sym seq-is
 
       put-image : Image g n next
       put-image = length-store g (nextStore g n h parts img) img ∙ held .image
@@ -124,17 +111,17 @@ module _ (g : Geometry) (shape : Shape g) (n : ℕ) (img : List ℕ) (held : Hel
 
       put-r1 : AllR1 (g .top) t (views g next)
       unfolding nextStore
-      put-r1 = program-r1 g shape img n (held .image) N next-in (suc (maxSeq g n img)) h parts ok low h-low high (omega arith) (held .r1)
+      put-r1 = program-r1 g shape img n (held .image) N N-in (suc (maxSeq g n img)) h parts ok low h-low high (omega arith) (held .r1)
 
       put-r3 : R3 t (views g next)
       unfolding nextStore
-      put-r3 = program-r3 g shape img n (held .image) N next-in (suc (maxSeq g n img)) h parts ok low h-low seq-is (held .r3)
+      put-r3 = program-r3 g shape img n (held .image) N N-in (suc (maxSeq g n img)) h parts ok low h-low seq-is (held .r3)
 
       -- with a root: what is to be shown is that the abstract chip is whole
       module _ (some-h : 1 ≤ h) where
         pub root-chip : chipOf g n next ≡ rooted c N (builtView g (suc (maxSeq g n img)) h parts)
         unfolding nextStore
-        root-chip = program-root g shape img n (held .image) N next-in (suc (maxSeq g n img)) h parts ok low h-low some-h seq-is
+        root-chip = program-root g shape img n (held .image) N N-in (suc (maxSeq g n img)) h parts ok low h-low some-h seq-is
 
         pub root-held : Whole g n (rooted c N (builtView g (suc (maxSeq g n img)) h parts)) → Held g n next
         unfolding nextStore
@@ -143,14 +130,13 @@ module _ (g : Geometry) (shape : Shape g) (n : ℕ) (img : List ℕ) (held : Hel
           bytes = put-small;
           r1 = put-r1;
           r3 = put-r3;
-          r4 = program-r4 g shape img n (held .image) N next-in (suc (maxSeq g n img)) h parts ok low h-low some-h seq-is;
+          r4 = program-r4 g shape img n (held .image) N N-in (suc (maxSeq g n img)) h parts ok low h-low some-h seq-is;
           whole = subst (Whole g n) (sym root-chip) w;
         }
 
         pub root-frees : count t (c .er) ≡ suc (count t (chipOf g n next .er))
         unfolding rooted
-        root-frees = let u : bit (ltb N t) ≡ 1 = rw (lt-ltb N t next-in) refl in let e = ap (λ (x : Chip). count t (x .er)) root-chip in
-            omega (arith, count-after t N (c .er) next-free, u, e)
+        root-frees = let e = ap (λ (x : Chip). count t (x .er)) root-chip in omega (arith, count-gone t N (c .er) N-in next-free, e)
 
       -- without: all is as before, whatever the page holds
       module _ (no-h : h ≡ 0) where
@@ -159,7 +145,7 @@ module _ (g : Geometry) (shape : Shape g) (n : ℕ) (img : List ℕ) (held : Hel
 
         pub side-chip : chipOf g n next ≡ beside c N w
         unfolding nextStore
-        side-chip = program-beside g shape img n (held .image) N next-in (suc (maxSeq g n img)) h parts ok low h-low no-h view-free
+        side-chip = program-beside g shape img n (held .image) N N-in (suc (maxSeq g n img)) h parts ok low h-low no-h view-free
 
         stays : (q l : ℕ) → fitOf t (c .er) (suc l) q → beside c N w .nodes q (suc l) ≡ c .nodes q (suc l)
         unfolding beside
@@ -170,7 +156,7 @@ module _ (g : Geometry) (shape : Shape g) (n : ℕ) (img : List ℕ) (held : Hel
         side-whole = record {
           r2 = r2-next (g .pages) n (c .er) (some-page g shape) (held .whole .r2) (found .0) (found .1);
           sound = sound-same 4294967296 (λ l. 2 * half g l) (rootMost g) (c .nodes) (beside c N w .nodes) (fitOf t (c .er))
-              (fitOf t (after N (c .er))) keep-next stays (c .level) (c .root) (held .whole .sound);
+              (fitOf t (after N (c .er))) (fit-after t N (c .er)) stays (c .level) (c .root) (held .whole .sound);
         }
 
         pub side-held : Held g n next
@@ -180,19 +166,18 @@ module _ (g : Geometry) (shape : Shape g) (n : ℕ) (img : List ℕ) (held : Hel
           bytes = put-small;
           r1 = put-r1;
           r3 = put-r3;
-          r4 = beside-r4 g shape img n (held .image) N next-in (suc (maxSeq g n img)) h parts ok low h-low no-h view-free (held .r4);
+          r4 = beside-r4 g shape img n (held .image) N N-in (suc (maxSeq g n img)) h parts ok low h-low no-h view-free (held .r4);
           whole = subst (Whole g n) (sym side-chip) side-whole;
         }
 
         pub side-map : mapOf (chipOf g n next) ≡ mapOf c
         unfolding beside
         side-map = ap mapOf side-chip ∙ pairs-same 4294967296 (λ l. 2 * half g l) (rootMost g) (c .nodes) (beside c N w .nodes) (fitOf t (c .er))
-            (fitOf t (after N (c .er))) keep-next stays (c .level) (c .root) (held .whole .sound .rooted)
+            (fitOf t (after N (c .er))) (fit-after t N (c .er)) stays (c .level) (c .root) (held .whole .sound .rooted)
 
         pub side-frees : count t (c .er) ≡ suc (count t (chipOf g n next .er))
         unfolding beside
-        side-frees = let u : bit (ltb N t) ≡ 1 = rw (lt-ltb N t next-in) refl in let e = ap (λ (x : Chip). count t (x .er)) side-chip in
-            omega (arith, count-after t N (c .er) next-free, u, e)
+        side-frees = let e = ap (λ (x : Chip). count t (x .er)) side-chip in omega (arith, count-gone t N (c .er) N-in next-free, e)
 
   -- ---- the erase of a block without live pages
   root-live : live (placesOf c) (c .root) ≡ true

@@ -1,6 +1,6 @@
 -- Delete: the map without K, and R5 of what is left, the root's collapse too. Assumes nothing.
 use mathlib.Core.Path.{_≡_, refl, ap, sym, _∙_}
-use mathlib.Core.List.{List, [], _∷_, _++_}
+use mathlib.Core.List.{List, [], _∷_, _++_, append-nil}
 use mathlib.Core.Bool.{Bool, true, false}
 use Prim.Native.Nat.{ℕ, zero, suc, _+_, _*_, _<_, _≤_}
 use native.Mathlib.Omega.{arith}
@@ -12,7 +12,7 @@ use Rattle.geometry.specs.Tests.{pick}
 use Rattle.model.specs.Image.{Nodes}
 use Rattle.model.specs.Tree.{gather, under, next, chosen}
 use Rattle.model.specs.Edit.{splice, remove, kept, Top, collapse}
-use Rattle.trees.specs.Lists.{All, In, Rises, append-nil, gather-eq, gather-one, rises-map, rises-all, split, splice-cong}
+use Rattle.trees.specs.Lists.{All, In, Rises, gather-eq, gather-one, rises-map, rises-all, split, splice-cong}
 use Rattle.trees.specs.Nodes.{Ok, ok-more, ok-same, under-same, the, Rooted}
 use Rattle.trees.specs.Edit.{Local, splice-op, splice-length, splice-rises, edit, atRoot, Made, Out, edit-list, edit-list-ok}
 

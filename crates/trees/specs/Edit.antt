@@ -17,17 +17,22 @@ pub record Local (k : ℕ) (op : List Entry → List Entry) : Type 0 where
   pub after : (lo : ℕ) (xs ys : List Entry) → All (In lo k) xs → op (xs ++ ys) ≡ xs ++ op ys
   pub before : (lo hi : ℕ) (ys zs : List Entry) → k < lo → All (In lo hi) zs → op (ys ++ zs) ≡ op ys ++ zs
 
-module _ (k : ℕ) (op : List Entry → List Entry) (loc : Local k op) (P : ℕ → Entry → Type 0) (d d′ f : Entry → List Entry)
-    (range : (y : ℕ) (x : Entry) → x .key < y → P y x → All (In (x .key) y) (d x)) (same : (y : ℕ) (x : Entry) → P y x → d′ x ≡ d x) where
-  ranges : (hi : ℕ) (es : List Entry) → Rises P hi es → Rises (λ y x. All (In (x .key) y) (d x)) hi es
-  ranges hi es h = rises-map P (λ y x. All (In (x .key) y) (d x)) hi es (λ y x q _ i. range y x q i) h
+-- what is joined keeps the bounds of its parts
+module _ (k : ℕ) (P : ℕ → Entry → Type 0) (d : Entry → List Entry)
+    (range : (y : ℕ) (x : Entry) → x .key < y → P y x → All (In (x .key) y) (d x)) where
+  -- from lo on
+  pub rises-in : (lo hi : ℕ) (es : List Entry) → lo ≤ next es hi → Rises P hi es → All (In lo hi) (gather d es)
+  rises-in lo hi es q h = gather-in d lo hi es q (rises-map P (λ y x. All (In (x .key) y) (d x)) hi es (λ y x q _ i. range y x q i) h)
 
-  pre-in : (z : ℕ) (pre : List Entry) → ((0 < length pre) → z ≤ k) → Rises P z pre → All (In 0 k) (gather d pre)
+  -- below k, of the entries before the chosen one
+  pub pre-in : (z : ℕ) (pre : List Entry) → ((0 < length pre) → z ≤ k) → Rises P z pre → All (In 0 k) (gather d pre)
   unfolding gather
   pre-in z [] u h = tt
   pre-in z (e ∷ pre) u h = let b = u (omega arith) in all-map (In 0 z) (In 0 k) (gather d (e ∷ pre)) (λ x i. omega (arith, i, b))
-      (gather-in d 0 z (e ∷ pre) (omega arith) (ranges z (e ∷ pre) h))
+      (rises-in 0 z (e ∷ pre) (omega arith) h)
 
+module _ (k : ℕ) (op : List Entry → List Entry) (loc : Local k op) (P : ℕ → Entry → Type 0) (d d′ f : Entry → List Entry)
+    (range : (y : ℕ) (x : Entry) → x .key < y → P y x → All (In (x .key) y) (d x)) (same : (y : ℕ) (x : Entry) → P y x → d′ x ≡ d x) where
   sames : (hi : ℕ) (es : List Entry) → Rises P hi es → gather d′ es ≡ gather d es
   sames hi es h = gather-eq d d′ es (rises-all P (λ x. d′ x ≡ d x) hi es (λ y x _ _ i. same y x i) h)
 
@@ -53,9 +58,9 @@ module _ (k : ℕ) (op : List Entry → List Entry) (loc : Local k op) (P : ℕ 
           let r1 : gather d es ≡ gather d (s .pre) ++ (d x ++ gather d (s .post)) = ap (gather d) (s .whole) ∙ gather-append d (s .pre)
           (x ∷ s .post) in
           let r2 : op (gather d (s .pre) ++ (d x ++ gather d (s .post))) ≡ gather d (s .pre) ++ op (d x ++ gather d (s .post)) = loc .after 0
-          (gather d (s .pre)) (d x ++ gather d (s .post)) (pre-in (x .key) (s .pre) (s .upto) (s .before)) in
+          (gather d (s .pre)) (d x ++ gather d (s .post)) (pre-in k P d range (x .key) (s .pre) (s .upto) (s .before)) in
           let r3 : op (d x ++ gather d (s .post)) ≡ op (d x) ++ gather d (s .post) = loc .before (next (s .post) hi) hi (d x) (gather d (s .post))
-          (s .under) (gather-in d (next (s .post) hi) hi (s .post) (omega arith) (ranges hi (s .post) (s .rest))) in
+          (s .under) (rises-in k P d range (next (s .post) hi) hi (s .post) (omega arith) (s .rest)) in
           l1 ∙ sym (ap op r1 ∙ r2 ∙ ap (λ m. gather d (s .pre) ++ m) r3)
 
 pub splice-length : (P : ℕ → Entry → Type 0) (f : Entry → List Entry) (k hi : ℕ) (es : List Entry) → 0 < length es → k < hi → Rises P hi es

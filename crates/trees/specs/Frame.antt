@@ -1,13 +1,13 @@
 -- A tree whose pages keep their content: what stays. Assumes nothing.
 use mathlib.Core.Path.{_≡_, ap, sym, subst}
 use mathlib.Core.List.{List, _∷_}
-use Prim.Native.Nat.{ℕ, zero, suc, _<_, _≤_}
+use Prim.Native.Nat.{ℕ, suc, _<_, _≤_}
 use native.Mathlib.Omega.{arith}
 use Rattle.geometry.specs.declared.Entry.{Entry}
 use Rattle.model.specs.Image.{Nodes}
 use Rattle.model.specs.Tree.{gather, under, Place, places}
 use Rattle.trees.specs.Lists.{All, Rises, Some, all-map, all-both, gather-eq, rises-map, rises-all}
-use Rattle.trees.specs.Nodes.{Ok, ok-same, under-same, places-same, the, Rooted}
+use Rattle.trees.specs.Nodes.{Ok, node-same, ok-same, under-same, places-same, the, Rooted}
 use Rattle.trees.specs.Tied.{Tied}
 use Rattle.trees.specs.Proper.{Proper, root-fit}
 
@@ -36,15 +36,11 @@ module _ (top : ℕ) (room most : ℕ → ℕ) (r s : Nodes) (fit fit′ : ℕ �
   root-places-same h = rw (same p l (h .fits)) (ap (λ m. record { page = p; level = suc l } ∷ m)
       (list-same Place (places r l) (places s l) (r p (suc l)) (h .rises) (places-same fit room fit′ r s keep same l)))
 
-  node-same : (q j : ℕ) → 1 ≤ j → fit j q → s q j ≡ r q j
-  node-same q zero b f = absurd (omega arith)
-  node-same q (suc j) b f = same q j f
-
   tied-same : (spots : List Place) → All (λ x. (1 ≤ x .level) × fit (x .level) (x .page)) spots → Tied r spots → Tied s spots
   tied-same spots f t = all-map (λ x. ((1 ≤ x .level) × fit (x .level) (x .page)) × All
       (λ y. x .page ≡ y .page → y .level < x .level → Some (λ e. e .addr ≡ x .page) (r (x .page) (x .level))) spots)
       (λ x. All (λ y. x .page ≡ y .page → y .level < x .level → Some (λ e. e .addr ≡ x .page) (s (x .page) (x .level))) spots) spots
-      (λ x h. rw (node-same (x .page) (x .level) (h .0 .0) (h .0 .1)) (h .1))
+      (λ x h. rw (node-same fit r s same (x .page) (x .level) (h .0 .0) (h .0 .1)) (h .1))
       (all-both (λ x. (1 ≤ x .level) × fit (x .level) (x .page)) (λ x. All (λ y. x .page ≡ y .page → y .level < x .level → Some
       (λ e. e .addr ≡ x .page) (r (x .page) (x .level))) spots) spots f t)
 

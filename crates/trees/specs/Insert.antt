@@ -1,6 +1,6 @@
 -- Insert: the map with K put in, and R5 of the new nodes, whether the root stays or grows. Assumes nothing.
 use mathlib.Core.Path.{_≡_, refl, ap, sym, _∙_}
-use mathlib.Core.List.{List, [], _∷_, _++_}
+use mathlib.Core.List.{List, [], _∷_, _++_, append-nil}
 use mathlib.Core.Bool.{Bool, true, false}
 use Prim.Native.Nat.{ℕ, zero, suc, _+_, _*_, _<_, _≤_, min}
 use native.Mathlib.Omega.{arith}
@@ -12,7 +12,7 @@ use Rattle.geometry.specs.Tests.{pick}
 use Rattle.model.specs.Image.{Nodes}
 use Rattle.model.specs.Tree.{gather, under, next, chosen}
 use Rattle.model.specs.Edit.{splice, put, turn, pathHalf, sideHalf, two, named, pathPart}
-use Rattle.trees.specs.Lists.{All, In, Rises, append-nil, gather-append, gather-one, next-append, rises-left, rises-right, next-le, rises-map}
+use Rattle.trees.specs.Lists.{All, In, Rises, gather-append, gather-one, next-append, rises-left, rises-right, next-le, rises-map}
 use Rattle.trees.specs.Nodes.{Ok, next-more, the, Rooted}
 use Rattle.trees.specs.Edit.{Local, splice-op, edit, atRoot, Made, Out, Changed, edit-list, edit-list-ok}
 

@@ -6,8 +6,8 @@ use mathlib.Core.Logic.{_⊎_, inl, inr}
 use Prim.Native.Nat.{ℕ, zero, suc, _*_, _<_, _≤_, min}
 use native.Mathlib.Omega.{arith}
 use lib.ListN.{length, take, drop, take-append-drop}
-use lib.Dec.{eqb, leb, ltb}
-use borrow.Author.Tests.{ltb-false, leb-true, leb-false, eqb-true, eqb-false}
+use lib.Dec.{leb}
+use borrow.Author.Tests.{leb-true, leb-false}
 use Rattle.geometry.specs.declared.Entry.{Entry}
 use Rattle.geometry.specs.Tests.{pick}
 use Rattle.model.specs.Image.{Nodes}
@@ -98,20 +98,6 @@ module _ (k n : ℕ) where
       go : (t : Bool) → Sits k (Names n) y (pick t (record { key = min (e .key) k; addr = n } ∷ []) (two k n (side l) (half l) (min (e .key) k) c))
       go true = inl (omega arith, d, refl)
       go false = two-sits (side l) (half l) (min (e .key) k) y c (omega arith) d
-
--- in a leaf the entry is k itself, so the path half is the one that holds k
-pub put-sits : (k a y : ℕ) (es : List Entry) → k < y → Rises (λ y x. Unit {0}) y es → Sits k (λ e. (e .key ≡ k) × (e .addr ≡ a)) y (put k a es)
-put-sits k a y [] q h = inl (omega arith, q, (refl, refl))
-put-sits k a y (e ∷ es) q h = go (ltb (e .key) k) (eqb (e .key) k) refl refl (put-sits k a y es q (h .2))
-  where
-    Zk : Entry → Type 0
-    Zk e = (e .key ≡ k) × (e .addr ≡ a)
-
-    go : (t u : Bool) → ltb (e .key) k ≡ t → eqb (e .key) k ≡ u → Sits k Zk y (put k a es)
-        → Sits k Zk y (pick t (e ∷ put k a es) (record { key = k; addr = a } ∷ pick u es (e ∷ es)))
-    go true u c d i = inr i
-    go false true c d i = inl (omega arith, (let z = eqb-true (e .key) k d in omega (arith, h .0, z)), (refl, refl))
-    go false false c d i = inl (omega arith, (let z = eqb-false (e .key) k d in let w = ltb-false (e .key) k c in omega arith), (refl, refl))
 
 module _ (k a n top : ℕ) (side half most : ℕ → ℕ) (r s : Nodes) (fit fit′ : ℕ → ℕ → Type 0) (Cut : ℕ → Type 0) (fit-n : (l : ℕ) → fit′ (suc l) n)
     (fit-a : fit′ 0 a)

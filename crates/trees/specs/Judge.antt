@@ -1,5 +1,5 @@
 -- R5 and R6 as tests are R5 and R6 as statements, both ways. Assumes nothing.
-use mathlib.Core.Path.{_≡_, refl, sym, subst}
+use mathlib.Core.Path.{_≡_, refl, ap, sym, _∙_}
 use mathlib.Core.List.{List, [], _∷_}
 use mathlib.Core.Bool.{Bool, true, false, not}
 use mathlib.Core.Logic.{inl, inr}
@@ -7,7 +7,7 @@ use Prim.Native.Nat.{ℕ, zero, suc, _+_, _*_, _<_, _≤_}
 use native.Mathlib.Omega.{arith}
 use lib.ListN.{length}
 use lib.Dec.{eqb, leb, ltb}
-use borrow.Author.Tests.{lt-ltb, le-leb, eq-eqb, ne-eqb, ltb-true, ltb-false, leb-true, eqb-true, eqb-false}
+use borrow.Author.Tests.{not-true, not-false, lt-ltb, le-leb, eq-eqb, ne-eqb, ltb-true, ltb-false, leb-true, eqb-true, eqb-false}
 use Rattle.geometry.specs.declared.Geometry.{Geometry}
 use Rattle.geometry.specs.declared.Entry.{Entry}
 use Rattle.geometry.specs.declared.Finding.{Finding}
@@ -18,28 +18,16 @@ use Rattle.geometry.specs.Shape.{Shape}
 use Rattle.model.specs.Image.{Nodes, Chip}
 use Rattle.model.specs.Tree.{Place, placesOf, lowLevel, next}
 use Rattle.model.specs.Rules.{unless, first, names, rising, own, ownRoot, judgeEntries, judgeNode, r5, namesPage, loose, lowestPage, r6}
-use Rattle.trees.specs.Tests.{true-false, and-pick, not-true, not-false, not-not}
+use Rattle.counts.specs.Lowest.{bad-good, unless-true, good-unless}
+use Rattle.trees.specs.Tests.{true-false, and-pick}
 use Rattle.trees.specs.Lists.{All, Rises, Some, Mem, all-map, all-both, all-get, all-mem, next-le, rises-map}
 use Rattle.trees.specs.Nodes.{Ok, ok-fit, Rooted, fitOf}
 use Rattle.trees.specs.Tied.{Tied}
 use Rattle.trees.specs.Live.{mem-live, low-is}
 
 -- ---- findings
-pub bad-good : (p : ℕ) → Bad p ≡ Good → ⊥
-bad-good p h = subst Fine (sym h) tt
-  where
-    Fine : Finding → Type 0
-    Fine Good = Unit {0}
-    Fine (Bad p) = ⊥
-
-pub unless-good : (t : Bool) (p : ℕ) (v : Finding) → unless t p v ≡ Good → (t ≡ true) × (v ≡ Good)
-unfolding unless
-unless-good true p v h = (refl, h)
-unless-good false p v h = absurd (bad-good p h)
-
-pub good-unless : (t : Bool) (p : ℕ) (v : Finding) → t ≡ true → v ≡ Good → unless t p v ≡ Good
-unfolding unless
-good-unless t p v h i = rw (h, i) refl
+pub unless-both : (t : Bool) (p : ℕ) (v : Finding) → t ≡ true → v ≡ Good → unless t p v ≡ Good
+unless-both t p v h i = rw h (unless-true p v ∙ i)
 
 first-left : (v w : Finding) → first v w ≡ Good → v ≡ Good
 unfolding first
@@ -62,7 +50,7 @@ names-fit er t (suc l) a h =
 fit-names : (er : ℕ → Bool) (t l a : ℕ) → fitOf t er l a → names er t (suc l) a ≡ true
 unfolding names
 fit-names er t zero a h = rw (eq-eqb 1 1 refl) refl
-fit-names er t (suc l) a h = rw (ne-eqb (suc (suc l)) 1 (λ z. omega (arith, z))) (and-both _ _ (lt-ltb a t (h .0)) (not-false (er a) (h .1)))
+fit-names er t (suc l) a h = rw (ne-eqb (suc (suc l)) 1 (λ z. omega (arith, z))) (and-both _ _ (lt-ltb a t (h .0)) (ap not (h .1)))
 
 -- ---- keys that rise
 module _ (ok : ℕ → Bool) where
@@ -118,7 +106,7 @@ module _ (g : Geometry) (shape : Shape g) (er : ℕ → Bool) (r : Nodes) (t : �
   unfolding judgeNode own Ok
   entry-ok zero y x f h = tt
   entry-ok (suc l) y x f h =
-      let u = unless-good _ _ _ h in
+      let u = good-unless _ _ _ h in
       let es = r (x .addr) (suc l) in
       let a = and-left _ _ (u .0) in
       let one = leb-true 1 (length es) (and-left _ _ a) in
@@ -142,7 +130,7 @@ module _ (g : Geometry) (shape : Shape g) (er : ℕ → Bool) (r : Nodes) (t : �
   ok-entry zero y x h = refl
   ok-entry (suc l) y x h =
       let es = r (x .addr) (suc l) in
-      good-unless _ _ _
+      unless-both _ _ _
       (and-both _ _ (and-both _ _ (le-leb 1 (length es) (h .1)) (le-leb (length es) (slotsOf g (suc l)) (omega (arith, h .2, shape .even (suc l)))))
       (up-rising (names er t (suc l)) es (x .key) y (may-all l y es (h .4)) (λ _. h .3)))
       (good-entries (judge l) es y (rises-map (Fine l) (λ y x. judge l (x .addr) (x .key) y ≡ Good) y es (λ y x _ _ i. ok-entry l y x i) (h .4)))
@@ -165,7 +153,7 @@ module _ (g : Geometry) (shape : Shape g) (t : ℕ) (c : Chip) where
   pub r5-rooted : fitOf t (c .er) (suc (c .level)) (c .root) → r5 g t c ≡ Good → Root
   unfolding r5 ownRoot
   r5-rooted f h =
-      let u = unless-good _ _ _ h in
+      let u = good-unless _ _ _ h in
       let l = c .level in
       let es = c .nodes (c .root) (suc l) in
       let a = and-left _ _ (u .0) in
@@ -185,7 +173,7 @@ module _ (g : Geometry) (shape : Shape g) (t : ℕ) (c : Chip) where
   rooted-r5 h =
       let l = c .level in
       let es = c .nodes (c .root) (suc l) in
-      good-unless _ _ _
+      unless-both _ _ _
       (and-both _ _ (and-both _ _ (of-least l (length es) (h .least)) (le-leb (length es) (rootMost g (suc l)) (h .atmost)))
       (up-rising (names (c .er) t (suc l)) es 0 4294967296 (may-all g shape (c .er) (c .nodes) t l 4294967296 es (h .rises)) (λ _. omega arith)))
       (good-entries (judgeNode g (c .er) (c .nodes) t l) es 4294967296
@@ -250,14 +238,14 @@ module _ (t : ℕ) (c : Chip) where
   strict x y m e b h =
       let w = low-is spots (x .page) (rw e (mem-live y spots m)) in
       let v = all-get (λ z. z .page ≡ x .page → lowLevel spots (x .page) ≤ z .level) y spots (w .1) m (sym e) in
-      names-some (x .page) (c .nodes (x .page) (x .level)) (not-not (namesPage (x .page) (c .nodes (x .page) (x .level)))
+      names-some (x .page) (c .nodes (x .page) (x .level)) (not-false (namesPage (x .page) (c .nodes (x .page) (x .level)))
       (rw (lt-ltb (lowLevel spots (x .page)) (x .level) (omega (arith, v, b)), and-true (not (namesPage (x .page) (c .nodes (x .page) (x .level)))))
       at h))
 
   pub r6-tied : All (λ x. x .page < t) spots → r6 t c ≡ Good → Tied (c .nodes) spots
   unfolding r6
   r6-tied in-t h =
-      let u = unless-good _ _ _ h in
+      let u = good-unless _ _ _ h in
       let a = none-lower (loose (c .nodes) spots) spots t (leb-true t (lowestPage (loose (c .nodes) spots) spots t) (u .0)) in
       all-map (λ x. (x .page < t → loose (c .nodes) spots x ≡ false) × (x .page < t))
       (λ x. All (λ y. x .page ≡ y .page → y .level < x .level → Some (λ e. e .addr ≡ x .page) (c .nodes (x .page) (x .level))) spots) spots
@@ -274,7 +262,7 @@ module _ (t : ℕ) (c : Chip) where
       × Mem x spots) (λ x. loose (c .nodes) spots x ≡ false) spots (λ x i. fast x (i .0) (i .1))
       (all-both (λ x. All (λ y. x .page ≡ y .page → y .level < x .level → Some (λ e. e .addr ≡ x .page) (c .nodes (x .page) (x .level))) spots)
       (λ x. Mem x spots) spots h (all-mem spots))) in
-      good-unless _ _ _ (rw z (le-leb t t (omega arith))) refl
+      unless-both _ _ _ (rw z (le-leb t t (omega arith))) refl
     where
       fast : (x : Place) → All (λ y. x .page ≡ y .page → y .level < x .level → Some (λ e. e .addr ≡ x .page) (c .nodes (x .page) (x .level))) spots
           → Mem x spots → loose (c .nodes) spots x ≡ false

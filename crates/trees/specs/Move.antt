@@ -1,6 +1,6 @@
 -- Move: the map stays, R5 stays, and the moved page has no live node left. Assumes nothing.
 use mathlib.Core.Path.{_≡_, refl, sym, subst, _∙_}
-use mathlib.Core.List.{List, [], _∷_}
+use mathlib.Core.List.{List, [], _∷_, append-nil}
 use mathlib.Core.Bool.{Bool, true, false}
 use mathlib.Core.Logic.{_⊎_, inl, inr}
 use Prim.Native.Nat.{ℕ, zero, suc, _+_, _*_, _<_, _≤_}
@@ -14,7 +14,7 @@ use Rattle.model.specs.Image.{Nodes}
 use Rattle.model.specs.Tree.{gather, under, Place, places, next, chosen}
 use Rattle.model.specs.Edit.{splice, renamed}
 use Rattle.trees.specs.Tests.{by-le}
-use Rattle.trees.specs.Lists.{All, Rises, Some, append-nil, all-append, all-map, all-both, gather-eq, gather-all, next-le, rises-all, rises-floor}
+use Rattle.trees.specs.Lists.{All, Rises, Some, all-append, all-map, all-both, gather-eq, gather-all, next-le, rises-all, rises-floor}
 use Rattle.trees.specs.Nodes.{Ok, next-more, places-fit, ok-same, under-same, places-same, the, Rooted}
 use Rattle.trees.specs.Edit.{Local, splice-some, edit, Made, Out, no-places, edit-list, edit-list-ok, edit-list-places}
 use Rattle.trees.specs.Insert.{first-below}
@@ -204,17 +204,10 @@ module _ (p a n top : ℕ) (half most : ℕ → ℕ) (r s : Nodes) (fit fit′ :
   abbrev moves′ : ℕ → Entry → List Entry
   moves′ = moved r first a n
 
-  off-where : (l y : ℕ) (e : Entry) → e .key < y → Ok tie roomAt″ r l y e → ((y ≤ first) ⊎ (first < e .key)) → All MoveWhere (places r l e)
-  off-where l y e b h o = all-map (λ x. (x .page ≡ p → ⊥) × ((1 ≤ x .level) × tie (x .level) (x .page))) MoveWhere (places r l e)
+  old-where : (l y : ℕ) (e : Entry) → Ok tie roomAt″ r l y e → All (λ x. x .page ≡ p → ⊥) (places r l e) → All MoveWhere (places r l e)
+  old-where l y e h d = all-map (λ x. (x .page ≡ p → ⊥) × ((1 ≤ x .level) × tie (x .level) (x .page))) MoveWhere (places r l e)
       (λ x i. inr (i .0, i .1 .0, i .1 .1 .0))
-      (all-both (λ x. x .page ≡ p → ⊥) (λ x. (1 ≤ x .level) × tie (x .level) (x .page)) (places r l e) (off-path p a half r fit a-pos l y e b h o)
-      (places-fit tie roomAt″ r l y e h))
-
-  below-where : (l y : ℕ) (e : Entry) → l < a → Ok tie roomAt″ r l y e → All MoveWhere (places r l e)
-  below-where l y e b h = all-map (λ x. (x .page ≡ p → ⊥) × ((1 ≤ x .level) × tie (x .level) (x .page))) MoveWhere (places r l e)
-      (λ x i. inr (i .0, i .1 .0, i .1 .1 .0))
-      (all-both (λ x. x .page ≡ p → ⊥) (λ x. (1 ≤ x .level) × tie (x .level) (x .page)) (places r l e) (below p a half r fit a-pos l y e b h)
-      (places-fit tie roomAt″ r l y e h))
+      (all-both (λ x. x .page ≡ p → ⊥) (λ x. (1 ≤ x .level) × tie (x .level) (x .page)) (places r l e) d (places-fit tie roomAt″ r l y e h))
 
   -- above level a the moved lists name n
   names-new : (l hi : ℕ) (es : List Entry) → a ≤ l → 0 < length es → first < hi → Rises (Ok tie roomAt″ r l) hi es
@@ -244,7 +237,7 @@ module _ (p a n top : ℕ) (half most : ℕ → ℕ) (r s : Nodes) (fit fit′ :
             (gather (places s l) (s n (suc l))) [] (rw (m .0 i) w) tt,
       )
       go false d = all-append MoveWhere (places s (suc l) e) [] (subst (λ x. All MoveWhere x)
-          (sym (places-same tie roomAt″ fit′ r s keep same (suc l) y e h)) (below-where (suc l) y e (leb-false a (suc l) d) h)) tt
+          (sym (places-same tie roomAt″ fit′ r s keep same (suc l) y e h)) (old-where (suc l) y e h (below p a half r fit a-pos (suc l) y e (leb-false a (suc l) d) h))) tt
 
   pub moved-where : (l p₀ : ℕ) → Rooted tie roomAt″ most top r l p₀ → (0 < length (r p₀ (suc l)) → first < top) → a ≤ suc l
       → MoveMade r s first a n l (chosen first (r p₀ (suc l))) → s n (suc l) ≡ splice (moves′ l) first (r p₀ (suc l))
@@ -256,7 +249,8 @@ module _ (p a n top : ℕ) (half most : ℕ → ℕ) (r s : Nodes) (fit fit′ :
       let g = h .least (omega arith) in
       let z = q (omega arith) in (
         inl (where-new (suc l) top es b (omega arith) z (h .rises) e),
-        rw e (edit-list-places tie fit′ roomAt″ r s keep same first (λ e. e ∷ []) (renamed a n) (MoveHeld a n s) MoveWhere off-where name-where
+        rw e (edit-list-places tie fit′ roomAt″ r s keep same first (λ e. e ∷ []) (renamed a n) (MoveHeld a n s) MoveWhere
+            (λ l y e b h o. old-where l y e h (off-path p a half r fit a-pos l y e b h o)) name-where
             (suc l) top es (omega arith) z (h .rises) m),
       )
 

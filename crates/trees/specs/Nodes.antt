@@ -21,6 +21,12 @@ pub next-more : (hi hi′ : ℕ) (es : List Entry) → 1 ≤ length es → next 
 next-more hi hi′ [] n = absurd (omega arith)
 next-more hi hi′ (e ∷ es) n = refl
 
+-- a page that fits keeps its content
+pub node-same : (fit : ℕ → ℕ → Type 0) (r s : Nodes) → ((q l : ℕ) → fit (suc l) q → s q (suc l) ≡ r q (suc l)) → (q l : ℕ) → 1 ≤ l → fit l q
+    → s q l ≡ r q l
+node-same fit r s same q zero b h = absurd (omega arith)
+node-same fit r s same q (suc l) b h = same q l h
+
 module _ (fit : ℕ → ℕ → Type 0) (room : ℕ → ℕ) where
   pub ok-fit : (r : Nodes) (l hi : ℕ) (e : Entry) → Ok fit room r l hi e → fit l (e .addr)
   unfolding Ok
@@ -132,3 +138,7 @@ rooted-with fit room most top r Z l p z a h =
 abbrev pub fitOf : ℕ → (ℕ → Bool) → ℕ → ℕ → Type 0
 fitOf t er zero q = Unit {0}
 fitOf t er (suc l) q = (q < t) × (er q ≡ false)
+
+pub fit-page : (t : ℕ) (er : ℕ → Bool) (l q : ℕ) → 1 ≤ l → fitOf t er l q → (q < t) × (er q ≡ false)
+fit-page t er zero q b h = absurd (omega arith)
+fit-page t er (suc l) q b h = h

@@ -13,8 +13,9 @@ use Rattle.geometry.specs.Tests.{pick}
 use Rattle.model.specs.Image.{Nodes}
 use Rattle.model.specs.Tree.{gather, under, next, chosen, leaf, find}
 use Rattle.model.specs.Edit.{splice}
-use Rattle.trees.specs.Lists.{All, In, Rises, all-map, gather-append, gather-one, rises-append, next-le, rises-map, rises-more, gather-in, Split, split}
+use Rattle.trees.specs.Lists.{All, In, Rises, gather-append, gather-one, rises-append, next-le, rises-more, Split, split}
 use Rattle.trees.specs.Nodes.{Ok, under-in, the, Rooted}
+use Rattle.trees.specs.Edit.{rises-in, pre-in}
 
 find-after : (k lo : ℕ) (xs ys : List Entry) → All (In lo k) xs → find k (xs ++ ys) ≡ find k ys
 unfolding find
@@ -36,14 +37,8 @@ find-before k lo hi (e ∷ ys) zs q h = go (eqb (e .key) k) (find-before k lo hi
     go false i = i
 
 module _ (fit : ℕ → ℕ → Type 0) (room : ℕ → ℕ) (r : Nodes) (k : ℕ) where
-  ranges : (l hi : ℕ) (es : List Entry) → Rises (Ok fit room r l) hi es → Rises (λ y x. All (In (x .key) y) (under r l x)) hi es
-  ranges l hi es h = rises-map (Ok fit room r l) (λ y x. All (In (x .key) y) (under r l x)) hi es (λ y x q _ i. under-in fit room r l y x q i) h
-
-  pre-in : (l z : ℕ) (pre : List Entry) → ((0 < length pre) → z ≤ k) → Rises (Ok fit room r l) z pre → All (In 0 k) (gather (under r l) pre)
-  unfolding gather
-  pre-in l z [] u h = tt
-  pre-in l z (e ∷ pre) u h = let b = u (omega arith) in all-map (In 0 z) (In 0 k) (gather (under r l) (e ∷ pre)) (λ x i. omega (arith, i, b))
-      (gather-in (under r l) 0 z (e ∷ pre) (omega arith) (ranges l z (e ∷ pre) h))
+  keeps : (l y : ℕ) (x : Entry) → x .key < y → Ok fit room r l y x → All (In (x .key) y) (under r l x)
+  keeps l y x q i = under-in fit room r l y x q i
 
   pub find-list : (l hi : ℕ) (es : List Entry) → 0 < length es → k < hi → Rises (Ok fit room r l) hi es
       → find k (gather (under r l) es) ≡ find k (under r l (chosen k es))
@@ -55,9 +50,9 @@ module _ (fit : ℕ → ℕ → Type 0) (room : ℕ → ℕ) (r : Nodes) (k : �
           let x = chosen k es in
           ap (λ m. find k (gather (under r l) m)) (s .whole) ∙ ap (find k) (gather-append (under r l) (s .pre) (x ∷ s .post))
           ∙ find-after k 0 (gather (under r l) (s .pre)) (under r l x ++ gather (under r l) (s .post))
-          (pre-in l (x .key) (s .pre) (s .upto) (s .before))
+          (pre-in k (Ok fit room r l) (under r l) (keeps l) (x .key) (s .pre) (s .upto) (s .before))
           ∙ find-before k (next (s .post) hi) hi (under r l x) (gather (under r l) (s .post)) (s .under)
-          (gather-in (under r l) (next (s .post) hi) hi (s .post) (omega arith) (ranges l hi (s .post) (s .rest)))
+          (rises-in k (Ok fit room r l) (under r l) (keeps l) (next (s .post) hi) hi (s .post) (omega arith) (s .rest))
 
   -- joined lists that rise each in its range
   gather-rises : (l hi : ℕ) (es : List Entry) → Rises (Ok fit room r l) hi es
@@ -66,7 +61,7 @@ module _ (fit : ℕ → ℕ → Type 0) (room : ℕ → ℕ) (r : Nodes) (k : �
   unfolding gather
   gather-rises l hi [] h step = tt
   gather-rises l hi (e ∷ es) h step =
-      let a = gather-in (under r l) (next es hi) hi es (omega arith) (ranges l hi es (h .2)) in
+      let a = rises-in k (Ok fit room r l) (under r l) (keeps l) (next es hi) hi es (omega arith) (h .2) in
       rises-append (λ y x. Unit {0}) hi (under r l e) (gather (under r l) es)
       (raise (next es hi) (under r l e) (gather (under r l) es) (next-le (Ok fit room r l) hi es (h .2)) a (step (next es hi) e (h .0) (h .1)))
       (gather-rises l hi es (h .2) step)

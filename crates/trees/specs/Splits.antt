@@ -15,7 +15,8 @@ use Rattle.model.specs.Image.{Nodes}
 use Rattle.model.specs.Tree.{gather, under, next, chosen, find}
 use Rattle.model.specs.Edit.{splice, onPath, put, two, named, gains, splits}
 use Rattle.model.specs.Update.{isNone}
-use Rattle.trees.specs.Tests.{by-eq, bit-le, and-pick}
+use Rattle.counts.specs.Tally.{bit-most}
+use Rattle.trees.specs.Tests.{by-eq, and-pick}
 use Rattle.trees.specs.Lists.{Rises, gather-one, rises-map, Split, split}
 use Rattle.trees.specs.Nodes.{Ok}
 use Rattle.trees.specs.Edit.{splice-length, edit, atRoot}
@@ -70,7 +71,7 @@ module _ (k a n : ℕ) (side half : ℕ → ℕ) (r : Nodes) (fit : ℕ → ℕ 
       go true false v x y z = refl
       go false true true x y z = refl
       go false true false x y z = absurd (omega (arith, leb-false (length c) (2 * half l) x, eqb-true i (2 * half l) y, h, ap bit z))
-      go false false v x y z = absurd (omega (arith, leb-false (length c) (2 * half l) x, eqb-false i (2 * half l) y, h, bit-le b))
+      go false false v x y z = absurd (omega (arith, leb-false (length c) (2 * half l) x, eqb-false i (2 * half l) y, h, bit-most b))
 
   list-size : (l hi : ℕ) (es : List Entry) → 0 < length es → k < hi → Rises (Ok fit roomAt r l) hi es
       → isNone (find k (gather (under r l) es)) ≡ absent
@@ -142,7 +143,7 @@ module _ (k a n : ℕ) (side half : ℕ → ℕ) (r : Nodes) (fit : ℕ → ℕ 
   pub splits-le : (l : ℕ) (e : Entry) → splits r k half absent l e ≤ l
   unfolding splits
   splits-le zero e = omega arith
-  splits-le (suc l) e = omega (arith, splits-le l (chosen k (r (e .addr) (suc l))), bit-le (gain (suc l) e))
+  splits-le (suc l) e = omega (arith, splits-le l (chosen k (r (e .addr) (suc l))), bit-most (gain (suc l) e))
 
   abbrev lists : ℕ → Entry → ℕ → List Entry
   lists = onPath r k (put k a) (named k n side half)

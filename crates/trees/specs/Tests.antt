@@ -1,11 +1,11 @@
 -- Cases on numbers and tests. Assumes nothing.
-use mathlib.Core.Path.{_≡_, refl, ap, sym}
-use mathlib.Core.Bool.{Bool, true, false, not}
+use mathlib.Core.Path.{_≡_, refl, sym, _∙_}
+use mathlib.Core.Bool.{Bool, true, false, true≢false}
 use Prim.Native.Nat.{ℕ, _<_, _≤_}
-use native.Mathlib.Omega.{arith}
-use lib.Dec.{eqb, leb}
-use borrow.Author.Tests.{leb-true, leb-false, eqb-true, eqb-false}
-use Rattle.geometry.specs.Tests.{pick, _&_, bit}
+use lib.Dec.{eqb}
+use borrow.Author.Tests.{eqb-true, eqb-false}
+use Rattle.geometry.specs.Tests.{pick, _&_}
+use Rattle.counts.specs.Least.{by-lt}
 
 pub by-eq : {C : Type 0} (a b : ℕ) → (a ≡ b → C) → ((a ≡ b → ⊥) → C) → C
 by-eq {C} a b f g = go (eqb a b) refl
@@ -15,35 +15,16 @@ by-eq {C} a b f g = go (eqb a b) refl
     go false e = g (eqb-false a b e)
 
 pub by-le : {C : Type 0} (a b : ℕ) → (a ≤ b → C) → (b < a → C) → C
-by-le {C} a b f g = go (leb a b) refl
-  where
-    go : (t : Bool) → leb a b ≡ t → C
-    go true e = f (leb-true a b e)
-    go false e = g (leb-false a b e)
+by-le a b f g = by-lt b a g f
 
 pub by-test : {C : Type 0} (t : Bool) → (t ≡ true → C) → (t ≡ false → C) → C
 by-test true f g = f refl
 by-test false f g = g refl
 
 pub true-false : (t : Bool) → t ≡ true → t ≡ false → ⊥
-true-false t h i = omega (arith, ap bit h, ap bit i)
-
-pub bit-le : (b : Bool) → bit b ≤ 1
-bit-le true = omega arith
-bit-le false = omega arith
+true-false t h i = true≢false (sym h ∙ i)
 
 pub and-pick : (a b : Bool) → (a & b) ≡ pick a b false
 unfolding _&_
 and-pick true b = refl
 and-pick false b = refl
-
-pub not-true : (t : Bool) → not t ≡ true → t ≡ false
-not-true true h = sym h
-not-true false h = refl
-
-pub not-false : (t : Bool) → t ≡ false → not t ≡ true
-not-false t h = ap not h
-
-pub not-not : (t : Bool) → not t ≡ false → t ≡ true
-not-not true h = refl
-not-not false h = absurd (true-false true refl h)

@@ -7,6 +7,7 @@ use native.Mathlib.Omega.{arith}
 use Rattle.model.specs.Image.{Nodes}
 use Rattle.model.specs.Tree.{Place}
 use Rattle.trees.specs.Lists.{All, Some, Mem, all-map, all-both, all-get}
+use Rattle.trees.specs.Nodes.{node-same}
 use Rattle.trees.specs.Move.{Tie}
 
 -- R6: of two live nodes on one page the upper one has an entry that names the page
@@ -63,12 +64,8 @@ module _ (r s : Nodes) (spots : List Place) (t : Tied r spots) (fit : ℕ → �
   abbrev pub Live : Place → Type 0
   Live x = Mem x spots × fit (x .level) (x .page)
 
-  kept-node : (q z l : ℕ) → z < l → fit l q → s q l ≡ r q l
-  kept-node q z zero b h = absurd (omega arith)
-  kept-node q z (suc l) b h = same q l h
-
   pub live-tied : (x y : Place) → Live x → Live y → x .page ≡ y .page → y .level < x .level → Some (λ e. e .addr ≡ x .page) (s (x .page) (x .level))
-  live-tied x y h i e b = rw (kept-node (x .page) (y .level) (x .level) b (h .1))
+  live-tied x y h i e b = rw (node-same fit r s same (x .page) (x .level) (omega (arith, b)) (h .1))
       (all-get (λ y. x .page ≡ y .page → y .level < x .level → Some (λ e. e .addr ≡ x .page) (r (x .page) (x .level))) y spots
       (all-get (λ x. All (λ y. x .page ≡ y .page → y .level < x .level → Some (λ e. e .addr ≡ x .page) (r (x .page) (x .level))) spots) x spots t
       (h .0))

@@ -12,7 +12,8 @@ use Rattle.model.specs.Count.{count}
 use Rattle.model.specs.Image.{pagesOf, maxSeq, Chip, chipOf}
 use Rattle.model.specs.Tree.{mapOf}
 use Rattle.model.specs.Next.{nextPage}
-use Rattle.model.specs.Stores.{Store, program, erase, applyStore, applyAll, programs, erases}
+use Rattle.model.specs.Stores.{Store, applyStore, applyAll, programs, erases}
+use Rattle.stores.specs.Runs.{all-append, programs-append, erases-append}
 use Rattle.chips.specs.Collect.{R7}
 use Rattle.images.specs.Views.{beside}
 use Rattle.images.specs.Page.{Parts, builtView}
@@ -30,13 +31,7 @@ unfolding Along applyAll
 along-append g n P img [] ts h k = k
 along-append g n P img (s ∷ ss) ts h k = (h .0, h .1, along-append g n P (applyStore g s img) ss ts (h .2) k)
 
-pub along-map : (g : Geometry) (n : ℕ) (P Q : List ℕ → Type 0) (img : List ℕ) (ss : List Store) → ((i : List ℕ) → P i → Q i) → Along g n P img ss
-    → Along g n Q img ss
-unfolding Along
-along-map g n P Q img [] f h = f img h
-along-map g n P Q img (s ∷ ss) f h = (f img (h .0), h .1, along-map g n P Q (applyStore g s img) ss f (h .2))
-
-pub along-end : (g : Geometry) (n : ℕ) (P : List ℕ → Type 0) (img : List ℕ) (ss : List Store) → Along g n P img ss → P (applyAll g ss img)
+along-end : (g : Geometry) (n : ℕ) (P : List ℕ → Type 0) (img : List ℕ) (ss : List Store) → Along g n P img ss → P (applyAll g ss img)
 unfolding Along applyAll
 along-end g n P img [] h = h
 along-end g n P img (s ∷ ss) h = along-end g n P (applyStore g s img) ss (h .2)
@@ -49,23 +44,6 @@ along-take g n P img [] zero h = h
 along-take g n P img [] (suc m) h = h
 along-take g n P img (s ∷ ss) zero h = h .0
 along-take g n P img (s ∷ ss) (suc m) h = along-take g n P (applyStore g s img) ss m (h .2)
-
-pub apply-append : (g : Geometry) (ss ts : List Store) (img : List ℕ) → applyAll g (ss ++ ts) img ≡ applyAll g ts (applyAll g ss img)
-unfolding applyAll
-apply-append g [] ts img = refl
-apply-append g (s ∷ ss) ts img = apply-append g ss ts (applyStore g s img)
-
-pub programs-append : (ss ts : List Store) → programs (ss ++ ts) ≡ programs ss + programs ts
-unfolding programs
-programs-append [] ts = omega arith
-programs-append (program p bs ∷ ss) ts = omega (arith, programs-append ss ts)
-programs-append (erase b ∷ ss) ts = programs-append ss ts
-
-pub erases-append : (ss ts : List Store) → erases (ss ++ ts) ≡ erases ss + erases ts
-unfolding erases
-erases-append [] ts = omega arith
-erases-append (program p bs ∷ ss) ts = erases-append ss ts
-erases-append (erase b ∷ ss) ts = omega (arith, erases-append ss ts)
 
 -- what holds of every image on the way, the map being base
 pub record Keeps (g : Geometry) (n : ℕ) (base : List Entry) (img : List ℕ) : Type 0 where
@@ -93,8 +71,8 @@ module _ (g : Geometry) (n : ℕ) (base : List Entry) where
       → Runs g n base (applyAll g ss img) ts d b f → Runs g n base img (ss ++ ts) d (a + b) (e + f)
   runs-then img ss ts c d a b e f h k = record {
     along = along-append g n (Keeps g n base) img ss ts (h .along) (k .along);
-    chip-is = rw (apply-append g ss ts img) (k .chip-is);
-    grows = rw (apply-append g ss ts img) (omega (arith, h .grows, k .grows, programs-append ss ts));
+    chip-is = rw (all-append g ss ts img) (k .chip-is);
+    grows = rw (all-append g ss ts img) (omega (arith, h .grows, k .grows, programs-append ss ts));
     programmed = omega (arith, programs-append ss ts, h .programmed, k .programmed);
     wiped = omega (arith, erases-append ss ts, h .wiped, k .wiped);
   }

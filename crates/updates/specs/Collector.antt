@@ -2,7 +2,7 @@
 -- round; it leaves room, and k as it was. Assumes nothing.
 use mathlib.Core.Path.{_≡_, refl, ap, sym, subst, _∙_}
 use mathlib.Core.List.{List, [], _∷_, _++_}
-use mathlib.Core.Bool.{Bool, true, false}
+use mathlib.Core.Bool.{Bool, true, false, not}
 use mathlib.Core.Logic.{inl, inr}
 use mathlib.Core.Option.{some}
 use Prim.Native.Nat.{ℕ, zero, suc, _+_, _-_, _*_, _<_, _≤_}
@@ -20,7 +20,7 @@ use Rattle.model.specs.Tree.{mapOf, placesOf, live}
 use Rattle.model.specs.Next.{full, nextPage}
 use Rattle.model.specs.Stores.{Store, erase, applyStore, applyAll, programs, erases}
 use Rattle.model.specs.Collect.{livesIn, theVictim, moveStore, sweepStores, clearStores, collectStores}
-use Rattle.trees.specs.Tests.{by-eq, not-false}
+use Rattle.trees.specs.Tests.{by-eq}
 use Rattle.chips.specs.Whole.{some-page, Same}
 use Rattle.chips.specs.Moves.{moveTo}
 use Rattle.chips.specs.Sweep.{sweep, Sweeping, moved-on, emptied}
@@ -39,7 +39,7 @@ module _ (g : Geometry) (shape : Shape g) (n : ℕ) (few : pagesOf g n + g .page
   sweeping-r7 v j c q h = let z = some-page g shape in inr (
     v,
     q,
-    not-false (c .er (g .pages * v + (g .pages - 1)))
+    ap not
         (h .full (g .pages - 1) (omega (arith, z))),
     h .few,
   )

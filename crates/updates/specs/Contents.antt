@@ -17,7 +17,8 @@ use Rattle.model.specs.Tree.{next, chosen, sought}
 use Rattle.model.specs.Page.{only}
 use Rattle.model.specs.Edit.{put, turn, pathHalf, sideHalf, two, named, pathPart, splits}
 use Rattle.model.specs.Update.{isNone, rootNode, fills, needs, tooHigh, insertList, crownPart, insertPart, crownHeight, sidePage}
-use Rattle.trees.specs.Tests.{by-le, by-test, bit-le}
+use Rattle.counts.specs.Tally.{bit-most}
+use Rattle.trees.specs.Tests.{by-le, by-test}
 use Rattle.trees.specs.Lists.{All}
 use Rattle.trees.specs.Nodes.{fitOf}
 use Rattle.trees.specs.Lengths.{all-take, all-drop, path-all, path-most}
@@ -181,7 +182,7 @@ module _ (g : Geometry) (shape : Shape g) (n : ℕ) (few : pagesOf g n + g .page
 
       -- either below the root, or the root's, which grows
       cases : {C : Type 0} → (j ≤ c .level → C) → (j ≡ suc (c .level) → grows ≡ true → C) → C
-      cases f h = by-le j (c .level) f (λ z. by-test grows (λ e. h (omega (arith, z, d, is, cut, bit-le grows)) e)
+      cases f h = by-le j (c .level) f (λ z. by-test grows (λ e. h (omega (arith, z, d, is, cut, bit-most grows)) e)
           (λ e. absurd (omega (arith, z, d, is, cut, ap bit e))))
 
       top : j ≤ g .top

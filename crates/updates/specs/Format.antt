@@ -7,11 +7,11 @@ use mathlib.Core.Logic.{inl}
 use Prim.Native.Nat.{ℕ, zero, suc, _+_, _*_, _<_, _≤_}
 use native.Mathlib.Omega.{arith}
 use native.Mathlib.Nat.{mul-suc, mul-zero}
-use lib.Dec.{eqb, ltb}
-use borrow.Author.Tests.{lt-ltb, eq-eqb, ne-eqb}
+use lib.Dec.{eqb}
+use borrow.Author.Tests.{eq-eqb, ne-eqb}
 use Rattle.geometry.specs.declared.Geometry.{Geometry}
 use Rattle.geometry.specs.declared.Entry.{Entry}
-use Rattle.geometry.specs.Tests.{pick, bit}
+use Rattle.geometry.specs.Tests.{pick}
 use Rattle.geometry.specs.Geometry.{half, rootMost, inTable}
 use Rattle.geometry.specs.Shape.{Shape}
 use Rattle.model.specs.Count.{count}
@@ -21,21 +21,23 @@ use Rattle.model.specs.Next.{mixed, after}
 use Rattle.model.specs.Page.{built}
 use Rattle.model.specs.Stores.{program, erase, applyStore, applyAll}
 use Rattle.model.specs.Update.{rootNode, erasures, formatStores}
-use Rattle.trees.specs.Tests.{by-eq, by-le, true-false, bit-le}
+use Rattle.counts.specs.Tally.{bit-most, count-same}
+use Rattle.stores.specs.Runs.{all-append}
+use Rattle.trees.specs.Tests.{by-eq, by-le, true-false}
 use Rattle.trees.specs.Nodes.{fitOf}
 use Rattle.trees.specs.Tied.{Tied}
 use Rattle.trees.specs.Proper.{Proper}
-use Rattle.chips.specs.Count.{count-ext, count-const, count-after}
-use Rattle.chips.specs.Next.{page-inj, in-range, R2}
+use Rattle.chips.specs.Count.{count-all, count-gone}
+use Rattle.chips.specs.Next.{block-in, page-inj, in-range, R2}
 use Rattle.chips.specs.Whole.{some-page, Whole}
 use Rattle.chips.specs.Erase.{inB}
 use Rattle.images.specs.Views.{View, noView, Views, topOf, rooted, peak-least}
 use Rattle.images.specs.Page.{views, view-max, Parts, parts-table, builtView}
-use Rattle.images.specs.Stores.{Image, length-store, block-in, within, views-erase, block-room, program-root, program-r1, program-r3, program-r4, program-max}
+use Rattle.images.specs.Stores.{Image, length-store, within, views-erase, block-room, program-root, program-r1, program-r3, program-r4, program-max}
 use Rattle.images.specs.Small.{Small, built-small, store-small}
 use Rattle.images.specs.Held.{Held, er-at}
 use Rattle.images.specs.Lengths.{length-all}
-use Rattle.updates.specs.Along.{apply-append, Keeps}
+use Rattle.updates.specs.Along.{Keeps}
 
 abbrev nothing : ℕ → List Entry
 nothing l = []
@@ -78,7 +80,7 @@ count-one : (s : ℕ) → count s (λ q. pick (eqb 0 q) true false) ≤ 1
 unfolding count
 count-one zero = omega arith
 count-one (suc s) = by-eq 0 s (λ e. let z : count s (λ q. pick (eqb 0 q) true false) ≡ 0 =
-    subst (λ m. count m (λ q. pick (eqb 0 q) true false) ≡ 0) e refl in let b = bit-le (pick (eqb 0 s) true false) in omega (arith, z, b))
+    subst (λ m. count m (λ q. pick (eqb 0 q) true false) ≡ 0) e refl in let b = bit-most (pick (eqb 0 s) true false) in omega (arith, z, b))
     (λ e. rw (ne-eqb 0 s e) (omega (arith, count-one s)))
 
 module _ (g : Geometry) (shape : Shape g) (n : ℕ) (three : 3 ≤ n) (img : List ℕ) (image : Image g n img) (bytes : Small img) where
@@ -96,7 +98,7 @@ module _ (g : Geometry) (shape : Shape g) (n : ℕ) (three : 3 ≤ n) (img : Lis
 
   wiped-more : (m : ℕ) → wiped (suc m) ≡ applyStore g (erase m) (wiped m)
   unfolding erasures applyAll
-  wiped-more m = apply-append g (erasures m) (erase m ∷ []) img
+  wiped-more m = all-append g (erasures m) (erase m ∷ []) img
 
   wiped-image : (m : ℕ) → Image g n (wiped m)
   wiped-image m = length-all g (erasures m) img ∙ image
@@ -160,7 +162,7 @@ module _ (g : Geometry) (shape : Shape g) (n : ℕ) (three : 3 ≤ n) (img : Lis
 
   formatted-is : formatted ≡ applyStore g (program 0 (built g 1 1 nothing)) bare
   unfolding formatStores applyAll
-  formatted-is = apply-append g (erasures n) (program 0 (built g 1 1 nothing) ∷ []) img
+  formatted-is = all-append g (erasures n) (program 0 (built g 1 1 nothing) ∷ []) img
 
   seq-is : 1 ≡ suc (topOf t (views g bare))
   seq-is = ap suc (sym max-none)
@@ -193,11 +195,10 @@ module _ (g : Geometry) (shape : Shape g) (n : ℕ) (three : 3 ≤ n) (img : Lis
   pub formatted-frees : count t (chipOf g n formatted .er) + 1 ≡ t
   formatted-frees =
       let e = ap (λ (x : Chip). count t (x .er)) formatted-chip in
-      let x = count-ext t (d .er) (after 0 (λ _. true)) er-is in
-      let y = count-after t 0 (λ _. true) refl in
-      let z = count-const t in
-      let u : bit (ltb 0 t) ≡ 1 = rw (lt-ltb 0 t pos) refl in
-      omega (arith, e, x, y, z, u)
+      let x = count-same (d .er) (after 0 (λ _. true)) t er-is in
+      let y = count-gone t 0 (λ _. true) pos refl in
+      let z = count-all t in
+      omega (arith, e, x, y, z)
 
   map-none : mapOf d ≡ []
   unfolding rooted under gather

@@ -1,6 +1,6 @@
 -- An insertion's own stores on bytes: the other halves, lower level first, then N. Assumes nothing.
 use mathlib.Core.Path.{_≡_, refl, ap, sym, subst, _∙_}
-use mathlib.Core.List.{List, [], _∷_, _++_, append-assoc}
+use mathlib.Core.List.{List, [], _∷_, _++_, append-assoc, append-nil}
 use mathlib.Core.Bool.{Bool, true, false}
 use Prim.Native.Nat.{ℕ, zero, suc, _+_, _-_, _*_, _<_, _≤_, min}
 use native.Mathlib.Omega.{arith}
@@ -20,8 +20,10 @@ use Rattle.model.specs.Page.{built, only}
 use Rattle.model.specs.Stores.{Store, program, applyStore, applyAll, programs}
 use Rattle.model.specs.Edit.{put, sideHalf, splits}
 use Rattle.model.specs.Update.{isNone, rootNode, fills, needs, tooHigh, insertList, sideStore, splitStore, sideStores, crownStore, crownHeight, sidePage, ownStores}
-use Rattle.trees.specs.Tests.{by-eq, by-le, by-test, bit-le}
-use Rattle.trees.specs.Lists.{All, append-nil}
+use Rattle.counts.specs.Tally.{bit-most}
+use Rattle.stores.specs.Runs.{all-append, programs-append}
+use Rattle.trees.specs.Tests.{by-eq, by-le, by-test}
+use Rattle.trees.specs.Lists.{All}
 use Rattle.trees.specs.Nodes.{fitOf}
 use Rattle.chips.specs.Next.{step}
 use Rattle.chips.specs.Whole.{some-page, Whole}
@@ -33,7 +35,7 @@ use Rattle.images.specs.Page.{in-table, builtView}
 use Rattle.images.specs.Small.{node-fits}
 use Rattle.images.specs.Held.{height-most}
 use Rattle.images.specs.Writes.{nextStore, put-max}
-use Rattle.updates.specs.Along.{apply-append, programs-append, Keeps, Runs, runs-end, runs-none, runs-then, runs-as, side-runs}
+use Rattle.updates.specs.Along.{Keeps, Runs, runs-end, runs-none, runs-then, runs-as, side-runs}
 use Rattle.updates.specs.Contents.{side-parts, main-parts}
 use Rattle.updates.specs.Updated.{Updated, updated}
 
@@ -113,7 +115,7 @@ module _ (g : Geometry) (shape : Shape g) (n : ℕ) (few : pagesOf g n + g .page
     next-side = ap (nextPage (g .pages) n) (laid .er-is)
 
     top : suc i ≤ g .top
-    top = by-test grows (λ e. let u = grow-all g shape n k a k-low c whole e in omega (arith, lt, m-is, cut-le, u .0, bit-le grows))
+    top = by-test grows (λ e. let u = grow-all g shape n k a k-low c whole e in omega (arith, lt, m-is, cut-le, u .0, bit-most grows))
         (λ e. omega (arith, lt, m-is, cut-le, high, ap bit e))
 
     here : (q : ℕ) → q ≡ side (suc i) → d′ .nodes q (suc i) ≡ sideList g n c k a (suc i)
@@ -181,7 +183,7 @@ module _ (g : Geometry) (shape : Shape g) (n : ℕ) (few : pagesOf g n + g .page
             (beside (s .chip) (nextPage (g .pages) n (s .chip .er)) (builtView g q 0 p)) (i + 1) (suc i) (0 + 0) 0
             (ap (λ (y : Chip). beside y (nextPage (g .pages) n (y .er)) (builtView g q 0 p)) ci) (omega arith) (omega arith) all;
         laid = laid-more i lt (s .chip) (s .laid) q;
-        max-is = ap (maxSeq g n) (apply-append g ss (st ∷ []) img) ∙ ap (λ (u : Store). maxSeq g n (applyStore g u x)) e ∙ mx ∙
+        max-is = ap (maxSeq g n) (all-append g ss (st ∷ []) img) ∙ ap (λ (u : Store). maxSeq g n (applyStore g u x)) e ∙ mx ∙
             (let w : suc (maxSeq g n x) ≡ seq + suc i = omega (arith, s .max-is) in w);
       }
 

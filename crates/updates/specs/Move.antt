@@ -21,14 +21,15 @@ use Rattle.model.specs.Collect.{moveKey, movePart, moveStore}
 use Rattle.trees.specs.Lists.{All}
 use Rattle.trees.specs.Nodes.{fitOf}
 use Rattle.trees.specs.Lengths.{path-all, path-top, path-most, path-none}
-use Rattle.chips.specs.Whole.{Whole}
+use Rattle.chips.specs.Next.{next-in}
+use Rattle.chips.specs.Whole.{some-page, Whole}
 use Rattle.chips.specs.Moves.{moveTo, MoveStep, move-step}
 use Rattle.images.specs.Bytes.{Fits}
 use Rattle.images.specs.Views.{rooted}
 use Rattle.images.specs.Page.{Parts, builtView}
 use Rattle.images.specs.Small.{node-fits}
 use Rattle.images.specs.Held.{Held, height-most}
-use Rattle.images.specs.Writes.{nextStore, Legal, next-in, put-legal, put-max, root-chip, root-held}
+use Rattle.images.specs.Writes.{nextStore, Legal, put-legal, put-max, root-chip, root-held}
 use Rattle.updates.specs.Table.{off-table, parts-most}
 
 module _ (g : Geometry) (shape : Shape g) (n : ℕ) (few : pagesOf g n + g .pages < 4294967296) (img : List ℕ) (held : Held g n img) (p : ℕ)
@@ -43,7 +44,7 @@ module _ (g : Geometry) (shape : Shape g) (n : ℕ) (few : pagesOf g n + g .page
   N = nextPage (g .pages) n (c .er)
 
   N-in : N < t
-  N-in = next-in g shape n img held free
+  N-in = next-in (g .pages) n (c .er) (some-page g shape) (held .whole .r2) free
 
   high : suc (c .level) ≤ g .top
   high = height-most g shape n img (omega (arith, N-in)) held

@@ -12,11 +12,12 @@ use Rattle.model.specs.Image.{pagesOf, maxSeq, Chip, chipOf}
 use Rattle.model.specs.Tree.{mapOf}
 use Rattle.model.specs.Next.{nextPage}
 use Rattle.model.specs.Stores.{Store, applyStore, applyAll, programs, erases}
+use Rattle.stores.specs.Runs.{all-append, programs-append, erases-append}
 use Rattle.chips.specs.Whole.{Whole}
 use Rattle.images.specs.Views.{rooted}
 use Rattle.images.specs.Page.{Parts, builtView}
 use Rattle.images.specs.Writes.{nextStore, Legal, put-legal, root-chip, root-held, root-frees}
-use Rattle.updates.specs.Along.{Along, along-append, apply-append, programs-append, erases-append, Keeps, Runs, runs-end}
+use Rattle.updates.specs.Along.{Along, along-append, Keeps, Runs, runs-end}
 
 pub record Updated (g : Geometry) (n : ℕ) (old new : List Entry) (img : List ℕ) (ss : List Store) (b e : ℕ) : Type 0 where
   pub init : List Store
@@ -62,7 +63,7 @@ updated g shape n old new img ss d b e h parts s r f low ok i k se good =
       list-is = refl;
       along = r .along;
       legal = subst (Legal g n x) (sym se) (put-legal g shape n x (z .held) free parts ok low h k);
-      end = subst (Keeps g n new) (sym (apply-append g ss (s ∷ []) img)) (subst (λ (u : Store). Keeps g n new (applyStore g u x)) (sym se) done);
+      end = subst (Keeps g n new) (sym (all-append g ss (s ∷ []) img)) (subst (λ (u : Store). Keeps g n new (applyStore g u x)) (sym se) done);
       programmed = let w = programs-append ss (s ∷ []) in let v = ap (λ (u : Store). programs (u ∷ [])) se in omega (arith, w, v, r .programmed);
       wiped = let w = erases-append ss (s ∷ []) in let v = ap (λ (u : Store). erases (u ∷ [])) se in omega (arith, w, v, r .wiped);
     }
@@ -75,8 +76,8 @@ updated-after g n old new img ss ts d a b e f r u = record {
   last = u .last;
   list-is = ap (λ m. ss ++ m) (u .list-is) ∙ sym (append-assoc ss (u .init) (u .last ∷ []));
   along = along-append g n (Keeps g n old) img ss (u .init) (r .along) (u .along);
-  legal = subst (λ x. Legal g n x (u .last)) (sym (apply-append g ss (u .init) img)) (u .legal);
-  end = subst (Keeps g n new) (sym (apply-append g ss ts img)) (u .end);
+  legal = subst (λ x. Legal g n x (u .last)) (sym (all-append g ss (u .init) img)) (u .legal);
+  end = subst (Keeps g n new) (sym (all-append g ss ts img)) (u .end);
   programmed = let w = programs-append ss ts in omega (arith, w, r .programmed, u .programmed);
   wiped = let w = erases-append ss ts in omega (arith, w, r .wiped, u .wiped);
 }
