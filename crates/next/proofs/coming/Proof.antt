@@ -8,7 +8,6 @@ use lib.ListN.{length}
 use Rattle.model.specs.Bytes.{erased}
 use Rattle.model.specs.Count.{least}
 use Rattle.model.specs.Next.{mixed}
-use Rattle.page_rules.specs.Blocks.{at}
 use Rattle.next.specs.Coming.{free, head, Coming}
 use Rattle.next.proofs.coming.Statement.{statement}
 use Rattle.next.proofs.coming.Tie as tie

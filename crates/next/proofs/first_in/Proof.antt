@@ -7,7 +7,7 @@ use lib.ListN.{length}
 use Rattle.model.specs.Bytes.{erased}
 use Rattle.model.specs.Count.{least}
 use Rattle.model.specs.Next.{mixed}
-use Rattle.page_rules.specs.Blocks.{at}
+use Rattle.counts.specs.Blocks.{within}
 use Rattle.next.specs.Coming.{free, head, Coming}
 use Rattle.next.proofs.first_in.Statement.{statement}
 use Rattle.next.proofs.first_in.Tie as tie
@@ -19,7 +19,7 @@ use Rattle.next.proofs.is_free.Reads as is-free-reads
 ruleset all = (needs, next-laws, block-laws)
 
 abbrev Inv-loop : tie.InvT-loop
-Inv-loop g img taken i block j₀ j = (j ≤ g .pages) × (least j (at (g .pages) (free (erased g img) taken i) block) ≡ j)
+Inv-loop g img taken i block j₀ j = (j ≤ g .pages) × (least j (within (g .pages) (free (erased g img) taken i) block) ≡ j)
 
 abbrev μ-loop : tie.MeasureT-loop
 μ-loop g img taken i block j₀ j = g .pages - j

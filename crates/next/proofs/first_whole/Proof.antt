@@ -7,7 +7,6 @@ use lib.ListN.{length}
 use Rattle.model.specs.Bytes.{erased}
 use Rattle.model.specs.Count.{least}
 use Rattle.model.specs.Next.{mixed}
-use Rattle.page_rules.specs.Blocks.{at}
 use Rattle.next.specs.Coming.{free, head, Coming}
 use Rattle.next.proofs.first_whole.Statement.{statement}
 use Rattle.next.proofs.first_whole.Tie as tie
