@@ -1,0 +1,215 @@
+-- R7 and the verdict, in the form in which the code has the premises. Assumes nothing.
+use Prim.Native.Nat.{ℕ, zero, suc, _+_, _-_, _*_, _<_, _≤_}
+use mathlib.Core.Bool.{Bool, true, false, not, false≢true}
+use mathlib.Core.Path.{_≡_, refl, sym, ap, subst, _∙_}
+use mathlib.Core.List.{List}
+use lib.Dec.{leb, ltb}
+use lib.ListN.{length}
+use native.Mathlib.Omega.{arith}
+use native.Mathlib.Nat.{mul-suc, mul-le-mul, mul-le-mul-left}
+use borrow.Author.Tests.{le-leb, lt-leb}
+use Rattle.geometry.specs.declared.Geometry.{Geometry}
+use Rattle.geometry.specs.declared.Finding.{Finding}
+use Rattle.geometry.specs.declared.Finding.the-variants.{Good, Bad}
+use Rattle.geometry.specs.declared.Verdict.{Verdict}
+use Rattle.geometry.specs.declared.Verdict.the-variants.{Sound, Broken}
+use Rattle.geometry.specs.Tests.{pick, _&_, and-true, and-false}
+use Rattle.model.specs.Bytes.{erased}
+use Rattle.model.specs.Count.{count, least, any, arg}
+use Rattle.model.specs.Image.{Chip, chipOf, pagesOf, heightOf, rootOf, rootScore}
+use Rattle.model.specs.Next.{full, inBlock}
+use Rattle.model.specs.Tree.{placesOf, live}
+use Rattle.model.specs.Rules.{unless, r1, r2, r3, r4, r5, r6, r7, spareRoom, orElse, verdict, isSound}
+use Rattle.chip.specs.Chip.{chipWith}
+use Rattle.counts.specs.Least.{least-zero, least-go, any-none, any-hit, any-same}
+use Rattle.counts.specs.Lowest.{unless-true, unless-false}
+use Rattle.counts.specs.Peak.{arg-most, arg-less}
+use Rattle.survey.specs.declared.Survey.{Survey}
+use Rattle.survey.specs.Survey.{surveyOf}
+use Rattle.walk.specs.Table.{liveIn, Marked}
+use Rattle.walk.specs.Lows.{marked-block}
+use Rattle.loose.specs.Loose.{Inside}
+use Rattle.loose.specs.Judged.{r5-inside}
+use Rattle.verdict.specs.declared.Judgement.{Judgement}
+use Rattle.verdict.specs.Verdict.{clearable, from2, from3, from4, from5, from6, from7, Ready, Tells, Judged}
+
+-- the survey's chip is the image's
+pub chip-is : (g : Geometry) (n : ℕ) (img : List ℕ) (s : Survey) → s ≡ surveyOf g n img → chipWith g img (s .level) (s .root) ≡ chipOf g n img
+unfolding surveyOf
+chip-is g n img s e = λ i. chipWith g img (e i .level) (e i .root)
+
+-- R7
+module _ (p : ℕ) (er : ℕ → Bool) (tbl : List ℕ) (free b : ℕ) where
+  pub clear-no : (r : Bool) → r ≡ er (p * b + (p - 1)) → r ≡ true → false ≡ clearable p er tbl free b
+  unfolding clearable
+  clear-no r e q = simp (← e, q, and-false)
+
+  pub clear-is : (r : Bool) (l : ℕ) → r ≡ er (p * b + (p - 1)) → r ≡ false → l ≡ inBlock p (liveIn tbl) b → leb l free ≡ clearable p er tbl free b
+  unfolding clearable
+  clear-is r l e q el = sym (rw (← e, q, ← el) (and-true (leb l free)))
+
+module _ (p : ℕ) (er : ℕ → Bool) (tbl : List ℕ) (free : ℕ) where
+  pub clear-start : least 0 (clearable p er tbl free) ≡ 0
+  clear-start = sym (least-zero (clearable p er tbl free))
+
+  pub clear-go : (i : ℕ) (r : Bool) → least i (clearable p er tbl free) ≡ i → r ≡ clearable p er tbl free i → r ≡ false
+      → least (i + 1) (clearable p er tbl free) ≡ i + 1
+  clear-go i r x e q = least-go (clearable p er tbl free) i x (sym e ∙ q)
+
+  pub clear-hit : (n i : ℕ) (r : Bool) → least i (clearable p er tbl free) ≡ i → r ≡ clearable p er tbl free i → r ≡ true → i < n
+      → true ≡ any n (clearable p er tbl free)
+  clear-hit n i r x e q h = sym (any-hit (clearable p er tbl free) n i x (sym e ∙ q) h)
+
+  pub clear-end : (n i : ℕ) → least i (clearable p er tbl free) ≡ i → i ≤ n → n ≤ i → false ≡ any n (clearable p er tbl free)
+  clear-end n i x h k =
+      let w : i ≡ n = omega arith in
+      sym (any-none (clearable p er tbl free) n (rw (← w) x))
+
+module _ (g : Geometry) (n : ℕ) (img : List ℕ) (s : Survey) (tbl : List ℕ) (x : Ready g n img s (length tbl)) (m : Marked (chipOf g n img) tbl) where
+  free-is : s .erased ≡ count (g .pages * n) (erased g img)
+  unfolding surveyOf
+  free-is = ap (λ (v : Survey). v .erased) (x .survey)
+
+  room-is : any n (clearable (g .pages) (erased g img) tbl (s .erased))
+      ≡ any n (λ b. full (g .pages) (erased g img) b & leb (inBlock (g .pages) (live (placesOf (chipOf g n img))) b) (s .erased))
+  unfolding clearable
+  room-is = any-same (clearable (g .pages) (erased g img) tbl (s .erased))
+      (λ b. full (g .pages) (erased g img) b & leb (inBlock (g .pages) (live (placesOf (chipOf g n img))) b) (s .erased)) n
+      (λ b h. (let w : g .pages * b + g .pages ≤ length tbl = omega (arith, x .room, mul-suc (g .pages) b, mul-le-mul-left (g .pages) h) in
+      rw (marked-block (chipOf g n img) tbl m (g .pages) b w) refl))
+
+  pub room-many : (a b : ℕ) → a ≡ g .pages → b ≡ s .erased → a ≤ b → Good ≡ r7 (g .pages) n (chipOf g n img)
+  unfolding r7 spareRoom
+  room-many a b ea eb h = sym (rw (← free-is, le-leb (g .pages) (s .erased) (rw (← ea, ← eb) h)) (unless-true 0 Good))
+
+  pub room-some : (a b : ℕ) (r : Bool) → a ≡ g .pages → b ≡ s .erased → b < a → r ≡ any n (clearable (g .pages) (erased g img) tbl (s .erased)) → r ≡ true
+      → Good ≡ r7 (g .pages) n (chipOf g n img)
+  unfolding r7 spareRoom
+  room-some a b r ea eb h er q =
+      sym (rw (← free-is, lt-leb (g .pages) (s .erased) (rw (← ea, ← eb) h), ← room-is, ← er, q) (unless-true 0 Good))
+
+  pub room-none : (a b : ℕ) (r : Bool) → a ≡ g .pages → b ≡ s .erased → b < a → r ≡ any n (clearable (g .pages) (erased g img) tbl (s .erased)) → r ≡ false
+      → Bad 0 ≡ r7 (g .pages) n (chipOf g n img)
+  unfolding r7 spareRoom
+  room-none a b r ea eb h er q =
+      sym (rw (← free-is, lt-leb (g .pages) (s .erased) (rw (← ea, ← eb) h), ← room-is, ← er, q) (unless-false 0 Good))
+
+-- a rule and those after it
+or-bad : (k q : ℕ) (v : Finding) (w : Verdict) → v ≡ Bad q → Broken k q ≡ orElse k v w
+unfolding orElse
+or-bad k q v w e = sym (rw e refl)
+
+or-good : (k : ℕ) (v : Finding) (w : Verdict) → v ≡ Good → w ≡ orElse k v w
+unfolding orElse
+or-good k v w e = sym (rw e refl)
+
+module _ (g : Geometry) (n : ℕ) (img : List ℕ) (v : Finding) where
+  pub bad-7 : (q : ℕ) → v ≡ r7 (g .pages) n (chipOf g n img) → v ≡ Bad q → Broken 7 q ≡ from7 g n img
+  unfolding from7
+  bad-7 q e f = or-bad 7 q _ _ (sym e ∙ f)
+
+  pub good-7 : v ≡ r7 (g .pages) n (chipOf g n img) → v ≡ Good → Sound ≡ from7 g n img
+  unfolding from7
+  good-7 e f = or-good 7 _ _ (sym e ∙ f)
+
+  module _ (s : Survey) (es : s ≡ surveyOf g n img) (t : ℕ) (et : t ≡ g .pages * n) where
+    pub bad-6 : (q : ℕ) → v ≡ r6 t (chipWith g img (s .level) (s .root)) → v ≡ Bad q → Broken 6 q ≡ from6 g n img
+    unfolding from6
+    bad-6 q e f = or-bad 6 q _ _ (rw (← et, ← (chip-is g n img s es)) (sym e ∙ f))
+
+    pub good-6 : (w : Verdict) → v ≡ r6 t (chipWith g img (s .level) (s .root)) → v ≡ Good → w ≡ from7 g n img → w ≡ from6 g n img
+    unfolding from6
+    good-6 w e f ew = ew ∙ or-good 6 _ _ (rw (← et, ← (chip-is g n img s es)) (sym e ∙ f))
+
+    pub bad-5 : (q : ℕ) → v ≡ r5 g t (chipWith g img (s .level) (s .root)) → v ≡ Bad q → Broken 5 q ≡ from5 g n img
+    unfolding from5
+    bad-5 q e f = or-bad 5 q _ _ (rw (← et, ← (chip-is g n img s es)) (sym e ∙ f))
+
+    pub good-5 : (w : Verdict) → v ≡ r5 g t (chipWith g img (s .level) (s .root)) → v ≡ Good → w ≡ from6 g n img → w ≡ from5 g n img
+    unfolding from5
+    good-5 w e f ew = ew ∙ or-good 5 _ _ (rw (← et, ← (chip-is g n img s es)) (sym e ∙ f))
+
+  pub bad-4 : (q : ℕ) → v ≡ r4 g n img → v ≡ Bad q → Broken 4 q ≡ from4 g n img
+  unfolding from4
+  bad-4 q e f = or-bad 4 q _ _ (sym e ∙ f)
+
+  pub good-4 : (w : Verdict) → v ≡ r4 g n img → v ≡ Good → w ≡ from5 g n img → w ≡ from4 g n img
+  unfolding from4
+  good-4 w e f ew = ew ∙ or-good 4 _ _ (sym e ∙ f)
+
+  pub bad-3 : (q : ℕ) → v ≡ r3 g n img → v ≡ Bad q → Broken 3 q ≡ from3 g n img
+  unfolding from3
+  bad-3 q e f = or-bad 3 q _ _ (sym e ∙ f)
+
+  pub good-3 : (w : Verdict) → v ≡ r3 g n img → v ≡ Good → w ≡ from4 g n img → w ≡ from3 g n img
+  unfolding from3
+  good-3 w e f ew = ew ∙ or-good 3 _ _ (sym e ∙ f)
+
+  pub bad-2 : (q : ℕ) → v ≡ r2 (g .pages) n (erased g img) → v ≡ Bad q → Broken 2 q ≡ from2 g n img
+  unfolding from2
+  bad-2 q e f = or-bad 2 q _ _ (sym e ∙ f)
+
+  pub good-2 : (w : Verdict) → v ≡ r2 (g .pages) n (erased g img) → v ≡ Good → w ≡ from3 g n img → w ≡ from2 g n img
+  unfolding from2
+  good-2 w e f ew = ew ∙ or-good 2 _ _ (sym e ∙ f)
+
+  pub bad-1 : (q : ℕ) → v ≡ r1 g n img → v ≡ Bad q → Broken 1 q ≡ verdict g n img
+  unfolding verdict
+  bad-1 q e f = or-bad 1 q _ _ (sym e ∙ f)
+
+  pub good-1 : (w : Verdict) → v ≡ r1 g n img → v ≡ Good → w ≡ from2 g n img → w ≡ verdict g n img
+  unfolding verdict from2 from3 from4 from5 from6 from7
+  good-1 w e f ew = ew ∙ or-good 1 _ _ (sym e ∙ f)
+
+-- the table
+pub broken-sound : (k q : ℕ) → Broken k q ≡ Sound → ⊥
+broken-sound k q e = false≢true (ap isSound e)
+
+pub tells-broken : (c : Chip) (tbl : List ℕ) (k q : ℕ) → Tells c tbl (Broken k q)
+tells-broken c tbl k q = record { marked = λ e. absurd (broken-sound k q e) }
+
+module _ (g : Geometry) (n : ℕ) (img : List ℕ) (s : Survey) where
+  pub tells-filled : (m : ℕ) (tbl : List ℕ) (v : Verdict) → Ready g n img s m → Marked (chipWith g img (s .level) (s .root)) tbl → Tells (chipOf g n img) tbl v
+  tells-filled m tbl v x y = record { marked = λ e. subst (λ (c : Chip). Marked c tbl) (chip-is g n img s (x .survey)) y }
+
+  -- 65536 places have room for 1024 blocks of at most 64 pages
+  pub ready-is : (m : ℕ) → s ≡ surveyOf g n img → s .level < 255 → g .pages ≤ 64 → n ≤ 1024 → 65536 ≤ m → Ready g n img s m
+  ready-is m e h p k r = record {
+    survey = e;
+    level = h;
+    some = omega arith;
+    room = omega (arith, r, mul-le-mul {n₁ = g .pages} {m₁ = n} {n₂ = 64} {m₂ = 1024} p k);
+  }
+
+  module _ (m : ℕ) (x : Ready g n img s m) where
+    pub ready-same : (k : ℕ) → k ≡ m → Ready g n img s k
+    ready-same k e = rw e x
+
+    pub marked-chip : (tbl : List ℕ) → Marked (chipWith g img (s .level) (s .root)) tbl → Marked (chipOf g n img) tbl
+    marked-chip tbl y = subst (λ (c : Chip). Marked c tbl) (chip-is g n img s (x .survey)) y
+
+    pub marked-with : (tbl : List ℕ) → Marked (chipOf g n img) tbl → Marked (chipWith g img (s .level) (s .root)) tbl
+    marked-with tbl y = subst (λ (c : Chip). Marked c tbl) (sym (chip-is g n img s (x .survey))) y
+
+    pub inside-with : (k : ℕ) → Inside (chipOf g n img) k → Inside (chipWith g img (s .level) (s .root)) k
+    inside-with k y = subst (λ (c : Chip). Inside c k) (sym (chip-is g n img s (x .survey))) y
+
+    root-below : s .root < m
+    unfolding surveyOf rootOf
+    root-below = rw (ap (λ (v : Survey). v .root) (x .survey)) (by-pages (g .pages * n) (x .room))
+      where
+        by-pages : (t : ℕ) → t ≤ m → arg t (rootScore g img) < m
+        by-pages zero h = (let w = arg-most (rootScore g img) 0 in omega (arith, w, x .some))
+        by-pages (suc t) h = (let w = arg-less (rootScore g img) (suc t) (omega arith) in omega (arith, w, h))
+
+    pub inside-good : (v : Finding) (t k : ℕ) → t ≡ g .pages * n → v ≡ r5 g t (chipWith g img (s .level) (s .root)) → v ≡ Good → k ≡ m
+        → Inside (chipOf g n img) k
+    inside-good v t k et e f ek =
+        subst (λ (c : Chip). Inside c k) (chip-is g n img s (x .survey))
+        (r5-inside g t k (chipWith g img (s .level) (s .root)) (omega (arith, et, ek, x .room)) (rw ek root-below) (sym e ∙ f))
+
+pub judged-is : (g : Geometry) (n : ℕ) (img t u : List ℕ) (v : Verdict) (s : Survey) → v ≡ verdict g n img → s ≡ surveyOf g n img → s .level < 255
+    → Tells (chipOf g n img) u v → length u ≡ length t → Judged g n img (record { verdict = v; survey = s }) t u
+judged-is g n img t u v s ev es h x e = record { verdict = ev; survey = es; level = h; table = x; same = e }
+
+pub ruleset verdict-laws = (clear-no, clear-is, clear-start, clear-go, clear-hit, clear-end, room-many, room-some, room-none, bad-7, good-7, bad-6, good-6, bad-5, good-5, bad-4, good-4, bad-3, good-3, bad-2, good-2, bad-1, good-1, tells-broken, tells-filled, ready-is, ready-same, marked-chip, marked-with, inside-with, inside-good, judged-is)

@@ -1,0 +1,161 @@
+// R7, and the verdict: R1 to R7 in their order.
+ghost use mathlib.Core.Path.{_≡_};
+ghost use Prim.Native.Nat.{ℕ, _+_, _*_, _-_, _≤_, _<_};
+ghost use lib.ListN.{length};
+ghost use Rattle.model.specs.Bytes.{erased};
+ghost use Rattle.model.specs.Count.{any};
+ghost use Rattle.model.specs.Image.{chipOf};
+ghost use Rattle.model.specs.Rules.{r7, verdict};
+ghost use Rattle.walk.specs.Table.{Marked};
+ghost use Rattle.loose.specs.Loose.{Inside};
+ghost use Rattle.verdict.specs.Verdict.{clearable, from2, from3, from4, from5, from6, from7, Ready, Tells, Judged};
+use geometry::Finding;
+use geometry::Geometry;
+use geometry::Verdict;
+use survey::Survey;
+
+// A verdict, and the survey that came with it.
+pub struct Judgement {
+    pub verdict: Verdict,
+    pub survey: Survey,
+}
+
+// Whether a block has no erased page, and no more live ones than the image has erased ones.
+fn is_clearable(g: Geometry, img: &[u8], table: &[u8], block: u16, free: u32) -> bool
+    ensures { λ r. ⌜ r ≡ clearable (g .pages) (erased g (now (img .entry))) (now (table .entry)) free block ⌝ }
+{
+    if chip::last_erased(g, img, block) {
+        return false;
+    }
+    walk::lives_in(g, table, block) <= free
+}
+
+fn some_clearable(g: Geometry, img: &[u8], table: &[u8], n: u16, free: u32) -> bool
+    ensures { λ r. ⌜ r ≡ any n (clearable (g .pages) (erased g (now (img .entry))) (now (table .entry)) free) ⌝ }
+{
+    let mut block: u16 = 0;
+    while block < n {
+        if is_clearable(g, img, table, block, free) {
+            return true;
+        }
+        block += 1;
+    }
+    false
+}
+
+// R7: at least a block's pages are erased, or some block can be cleared.
+fn rule_7(g: Geometry, img: &[u8], table: &[u8], n: u16, survey: Survey) -> Finding
+    requires { ⌜ Ready g n (now img) survey (length (now table)) ⌝ }
+    requires { ⌜ Marked (chipOf g n (now img)) (now table) ⌝ }
+    ensures { λ r. ⌜ r ≡ r7 (g .pages) n (chipOf g n (now (img .entry))) ⌝ }
+{
+    let free = survey.erased;
+    if geometry::wide(g.pages) <= geometry::index(free) {
+        return Finding::Good;
+    }
+    if some_clearable(g, img, table, n, free) {
+        return Finding::Good;
+    }
+    Finding::Bad(0)
+}
+
+fn from_rule_7(g: Geometry, img: &[u8], table: &[u8], n: u16, survey: Survey) -> Verdict
+    requires { ⌜ Ready g n (now img) survey (length (now table)) ⌝ }
+    requires { ⌜ Marked (chipOf g n (now img)) (now table) ⌝ }
+    ensures { λ r. ⌜ r ≡ from7 g n (now (img .entry)) ⌝ }
+{
+    match rule_7(g, img, table, n, survey) {
+        Finding::Bad(page) => Verdict::Broken(7, page),
+        Finding::Good => Verdict::Sound,
+    }
+}
+
+fn from_rule_6(g: Geometry, img: &[u8], table: &[u8], n: u16, survey: Survey) -> Verdict
+    requires { ⌜ Ready g n (now img) survey (length (now table)) ⌝ }
+    requires { ⌜ Marked (chipOf g n (now img)) (now table) ⌝ }
+    requires { ⌜ Inside (chipOf g n (now img)) (length (now table)) ⌝ }
+    ensures { λ r. ⌜ r ≡ from6 g n (now (img .entry)) ⌝ }
+{
+    match loose::rule_6(
+        g,
+        img,
+        table,
+        chip::first_page(g, n),
+        survey.level,
+        survey.root,
+    ) {
+        Finding::Bad(page) => Verdict::Broken(6, page),
+        Finding::Good => from_rule_7(g, img, table, n, survey),
+    }
+}
+
+fn from_rule_5(g: Geometry, img: &[u8], table: &mut [u8], n: u16, survey: Survey) -> Verdict
+    requires { ⌜ Ready g n (now img) survey (length (now table)) ⌝ }
+    ensures { λ r. ⌜ (r ≡ from5 g n (now (img .entry))) × Tells (chipOf g n (now (img .entry))) (now (table .exit)) r ⌝ }
+    ensures { λ _. ⌜ length (now (table .exit)) ≡ length (now (table .entry)) ⌝ }
+{
+    match judge::rule_5(g, img, chip::first_page(g, n), survey.level, survey.root) {
+        Finding::Bad(page) => Verdict::Broken(5, page),
+        Finding::Good => {
+            walk::fill(g, img, &mut *table, survey.level, survey.root);
+            from_rule_6(g, img, &*table, n, survey)
+        }
+    }
+}
+
+fn from_rule_4(g: Geometry, img: &[u8], table: &mut [u8], n: u16, survey: Survey) -> Verdict
+    requires { ⌜ Ready g n (now img) survey (length (now table)) ⌝ }
+    ensures { λ r. ⌜ (r ≡ from4 g n (now (img .entry))) × Tells (chipOf g n (now (img .entry))) (now (table .exit)) r ⌝ }
+    ensures { λ _. ⌜ length (now (table .exit)) ≡ length (now (table .entry)) ⌝ }
+{
+    match survey::rule_4(g, img, n, survey) {
+        Finding::Bad(page) => Verdict::Broken(4, page),
+        Finding::Good => from_rule_5(g, img, &mut *table, n, survey),
+    }
+}
+
+fn from_rule_3(g: Geometry, img: &[u8], table: &mut [u8], n: u16, survey: Survey) -> Verdict
+    requires { ⌜ Ready g n (now img) survey (length (now table)) ⌝ }
+    ensures { λ r. ⌜ (r ≡ from3 g n (now (img .entry))) × Tells (chipOf g n (now (img .entry))) (now (table .exit)) r ⌝ }
+    ensures { λ _. ⌜ length (now (table .exit)) ≡ length (now (table .entry)) ⌝ }
+{
+    match numbers::rule_3(g, img, n) {
+        Finding::Bad(page) => Verdict::Broken(3, page),
+        Finding::Good => from_rule_4(g, img, &mut *table, n, survey),
+    }
+}
+
+fn from_rule_2(g: Geometry, img: &[u8], table: &mut [u8], n: u16, survey: Survey) -> Verdict
+    requires { ⌜ Ready g n (now img) survey (length (now table)) ⌝ }
+    ensures { λ r. ⌜ (r ≡ from2 g n (now (img .entry))) × Tells (chipOf g n (now (img .entry))) (now (table .exit)) r ⌝ }
+    ensures { λ _. ⌜ length (now (table .exit)) ≡ length (now (table .entry)) ⌝ }
+{
+    match page_rules::rule_2(g, img, n) {
+        Finding::Bad(page) => Verdict::Broken(2, page),
+        Finding::Good => from_rule_3(g, img, &mut *table, n, survey),
+    }
+}
+
+fn from_rule_1(g: Geometry, img: &[u8], table: &mut [u8], n: u16, survey: Survey) -> Verdict
+    requires { ⌜ Ready g n (now img) survey (length (now table)) ⌝ }
+    ensures { λ r. ⌜ (r ≡ verdict g n (now (img .entry))) × Tells (chipOf g n (now (img .entry))) (now (table .exit)) r ⌝ }
+    ensures { λ _. ⌜ length (now (table .exit)) ≡ length (now (table .entry)) ⌝ }
+{
+    match page_rules::rule_1(g, img, n) {
+        Finding::Bad(page) => Verdict::Broken(1, page),
+        Finding::Good => from_rule_2(g, img, &mut *table, n, survey),
+    }
+}
+
+// Judges n blocks. Where they are sound the table then tells each page's lowest live level.
+pub fn judge_image(g: Geometry, img: &[u8], table: &mut [u8], n: u16) -> Judgement
+    requires { ⌜ (g .pages ≤ 64) × (n ≤ 1024) × (65536 ≤ length (now table)) ⌝ }
+    ensures { λ r. ⌜ Judged g n (now (img .entry)) r (now (table .entry)) (now (table .exit)) ⌝ }
+{
+    let survey = survey::take_survey(g, img, n);
+    let verdict = from_rule_1(g, img, &mut *table, n, survey);
+    Judgement {
+        verdict: verdict,
+        survey: survey,
+    }
+}
