@@ -1,17 +1,19 @@
 -- The changed root as the code settles it. Definitions alone; assumes nothing.
-use Prim.Native.Nat.{ℕ, suc, _+_, _*_, _≤_}
+use Prim.Native.Nat.{ℕ, suc, _+_, _-_, _*_, _≤_}
 use mathlib.Core.Bool.{Bool, true, false}
 use mathlib.Core.Path.{_≡_}
 use mathlib.Core.List.{List, [], _∷_}
-use lib.ListN.{length}
+use lib.ListN.{length, take}
 use Rattle.geometry.specs.declared.Geometry.{Geometry}
 use Rattle.geometry.specs.declared.Entry.{Entry}
-use Rattle.geometry.specs.Geometry.{half}
+use Rattle.geometry.specs.Geometry.{half, pageBytes}
+use Rattle.model.specs.Page.{sealed}
+use Rattle.model.specs.Stores.{Store, program}
 use Rattle.model.specs.Tree.{next}
 use Rattle.model.specs.Edit.{pathHalf, sideHalf, two}
 use Rattle.model.specs.Update.{fills, crownPart, crownStore, crownHeight}
 use Rattle.node.specs.Node.{entries}
-use Rattle.page.specs.Page.{laidLevel}
+use Rattle.page.specs.Page.{laidLevel, bare}
 use Rattle.stores.specs.Run.{Ran}
 use Rattle.stores.specs.declared.Budget.{Budget}
 use Rattle.step.specs.declared.Job.{Job}
@@ -47,3 +49,8 @@ pub record Crowned (g : Geometry) (j : Job) (l : ℕ) (c : List Entry) (b : Budg
   pub height : r .height ≡ crownHeight g l c
   pub low : r .height ≤ suc l
   pub ran : Ran g (crownStore g (j .seq) (j .key) (sideOf j) l c) b (r .budget) i o
+
+-- page N where the root c stays above the levels laid on the buffer p
+unfoldable pub pathStore : Geometry → ℕ → ℕ → ℕ → List Entry → List ℕ → Store
+pathStore g at seq l c p =
+    program at (take (pageBytes g) (sealed g (bare g (suc l) (g .top - suc l) (laidLevel g p (suc l) c)) seq (suc l)))

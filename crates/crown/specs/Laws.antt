@@ -30,7 +30,7 @@ use Rattle.step.specs.declared.Cut.{Cut}
 use Rattle.step.specs.Step.{sideOf, cutStores, Halved}
 use Rattle.crown.specs.declared.Crown.{Crown}
 use Rattle.crown.specs.declared.Summit.{Summit}
-use Rattle.crown.specs.Crown.{Grows, topPart, Crowns, Crowned}
+use Rattle.crown.specs.Crown.{Grows, topPart, Crowns, Crowned, pathStore}
 
 -- ---- a carry's node
 first-one : (e : List Entry) (a : Entry) → length e ≡ 256 → take 1 (set e 0 a) ≡ a ∷ []
@@ -139,4 +139,12 @@ crowned g j l c s b d h i o p q cr ep run eh = record {
 pub last-is : (g : Geometry) (at : ℕ) (c q : List ℕ) (b r : Budget) (i o : List ℕ) → Ran g (program at (take (pageBytes g) q) ∷ []) b r i o → q ≡ c → Ran g (program at (take (pageBytes g) c) ∷ []) b r i o
 last-is g at c q b r i o run eq = rw eq at run
 
-pub ruleset crown-laws = (length-mapped, one-is, two-is, node-none, node-one, node-two, grown, crown-stay, crown-grow, height-grow, height-stay, lay-is, crowned, last-is)
+pub path-is : (g : Geometry) (at seq l : ℕ) (c : List Entry) (p q : List ℕ) (b r : Budget) (i o : List ℕ)
+    → Ran g (program at (take (pageBytes g) (sealed g (bare g (l + 1) (g .top - (l + 1)) q) seq (l + 1))) ∷ []) b r i o → q ≡ laidLevel g p (l + 1) c
+    → Ran g (pathStore g at seq l c p ∷ []) b r i o
+unfolding pathStore
+path-is g at seq l c p q b r i o run eq =
+    let s : l + 1 ≡ suc l = add-one l in
+    rw (eq, s) at run
+
+pub ruleset crown-laws = (length-mapped, one-is, two-is, node-none, node-one, node-two, grown, crown-stay, crown-grow, height-grow, height-stay, lay-is, crowned, last-is, path-is)

@@ -11,7 +11,7 @@ ghost use Rattle.model.specs.Stores.{Store};
 ghost use Rattle.node.specs.Node.{entries, carried};
 ghost use Rattle.page.specs.Page.{laidLevel, bare};
 ghost use Rattle.stores.specs.Run.{Ran};
-ghost use Rattle.crown.specs.Crown.{Grows, Crowns, Crowned};
+ghost use Rattle.crown.specs.Crown.{Grows, Crowns, Crowned, pathStore};
 use geometry::Entry;
 use geometry::Geometry;
 use node::Carry;
@@ -169,4 +169,22 @@ pub fn store_last(
 {
     page::close(g, &mut *page, from, seq, height);
     stores::put_page(g, &mut *img, b, at, &*page)
+}
+
+// Page N under a root that stays, the levels below it laid already.
+pub fn store_path(
+    g: Geometry,
+    img: &mut [u8],
+    page: &mut [u8],
+    b: Budget,
+    at: u32,
+    seq: u64,
+    level: u32,
+    c: Node,
+) -> Budget
+    requires { ⌜ (c .count ≤ 256) × (level < 255) × (b .left + b .programmed + b .erased < 4294967296) ⌝ }
+    ensures { λ r. ⌜ Ran g (pathStore g at seq level (entries c) (now (page .entry)) ∷ []) b r (now (img .entry)) (now (img .exit)) ⌝ }
+{
+    page::lay_level(g, &mut *page, level + 1, c);
+    store_last(g, &mut *img, &mut *page, b, at, level + 1, seq, level + 1)
 }

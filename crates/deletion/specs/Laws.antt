@@ -16,13 +16,13 @@ use Rattle.model.specs.Bytes.{erased, nodeAt}
 use Rattle.model.specs.Edit.{collapse}
 use Rattle.model.specs.Image.{Nodes}
 use Rattle.model.specs.Next.{nextPage}
-use Rattle.model.specs.Page.{sealed, built, only}
-use Rattle.model.specs.Stores.{Store, program, applyAll}
+use Rattle.model.specs.Page.{built, only}
+use Rattle.model.specs.Stores.{Store, program}
 use Rattle.lists.specs.Places.{length-mapped}
 use Rattle.node.specs.declared.Node.{Node}
 use Rattle.node.specs.Node.{entries}
 use Rattle.node.specs.Laws.{no-entry}
-use Rattle.page.specs.Page.{blanks, laidLevel, laid, bare}
+use Rattle.page.specs.Page.{blanks}
 use Rattle.stores.specs.declared.Budget.{Budget}
 use Rattle.stores.specs.Run.{Ran}
 use Rattle.stores.specs.Runs.{ran-then}
@@ -31,9 +31,11 @@ use Rattle.step.specs.declared.Change.the-variants.{Remove}
 use Rattle.step.specs.declared.Job.{Job}
 use Rattle.step.specs.Step.{storesOf}
 use Rattle.edit.specs.declared.Changed.{Changed}
-use Rattle.edit.specs.Edit.{changed, pathOf, partsOf, sidesUp, Changes}
+use Rattle.edit.specs.Edit.{Changes}
+use Rattle.edit.specs.Laws.{still}
+use Rattle.crown.specs.Crown.{pathStore}
 use Rattle.deletion.specs.declared.Top.{Top}
-use Rattle.deletion.specs.Own.{firstOf, Collapses, pathStore, topStore, rootStore, storeBy, Removes}
+use Rattle.deletion.specs.Own.{firstOf, Collapses, topStore, rootStore, storeBy, Removes}
 
 -- ---- collapse
 first : (e : List Entry) (c : ℕ) → 0 < length e → 0 < c → getD e 0 no-entry ≡ firstOf (take c e)
@@ -87,14 +89,6 @@ collapse-on r (suc l) m c d x t cl ex ed em h z =
     }
 
 -- ---- page N
-pub path-is : (g : Geometry) (at seq l : ℕ) (c : List Entry) (p q : List ℕ) (b r : Budget) (i o : List ℕ)
-    → Ran g (program at (take (pageBytes g) (sealed g (bare g (l + 1) (g .top - (l + 1)) q) seq (l + 1))) ∷ []) b r i o → q ≡ laidLevel g p (l + 1) c
-    → Ran g (pathStore g at seq l c p ∷ []) b r i o
-unfolding pathStore
-path-is g at seq l c p q b r i o run eq =
-    let s : l + 1 ≡ suc l = add-one l in
-    rw (eq, s) at run
-
 pub top-is : (g : Geometry) (at seq l : ℕ) (c : List Entry) (bs : List ℕ) (b r : Budget) (i o : List ℕ)
     → Ran g (program at (take (pageBytes g) bs) ∷ []) b r i o → take (pageBytes g) bs ≡ built g seq (l + 1) (only (l + 1) c)
     → Ran g (topStore g at seq l c ∷ []) b r i o
@@ -117,30 +111,20 @@ root-fall g j l i p o c t b r run cl q =
     let s : j .seq + 1 ≡ suc (j .seq) = add-one (j .seq) in
     rw (ne-eqb (collapse (nodeAt g i) l c .level) l (λ z. q (cl .level ∙ z))) (rw (s, cl .level, cl .list) at run)
 
--- ---- a job that stores nothing on the way
-no-stores : (g : Geometry) (j : Job) (f : ℕ → List Entry) (l : ℕ) → j .change ≡ Remove → sidesUp g j f l ≡ []
-unfolding sidesUp storesOf
-no-stores g j f zero e = refl
-no-stores g j f (suc l) e = (λ z. no-stores g j f l e z ++ storesOf g (e z) j (suc l) (f (suc l)))
-
-take-none : (n : ℕ) → take {A = Store} n [] ≡ []
-take-none zero = refl
-take-none (suc n) = refl
-
-same-image : (g : Geometry) (ss : List Store) (b r : Budget) (i o : List ℕ) → Ran g ss b r i o → ss ≡ [] → o ≡ i
-unfolding applyAll
-same-image g ss b r i o run e = run .image ∙ rw (e, take-none (b .left))
+-- ---- the whole
+nothing : (g : Geometry) (j : Job) (m : ℕ) (c : List Entry) → j .change ≡ Remove → storesOf g (j .change) j m c ≡ []
+unfolding storesOf
+nothing g j m c e = ap (λ (v : Change). storesOf g v j m c) e
 
 pub with-is : (g : Geometry) (j : Job) (l : ℕ) (e : Entry) (b r : Budget) (u : Changed) (i h o p q : List ℕ) → Ran g (rootStore g j l h q (entries (u .node)) ∷ []) (u .budget) r h o
     → Changes g j l e b u i h p q → p ≡ blanks 2112 → j .change ≡ Remove → Ran g (storeBy g j l e i ∷ []) b r i o
 unfolding storeBy
 with-is g j l e b r u i h o p q run ch ep ec =
-    let z : sidesUp g j (pathOf g j i l e) l ≡ [] = no-stores g j (pathOf g j i l e) l ec in
-    let si : h ≡ i = same-image g (sidesUp g j (pathOf g j i l e) l) b (u .budget) i h (ch .ran) z in
-    ran-then g [] (_ ∷ []) b (u .budget) r i i o (rw (z, si) at (ch .ran)) (rw (si, ch .node, ch .page, ep) at run)
+    let s = still g j l e b u i h p q ch (λ m c. nothing g j m c ec) in
+    ran-then g [] (_ ∷ []) b (u .budget) r i i o (s .1) (rw (s .0, ch .node, ch .page, ep) at run)
 
 pub removes : (g : Geometry) (n : ℕ) (i : List ℕ) (seq k x s : ℕ) (ps : List ℕ) → x ≡ nextPage (g .pages) n (erased g i) → s ≡ seq → s < 4294967296
     → Removes g n i seq k (record { key = k; page = x; seq = s; sides = ps; change = Remove })
 removes g n i seq k x s ps ex es h = record { key = refl; change = refl; number = es; small = h; page = ex }
 
-pub ruleset deletion-laws = (length-mapped, first-none, first-some, collapse-leaf, collapse-stay, collapse-on, path-is, top-is, root-stay, root-fall, with-is, removes)
+pub ruleset deletion-laws = (length-mapped, first-none, first-some, collapse-leaf, collapse-stay, collapse-on, top-is, root-stay, root-fall, with-is, removes)

@@ -3,22 +3,21 @@ use Prim.Native.Nat.{ℕ, suc, _+_, _-_, _<_, _≤_}
 use mathlib.Core.Path.{_≡_}
 use mathlib.Core.List.{List, [], _∷_, _++_}
 use lib.Dec.{eqb}
-use lib.ListN.{take}
 use Rattle.geometry.specs.declared.Geometry.{Geometry}
 use Rattle.geometry.specs.declared.Entry.{Entry}
-use Rattle.geometry.specs.Geometry.{pageBytes}
 use Rattle.geometry.specs.Tests.{pick}
 use Rattle.model.specs.Bytes.{erased, nodeAt}
 use Rattle.model.specs.Edit.{collapse}
 use Rattle.model.specs.Image.{Nodes}
 use Rattle.model.specs.Next.{nextPage}
-use Rattle.model.specs.Page.{sealed, built, only}
+use Rattle.model.specs.Page.{built, only}
 use Rattle.model.specs.Stores.{Store, program}
 use Rattle.node.specs.Node.{entries}
-use Rattle.page.specs.Page.{blanks, laidLevel, laid, bare}
+use Rattle.page.specs.Page.{blanks, laid}
 use Rattle.step.specs.declared.Change.the-variants.{Remove}
 use Rattle.step.specs.declared.Job.{Job}
 use Rattle.edit.specs.Edit.{changed, partsOf}
+use Rattle.crown.specs.Crown.{pathStore}
 use Rattle.deletion.specs.declared.Top.{Top}
 
 -- the entry that names the root
@@ -34,11 +33,6 @@ pub record Collapses (r : Nodes) (l : ℕ) (c : List Entry) (t : Top) : Type 0 w
   pub list : entries (t .node) ≡ collapse r l c .list
   pub few : t .node .count ≤ 256
   pub low : t .level ≤ l
-
--- page N where the root c stays above the levels laid on the buffer p
-unfoldable pub pathStore : Geometry → ℕ → ℕ → ℕ → List Entry → List ℕ → Store
-pathStore g at seq l c p =
-    program at (take (pageBytes g) (sealed g (bare g (suc l) (g .top - suc l) (laidLevel g p (suc l) c)) seq (suc l)))
 
 -- page N where the new root stands alone
 unfoldable pub topStore : Geometry → ℕ → ℕ → ℕ → List Entry → Store

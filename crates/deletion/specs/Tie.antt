@@ -28,8 +28,9 @@ use Rattle.step.specs.declared.Job.{Job}
 use Rattle.step.specs.Step.{leafOf, nameOf, partOf}
 use Rattle.edit.specs.Edit.{changed, pathOf, partsOf}
 use Rattle.edit.specs.Paths.{path-top, path-above}
-use Rattle.plan.specs.Plan.{chipBy}
-use Rattle.deletion.specs.Own.{rootAt, pathStore, topStore, rootStore, storeBy, Removes}
+use Rattle.chip.specs.Chip.{chipWith}
+use Rattle.crown.specs.Crown.{pathStore}
+use Rattle.deletion.specs.Own.{rootAt, topStore, rootStore, storeBy, Removes}
 
 -- a root that does not fall keeps its entries
 keeps : (r : Nodes) (l : ℕ) (c : List Entry) → (collapse r l c .level ≤ l) × (collapse r l c .level ≡ l → collapse r l c .list ≡ c)
@@ -67,41 +68,41 @@ module _ (g : Geometry) (c : Chip) (k n : ℕ) where
 
 module _ (g : Geometry) (n : ℕ) (i : List ℕ) (seq l p k : ℕ) (j : Job) (pj : Removes g n i seq k j) where
   at : ℕ
-  at = sidePage g n (chipBy g i l p) 1
+  at = sidePage g n (chipWith g i l p) 1
 
   page : j .page ≡ at
   unfolding at taken
   page = pj .page
 
-  list-of : (x : ℕ) → pathOf g j i l (rootAt p) x ≡ deleteList (chipBy g i l p) k (j .page) x
+  list-of : (x : ℕ) → pathOf g j i l (rootAt p) x ≡ deleteList (chipWith g i l p) k (j .page) x
   unfolding pathOf deleteList leafOf nameOf
   list-of x =
       ap (λ (y : ℕ). onPath (nodeAt g i) y (leafOf (j .change) y) (nameOf g (j .change) j) l (rootAt p) x) (pj .key)
       ∙ ap (λ (v : Change). onPath (nodeAt g i) k (leafOf v k) (nameOf g v j) l (rootAt p) x) (pj .change)
 
-  top-of : changed g j i l (rootAt p) ≡ deleteList (chipBy g i l p) k (j .page) (suc l)
+  top-of : changed g j i l (rootAt p) ≡ deleteList (chipWith g i l p) k (j .page) (suc l)
   unfolding changed pathOf
   top-of = sym (path-top (nodeAt g i) (j .key) (leafOf (j .change) (j .key)) (nameOf g (j .change) j) l (rootAt p)) ∙ list-of (suc l)
 
-  part-of : (x : ℕ) → partsOf g j i l (rootAt p) x ≡ deleteList (chipBy g i l p) k (j .page) x
+  part-of : (x : ℕ) → partsOf g j i l (rootAt p) x ≡ deleteList (chipWith g i l p) k (j .page) x
   unfolding partsOf partOf
   part-of x = ap (λ (v : Change). partOf g v (j .key) x (pathOf g j i l (rootAt p) x)) (pj .change) ∙ list-of x
 
   c : Chip
-  c = chipBy g i l p
+  c = chipWith g i l p
 
   stays : pageBytes g ≤ 2112 → deleteTop c k (j .page) .level ≡ l
       → take (pageBytes g) (sealed g (bare g (suc l) (g .top - suc l) (laidLevel g (laid g (partsOf g j i l (rootAt p)) l (blanks 2112)) (suc l) (changed g j i l (rootAt p)))) (suc (j .seq)) (suc l))
       ≡ built g (suc seq) (suc (deleteTop c k (j .page) .level)) (deletePart c k (j .page))
   unfolding c
   stays le e =
-      let low : laid g (partsOf g j i l (rootAt p)) l (blanks 2112) ≡ laid g (deletePart (chipBy g i l p) k (j .page)) l (blanks 2112) =
-      laid-agree g (partsOf g j i l (rootAt p)) (deletePart (chipBy g i l p) k (j .page)) l (blanks 2112) (λ x a h. part-of x ∙ sym (part-low g (chipBy g i l p) k (j .page) e x h)) in
-      let up : laidLevel g (laid g (partsOf g j i l (rootAt p)) l (blanks 2112)) (suc l) (changed g j i l (rootAt p)) ≡ laid g (deletePart (chipBy g i l p) k (j .page)) (suc l) (blanks 2112) =
-      (λ z. laidLevel g (low z) (suc l) ((top-of ∙ sym (part-top g (chipBy g i l p) k (j .page) e)) z)) ∙ laid-more g (deletePart (chipBy g i l p) k (j .page)) l (blanks 2112) in
+      let low : laid g (partsOf g j i l (rootAt p)) l (blanks 2112) ≡ laid g (deletePart (chipWith g i l p) k (j .page)) l (blanks 2112) =
+      laid-agree g (partsOf g j i l (rootAt p)) (deletePart (chipWith g i l p) k (j .page)) l (blanks 2112) (λ x a h. part-of x ∙ sym (part-low g (chipWith g i l p) k (j .page) e x h)) in
+      let up : laidLevel g (laid g (partsOf g j i l (rootAt p)) l (blanks 2112)) (suc l) (changed g j i l (rootAt p)) ≡ laid g (deletePart (chipWith g i l p) k (j .page)) (suc l) (blanks 2112) =
+      (λ z. laidLevel g (low z) (suc l) ((top-of ∙ sym (part-top g (chipWith g i l p) k (j .page) e)) z)) ∙ laid-more g (deletePart (chipWith g i l p) k (j .page)) l (blanks 2112) in
       (λ z. take (pageBytes g) (sealed g (bare g (suc l) (g .top - suc l) (up z)) (suc (pj .number z)) (suc l)))
-      ∙ page-is g (deletePart (chipBy g i l p) k (j .page)) (suc l) (suc seq) (suc l) (blanks 2112) _ refl refl le (part-above g (chipBy g i l p) k (j .page) e)
-      ∙ sym (λ z. built g (suc seq) (suc (e z)) (deletePart (chipBy g i l p) k (j .page)))
+      ∙ page-is g (deletePart (chipWith g i l p) k (j .page)) (suc l) (suc seq) (suc l) (blanks 2112) _ refl refl le (part-above g (chipWith g i l p) k (j .page) e)
+      ∙ sym (λ z. built g (suc seq) (suc (e z)) (deletePart (chipWith g i l p) k (j .page)))
 
   falls : collapse (nodeAt g i) l (changed g j i l (rootAt p)) ≡ deleteTop c k (j .page)
   unfolding c deleteTop
@@ -121,7 +122,7 @@ module _ (g : Geometry) (n : ℕ) (i : List ℕ) (seq l p k : ℕ) (j : Job) (pj
           (λ z. program (j .page) (built g (suc (pj .number z)) (suc (falls z .level)) (only (suc (falls z .level)) (falls z .list))))
           ∙ sym (λ z. program (j .page) (built g (suc seq) (suc (deleteTop c k (j .page) .level)) (λ x. part-only g c k (j .page) (λ r. eqb-false _ _ q ((λ z. falls z .level) ∙ r)) x z)))
 
-  pub deleted : (b r : Budget) (o : List ℕ) → Ran g (storeBy g j l (rootAt p) i ∷ []) b r i o → pageBytes g ≤ 2112 → Ran g (deleteStore g n seq (chipBy g i l p) k ∷ []) b r i o
+  pub deleted : (b r : Budget) (o : List ℕ) → Ran g (storeBy g j l (rootAt p) i ∷ []) b r i o → pageBytes g ≤ 2112 → Ran g (deleteStore g n seq (chipWith g i l p) k ∷ []) b r i o
   unfolding deleteStore c at
   deleted b r o run le =
       let e : storeBy g j l (rootAt p) i ≡ program at (built g (suc seq) (suc (deleteTop c k at .level)) (deletePart c k at)) =

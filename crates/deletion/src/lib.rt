@@ -6,9 +6,9 @@ ghost use Rattle.geometry.specs.Geometry.{pageBytes};
 ghost use Rattle.model.specs.Bytes.{nodeAt};
 ghost use Rattle.model.specs.Update.{deleteStore};
 ghost use Rattle.node.specs.Node.{entries};
-ghost use Rattle.plan.specs.Plan.{chipBy};
+ghost use Rattle.chip.specs.Chip.{chipWith};
 ghost use Rattle.stores.specs.Run.{Ran};
-ghost use Rattle.deletion.specs.Own.{firstOf, Collapses, Removes, pathStore, topStore, rootStore, storeBy, rootAt};
+ghost use Rattle.deletion.specs.Own.{firstOf, Collapses, Removes, topStore, rootStore, storeBy, rootAt};
 ghost use Rattle.step.specs.declared.Change.{Change};
 use edit::Changed;
 use geometry::Entry;
@@ -52,24 +52,6 @@ fn collapse(g: Geometry, img: &[u8], level: u32, c: Node) -> Top
     collapse(g, img, level - 1, d)
 }
 
-// Page N where the root stays: the path is laid already.
-fn store_path(
-    g: Geometry,
-    img: &mut [u8],
-    page: &mut [u8],
-    b: Budget,
-    at: u32,
-    seq: u64,
-    level: u32,
-    c: Node,
-) -> Budget
-    requires { ⌜ (c .count ≤ 256) × (level < 255) × (b .left + b .programmed + b .erased < 4294967296) ⌝ }
-    ensures { λ r. ⌜ Ran g (pathStore g at seq level (entries c) (now (page .entry)) ∷ []) b r (now (img .entry)) (now (img .exit)) ⌝ }
-{
-    page::lay_level(g, &mut *page, level + 1, c);
-    crown::store_last(g, &mut *img, &mut *page, b, at, level + 1, seq, level + 1)
-}
-
 // Page N where the tree shrinks: the new root alone.
 fn store_top(g: Geometry, img: &mut [u8], b: Budget, at: u32, seq: u64, t: Top) -> Budget
     requires { ⌜ (t .node .count ≤ 256) × (t .level < 255) × (pageBytes g ≤ 2112) × (b .left + b .programmed + b .erased < 4294967296) ⌝ }
@@ -97,7 +79,7 @@ fn store_root(
     let left = u.budget;
     let t = collapse(g, &*img, level, c);
     if t.level == level {
-        return store_path(
+        return crown::store_path(
             g,
             &mut *img,
             &mut *page,
@@ -162,7 +144,7 @@ pub fn delete_own(
     key: u32,
 ) -> Budget
     requires { ⌜ (level < 255) × (pageBytes g ≤ 2112) × (b .left + b .programmed + b .erased < 4294967296) ⌝ }
-    ensures { λ r. ⌜ Ran g (deleteStore g n seq (chipBy g (now (img .entry)) level root) key ∷ []) b r (now (img .entry)) (now (img .exit)) ⌝ }
+    ensures { λ r. ⌜ Ran g (deleteStore g n seq (chipWith g (now (img .entry)) level root) key ∷ []) b r (now (img .entry)) (now (img .exit)) ⌝ }
 {
     let job = delete_job(g, &*img, n, seq, key);
     delete_with(g, &mut *img, b, job, level, root)

@@ -2,6 +2,7 @@
 use Prim.Native.Nat.{ℕ, zero, suc, _+_, _-_, _*_, _<_, _≤_}
 use mathlib.Core.Path.{_≡_, refl, sym, ap, _∙_}
 use mathlib.Core.List.{List, [], _∷_, _++_}
+use lib.ListN.{take}
 use native.Mathlib.Omega.{arith}
 use native.Mathlib.Numerals.{add-one, sub-one}
 use Rattle.geometry.specs.declared.Geometry.{Geometry}
@@ -9,7 +10,7 @@ use Rattle.geometry.specs.declared.Entry.{Entry}
 use Rattle.model.specs.Bytes.{nodeAt}
 use Rattle.model.specs.Tree.{chosen}
 use Rattle.model.specs.Edit.{put, remove, edited, onPath}
-use Rattle.model.specs.Stores.{Store}
+use Rattle.model.specs.Stores.{Store, applyAll}
 use Rattle.node.specs.declared.Node.{Node}
 use Rattle.node.specs.Node.{entries, carried, replaceBy}
 use Rattle.page.specs.Page.{laidLevel, laid}
@@ -117,5 +118,27 @@ pub change-on : (g : Geometry) (j : Job) (l : ℕ) (e : Entry) (b : Budget) (r u
 change-on g j zero e b r u t i h o p d q rj tk ch z = absurd (z refl)
 change-on g j (suc l) e b r u t i h o p d q rj tk ch z =
     change-suc g j i l e b r u t h o p d q (rw add-one at tk) (rw sub-one at ch) rj
+
+-- ---- a change that stores nothing on the way
+no-stores : (g : Geometry) (j : Job) (f : ℕ → List Entry) (l : ℕ) → ((m : ℕ) (c : List Entry) → storesOf g (j .change) j m c ≡ []) → sidesUp g j f l ≡ []
+unfolding sidesUp
+no-stores g j f zero e = refl
+no-stores g j f (suc l) e = λ z. no-stores g j f l e z ++ e (suc l) (f (suc l)) z
+
+take-none : (n : ℕ) → take {A = Store} n [] ≡ []
+take-none zero = refl
+take-none (suc n) = refl
+
+same-image : (g : Geometry) (ss : List Store) (b r : Budget) (i o : List ℕ) → Ran g ss b r i o → ss ≡ [] → o ≡ i
+unfolding applyAll
+same-image g ss b r i o run e = run .image ∙ rw (e, take-none (b .left))
+
+-- it leaves the image as it is
+pub still : (g : Geometry) (j : Job) (l : ℕ) (e : Entry) (b : Budget) (u : Changed) (i h p q : List ℕ) → Changes g j l e b u i h p q
+    → ((m : ℕ) (c : List Entry) → storesOf g (j .change) j m c ≡ []) → (h ≡ i) × Ran g [] b (u .budget) i i
+still g j l e b u i h p q ch none =
+    let z : sidesUp g j (pathOf g j i l e) l ≡ [] = no-stores g j (pathOf g j i l e) l none in
+    let si : h ≡ i = same-image g (sidesUp g j (pathOf g j i l e) l) b (u .budget) i h (ch .ran) z in
+    (si, rw (z, si) at (ch .ran))
 
 pub ruleset edit-laws = (leaf-put, leaf-remove, leaf-same, rejoined, change-leaf, change-on)

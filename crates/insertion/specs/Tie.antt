@@ -27,7 +27,7 @@ use Rattle.step.specs.Step.{sideOf, leafOf, nameOf, partOf, storesOf}
 use Rattle.edit.specs.Edit.{changed, pathOf, partsOf, sidesUp}
 use Rattle.edit.specs.Paths.{path-top, path-agree}
 use Rattle.crown.specs.Crown.{topPart}
-use Rattle.plan.specs.Plan.{chipBy}
+use Rattle.chip.specs.Chip.{chipWith}
 use Rattle.insertion.specs.Own.{rootAt, crownParts, ownBy, Puts}
 
 -- what is made of a level depends on the page of that level's other half alone
@@ -49,7 +49,7 @@ part-agree g k₁ k₂ n₁ n₂ l f h xs ys m ek en ex ef = rw (ek, en, ex, ef)
 
 -- the page of the other half at level x
 side : Geometry → ℕ → List ℕ → ℕ → ℕ → ℕ → ℕ
-side g n i l p x = sidePage g n (chipBy g i l p) x
+side g n i l p x = sidePage g n (chipWith g i l p) x
 
 side-is : (g : Geometry) (n : ℕ) (i : List ℕ) (l p x : ℕ) → 1 ≤ x → nth (g .pages) n (erased g i) (x - 1) ≡ side g n i l p x
 unfolding side
@@ -58,7 +58,7 @@ side-is g n i l p (suc x) h = rw sub-one
 
 -- the path's lists
 lists : Geometry → ℕ → List ℕ → ℕ → ℕ → ℕ → ℕ → ℕ → ℕ → List Entry
-lists g n i l p m k a x = insertList g (chipBy g i l p) k a (side g n i l p m) (side g n i l p) x
+lists g n i l p m k a x = insertList g (chipWith g i l p) k a (side g n i l p m) (side g n i l p) x
 
 module _ (g : Geometry) (n : ℕ) (i : List ℕ) (seq l p m k a : ℕ) (j : Job) (pj : Puts g n i seq l m k a j) (some : 1 ≤ m) where
   sides : (x : ℕ) → 1 ≤ x → x ≤ suc l → sideOf j x ≡ side g n i l p x
@@ -101,19 +101,19 @@ module _ (g : Geometry) (n : ℕ) (i : List ℕ) (seq l p m k a : ℕ) (j : Job)
       ap (λ (v : Change). partOf g v (j .key) x (pathOf g j i l (rootAt p) x)) (pj .change)
       ∙ (λ z. pathPart (pj .key z) (half g) x (list-is x z))
 
-  part-is : (x : ℕ) → crownParts g j i l (rootAt p) x ≡ insertPart g (chipBy g i l p) k a (side g n i l p m) (side g n i l p) x
+  part-is : (x : ℕ) → crownParts g j i l (rootAt p) x ≡ insertPart g (chipWith g i l p) k a (side g n i l p m) (side g n i l p) x
   unfolding crownParts insertPart topPart lists
   part-is x = λ z. pick (leb x l) (low-is x z)
       (part-agree g (j .key) k (j .page) (side g n i l p m) (suc l) (sideOf j) (side g n i l p) (changed g j i l (rootAt p)) (lists g n i l p m k a (suc l)) x (pj .key) page top-is (sides (suc l) (omega arith) (omega arith)) z)
 
-  own-is : ownBy g j i (seq + m) l (rootAt p) ≡ ownStores g n seq (chipBy g i l p) m k a
+  own-is : ownBy g j i (seq + m) l (rootAt p) ≡ ownStores g n seq (chipWith g i l p) m k a
   unfolding ownBy ownStores lists side
   own-is = λ z.
       sides-is l (omega arith) z
       ++ (crown-agree g (j .seq) seq (j .key) k (suc l) (sideOf j) (side g n i l p) (changed g j i l (rootAt p)) (lists g n i l p m k a (suc l)) (pj .number) (pj .key) top-is (sides (suc l) (omega arith) (omega arith)) z
       ++ (program (page z) (built g (seq + m) (crownHeight g (suc l) (top-is z)) (λ x. part-is x z)) ∷ []))
 
-  pub inserted : (b r : Budget) (o : List ℕ) (last : ℕ) → Ran g (ownBy g j i last l (rootAt p)) b r i o → last ≡ seq + m → Ran g (ownStores g n seq (chipBy g i l p) m k a) b r i o
+  pub inserted : (b r : Budget) (o : List ℕ) (last : ℕ) → Ran g (ownBy g j i last l (rootAt p)) b r i o → last ≡ seq + m → Ran g (ownStores g n seq (chipWith g i l p) m k a) b r i o
   inserted b r o last run e = rw own-is at (rw e at run)
 
 pub ruleset tie-laws = (inserted)

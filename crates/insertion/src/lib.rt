@@ -3,7 +3,7 @@ ghost use mathlib.Core.Path.{_≡_};
 ghost use Prim.Native.Nat.{ℕ, _+_, _*_, _-_, _≤_, _<_, max};
 ghost use Rattle.geometry.specs.Geometry.{pageBytes};
 ghost use Rattle.model.specs.Update.{ownStores};
-ghost use Rattle.plan.specs.Plan.{chipBy};
+ghost use Rattle.chip.specs.Chip.{chipWith};
 ghost use Rattle.stores.specs.Run.{Ran};
 ghost use Rattle.insertion.specs.Own.{Climbs, ownBy, rootAt, Puts};
 use crown::Summit;
@@ -125,7 +125,7 @@ pub fn insert_own(
     addr: u32,
 ) -> Budget
     requires { ⌜ (level < 255) × (1 ≤ m) × (m ≤ 256) × (pageBytes g ≤ 2112) × (b .left + b .programmed + b .erased < 4294967296) ⌝ }
-    ensures { λ r. ⌜ Ran g (ownStores g n seq (chipBy g (now (img .entry)) level root) m key addr) b r (now (img .entry)) (now (img .exit)) ⌝ }
+    ensures { λ r. ⌜ Ran g (ownStores g n seq (chipWith g (now (img .entry)) level root) m key addr) b r (now (img .entry)) (now (img .exit)) ⌝ }
 {
     let job = insert_job(g, &*img, n, seq, level, m, key, addr);
     insert_with(g, &mut *img, b, job, number(seq, m), level, root)

@@ -17,13 +17,14 @@ use Rattle.model.specs.Bytes.{nodeAt, nodeCount}
 use Rattle.model.specs.Tree.{chosen, leaf, find, sought}
 use Rattle.model.specs.Edit.{gains, splits}
 use Rattle.model.specs.Update.{isNone, fills, needs, tooHigh, rootGains}
+use Rattle.chip.specs.Chip.{chipWith}
 use Rattle.chip.specs.Node.{node-length}
 use Rattle.search.specs.declared.Found.{Found}
 use Rattle.search.specs.declared.Found.the-variants.{At, Nothing}
 use Rattle.search.specs.Search.{found}
 use Rattle.plan.specs.declared.Run.{Run}
 use Rattle.plan.specs.declared.Plan.{Plan}
-use Rattle.plan.specs.Plan.{chipBy, high, Counts, Plans}
+use Rattle.plan.specs.Plan.{high, Counts, Plans}
 
 -- ---- seek
 pub seek-leaf : (g : Geometry) (img : List ℕ) (k l : ℕ) (e : Entry) (r : Found) → found r ≡ find k (nodeAt g img (e .addr) 1) → l ≡ 0
@@ -132,7 +133,7 @@ high-is g l m k t s b ek et es h q = simp (eq-eqb l (g .top) (sym ek ∙ h ∙ e
 pub planned : (g : Geometry) (img : List ℕ) (l p k : ℕ) (a : Bool) (x : Entry) (r : Run) (m m′ n : ℕ) (grows h : Bool)
     → Counts g img k a l x r → a ≡ isNone (find k (leaf (nodeAt g img) k l (record { key = 0; addr = p }))) → x ≡ chosen k (nodeAt g img p (l + 1)) → m ≡ nodeCount g img p (l + 1)
     → m′ ≡ m + bit (r .gains) → grows ≡ fills g (l + 1) m′ → n ≡ suc (r .splits + bit grows) → n ≤ r .splits + 2 → h ≡ high g (l + 1) m (r .gains)
-    → Plans g (chipBy g img l p) k (record { absent = a; needs = n; high = h })
+    → Plans g (chipWith g img l p) k (record { absent = a; needs = n; high = h })
 unfolding needs tooHigh high rootGains
 planned g img l p k a x r m m′ n grows h c ea ex em em′ eg en few eh =
     let s : l + 1 ≡ suc l = add-one l in

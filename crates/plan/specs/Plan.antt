@@ -8,17 +8,13 @@ use Rattle.geometry.specs.declared.Geometry.{Geometry}
 use Rattle.geometry.specs.declared.Entry.{Entry}
 use Rattle.geometry.specs.Geometry.{half, rootSlots}
 use Rattle.geometry.specs.Tests.{_&_}
-use Rattle.model.specs.Bytes.{erased, nodeAt}
+use Rattle.model.specs.Bytes.{nodeAt}
 use Rattle.model.specs.Image.{Chip}
 use Rattle.model.specs.Tree.{sought}
 use Rattle.model.specs.Edit.{gains, splits}
 use Rattle.model.specs.Update.{isNone, needs, tooHigh}
 use Rattle.plan.specs.declared.Run.{Run}
 use Rattle.plan.specs.declared.Plan.{Plan}
-
--- what the rules see of an image, its root's page and level given
-abbrev pub chipBy : Geometry → List ℕ → ℕ → ℕ → Chip
-chipBy g img level root = record { er = erased g img; nodes = nodeAt g img; level = level; root = root }
 
 -- HEIGHT at level l, of a root of m entries
 unfoldable pub high : Geometry → ℕ → ℕ → Bool → Bool

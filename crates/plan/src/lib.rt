@@ -10,7 +10,8 @@ ghost use Rattle.model.specs.Tree.{leaf, find};
 ghost use Rattle.geometry.specs.Tests.{bit};
 ghost use Rattle.model.specs.Update.{isNone, fills};
 ghost use Rattle.search.specs.Search.{found};
-ghost use Rattle.plan.specs.Plan.{chipBy, high, Counts, Plans};
+ghost use Rattle.chip.specs.Chip.{chipWith};
+ghost use Rattle.plan.specs.Plan.{high, Counts, Plans};
 use geometry::Entry;
 use geometry::Geometry;
 use search::Found;
@@ -136,7 +137,7 @@ fn is_absent(g: Geometry, img: &[u8], key: u32, below: u32, e: Entry) -> bool
 // The plan for a key under the root at a page with `level` levels below it.
 pub fn make_plan(g: Geometry, img: &[u8], level: u32, root: u32, key: u32) -> Plan
     requires { ⌜ level < 255 ⌝ }
-    ensures { λ r. ⌜ Plans g (chipBy g (now (img .entry)) level root) key r ⌝ }
+    ensures { λ r. ⌜ Plans g (chipWith g (now (img .entry)) level root) key r ⌝ }
 {
     let absent = is_absent(g, img, key, level, Entry { key: 0, addr: root });
     let x = search::chosen_entry(g, img, root, level + 1, key);

@@ -1,0 +1,38 @@
+-- The victim as the code finds it. Definitions alone; assumes nothing.
+use Prim.Native.Nat.{ℕ, _+_, _-_, _*_, _<_}
+use mathlib.Core.Bool.{Bool, true, false}
+use mathlib.Core.Path.{_≡_}
+use mathlib.Core.List.{List}
+use mathlib.Core.Option.{Option, none, some}
+use Rattle.geometry.specs.declared.Geometry.{Geometry}
+use Rattle.geometry.specs.Tests.{pick}
+use Rattle.model.specs.Bytes.{erased}
+use Rattle.model.specs.Collect.{victim}
+use Rattle.model.specs.Image.{chipOf}
+use Rattle.model.specs.Next.{full, inBlock}
+use Rattle.survey.specs.declared.Survey.{Survey}
+use Rattle.survey.specs.Survey.{surveyOf}
+use Rattle.walk.specs.Table.{Marked, liveIn}
+use Rattle.victim.specs.declared.Best.{Best}
+
+-- block b has no erased page
+unfoldable pub fullIn : Geometry → List ℕ → ℕ → Bool
+fullIn g img b = full (g .pages) (erased g img) b
+
+-- the live pages of block b by the table
+unfoldable pub livesBy : Geometry → List ℕ → ℕ → ℕ
+livesBy g tbl b = inBlock (g .pages) (liveIn tbl) b
+
+unfoldable pub bestOf : Best → Option ℕ
+bestOf r = pick (r .found) (some (r .block)) none
+
+pub record Bests (full : ℕ → Bool) (lives : ℕ → ℕ) (n : ℕ) (r : Best) : Type 0 where
+  pub best : bestOf r ≡ victim full lives n
+  pub count : r .found ≡ true → r .lives ≡ lives (r .block)
+  pub below : r .found ≡ true → r .block < n
+
+-- a survey and a table that tell of the image
+pub record Looked (g : Geometry) (n : ℕ) (img : List ℕ) (s : Survey) (tbl : List ℕ) : Type 0 where
+  pub survey : s ≡ surveyOf g n img
+  pub marked : Marked (chipOf g n img) tbl
+  pub low : s .level < 255

@@ -1,0 +1,71 @@
+// What collection looks at: the image's numbers, its live pages in a lent table, and the victim.
+ghost use mathlib.Core.Path.{_≡_};
+ghost use Prim.Native.Nat.{ℕ, _+_, _*_, _-_, _≤_, _<_};
+ghost use lib.ListN.{length};
+ghost use Rattle.model.specs.Bytes.{erased};
+ghost use Rattle.model.specs.Image.{chipOf};
+ghost use Rattle.model.specs.Next.{full, inBlock};
+ghost use Rattle.walk.specs.Table.{liveIn};
+ghost use Rattle.victim.specs.Victim.{Looked, Bests, fullIn, livesBy};
+use geometry::Geometry;
+use survey::Survey;
+
+// The best block so far, if there is one, and its live pages.
+pub struct Best {
+    pub found: bool,
+    pub block: u16,
+    pub lives: u32,
+}
+
+// Surveys an image of n blocks and fills the table with its lowest live levels.
+pub fn look(g: Geometry, img: &[u8], table: &mut [u8], n: u16) -> Survey
+    ensures { λ r. ⌜ length (now (table .exit)) ≡ length (now (table .entry)) ⌝ }
+    ensures { λ r. ⌜ Looked g n (now (img .entry)) r (now (table .exit)) ⌝ }
+{
+    let s = survey::take_survey(g, img, n);
+    walk::fill(g, img, &mut *table, s.level, s.root);
+    s
+}
+
+// The better of a block and the best before it.
+fn better(g: Geometry, img: &[u8], table: &[u8], block: u16, best: Best) -> Best
+    requires { ⌜ Bests (fullIn g (now img)) (livesBy g (now table)) block best ⌝ }
+    ensures { λ r. ⌜ Bests (fullIn g (now (img .entry))) (livesBy g (now (table .entry))) (block + 1) r ⌝ }
+{
+    if chip::last_erased(g, img, block) {
+        return best;
+    }
+    let lives = walk::lives_in(g, table, block);
+    if !best.found {
+        return Best {
+            found: true,
+            block: block,
+            lives: lives,
+        };
+    }
+    if lives < best.lives {
+        return Best {
+            found: true,
+            block: block,
+            lives: lives,
+        };
+    }
+    best
+}
+
+// The block without erased pages that has fewest live pages, the lowest on a tie.
+pub fn find_victim(g: Geometry, img: &[u8], table: &[u8], n: u16) -> Best
+    ensures { λ r. ⌜ Bests (fullIn g (now (img .entry))) (livesBy g (now (table .entry))) n r ⌝ }
+{
+    let mut best = Best {
+        found: false,
+        block: 0,
+        lives: 0,
+    };
+    let mut block: u16 = 0;
+    while block < n {
+        best = better(g, img, table, block, best);
+        block += 1;
+    }
+    best
+}
