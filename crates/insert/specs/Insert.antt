@@ -10,18 +10,18 @@ use native.Mathlib.Numerals.{add-one}
 use borrow.Author.Tests.{lt-ltb, le-ltb}
 use Rattle.geometry.specs.declared.Geometry.{Geometry}
 use Rattle.geometry.specs.Tests.{pick}
-use Rattle.model.specs.Image.{Chip, chipOf, pagesOf, maxSeq}
+use Rattle.model.specs.Image.{Chip, chipOf, pagesOf, blocksOf, maxSeq}
 use Rattle.model.specs.Tree.{livePages}
-use Rattle.model.specs.Rules.{verdict, isSound}
 use Rattle.model.specs.Count.{count}
-use Rattle.model.specs.Calls.{Outcome, refused, made, worn, roomless, freePages, insertRest}
+use Rattle.model.specs.Calls.{Outcome, refused, made, worn, roomless, freePages, insertRest, judged, insert}
 use Rattle.model.specs.Collect.{collectStores}
 use Rattle.model.specs.Stores.{Store, applyAll}
 use Rattle.model.specs.Update.{needs, tooHigh, ownStores, insertStores}
 use Rattle.answers.specs.declared.Answer.{Answer}
-use Rattle.answers.specs.declared.Answer.the-variants.{Worn, Height, Room}
+use Rattle.answers.specs.declared.Answer.the-variants.{Worn, Height, Room, Length}
 use Rattle.answers.specs.Answers.{told}
-use Rattle.chip.specs.Chip.{chipWith}
+use Rattle.chip.specs.Chip.{chipWith, goodBlocks}
+use Rattle.chip.specs.Blocks.{some-blocks}
 use Rattle.stores.specs.declared.Budget.{Budget}
 use Rattle.stores.specs.Run.{Ran}
 use Rattle.stores.specs.Runs.{ran-then, ran-halted, ran-full}
@@ -33,12 +33,9 @@ use Rattle.victim.specs.Victim.{Looked}
 use Rattle.victim.specs.Laws.{chip-is}
 use Rattle.plan.specs.declared.Plan.{Plan}
 use Rattle.plan.specs.Plan.{Plans}
+use Rattle.judging.specs.Judging.{judgedIn, judged-damaged, judged-rest, judged-looked, judged-room, judged-length, judged-blocks}
 use Rattle.account.specs.Account.{freshOf, answerBy}
 use Rattle.account.specs.Laws.{told-made}
-
--- the rest of an insert on an image of n blocks, judged
-unfoldable pub insertIn : Geometry → ℕ → List ℕ → ℕ → ℕ → ℕ → Outcome
-insertIn g n img k a allowance = pick (isSound (verdict g n img)) (insertRest g n img k a allowance) (refused 2 img)
 
 -- ---- the stores
 module _ (g : Geometry) (n k a m x : ℕ) (i : List ℕ) (em : m ≡ needs g (chipOf g n i) k) (b : Budget) (eb : b ≡ freshOf x) where
@@ -101,4 +98,15 @@ module _ (g : Geometry) (n k a x : ℕ) (i : List ℕ) (s : Survey) (tbl : List 
     pub needs-is : p .needs ≡ needs g (chipOf g n i) k
     needs-is = plan-is .needs
 
-pub ruleset insert-laws = (insert-halt, insert-on, rest-worn, rest-high, rest-room, rest-made, needs-is)
+-- ---- judged first
+module _ (g : Geometry) (img : List ℕ) (k a x n : ℕ) (en : n ≡ goodBlocks g img) where
+  pub insert-length : n ≡ 0 → told Length img ≡ insert g img k a x
+  unfolding insert
+  insert-length z = judged-length g img (insertRest g (blocksOf g img) img k a x) n en z
+
+  pub insert-judged : (c : Answer) (o : List ℕ) → (n ≡ 0 → ⊥) → told c o ≡ judgedIn g n img (insertRest g n img k a x) → told c o ≡ insert g img k a x
+  unfolding insert
+  insert-judged c o h e =
+      judged-blocks g img (insertRest g (blocksOf g img) img k a x) n en (told c o) h (e ∙ ap (λ m. judgedIn g n img (insertRest g m img k a x)) (some-blocks g img n en h))
+
+pub ruleset insert-laws = (insert-halt, insert-on, rest-worn, rest-high, rest-room, rest-made, needs-is, judged-damaged, judged-rest, judged-looked, judged-room, insert-length, insert-judged)

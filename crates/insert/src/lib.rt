@@ -10,7 +10,7 @@ ghost use Rattle.answers.specs.Answers.{told};
 ghost use Rattle.stores.specs.Run.{Ran};
 ghost use Rattle.account.specs.Account.{freshOf};
 ghost use Rattle.victim.specs.Victim.{Looked};
-ghost use Rattle.insert.specs.Insert.{insertIn};
+ghost use Rattle.judging.specs.Judging.{judgedIn};
 use answers::Answer;
 use geometry::Geometry;
 use geometry::Verdict;
@@ -67,4 +67,39 @@ fn insert_rest(
     }
     let b = make_stores(g, &mut *img, &mut *table, n, p.needs, key, addr, allowance);
     account::answer_of(b)
+}
+
+// Insert on n blocks, with a lent table for the judge and the collector.
+fn insert_blocks(
+    g: Geometry,
+    img: &mut [u8],
+    table: &mut [u8],
+    n: u16,
+    key: u32,
+    addr: u32,
+    allowance: u32,
+) -> Answer
+    requires { ⌜ (g .pages ≤ 64) × (n ≤ 1024) × (65536 ≤ length (now table)) × (pageBytes g ≤ 2112) ⌝ }
+    ensures { λ r. ⌜ told r (now (img .exit)) ≡ judgedIn g n (now (img .entry)) (insertRest g n (now (img .entry)) key addr allowance) ⌝ }
+{
+    let judgement = verdict::judge_image(g, &*img, &mut *table, n);
+    let verdict = judgement.verdict;
+    let survey = judgement.survey;
+    match verdict {
+        Verdict::Broken(_, _) => Answer::Damaged,
+        Verdict::Sound => insert_rest(g, &mut *img, &mut *table, n, survey, key, addr, allowance),
+    }
+}
+
+// Insert on a chip with blocks of at most 64 pages.
+pub fn insert_on(g: Geometry, img: &mut [u8], key: u32, addr: u32, allowance: u32) -> Answer
+    requires { ⌜ (g .pages ≤ 64) × (pageBytes g ≤ 2112) ⌝ }
+    ensures { λ r. ⌜ told r (now (img .exit)) ≡ insert g (now (img .entry)) key addr allowance ⌝ }
+{
+    let n = chip::good_blocks(g, &*img);
+    if n == 0 {
+        return Answer::Length;
+    }
+    let mut table: [u8; 65536] = [0; 65536];
+    insert_blocks(g, &mut *img, &mut table, n, key, addr, allowance)
 }

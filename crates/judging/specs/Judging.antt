@@ -21,7 +21,6 @@ use Rattle.chip.specs.Chip.{goodBlocks}
 use Rattle.chip.specs.Blocks.{none-good, some-good, some-blocks}
 use Rattle.verdict.specs.declared.Judgement.{Judgement}
 use Rattle.verdict.specs.Verdict.{Judged}
-use Rattle.survey.specs.declared.Survey.{Survey}
 use Rattle.victim.specs.Victim.{Looked}
 
 -- the rest on an image of n blocks, if it is sound
@@ -37,13 +36,12 @@ module _ (g : Geometry) (n : ℕ) (img : List ℕ) (rest : Outcome) (j : Judgeme
   unfolding judgedIn
   judged-rest o h e = h ∙ sym (simp (← (x .verdict), e))
 
--- a sound image's judgement tells what an update looks at
-pub judged-looked : (g : Geometry) (n : ℕ) (img : List ℕ) (j : Judgement) (s : Survey) (t u : List ℕ) → Judged g n img j t u → j .verdict ≡ Sound → s ≡ j .survey → Looked g n img s u
-judged-looked g n img j s t u x e f = rw f (record { survey = x .survey; marked = x .table .marked e; low = x .level })
+-- a sound image's judgement tells what an update looks at, and the table has a place for each page
+pub judged-looked : (g : Geometry) (n : ℕ) (img : List ℕ) (j : Judgement) (t u : List ℕ) → Judged g n img j t u → j .verdict ≡ Sound → Looked g n img (j .survey) u
+judged-looked g n img j t u x e = record { survey = x .survey; marked = x .table .marked e; low = x .level }
 
--- the table has a place for each page
-pub table-room : (g : Geometry) (n : ℕ) (t : List ℕ) → g .pages ≤ 64 → n ≤ 1024 → 65536 ≤ length t → g .pages * n ≤ length t
-table-room g n t p b h = let x = mul-le-mul-left (g .pages) b in let y = mul-le-mul-right 1024 p in omega (arith, x, y, h)
+pub judged-room : (g : Geometry) (n : ℕ) (img : List ℕ) (j : Judgement) (t u : List ℕ) → Judged g n img j t u → g .pages ≤ 64 → n ≤ 1024 → 65536 ≤ length t → g .pages * n ≤ length u
+judged-room g n img j t u x p b h = let y = mul-le-mul-left (g .pages) b in let z = mul-le-mul-right 1024 p in omega (arith, y, z, h, x .same)
 
 module _ (g : Geometry) (img : List ℕ) (rest : Outcome) (n : ℕ) (en : n ≡ goodBlocks g img) where
   pub judged-length : n ≡ 0 → told Length img ≡ judged g img rest
