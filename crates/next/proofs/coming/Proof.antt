@@ -8,10 +8,6 @@ use lib.ListN.{length}
 use Rattle.model.specs.Bytes.{erased}
 use Rattle.model.specs.Count.{least}
 use Rattle.model.specs.Next.{mixed}
-<<<<<<< HEAD
-use Rattle.counts.specs.Blocks.{within}
-=======
->>>>>>> 371acebdaa42fd028420ef91705636dd1fd05949
 use Rattle.next.specs.Coming.{free, head, Coming}
 use Rattle.next.proofs.coming.Statement.{statement}
 use Rattle.next.proofs.coming.Tie as tie
