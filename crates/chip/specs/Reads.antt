@@ -7,7 +7,7 @@ use mir.Syntax.{w32}
 use mir.Val.{Fits}
 use lib.ListN.{getD, length, List·getD-eq-default}
 use native.Mathlib.Omega.{arith}
-use native.Mathlib.Nat.{zero-mul, mul-le-mul, lt-of-le-of-lt}
+use native.Mathlib.Nat.{mul-le-mul, lt-of-le-of-lt}
 use Rattle.geometry.specs.declared.Geometry.{Geometry}
 use Rattle.geometry.specs.declared.Entry.{Entry}
 use Rattle.geometry.specs.Geometry.{pageBytes, pageBase, firstSlot}
@@ -80,12 +80,9 @@ pages-below a b ha hb = lt-of-le-of-lt (mul-le-mul {n₁ = a} {m₁ = b} {n₂ =
 pub pages-fit : (a b : ℕ) → a < 65536 → b < 65536 → Fits w32 (a * b)
 pages-fit a b ha hb = record { fits = omega (arith, pages-below a b ha hb) }
 
--- the last page of a block; a block of no pages has page 0 for it, as the model's number says
-pub last-none : (g : Geometry) (img : List ℕ) (b : ℕ) (r : Bool) → r ≡ erased g img 0 → g .pages ≡ 0 → r ≡ erased g img (g .pages * b + (g .pages - 1))
-last-none g img b r er z = er ∙ rw (z, zero-mul b) refl
-
-pub last-some : (g : Geometry) (img : List ℕ) (b w : ℕ) (r : Bool) → w ≡ g .pages * b + (g .pages - 1) → r ≡ erased g img w
+-- the last page of a block
+pub last-is : (g : Geometry) (img : List ℕ) (b w : ℕ) (r : Bool) → w ≡ g .pages * b + (g .pages - 1) → r ≡ erased g img w
     → r ≡ erased g img (g .pages * b + (g .pages - 1))
-last-some g img b w r e er = er ∙ rw e
+last-is g img b w r e er = er ∙ rw e
 
-pub ruleset read-laws = (byte-past, u32-past, u32-is, entry-past, entry-is, erased-is, spare-is, seq-is, height-is, count-is, tail-none, tail-is, place-is, pages-are, pages-below, pages-fit, last-none, last-some)
+pub ruleset read-laws = (byte-past, u32-past, u32-is, entry-past, entry-is, erased-is, spare-is, seq-is, height-is, count-is, tail-none, tail-is, place-is, pages-are, pages-below, pages-fit, last-is)

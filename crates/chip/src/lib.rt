@@ -234,14 +234,21 @@ pub fn page_of(g: Geometry, block: u16, j: u16) -> u32
     first_page(g, block) + widen(j)
 }
 
+// The last page of a block.
+pub fn last_page(g: Geometry, block: u16) -> u32
+    ensures { λ r. ⌜ r ≡ g .pages * block + (g .pages - 1) ⌝ }
+{
+    if g.pages == 0 {
+        return page_of(g, block, 0);
+    }
+    page_of(g, block, g.pages - 1)
+}
+
 // Whether the last page of a block is erased.
 pub fn last_erased(g: Geometry, img: &[u8], block: u16) -> bool
     ensures { λ r. ⌜ r ≡ erased g (now (img .entry)) (g .pages * block + (g .pages - 1)) ⌝ }
 {
-    if g.pages == 0 {
-        return page_erased(g, img, 0);
-    }
-    page_erased(g, img, page_of(g, block, g.pages - 1))
+    page_erased(g, img, last_page(g, block))
 }
 
 // The bytes of a block.
