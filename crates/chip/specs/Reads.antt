@@ -5,16 +5,12 @@ use mathlib.Core.Path.{_≡_, refl, sym, _∙_}
 use mathlib.Core.List.{List, [], _∷_}
 use mir.Syntax.{w32}
 use mir.Val.{Fits}
-use lib.Dec.{eqb}
 use lib.ListN.{getD, length, List·getD-eq-default}
 use native.Mathlib.Omega.{arith}
-use native.Mathlib.Numerals.{sub-one}
-use native.Mathlib.Nat.{zero-mul, mul-le-mul, lt-of-le-of-lt}
-use borrow.Author.Tests.{eq-eqb, ne-eqb}
+use native.Mathlib.Nat.{mul-le-mul, lt-of-le-of-lt}
 use Rattle.geometry.specs.declared.Geometry.{Geometry}
 use Rattle.geometry.specs.declared.Entry.{Entry}
 use Rattle.geometry.specs.Geometry.{pageBytes, pageBase, firstSlot}
-use Rattle.geometry.specs.Tests.{_&_, and-true, and-false}
 use Rattle.model.specs.Bytes.{byteAt, u32At, blank, erased, seqAt, heightAt, countAt, tailAt, nodePlace}
 use Rattle.chip.specs.Chip.{entryAt}
 
@@ -38,40 +34,6 @@ entry-past img at h = rw (← (u32-past img at h), ← (u32-past img (at + 4) (o
 pub entry-is : (img : List ℕ) (at k a : ℕ) → k ≡ u32At img at → a ≡ u32At img (at + 4) → record { key = k; addr = a } ≡ entryAt img at
 unfolding entryAt
 entry-is img at k a e f = rw (e, f)
-
--- a run of 255 from the last byte down
-and-swap : (a b c : Bool) → (a & (b & c)) ≡ (b & (a & c))
-unfolding _&_
-and-swap true b c = refl
-and-swap false true c = refl
-and-swap false false c = refl
-
-blank-last : (img : List ℕ) (at n : ℕ) → blank img at (suc n) ≡ (eqb (byteAt img (at + n)) 255 & blank img at n)
-unfolding blank
-blank-last img at zero =
-    let e : at + 0 ≡ at = omega arith in
-    rw e
-blank-last img at (suc n) =
-    let e : at + 1 + n ≡ at + suc n = omega arith in
-    rw (blank-last img (at + 1) n, e) (and-swap _ _ _)
-
-blank-down : (img : List ℕ) (at k : ℕ) → 0 < k → blank img at k ≡ (eqb (byteAt img (at + (k - 1))) 255 & blank img at (k - 1))
-blank-down img at zero h = absurd (omega arith)
-blank-down img at (suc k) h = rw sub-one (blank-last img at k)
-
-pub blank-stop : (img : List ℕ) (at n k b : ℕ) → blank img at n ≡ blank img at k → b ≡ byteAt img (at + (k - 1)) → 0 < k → (b ≡ 255 → ⊥)
-    → false ≡ blank img at n
-blank-stop img at n k b e f h g = sym (e ∙ blank-down img at k h ∙ simp (← f, ne-eqb _ _ g, and-false))
-
-pub blank-go : (img : List ℕ) (at n k b : ℕ) → blank img at n ≡ blank img at k → b ≡ byteAt img (at + (k - 1)) → 0 < k → b ≡ 255
-    → blank img at n ≡ blank img at (k - 1)
-blank-go img at n k b e f h g = e ∙ blank-down img at k h ∙ simp (← f, eq-eqb _ _ g, and-true)
-
-pub blank-end : (img : List ℕ) (at n k : ℕ) → blank img at n ≡ blank img at k → k ≤ 0 → true ≡ blank img at n
-unfolding blank
-blank-end img at n k e h =
-    let f : k ≡ 0 = omega arith in
-    sym (e ∙ rw f)
 
 -- the fields of a page; s is the byte at which its spare bytes begin
 pub erased-is : (g : Geometry) (img : List ℕ) (p b n : ℕ) (r : Bool) → b ≡ pageBase g p → n ≡ pageBytes g → r ≡ blank img b n → r ≡ erased g img p
@@ -118,12 +80,9 @@ pages-below a b ha hb = lt-of-le-of-lt (mul-le-mul {n₁ = a} {m₁ = b} {n₂ =
 pub pages-fit : (a b : ℕ) → a < 65536 → b < 65536 → Fits w32 (a * b)
 pages-fit a b ha hb = record { fits = omega (arith, pages-below a b ha hb) }
 
--- the last page of a block; a block of no pages has page 0 for it, as the model's number says
-pub last-none : (g : Geometry) (img : List ℕ) (b : ℕ) (r : Bool) → r ≡ erased g img 0 → g .pages ≡ 0 → r ≡ erased g img (g .pages * b + (g .pages - 1))
-last-none g img b r er z = er ∙ rw (z, zero-mul b) refl
-
-pub last-some : (g : Geometry) (img : List ℕ) (b w : ℕ) (r : Bool) → w ≡ g .pages * b + (g .pages - 1) → r ≡ erased g img w
+-- the last page of a block
+pub last-is : (g : Geometry) (img : List ℕ) (b w : ℕ) (r : Bool) → w ≡ g .pages * b + (g .pages - 1) → r ≡ erased g img w
     → r ≡ erased g img (g .pages * b + (g .pages - 1))
-last-some g img b w r e er = er ∙ rw e
+last-is g img b w r e er = er ∙ rw e
 
-pub ruleset read-laws = (byte-past, u32-past, u32-is, entry-past, entry-is, blank-stop, blank-go, blank-end, erased-is, spare-is, seq-is, height-is, count-is, tail-none, tail-is, place-is, pages-are, pages-below, pages-fit, last-none, last-some)
+pub ruleset read-laws = (byte-past, u32-past, u32-is, entry-past, entry-is, erased-is, spare-is, seq-is, height-is, count-is, tail-none, tail-is, place-is, pages-are, pages-below, pages-fit, last-is)

@@ -1,6 +1,7 @@
 // What is read of an image. Every read is total: a byte outside the image reads as 0.
 ghost use mathlib.Core.Path.{_≡_};
 ghost use Prim.Native.Nat.{ℕ, _+_, _*_, _-_, _≤_, _<_};
+ghost use lib.Dec.{eqb};
 ghost use lib.ListN.{length};
 ghost use Rattle.model.specs.Bytes.{byteAt, u32At, blank, erased, seqAt, heightAt, countAt, tailAt, nodePlace, nodeCount};
 ghost use Rattle.model.specs.Image.{blockBytes, blocksOf, goodLength};
@@ -46,9 +47,17 @@ fn wide_at(img: &[u8], at: usize) -> u32
     0
 }
 
+fn long(x: u32) -> u64
+    ensures { λ r. ⌜ (r ≡ x) × (r < 4294967296) ⌝ }
+{
+    x as u64
+}
+
+// The number inside the image; it is the largest where its bytes are all 255.
 fn raw_u32(img: &[u8], at: usize) -> u32
     requires { ⌜ at + 4 ≤ length (now img) ⌝ }
     ensures { λ r. ⌜ r ≡ u32At (now (img .entry)) at ⌝ }
+    ensures { λ r. ⌜ eqb r 4294967295 ≡ blank (now (img .entry)) at 4 ⌝ }
 {
     wide(img[at])
         + 256 * wide(img[at + 1])
@@ -96,8 +105,8 @@ pub fn entry_at(img: &[u8], at: usize) -> Entry
     }
 }
 
-// Whether the n bytes from `at` are all 255, from the last down: a programmed page shows in its spare bytes.
-fn all_blank(img: &[u8], at: usize, n: usize) -> bool
+// Whether the n bytes from `at` are all 255, one by one from the last down.
+fn bytes_blank(img: &[u8], at: usize, n: usize) -> bool
     requires { ⌜ at + n < 1152921504606846976 ⌝ }
     ensures { λ r. ⌜ r ≡ blank (now (img .entry)) at n ⌝ }
 {
@@ -109,6 +118,32 @@ fn all_blank(img: &[u8], at: usize, n: usize) -> bool
         }
     }
     true
+}
+
+// Whether eight bytes are all 255, as one number.
+fn eight_blank(img: &[u8], at: usize) -> bool
+    requires { ⌜ at + 8 ≤ length (now img) ⌝ }
+    ensures { λ r. ⌜ r ≡ blank (now (img .entry)) at 8 ⌝ }
+{
+    long(raw_u32(img, at)) + 4294967296 * long(raw_u32(img, at + 4)) == 18446744073709551615
+}
+
+// Whether the n bytes from `at` are all 255, from the last down: a programmed page shows in its spare bytes.
+fn all_blank(img: &[u8], at: usize, n: usize) -> bool
+    requires { ⌜ at + n < 1152921504606846976 ⌝ }
+    ensures { λ r. ⌜ r ≡ blank (now (img .entry)) at n ⌝ }
+{
+    if img.len() < at + n {
+        return bytes_blank(img, at, n);
+    }
+    let mut k: usize = n;
+    while 8 <= k {
+        k -= 8;
+        if !eight_blank(img, at + k) {
+            return false;
+        }
+    }
+    bytes_blank(img, at, k)
 }
 
 // Whether all bytes of a page are 255.
@@ -199,14 +234,21 @@ pub fn page_of(g: Geometry, block: u16, j: u16) -> u32
     first_page(g, block) + widen(j)
 }
 
+// The last page of a block.
+pub fn last_page(g: Geometry, block: u16) -> u32
+    ensures { λ r. ⌜ r ≡ g .pages * block + (g .pages - 1) ⌝ }
+{
+    if g.pages == 0 {
+        return page_of(g, block, 0);
+    }
+    page_of(g, block, g.pages - 1)
+}
+
 // Whether the last page of a block is erased.
 pub fn last_erased(g: Geometry, img: &[u8], block: u16) -> bool
     ensures { λ r. ⌜ r ≡ erased g (now (img .entry)) (g .pages * block + (g .pages - 1)) ⌝ }
 {
-    if g.pages == 0 {
-        return page_erased(g, img, 0);
-    }
-    page_erased(g, img, page_of(g, block, g.pages - 1))
+    page_erased(g, img, last_page(g, block))
 }
 
 // The bytes of a block.

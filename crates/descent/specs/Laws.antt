@@ -10,13 +10,9 @@ use Rattle.geometry.specs.declared.Entry.{Entry}
 use Rattle.model.specs.Bytes.{nodeAt}
 use Rattle.model.specs.Image.{Nodes}
 use Rattle.model.specs.Tree.{chosen, leaf, find, sought}
-use Rattle.chip.specs.Chip.{chipWith}
+use Rattle.chip.specs.Chip.{named, chipWith}
 use Rattle.search.specs.declared.Found.{Found}
 use Rattle.search.specs.Search.{found}
-
--- an entry that names page p
-abbrev pub named : ℕ → Entry
-named p = record { key = 0; addr = p }
 
 -- descent asks an entry for its page only
 leaf-named : (r : Nodes) (k l : ℕ) (e : Entry) → leaf r k l e ≡ leaf r k l (named (e .addr))

@@ -3,9 +3,8 @@ ghost use mathlib.Core.Path.{_≡_};
 ghost use Prim.Native.Nat.{ℕ, _+_, _*_, _-_, _≤_, _<_};
 ghost use Rattle.model.specs.Bytes.{nodeAt};
 ghost use Rattle.model.specs.Tree.{leaf, sought};
-ghost use Rattle.chip.specs.Chip.{chipWith};
+ghost use Rattle.chip.specs.Chip.{named, chipWith};
 ghost use Rattle.search.specs.Search.{found};
-ghost use Rattle.descent.specs.Laws.{named};
 use geometry::Geometry;
 use search::Found;
 

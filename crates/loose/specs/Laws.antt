@@ -17,11 +17,11 @@ use Rattle.model.specs.Bytes.{u32At, entriesAt, nodePlace, nodeCount, nodeAt}
 use Rattle.model.specs.Image.{Nodes, Chip}
 use Rattle.model.specs.Tree.{Place, places, placesOf, lowLevel}
 use Rattle.model.specs.Rules.{unless, namesPage, loose, lowestPage, r6}
-use Rattle.chip.specs.Chip.{entryAt, chipWith}
+use Rattle.chip.specs.Chip.{entryAt, named, chipWith}
 use Rattle.chip.specs.Node.{node-read, entries-start, entries-turn, entries-past, addr-is}
 use Rattle.counts.specs.Lowest.{unless-true, unless-false}
 use Rattle.trees.specs.Lists.{All, all-map}
-use Rattle.walk.specs.Table.{named, rest, Marked}
+use Rattle.walk.specs.Table.{rest, Marked}
 use Rattle.walk.specs.Laws.{rest-leaf, rest-start, rest-turn, rest-end}
 use Rattle.loose.specs.Loose.{looseIn, looseAt, lowered, Inside}
 

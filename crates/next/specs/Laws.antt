@@ -39,9 +39,6 @@ pub free-none : (er : ℕ → Bool) (ps : List ℕ) (p n r : ℕ) → r ≡ next
 unfolding free
 free-none er ps p n r e = e
 
-pub last-zero : (p b r : ℕ) → r ≡ p * b + 0 → p ≡ 0 → r ≡ p * b + (p - 1)
-last-zero p b r e z = e ∙ (let q : p - 1 ≡ 0 = omega arith in rw q)
-
 -- ---- blocks
 module _ (p : ℕ) (er : ℕ → Bool) where
   pub head-start : least 0 (head p er) ≡ 0
@@ -57,9 +54,6 @@ module _ (p : ℕ) (er : ℕ → Bool) where
 
   pub head-end : (n i : ℕ) → least i (head p er) ≡ i → i ≤ n → n ≤ i → i ≡ least n (head p er)
   head-end n i e h k = sym (least-end (head p er) n i e h k)
-
-  pub mixed-both : (b q s : ℕ) (r t : Bool) → q ≡ p * b + 0 → r ≡ er q → r ≡ false → s ≡ p * b + (p - 1) → t ≡ er s → t ≡ mixed p er b
-  mixed-both b q s r t eq er′ f es et = et ∙ simp (es, ← eq, ← er′, f)
 
   pub next-mixed : (n b : ℕ) → b ≡ least n (mixed p er) → b < n → b ≡ nextBlock p n er
   unfolding nextBlock
@@ -97,4 +91,4 @@ module _ (p n : ℕ) (er : ℕ → Bool) where
 pub set-length : (ps : List ℕ) (k x m : ℕ) → length ps ≡ m → length (set ps k x) ≡ m
 set-length ps k x m e = length-set ps k x ∙ e
 
-pub ruleset next-laws = (free-start, free-stop, free-go, free-end, free-none, last-zero, head-start, head-go, head-hit, head-end, mixed-both, next-mixed, next-whole, after-is, coming-none, coming-more, coming-done)
+pub ruleset next-laws = (free-start, free-stop, free-go, free-end, free-none, head-start, head-go, head-hit, head-end, next-mixed, next-whole, after-is, coming-none, coming-more, coming-done)

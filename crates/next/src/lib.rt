@@ -24,16 +24,6 @@ fn is_free(g: Geometry, img: &[u8], taken: [u32; 256], i: usize, page: u32) -> b
     chip::page_erased(g, img, page)
 }
 
-// The last page of a block.
-fn last_page(g: Geometry, block: u16) -> u32
-    ensures { λ r. ⌜ r ≡ g .pages * block + (g .pages - 1) ⌝ }
-{
-    if g.pages == 0 {
-        return chip::page_of(g, block, 0);
-    }
-    chip::page_of(g, block, g.pages - 1)
-}
-
 // The place in a block of its first free page, or the block's pages.
 fn first_in(g: Geometry, img: &[u8], taken: [u32; 256], i: usize, block: u16) -> u16
     requires { ⌜ i ≤ 256 ⌝ }
@@ -57,7 +47,7 @@ fn is_mixed(g: Geometry, img: &[u8], taken: [u32; 256], i: usize, block: u16) ->
     if is_free(g, img, taken, i, chip::page_of(g, block, 0)) {
         return false;
     }
-    is_free(g, img, taken, i, last_page(g, block))
+    is_free(g, img, taken, i, chip::last_page(g, block))
 }
 
 // The lowest mixed block, or n.

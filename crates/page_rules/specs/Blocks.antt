@@ -94,8 +94,8 @@ module _ (p : ℕ) (er : ℕ → Bool) where
   pub mixed-no : (b q : ℕ) (r : Bool) → q ≡ p * b + 0 → r ≡ er q → r ≡ true → false ≡ mixed p er b
   mixed-no b q r eq er′ f = simp (← eq, ← er′, f)
 
-  pub mixed-yes : (b q : ℕ) (r s : Bool) → q ≡ p * b + 0 → r ≡ er q → r ≡ false → s ≡ er (p * b + (p - 1)) → s ≡ mixed p er b
-  mixed-yes b q r s eq er′ f es = es ∙ simp (← eq, ← er′, f)
+  pub mixed-yes : (b q s : ℕ) (r t : Bool) → q ≡ p * b + 0 → r ≡ er q → r ≡ false → s ≡ p * b + (p - 1) → t ≡ er s → t ≡ mixed p er b
+  mixed-yes b q s r t eq er′ f es et = et ∙ simp (es, ← eq, ← er′, f)
 
   pub mixed-start : least 0 (mixed p er) ≡ 0
   mixed-start = sym (least-zero (mixed p er))

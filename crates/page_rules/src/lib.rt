@@ -94,7 +94,7 @@ fn is_mixed(g: Geometry, img: &[u8], block: u16) -> bool
     if chip::page_erased(g, img, chip::page_of(g, block, 0)) {
         return false;
     }
-    chip::last_erased(g, img, block)
+    chip::page_erased(g, img, chip::last_page(g, block))
 }
 
 // The lowest mixed block, or n.

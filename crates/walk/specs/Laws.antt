@@ -18,12 +18,12 @@ use Rattle.model.specs.Count.{count}
 use Rattle.model.specs.Image.{Nodes, Chip}
 use Rattle.model.specs.Next.{inBlock}
 use Rattle.model.specs.Tree.{gather, Place, places}
-use Rattle.chip.specs.Chip.{entryAt, chipWith}
+use Rattle.chip.specs.Chip.{entryAt, named, chipWith}
 use Rattle.chip.specs.Node.{node-is, node-read, entries-start, entries-turn, entries-past, addr-is}
 use Rattle.counts.specs.Least.{by-lt}
 use Rattle.counts.specs.Tally.{count-zero, count-more}
 use Rattle.counts.specs.Blocks.{within, within-is, within-count}
-use Rattle.walk.specs.Table.{named, lower, noteOne, noteAll, rest, Zeros, Marked, liveIn}
+use Rattle.walk.specs.Table.{lower, noteOne, noteAll, rest, Zeros, Marked, liveIn}
 use Rattle.walk.specs.Lows.{note-length, noted-lows}
 
 pub noted-past : (tbl : List ℕ) (p w : ℕ) → w ≡ p → length tbl ≤ w → 0 ≡ getD tbl p 0

@@ -6,15 +6,10 @@ use mathlib.Core.List.{List, [], _∷_}
 use lib.Dec.{eqb}
 use lib.ListN.{length, getD, set}
 use Rattle.geometry.specs.declared.Geometry.{Geometry}
-use Rattle.geometry.specs.declared.Entry.{Entry}
 use Rattle.geometry.specs.Tests.{pick}
 use Rattle.model.specs.Bytes.{entriesAt, nodeAt}
 use Rattle.model.specs.Image.{Chip}
 use Rattle.model.specs.Tree.{gather, Place, places, placesOf, lowLevel}
-
--- an entry that names page p
-abbrev pub named : ℕ → Entry
-named p = record { key = 0; addr = p }
 
 -- the lower of two levels, 0 being none
 unfoldable pub lower : ℕ → ℕ → ℕ

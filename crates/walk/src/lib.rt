@@ -7,8 +7,8 @@ ghost use Rattle.model.specs.Bytes.{nodeAt};
 ghost use Rattle.model.specs.Count.{count};
 ghost use Rattle.model.specs.Next.{inBlock};
 ghost use Rattle.model.specs.Tree.{places};
-ghost use Rattle.chip.specs.Chip.{chipWith};
-ghost use Rattle.walk.specs.Table.{named, lower, noteAll, noteOne, Zeros, Marked, liveIn};
+ghost use Rattle.chip.specs.Chip.{named, chipWith};
+ghost use Rattle.walk.specs.Table.{lower, noteAll, noteOne, Zeros, Marked, liveIn};
 use geometry::Geometry;
 
 fn byte_of(b: u8) -> u32

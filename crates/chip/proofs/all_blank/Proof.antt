@@ -1,5 +1,6 @@
-use Prim.Native.Nat.{_≤_}
+use Prim.Native.Nat.{_≤_, _+_}
 use mathlib.Core.Path.{_≡_}
+use lib.ListN.{length}
 use Rattle.model.specs.Bytes.{blank}
 use borrow.Author.Needs.{needs}
 use Rattle.chip.specs.Laws.{chip-laws}
@@ -7,12 +8,13 @@ use Rattle.chip.proofs.all_blank.Statement.{statement}
 use Rattle.chip.proofs.all_blank.Tie as tie
 use Rattle.chip.proofs.all_blank.Reads as reads
 use Rattle.chip.proofs.all_blank.Lts as lts
-use Rattle.chip.proofs.byte_at.Reads as byte-at-reads
+use Rattle.chip.proofs.bytes_blank.Reads as bytes-blank-reads
+use Rattle.chip.proofs.eight_blank.Reads as eight-blank-reads
 
 ruleset all = (needs, chip-laws)
 
 abbrev Inv-loop : tie.InvT-loop
-Inv-loop img at n k₀ k = (k ≤ n) × (blank img at n ≡ blank img at k)
+Inv-loop img at n k₀ k = (k ≤ n) × (at + n ≤ length img) × (blank img at n ≡ blank img at k)
 
 abbrev μ-loop : tie.MeasureT-loop
 μ-loop img at n k₀ k = k
@@ -24,10 +26,13 @@ all-blank-spec =
     Inv-loop
     μ-loop
     (λ c. search all)
+    (λ c κs. search all)
+    (λ c. search all)
     (λ c. search all)
     (λ c. search all)
     (λ c κs. search all)
     (λ c. search all)
     (λ c. search all)
     (λ c. search all)
+    (λ c κs. search all)
     (λ c. search all))

@@ -5,17 +5,9 @@ use Rattle.chip.proofs.last_erased.Tie as tie
 use Rattle.chip.proofs.last_erased.Reads as reads
 use Rattle.chip.proofs.last_erased.Lts as lts
 use Rattle.chip.proofs.page_erased.Reads as page-erased-reads
-use Rattle.chip.proofs.page_of.Reads as page-of-reads
+use Rattle.chip.proofs.last_page.Reads as last-page-reads
 
 ruleset all = (needs, chip-laws)
 
 pub last-erased-spec : {M : Type 1} → statement M
-last-erased-spec =
-    tie.close
-    (tie.spec
-    (λ c κs. search all)
-    (λ c. search all)
-    (λ c. search all)
-    (λ c κs. search all)
-    (λ c κs. search all)
-    (λ c. search all))
+last-erased-spec = tie.close (tie.spec (λ c κs. search all) (λ c κs. search all) (λ c. search all))

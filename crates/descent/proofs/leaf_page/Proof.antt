@@ -2,7 +2,7 @@ use Prim.Native.Nat.{_≤_, _<_, _+_, _*_, _-_}
 use mathlib.Core.Path.{_≡_}
 use Rattle.model.specs.Bytes.{nodeAt}
 use Rattle.model.specs.Tree.{leaf}
-use Rattle.descent.specs.Laws.{named}
+use Rattle.chip.specs.Chip.{named}
 use borrow.Author.Needs.{needs}
 use Rattle.descent.specs.Laws.{descent-laws}
 use Rattle.descent.proofs.leaf_page.Statement.{statement}
