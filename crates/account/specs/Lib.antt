@@ -1,3 +1,4 @@
 -- The account of an update, and its laws.
 pub mod Account
 pub mod Laws
+pub mod Rest

@@ -1,0 +1,22 @@
+use borrow.Author.Needs.{needs}
+use Rattle.delete.specs.Delete.{delete-laws}
+use Rattle.delete.proofs.delete_on.Statement.{statement}
+use Rattle.delete.proofs.delete_on.Tie as tie
+use Rattle.delete.proofs.delete_on.Reads as reads
+use Rattle.delete.proofs.delete_on.Lts as lts
+use Rattle.chip.proofs.good_blocks.Reads as good-blocks-reads
+use Rattle.delete.proofs.delete_blocks.Reads as delete-blocks-reads
+
+ruleset all = (needs, delete-laws)
+
+pub delete-on-spec : {M : Type 1} → statement M
+delete-on-spec =
+    tie.close
+    (tie.spec
+    (λ c κs. search all)
+    (λ c. search all)
+    (λ c. search all)
+    (λ c. search all)
+    (λ c κs. search all)
+    (λ c. search all)
+    (λ c. search all))

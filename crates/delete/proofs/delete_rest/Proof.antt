@@ -1,0 +1,30 @@
+use borrow.Author.Needs.{needs}
+use Rattle.delete.specs.Delete.{delete-laws}
+use Rattle.delete.proofs.delete_rest.Statement.{statement}
+use Rattle.delete.proofs.delete_rest.Tie as tie
+use Rattle.delete.proofs.delete_rest.Reads as reads
+use Rattle.delete.proofs.delete_rest.Lts as lts
+use Rattle.account.proofs.answer_of.Reads as answer-of-reads
+use Rattle.account.proofs.is_roomless.Reads as is-roomless-reads
+use Rattle.delete.proofs.is_absent.Reads as is-absent-reads
+use Rattle.delete.proofs.make_stores.Reads as make-stores-reads
+
+ruleset all = (needs, delete-laws)
+
+pub delete-rest-spec : {M : Type 1} → statement M
+delete-rest-spec =
+    tie.close
+    (tie.spec
+    (λ c. search all)
+    (λ c κs. search all)
+    (λ c. search all)
+    (λ c. search all)
+    (λ c κs. search all)
+    (λ c. search all)
+    (λ c. search all)
+    (λ c. search all)
+    (λ c κs. search all)
+    (λ c κs. search all)
+    (λ c. search all)
+    (λ c. search all)
+    (λ c. search all))

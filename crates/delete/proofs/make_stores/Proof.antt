@@ -1,0 +1,27 @@
+use borrow.Author.Needs.{needs}
+use Rattle.delete.specs.Delete.{delete-laws}
+use Rattle.delete.proofs.make_stores.Statement.{statement}
+use Rattle.delete.proofs.make_stores.Tie as tie
+use Rattle.delete.proofs.make_stores.Reads as reads
+use Rattle.delete.proofs.make_stores.Lts as lts
+use Rattle.account.proofs.fresh.Reads as fresh-reads
+use Rattle.collect.proofs.collect.Reads as collect-reads
+use Rattle.deletion.proofs.delete_own.Reads as delete-own-reads
+use Rattle.survey.proofs.take_survey.Reads as take-survey-reads
+
+ruleset all = (needs, delete-laws)
+
+pub make-stores-spec : {M : Type 1} → statement M
+make-stores-spec =
+    tie.close
+    (tie.spec
+    (λ c κs. search all)
+    (λ c κs. search all)
+    (λ c. search all)
+    (λ c. search all)
+    (λ c. search all)
+    (λ c κs. search all)
+    (λ c κs. search all)
+    (λ c. search all)
+    (λ c. search all)
+    (λ c. search all))

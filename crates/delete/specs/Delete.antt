@@ -1,0 +1,101 @@
+-- Delete, in the form in which the code has the premises. Assumes nothing.
+use Prim.Native.Nat.{ℕ, _+_, _-_, _*_, _<_, _≤_}
+use mathlib.Core.Bool.{Bool, true, false}
+use mathlib.Core.Path.{_≡_, refl, sym, ap, _∙_}
+use mathlib.Core.List.{List, [], _∷_, _++_}
+use mathlib.Core.Option.{Option, none, some}
+use lib.ListN.{length}
+use Rattle.geometry.specs.declared.Geometry.{Geometry}
+use Rattle.geometry.specs.declared.Verdict.the-variants.{Sound, Broken}
+use Rattle.model.specs.Image.{Chip, chipOf, blocksOf, maxSeq}
+use Rattle.model.specs.Tree.{sought}
+use Rattle.model.specs.Count.{count}
+use Rattle.model.specs.Calls.{Outcome, worn, roomless, freePages, deleteRest, delete}
+use Rattle.model.specs.Collect.{collectStores}
+use Rattle.model.specs.Stores.{Store}
+use Rattle.model.specs.Update.{isNone, deleteStore, deleteStores}
+use Rattle.answers.specs.declared.Answer.{Answer}
+use Rattle.answers.specs.declared.Answer.the-variants.{Length, Worn, Absent, Room}
+use Rattle.answers.specs.Answers.{told}
+use Rattle.chip.specs.Chip.{goodBlocks, chipWith}
+use Rattle.chip.specs.Blocks.{some-blocks}
+use Rattle.search.specs.declared.Found.{Found}
+use Rattle.search.specs.declared.Found.the-variants.{At, Nothing}
+use Rattle.search.specs.Search.{found}
+use Rattle.stores.specs.declared.Budget.{Budget}
+use Rattle.stores.specs.Run.{Ran}
+use Rattle.survey.specs.declared.Survey.{Survey}
+use Rattle.survey.specs.Survey.{surveyOf}
+use Rattle.walk.specs.Table.{liveIn}
+use Rattle.victim.specs.Victim.{Looked}
+use Rattle.victim.specs.Laws.{chip-is}
+use Rattle.account.specs.Account.{freshOf, answerBy}
+use Rattle.account.specs.Laws.{told-made}
+use Rattle.account.specs.Rest.{worn-is, fresh-is, roomless-is, first-halt, first-then}
+use Rattle.judging.specs.Judging.{judgedIn, judged-damaged, judged-rest, judged-looked, judged-room, judged-length, judged-blocks}
+
+-- ---- ABSENT
+module _ (f : Found) (o : Option ℕ) (ef : found f ≡ o) where
+  pub absent-no : (a : ℕ) → f ≡ At a → false ≡ isNone o
+  unfolding found
+  absent-no a e = sym (simp (← ef, e))
+
+  pub absent-is : f ≡ Nothing → true ≡ isNone o
+  unfolding found
+  absent-is e = sym (simp (← ef, e))
+
+-- ---- the stores
+module _ (g : Geometry) (n k x : ℕ) (i : List ℕ) (b : Budget) (eb : b ≡ freshOf x) (r : Budget) (h : List ℕ) (run : Ran g (collectStores g n 1 2 i) b r i h) where
+  -- delete's own, on an image
+  own : List ℕ → List Store
+  own j = deleteStore g n (maxSeq g n j) (chipOf g n j) k ∷ []
+
+  pub delete-halt : r .stopped ≡ true → Ran g (deleteStores g n i k) (freshOf x) r i h
+  unfolding deleteStores own
+  delete-halt t = first-halt g (collectStores g n 1 2 i) own x b eb r i h run t
+
+  pub delete-on : (s : Survey) (u : Budget) (o : List ℕ) → Ran g (deleteStore g n (s .most) (chipWith g h (s .level) (s .root)) k ∷ []) r u h o → s ≡ surveyOf g n h
+      → r .stopped ≡ false → Ran g (deleteStores g n i k) (freshOf x) u i o
+  unfolding deleteStores own surveyOf
+  delete-on s u o last es t =
+      let e : deleteStore g n (s .most) (chipWith g h (s .level) (s .root)) k ∷ [] ≡ own h = (λ z. deleteStore g n (es z .most) (chipWith g h (es z .level) (es z .root)) k ∷ []) in
+      first-then g (collectStores g n 1 2 i) own x b eb r i h run u o t (rw e at last)
+
+-- ---- the answers
+module _ (g : Geometry) (n k x : ℕ) (i : List ℕ) (s : Survey) (tbl : List ℕ) (lk : Looked g n i s tbl) where
+  pub rest-worn : g .worn < s .most → told Worn i ≡ deleteRest g n i k x
+  unfolding deleteRest
+  rest-worn h = sym (rw (worn-is g n i s tbl lk h))
+
+  module _ (a : Bool) (ea : a ≡ isNone (sought (chipWith g i (s .level) (s .root)) k)) (h : s .most ≤ g .worn) where
+    none-is : (t : Bool) → a ≡ t → isNone (sought (chipOf g n i) k) ≡ t
+    none-is t e = ap (λ (c : Chip). isNone (sought c k)) (sym (chip-is g n i s (lk .survey))) ∙ sym ea ∙ e
+
+    pub rest-absent : a ≡ true → told Absent i ≡ deleteRest g n i k x
+    unfolding deleteRest
+    rest-absent e = sym (rw (fresh-is g n i s tbl lk h, none-is true e))
+
+    module _ (b : Bool) (eb : b ≡ roomless g (g .pages * n - count (g .pages * n) (liveIn tbl)) 1) (e : a ≡ false) (q : g .pages * n ≤ length tbl) where
+      pub rest-room : b ≡ true → told Room i ≡ deleteRest g n i k x
+      unfolding deleteRest
+      rest-room y = sym (rw (fresh-is g n i s tbl lk h, none-is false e, roomless-is g n i s tbl lk 1 b true eb q y))
+
+      pub rest-made : (r : Budget) (c : Answer) (o : List ℕ) → c ≡ answerBy r → Ran g (deleteStores g n i k) (freshOf x) r i o → b ≡ false → told c o ≡ deleteRest g n i k x
+      unfolding deleteRest
+      rest-made r c o ec run y =
+          ap (λ (z : Answer). told z o) ec ∙ told-made g (deleteStores g n i k) x r i o run
+          ∙ sym (rw (fresh-is g n i s tbl lk h, none-is false e, roomless-is g n i s tbl lk 1 b false eb q y))
+
+-- ---- the call
+module _ (g : Geometry) (img : List ℕ) (k x n : ℕ) (en : n ≡ goodBlocks g img) where
+  pub delete-length : n ≡ 0 → told Length img ≡ delete g img k x
+  unfolding delete
+  delete-length z = judged-length g img _ n en z
+
+  pub delete-blocks : (o : Outcome) → (n ≡ 0 → ⊥) → o ≡ judgedIn g n img (deleteRest g n img k x) → o ≡ delete g img k x
+  unfolding delete
+  delete-blocks o h e =
+      let f : o ≡ judgedIn g n img (deleteRest g (blocksOf g img) img k x) = e ∙ ap (λ (m : ℕ). judgedIn g n img (deleteRest g m img k x)) (some-blocks g img n en h) in
+      judged-blocks g img _ n en o h f
+
+pub ruleset delete-laws = (absent-no, absent-is, delete-halt, delete-on, rest-worn, rest-absent, rest-room, rest-made, judged-damaged, judged-rest, judged-looked, judged-room, delete-length, delete-blocks)

@@ -1,0 +1,2 @@
+-- Delete, and its laws.
+pub mod Delete
