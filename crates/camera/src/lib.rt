@@ -3,7 +3,7 @@ ghost use mathlib.Core.Path.{_≡_};
 ghost use Prim.Native.Nat.{_<_};
 ghost use Rattle.geometry.specs.Geometry.{small};
 ghost use Rattle.model.specs.Page.{putU32};
-ghost use Rattle.model.specs.Calls.{format, lookup};
+ghost use Rattle.model.specs.Calls.{format, lookup, insert};
 ghost use Rattle.answers.specs.Answers.{numberOf, addressOf, programmedOf, erasedOf};
 ghost use Rattle.camera.specs.Camera.{reportOf, returned};
 use answers::Answer;
@@ -63,5 +63,24 @@ pub extern "C" fn mutree_lookup(image: &[u8], key: u32, result: &mut [u8]) -> u3
         return 1;
     }
     let a = index::lookup(image, key);
+    report(&mut *result, a)
+}
+
+#[no_mangle]
+pub extern "C" fn mutree_insert(
+    image: &mut [u8],
+    key: u32,
+    address: u32,
+    allowance: u32,
+    result: &mut [u8],
+) -> u32
+    ensures answer { λ r. ⌜ r ≡ returned (insert small (now (image .entry)) key address allowance) (now (image .entry)) (now (result .entry)) .answer ⌝ }
+    ensures image { λ _. ⌜ now (image .exit) ≡ returned (insert small (now (image .entry)) key address allowance) (now (image .entry)) (now (result .entry)) .image ⌝ }
+    ensures result { λ _. ⌜ now (result .exit) ≡ returned (insert small (now (image .entry)) key address allowance) (now (image .entry)) (now (result .entry)) .result ⌝ }
+{
+    if result.len() < 16 {
+        return 1;
+    }
+    let a = index::insert(&mut *image, key, address, allowance);
     report(&mut *result, a)
 }

@@ -34,10 +34,17 @@ unfoldable pub clear : Geometry → ℕ → Option ℕ → Chip → Chip
 clear g n none c = c
 clear g n (some v) c = eraseBlock g v (sweep g n v (g .pages) c)
 
--- at most m rounds, while F < pages + k
+-- the erased pages wanted: "While F < 32 + k, collect"
+abbrev wanted : Geometry → ℕ → ℕ
+wanted g k = g .pages + k
+
+abbrev lacks : Geometry → ℕ → ℕ → Chip → Bool
+lacks g n k c = ltb (count (g .pages * n) (c .er)) (wanted g k)
+
+-- at most m rounds, while pages are lacking
 unfoldable pub collect : Geometry → ℕ → ℕ → ℕ → Chip → Chip
 collect g n k zero c = c
-collect g n k (suc m) c = pick (ltb (count (g .pages * n) (c .er)) (g .pages + k)) (collect g n k m (clear g n (theVictim (g .pages) n c) c)) c
+collect g n k (suc m) c = pick (lacks g n k c) (collect g n k m (clear g n (theVictim (g .pages) n c) c)) c
 
 -- R7: a block's pages are erased, or some full block has no more live pages than the chip has erased ones
 abbrev pub R7 : Geometry → ℕ → Chip → Type 0
@@ -174,7 +181,7 @@ module _ (g : Geometry) (shape : Shape g) (n k : ℕ) where
   unfolding collect
   rounds zero c h r7 (inl b) room = (record { good = h; pairs-are = refl; lives = omega arith; alike = same-self g c }, omega (arith, b))
   rounds zero c h r7 (inr b) room = absurd (omega (arith, b))
-  rounds (suc m) c h r7 b room = go (ltb (count (g .pages * n) (c .er)) (g .pages + k)) refl
+  rounds (suc m) c h r7 b room = go (lacks g n k c) refl
       (rounds m (clear g n (theVictim (g .pages) n c) c))
     where
       c′ : Chip
@@ -185,17 +192,17 @@ module _ (g : Geometry) (shape : Shape g) (n k : ℕ) where
       left (inl b) x y = omega (arith, b, y)
       left (inr b) x y = omega (arith, b, x)
 
-      go : (t : Bool) → ltb (count (g .pages * n) (c .er)) (g .pages + k) ≡ t
+      go : (t : Bool) → lacks g n k c ≡ t
           → (Whole g n c′ → R7 g n c′ → (g .pages + k ≤ count (g .pages * n) (c′ .er) + m) ⊎ (suc k ≤ m)
           → count (g .pages * n) (live (placesOf c′)) + (2 * g .pages + k) ≤ suc (g .pages * n)
           → Cleared g n c′ (collect g n k m c′) × (g .pages + k ≤ count (g .pages * n) (collect g n k m c′ .er)))
           → Cleared g n c (pick t (collect g n k m c′) c) × (g .pages + k ≤ count (g .pages * n) (pick t (collect g n k m c′) c .er))
       go false e ih = (
         record { good = h; pairs-are = refl; lives = omega arith; alike = same-self g c },
-        ltb-false (count (g .pages * n) (c .er)) (g .pages + k) e,
+        omega (arith, ltb-false (count (g .pages * n) (c .er)) (wanted g k) e),
       )
       go true e ih =
-          let r = round c h r7 room (ltb-true (count (g .pages * n) (c .er)) (g .pages + k) e) in
+          let r = round c h r7 room (omega (arith, ltb-true (count (g .pages * n) (c .er)) (wanted g k) e)) in
           let w = ih (r .0 .good) (inl (r .1)) (inl (left b (r .1) (r .2))) (omega (arith, r .0 .lives, room)) in (
             record {
               good = w .0 .good;

@@ -22,9 +22,9 @@ use Rattle.trees.specs.Tests.{by-le, true-false}
 use Rattle.trees.specs.Lists.{split}
 use Rattle.trees.specs.Nodes.{Ok, the, fitOf}
 use Rattle.trees.specs.Edit.{splice-length, atRoot}
-use Rattle.trees.specs.Delete.{remove-splice, deleted, DeleteMade, none-left, none-made}
+use Rattle.trees.specs.Delete.{deleted, DeleteMade, none-left, none-made}
 use Rattle.trees.specs.Proper.{Proper, delete-stay, delete-collapse}
-use Rattle.trees.specs.Path.{AsSplice, root-is, onPath-top, made-from}
+use Rattle.trees.specs.Path.{remove-as, root-is, onPath-top, made-from}
 use Rattle.chips.specs.Next.{R2, step}
 use Rattle.chips.specs.Whole.{some-page, Whole, sought-map}
 use Rattle.chips.specs.Pages.{keep, fit-side, new-side}
@@ -76,13 +76,10 @@ module _ (g : Geometry) (shape : Shape g) (n k : ℕ) (k-low : k < 4294967296) (
           ∙ ap (λ m. isNone (find k (gather (under r (c .level)) m))) e) present)
       go (x ∷ xs) e = rw e (omega arith)
 
-  as-splice : AsSplice k (remove k) (λ e. remove k (e ∷ []))
-  as-splice hi xs h q i = sym (remove-splice k hi xs h q i)
-
   root-list : lists (suc (c .level)) ≡ rootList
   unfolding deleteList
-  root-list = onPath-top fit roomAt r k (remove k) (λ e. remove k (e ∷ [])) (kept N) as-splice (c .level) (theRoot c)
-      ∙ root-is fit roomAt r k (remove k) (λ e. remove k (e ∷ [])) (kept N) as-splice (c .level) 4294967296 (c .root) k-low (λ _. some-root)
+  root-list = onPath-top fit roomAt r k (remove k) (λ e. remove k (e ∷ [])) (kept N) (remove-as k) (c .level) (theRoot c)
+      ∙ root-is fit roomAt r k (remove k) (λ e. remove k (e ∷ [])) (kept N) (remove-as k) (c .level) 4294967296 (c .root) k-low (λ _. some-root)
       (good .sound .rooted .rises)
 
   -- where the root's list is more than one entry, or the tree is a leaf, the root stays
@@ -127,7 +124,7 @@ module _ (g : Geometry) (shape : Shape g) (n k : ℕ) (k-low : k < 4294967296) (
         let ls : collapse r (c .level) (lists (suc (c .level))) .list ≡ lists (suc (c .level)) = ap (λ (x : Top). x .list) e in
         let here : s N (suc (c .level)) ≡ rootList = at-N (suc (c .level)) (omega arith) high ∙ rw (lv, eq-eqb (suc (c .level)) (suc (c .level)) refl)
         (ls ∙ root-list) in
-        let made : DeleteMade r s k N (c .level) (chosen k es) = made-from fit roomAt r k (remove k) (λ e. remove k (e ∷ [])) (kept N) as-splice
+        let made : DeleteMade r s k N (c .level) (chosen k es) = made-from fit roomAt r k (remove k) (λ e. remove k (e ∷ [])) (kept N) (remove-as k)
         (λ j d. 1 ≤ length d → s N j ≡ d) (c .level) 4294967296 (theRoot c) k-low (λ _. some-root) (good .sound .rooted .rises)
         (λ j b d _. at-N j b (omega (arith, d, high)) ∙ rw (
           lv,

@@ -22,9 +22,9 @@ use Rattle.counts.specs.Tally.{bit-most}
 use Rattle.trees.specs.Tests.{by-eq, by-test, true-false}
 use Rattle.trees.specs.Nodes.{the, fitOf}
 use Rattle.trees.specs.Edit.{atRoot}
-use Rattle.trees.specs.Insert.{put-splice, inserted, InsertMade}
+use Rattle.trees.specs.Insert.{inserted, InsertMade}
 use Rattle.trees.specs.Proper.{insert-stay, insert-grow}
-use Rattle.trees.specs.Path.{AsSplice, root-is, onPath-top, made-from}
+use Rattle.trees.specs.Path.{put-as, root-is, onPath-top, made-from}
 use Rattle.trees.specs.Splits.{root-size, all-below, splits-le, splits-are}
 use Rattle.chips.specs.Next.{R2, step}
 use Rattle.chips.specs.Whole.{some-page, Whole, sought-map}
@@ -79,16 +79,13 @@ module _ (g : Geometry) (shape : Shape g) (n k a : ℕ) (k-low : k < 4294967296)
   some-root : 1 ≤ c .level → 0 < length es
   some-root i = let z = good .sound .rooted .least i in omega (arith, z)
 
-  as-splice : AsSplice k (put k a) (λ e. put k a (e ∷ []))
-  as-splice hi xs h q i = sym (put-splice k a hi xs h q i)
-
   absent-is : isNone (find k (under r (suc (c .level)) (theRoot c))) ≡ absent
   absent-is = ap isNone (sym (sought-map g n c good k k-low))
 
   root-list : lists (suc (c .level)) ≡ rootList
   unfolding insertList
-  root-list = onPath-top fit roomAt r k (put k a) (λ e. put k a (e ∷ [])) (named k N side (half g)) as-splice (c .level) (theRoot c)
-      ∙ root-is fit roomAt r k (put k a) (λ e. put k a (e ∷ [])) (named k N side (half g)) as-splice (c .level) 4294967296 (c .root) k-low some-root
+  root-list = onPath-top fit roomAt r k (put k a) (λ e. put k a (e ∷ [])) (named k N side (half g)) (put-as k a) (c .level) (theRoot c)
+      ∙ root-is fit roomAt r k (put k a) (λ e. put k a (e ∷ [])) (named k N side (half g)) (put-as k a) (c .level) 4294967296 (c .root) k-low some-root
       (good .sound .rooted .rises)
 
   pub root-length : length (lists (suc (c .level))) ≡ length es + bit gained
@@ -180,7 +177,7 @@ module _ (g : Geometry) (shape : Shape g) (n k a : ℕ) (k-low : k < 4294967296)
 
     made : InsertMade r s k a N side (half g) fit′ Cut (c .level) (chosen k es)
     unfolding insertPart sideList insertList
-    made = made-from fit roomAt r k (put k a) (λ e. put k a (e ∷ [])) (named k N side (half g)) as-splice
+    made = made-from fit roomAt r k (put k a) (λ e. put k a (e ∷ [])) (named k N side (half g)) (put-as k a)
         (λ j d. (s N j ≡ pathPart k (half g) j d) × (roomAt j < length d → (s (side j) j ≡ sideHalf k (half g j) d) × fit′ j (side j) × Cut j))
         (c .level) 4294967296 (theRoot c) k-low some-root (good .sound .rooted .rises)
         (λ j b d. at j b d _ refl)

@@ -12,8 +12,8 @@ use borrow.Author.Tests.{lt-ltb, le-ltb, le-leb, ne-eqb}
 use Rattle.geometry.specs.declared.Geometry.{Geometry}
 use Rattle.geometry.specs.declared.Entry.{Entry}
 use Rattle.geometry.specs.Tests.{pick, _&_, bit, and-true, and-false}
-use Rattle.geometry.specs.Geometry.{small, half, rootSlots}
-use Rattle.geometry.specs.Shape.{Shape, small-shape}
+use Rattle.geometry.specs.Geometry.{half, rootSlots}
+use Rattle.geometry.specs.Shape.{Shape}
 use Rattle.model.specs.Bytes.{byteAt}
 use Rattle.model.specs.Image.{blocksOf, goodLength, pagesOf, maxSeq, Chip, chipOf}
 use Rattle.model.specs.Tree.{mapOf, livePages, chosen, find, sought}
@@ -33,7 +33,7 @@ use Rattle.demands.specs.Words.{Ready, mapAt, Holds, Began}
 use Rattle.demands.specs.Maps.{find-put}
 use Rattle.demands.specs.Calls.{insert-is, delete-is}
 use Rattle.demands.specs.Proofs.{made-began, found, insert-kept, delete-kept}
-use Rattle.demands.specs.Demands.{lookup-answers, insert-done, insert-stores, insert-own}
+use Rattle.demands.specs.Demands.{lookup-answers, insert-done}
 
 -- ---- every store is a program or an erase
 stores-length : (ss : List Store) → length ss ≡ programs ss + erases ss
@@ -192,12 +192,3 @@ module _ (g : Geometry) (shape : Shape g) (some-worn : 1 ≤ g .worn) (img : Lis
     pub second-lookup : lookup g (insert g new k a al .image) k ≡ answered (some a) (insert g new k a al .image)
     second-lookup = lookup-answers g shape (insert g new k a al .image) (first-map .ready) k k-low
         ∙ ap (λ (o : Option ℕ). answered o (insert g new k a al .image)) (ap (find k) (first-map .map-is) ∙ find-put k a [])
-
--- ---- the small geometry: 5 own pages, 191 programs, 6 erases
-pub small-bounds : (img : List ℕ) → Ready small img → (k a al : ℕ) → k < 4294967296 → a < 4294967296 → Began (insert small img k a al)
-    → (programs (insertStores small (blocksOf small img) img k a) ≤ 191) × (erases (insertStores small (blocksOf small img) img k a) ≤ 6) ×
-    (needs small (chipOf small (blocksOf small img) img) k ≤ 5)
-small-bounds img ready k a al k-low a-low b =
-    let h = insert-stores small small-shape img ready k k-low a al a-low b in
-    let o = insert-own small small-shape img ready k k-low a al a-low b in
-    (h .programmed, h .wiped, o .atmost)

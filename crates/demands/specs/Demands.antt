@@ -1,16 +1,20 @@
--- The demands, about the definitions. g is any geometry with `Shape g`; k and a are 32-bit numbers, al is the allowance.
--- `Words` has the words: Ready (a sound image), mapAt, Holds, Lawful, Kept, Began, Own. Assumes nothing.
+-- The demands, about the definitions `lookup`, `insert` and `delete` of crate model, whose outcome has an answer number, an
+-- address, two counts and the image afterwards. g is any geometry with `Shape g`, the small chip's among them; k, the key, and
+-- a, the address, are below 2^32 = 4294967296; al is the store allowance. `Words` has the words: Ready, mapAt, Holds, Kept,
+-- Began, OneOf, Own. Every proof here is one citation; assumes nothing.
 use mathlib.Core.Path.{_≡_}
 use mathlib.Core.List.{List, [], _∷_}
 use mathlib.Core.Logic.{_⊎_}
 use mathlib.Core.Option.{none, some}
 use Prim.Native.Nat.{ℕ, _<_, _≤_}
 use Rattle.geometry.specs.declared.Geometry.{Geometry}
-use Rattle.geometry.specs.Shape.{Shape}
+use Rattle.geometry.specs.Geometry.{small}
+use Rattle.geometry.specs.Shape.{Shape, small-shape}
 use Rattle.model.specs.Image.{blocksOf, chipOf}
 use Rattle.model.specs.Tree.{find}
 use Rattle.model.specs.Edit.{put, remove}
-use Rattle.model.specs.Update.{insertStores, deleteStores}
+use Rattle.model.specs.Stores.{programs, erases}
+use Rattle.model.specs.Update.{needs, insertStores, deleteStores}
 use Rattle.model.specs.Calls.{made, answered, lookup, insert, delete}
 use Rattle.trees.specs.Lists.{Rises}
 use Rattle.chips.specs.Whole.{map-rises}
@@ -34,10 +38,11 @@ lookup-reads g img k = lookup-image g img k
 
 module _ (g : Geometry) (shape : Shape g) (img : List ℕ) (ready : Ready g img) (k : ℕ) (k-low : k < 4294967296) where
   -- ---- Demand 2: on a sound image the calls answer as the sorted map says
+  -- the map's keys rise strictly and stay below 2^32
   pub map-sorted : Rises (λ y x. Unit {0}) 4294967296 (mapAt g img)
   map-sorted = map-rises g (blocksOf g img) (chipOf g (blocksOf g img) img) (ready-keeps g shape img ready .held .whole)
 
-  -- lookup: 0 and the address, or 4
+  -- lookup: answer 0 and the address that the map has for K, or answer 4 where it has none
   pub lookup-answers : lookup g img k ≡ answered (find k (mapAt g img)) img
   lookup-answers = lookup-is g shape img ready k k-low
 
@@ -58,13 +63,14 @@ module _ (g : Geometry) (shape : Shape g) (img : List ℕ) (ready : Ready g img)
   pub absent-delete : (al : ℕ) → find k (mapAt g img) ≡ none → (delete g img k al .answer ≡ 3) ⊎ (delete g img k al .answer ≡ 4)
   absent-delete al h = answer-absent g shape img ready k k-low al h
 
-  -- a finished update leaves a sound image, its map changed at K only
+  -- an update that answers 0 leaves a sound image, its map with K put in or taken out
   pub insert-done : (a al : ℕ) → a < 4294967296 → insert g img k a al .answer ≡ 0 → Holds g (put k a (mapAt g img)) (insert g img k a al .image)
   insert-done a al a-low h = insert-ends g shape img ready k k-low a al a-low h
 
   pub delete-done : (al : ℕ) → delete g img k al .answer ≡ 0 → Holds g (remove k (mapAt g img)) (delete g img k al .image)
   delete-done al h = delete-ends g shape img ready k k-low al h
 
+  -- what `put` and `remove` do to a map: K is found with A, or no more; every other key is found as before
   pub put-finds : (a : ℕ) → find k (put k a (mapAt g img)) ≡ some a
   put-finds a = find-put k a (mapAt g img)
 
@@ -77,8 +83,8 @@ module _ (g : Geometry) (shape : Shape g) (img : List ℕ) (ready : Ready g img)
   pub remove-others : (j : ℕ) → (j ≡ k → ⊥) → find j (remove k (mapAt g img)) ≡ find j (mapAt g img)
   remove-others j d = find-remove-other k j (mapAt g img) d
 
-  -- ---- Demand 3: the stores of an update that begins are each legal; after each of them stands a sound image that holds the
-  -- old map, or the new one once the last store is done; programs and erases are bounded
+  -- ---- Demand 3: the stores of an update that begins (answers 0 or 7), by `Kept`: each is legal; after each of them stands a
+  -- sound image that holds the old map, or the new one once the last store is made; programs and erases are bounded
   pub insert-stores : (a al : ℕ) → a < 4294967296 → Began (insert g img k a al)
       → Kept g (mapAt g img) (put k a (mapAt g img)) img (insertStores g (blocksOf g img) img k a)
   insert-stores a al a-low b = insert-kept g shape img ready k k-low a al a-low b
@@ -101,6 +107,16 @@ module _ (g : Geometry) (shape : Shape g) (img : List ℕ) (ready : Ready g img)
   pub delete-stopped : (al : ℕ) → delete g img k al .answer ≡ 7 → Holds g (mapAt g img) (delete g img k al .image)
   delete-stopped al h = delete-stops g shape img ready k k-low al h
 
-  -- own pages
+  -- own pages: 1 + splits + 1 if the tree grows, by `Own`
   pub insert-own : (a al : ℕ) → a < 4294967296 → Began (insert g img k a al) → Own g (blocksOf g img) img k a
   insert-own a al a-low b = own-pages g shape img ready k k-low a al a-low b
+
+-- the small chip: at most 5 own pages, 191 pages programmed and 6 blocks erased
+pub small-bounds : (img : List ℕ) → Ready small img → (k a al : ℕ) → k < 4294967296 → a < 4294967296 → Began (insert small img k a al)
+    → (needs small (chipOf small (blocksOf small img) img) k ≤ 5) ×
+    (programs (insertStores small (blocksOf small img) img k a) ≤ 191) ×
+    (erases (insertStores small (blocksOf small img) img k a) ≤ 6)
+small-bounds img ready k a al k-low a-low b =
+    let o = insert-own small small-shape img ready k k-low a al a-low b in
+    let h = insert-stores small small-shape img ready k k-low a al a-low b in
+    (o .atmost, h .programmed, h .wiped)

@@ -18,13 +18,13 @@ use Rattle.model.specs.Update.{needs, insertStores}
 use Rattle.model.specs.Calls.{Outcome}
 use Rattle.images.specs.Writes.{Legal}
 
--- a sound image: its length, its rules, and bytes that are bytes
+-- a sound image: its length is good, no rule R1 to R7 is broken, and its bytes are below 256
 pub record Ready (g : Geometry) (img : List ℕ) : Type 0 where
   pub length-good : goodLength g img ≡ true
   pub is-sound : verdict g (blocksOf g img) img ≡ Sound
   pub bytes : (i : ℕ) → byteAt img i < 256
 
--- the map of an image
+-- the map of an image: its pairs of key and address, from the root down
 abbrev pub mapAt : Geometry → List ℕ → List Entry
 mapAt g img = mapOf (chipOf g (blocksOf g img) img)
 
@@ -46,7 +46,7 @@ pub record Kept (g : Geometry) (old new : List Entry) (img : List ℕ) (ss : Lis
   pub before : (j : ℕ) → j < length ss → Holds g old (applyAll g (take j ss) img)
   -- after the whole list: sound, and the new map
   pub end : Holds g new (applyAll g ss img)
-  -- 191 programs and 6 erases of the small geometry
+  -- of the small chip 191 and 6: `small-bounds`
   pub programmed : programs ss ≤ (g .top + 1) * (g .pages - 1) + g .top
   pub wiped : erases ss ≤ g .top + 1
 

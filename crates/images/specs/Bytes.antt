@@ -16,6 +16,7 @@ use Rattle.model.specs.Bytes.{byteAt, u32At, blank, entriesAt}
 use Rattle.model.specs.Page.{putU32, putEntry, putEntries}
 use Rattle.model.specs.Stores.{written}
 use Rattle.lists.specs.Written.{written-before, written-after}
+use Rattle.trees.specs.Tests.{by-eq}
 use Rattle.trees.specs.Lists.{All}
 
 -- ---- the n bytes of b from q on are those of a from p on: what is read there is alike
@@ -62,12 +63,12 @@ blank-all img zero at h = refl
 blank-all img (suc n) at h = and-both _ _ (eq-eqb (byteAt img at) 255 (rw add-zero at (h 0 (omega arith))))
     (blank-all img n (at + 1) (λ k l. let e : at + 1 + k ≡ at + suc k = omega arith in rw e (h (suc k) (omega arith))))
 
-pub blank-get : (img : List ℕ) (n at k : ℕ) → blank img at n ≡ true → k < n → byteAt img (at + k) ≡ 255
+-- the byte i of n blank bytes from `at` on
+pub blank-get : (img : List ℕ) (n at i : ℕ) → blank img at n ≡ true → at ≤ i → i < at + n → byteAt img i ≡ 255
 unfolding blank
-blank-get img zero at k e h = absurd (omega arith)
-blank-get img (suc n) at zero e h = rw add-zero (eqb-true (byteAt img at) 255 (and-left _ _ e))
-blank-get img (suc n) at (suc k) e h = let f : at + suc k ≡ at + 1 + k = omega arith in rw f
-    (blank-get img n (at + 1) k (and-right _ _ e) (omega arith))
+blank-get img zero at i e h q = absurd (omega arith)
+blank-get img (suc n) at i e h q = by-eq i at (λ z. rw z (eqb-true (byteAt img at) 255 (and-left _ _ e)))
+    (λ z. blank-get img n (at + 1) i (and-right _ _ e) (omega arith) (omega arith))
 
 abbrev pub Off : ℕ → ℕ → ℕ → Type 0
 Off i at n = (i < at) ⊎ (at + n ≤ i)

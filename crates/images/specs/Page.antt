@@ -132,7 +132,7 @@ module _ (g : Geometry) (shape : Shape g) where
 
   pub view-none : (img : List ℕ) (b : ℕ) → viewFrom g img b .er ≡ true → viewFrom g img b ≡ noView g
   unfolding viewFrom
-  view-none img b h = view-erased img b (λ k q. blank-get img (pageBytes g) b k h q)
+  view-none img b h = view-erased img b (λ k q. blank-get img _ _ (b + k) h (omega arith) (omega (arith, q)))
 
 -- ---- what may be built: numbers of 32 bits, places that do not overlap
 pub record Parts (g : Geometry) (parts : ℕ → List Entry) : Type 0 where
@@ -338,8 +338,8 @@ module _ (g : Geometry) (shape : Shape g) (parts : ℕ → List Entry) where
           go false e = refl
           go true e =
               let s = shape .spare-low in
-              let at : (k : ℕ) → k < pageBytes g → byteAt (built g seq h parts) k ≡ 255 = λ k q. rw zero-add at
-              (blank-get (built g seq h parts) (pageBytes g) 0 k e q) in
+              let at : (k : ℕ) → k < pageBytes g → byteAt (built g seq h parts) k ≡ 255 = λ k q.
+              blank-get (built g seq h parts) (pageBytes g) 0 k e (omega arith) (omega (arith, q)) in
               let b₀ = at (g .main) (omega (arith, s)) in
               let b₁ = at (g .main + 1) (omega (arith, s)) in
               let b₂ = at (g .main + 2) (omega (arith, s)) in

@@ -1,17 +1,20 @@
 -- The small geometry in the place of any. Assumes nothing.
-use mathlib.Core.Path.{_≡_, ap, sym, subst, _∙_}
+use mathlib.Core.Path.{_≡_, ap, _∙_}
 use mathlib.Core.List.{List}
-use Prim.Native.Nat.{ℕ, _≤_}
-use native.Mathlib.Omega.{arith}
+use Prim.Native.Nat.{ℕ}
 use Rattle.geometry.specs.declared.Geometry.{Geometry}
-use Rattle.geometry.specs.Geometry.{small, pageBytes}
-use Rattle.model.specs.Calls.{Outcome, format}
+use Rattle.geometry.specs.Geometry.{small}
+use Rattle.model.specs.Calls.{Outcome, format, insert, delete}
+use Rattle.judging.specs.Judging.{small-pages, small-page}
 
--- a page of the small geometry fits the buffer in which pages are built
-pub small-page : (g : Geometry) → g ≡ small → pageBytes g ≤ 2112
-small-page g e = subst (λ (x : Geometry). pageBytes x ≤ 2112) (sym e) (omega arith)
+module _ (g : Geometry) (o : Outcome) (img : List ℕ) (e : g ≡ small) where
+  pub small-format : o ≡ format g img → o ≡ format small img
+  small-format h = h ∙ ap (λ (x : Geometry). format x img) e
 
-pub small-format : (g : Geometry) (o : Outcome) (img : List ℕ) → o ≡ format g img → g ≡ small → o ≡ format small img
-small-format g o img h e = h ∙ ap (λ (x : Geometry). format x img) e
+  pub small-insert : (k a x : ℕ) → o ≡ insert g img k a x → o ≡ insert small img k a x
+  small-insert k a x h = h ∙ ap (λ (y : Geometry). insert y img k a x) e
 
-pub ruleset index-laws = (small-page, small-format)
+  pub small-delete : (k x : ℕ) → o ≡ delete g img k x → o ≡ delete small img k x
+  small-delete k x h = h ∙ ap (λ (y : Geometry). delete y img k x) e
+
+pub ruleset index-laws = (small-pages, small-page, small-format, small-insert, small-delete)

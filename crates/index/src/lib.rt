@@ -2,7 +2,7 @@
 // equation: the answer, its numbers and the image afterwards are those of the definition, for every image.
 ghost use mathlib.Core.Path.{_≡_};
 ghost use Rattle.geometry.specs.Geometry.{small};
-ghost use Rattle.model.specs.Calls.{format, lookup};
+ghost use Rattle.model.specs.Calls.{format, lookup, insert};
 ghost use Rattle.answers.specs.Answers.{told};
 use answers::Answer;
 use geometry::Geometry;
@@ -17,4 +17,10 @@ pub fn lookup(img: &[u8], key: u32) -> Answer
     ensures { λ r. ⌜ told r (now (img .entry)) ≡ lookup small (now (img .entry)) key ⌝ }
 {
     lookup::lookup_small(img, key)
+}
+
+pub fn insert(img: &mut [u8], key: u32, address: u32, allowance: u32) -> Answer
+    ensures { λ r. ⌜ told r (now (img .exit)) ≡ insert small (now (img .entry)) key address allowance ⌝ }
+{
+    insert::insert_on(Geometry::small(), &mut *img, key, address, allowance)
 }

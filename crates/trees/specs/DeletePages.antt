@@ -11,7 +11,7 @@ use Rattle.model.specs.Tree.{gather, Place, places, chosen}
 use Rattle.model.specs.Edit.{splice, remove, kept}
 use Rattle.trees.specs.Lists.{All, Rises, Some, all-append, all-map, gather-all, rises-all}
 use Rattle.trees.specs.Nodes.{Ok, places-fit, places-same, Rooted}
-use Rattle.trees.specs.Edit.{splice-some, edit, Made, no-places, list-places}
+use Rattle.trees.specs.Edit.{splice-some, edit, Made, no-places, page-where, list-places}
 use Rattle.trees.specs.Delete.{deleted, DeleteHeld, DeleteMade}
 use Rattle.trees.specs.Tied.{Where}
 
@@ -94,14 +94,9 @@ module _ (k n top : ℕ) (half most : ℕ → ℕ) (r s : Nodes) (fit fit′ : �
         names-left l hi es d ds c q h i,
       )
 
-  pub page-where : (W : Place → Type 0) (l z q : ℕ) (es : List Entry) → s q (suc l) ≡ es → W (record { page = q; level = suc l })
-      → All W (gather (places s l) es) → All W (places s (suc l) (record { key = z; addr = q }))
-  unfolding places
-  page-where W l z q es e w h = (w, rw e h)
-
   node-where : (l z low : ℕ) (c : List Entry) → s n (suc l) ≡ c → ListWhere l c low
       → All (DeleteWhere low) (places s (suc l) (record { key = z; addr = n }))
-  node-where l z low c e h = page-where (DeleteWhere low) l z n c e (inl (refl, h .1, λ d. rw e (h .2 d))) (h .0)
+  node-where l z low c e h = page-where s (DeleteWhere low) l z n c e (inl (refl, h .1, λ d. rw e (h .2 d))) (h .0)
 
   kept-where : (l low : ℕ) (e : Entry) (c : List Entry) → DeleteHeld n s (suc l) e c → ListWhere l c low
       → All (DeleteWhere low) (gather (places s (suc l)) (kept n (suc l) e c))

@@ -168,6 +168,12 @@ unfolding gather places
 no-places W s [] = tt
 no-places W s (e ∷ es) = no-places W s es
 
+-- the places under an entry that names page q: q's own, and those under its node
+pub page-where : (s : Nodes) (W : Place → Type 0) (l z q : ℕ) (es : List Entry) → s q (suc l) ≡ es → W (record { page = q; level = suc l })
+    → All W (gather (places s l) es) → All W (places s (suc l) (record { key = z; addr = q }))
+unfolding places
+page-where s W l z q es e w h = (w, rw e h)
+
 module _ (fit fit′ : ℕ → ℕ → Type 0) (room : ℕ → ℕ) (r s : Nodes) (keep : (l a : ℕ) → fit l a → fit′ l a)
     (same : (p l : ℕ) → fit (suc l) p → s p (suc l) ≡ r p (suc l))
     (k : ℕ) (base : Entry → List Entry) (name : ℕ → Entry → List Entry → List Entry) (Held : ℕ → Entry → List Entry → Type 0) where

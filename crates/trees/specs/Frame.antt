@@ -1,14 +1,14 @@
 -- A tree whose pages keep their content: what stays. Assumes nothing.
 use mathlib.Core.Path.{_≡_, ap, sym, subst}
 use mathlib.Core.List.{List, _∷_}
-use Prim.Native.Nat.{ℕ, suc, _<_, _≤_}
+use Prim.Native.Nat.{ℕ, suc, _≤_}
 use native.Mathlib.Omega.{arith}
 use Rattle.geometry.specs.declared.Entry.{Entry}
 use Rattle.model.specs.Image.{Nodes}
 use Rattle.model.specs.Tree.{gather, under, Place, places}
-use Rattle.trees.specs.Lists.{All, Rises, Some, all-map, all-both, gather-eq, rises-map, rises-all}
+use Rattle.trees.specs.Lists.{All, Rises, all-map, all-both, gather-eq, rises-map, rises-all}
 use Rattle.trees.specs.Nodes.{Ok, node-same, ok-same, under-same, places-same, the, Rooted}
-use Rattle.trees.specs.Tied.{Tied}
+use Rattle.trees.specs.Tied.{TiedTo, Tied}
 use Rattle.trees.specs.Proper.{Proper, root-fit}
 
 module _ (top : ℕ) (room most : ℕ → ℕ) (r s : Nodes) (fit fit′ : ℕ → ℕ → Type 0) (keep : (l b : ℕ) → fit l b → fit′ l b)
@@ -37,12 +37,11 @@ module _ (top : ℕ) (room most : ℕ → ℕ) (r s : Nodes) (fit fit′ : ℕ �
       (list-same Place (places r l) (places s l) (r p (suc l)) (h .rises) (places-same fit room fit′ r s keep same l)))
 
   tied-same : (spots : List Place) → All (λ x. (1 ≤ x .level) × fit (x .level) (x .page)) spots → Tied r spots → Tied s spots
-  tied-same spots f t = all-map (λ x. ((1 ≤ x .level) × fit (x .level) (x .page)) × All
-      (λ y. x .page ≡ y .page → y .level < x .level → Some (λ e. e .addr ≡ x .page) (r (x .page) (x .level))) spots)
-      (λ x. All (λ y. x .page ≡ y .page → y .level < x .level → Some (λ e. e .addr ≡ x .page) (s (x .page) (x .level))) spots) spots
-      (λ x h. rw (node-same fit r s same (x .page) (x .level) (h .0 .0) (h .0 .1)) (h .1))
-      (all-both (λ x. (1 ≤ x .level) × fit (x .level) (x .page)) (λ x. All (λ y. x .page ≡ y .page → y .level < x .level → Some
-      (λ e. e .addr ≡ x .page) (r (x .page) (x .level))) spots) spots f t)
+  tied-same spots f t =
+      all-map (λ x. ((1 ≤ x .level) × fit (x .level) (x .page)) × All (TiedTo r x) spots) (λ x. All (TiedTo s x) spots) spots
+      (λ x h. all-map (TiedTo r x) (TiedTo s x) spots
+      (λ y i e b. rw (node-same fit r s same (x .page) (x .level) (h .0 .0) (h .0 .1)) (i e b)) (h .1))
+      (all-both (λ x. (1 ≤ x .level) × fit (x .level) (x .page)) (λ x. All (TiedTo r x) spots) spots f t)
 
   pub sound-same : Proper fit room most top r l p → Proper fit′ room most top s l p
   sound-same h = record {

@@ -15,7 +15,7 @@ use Rattle.model.specs.Tree.{gather, Place, places, next, chosen}
 use Rattle.model.specs.Edit.{splice, put, turn, pathHalf, two, named, pathPart}
 use Rattle.trees.specs.Lists.{All, Rises, Some, all-left, all-right, all-append, all-map, gather-append, next-append, Split, split}
 use Rattle.trees.specs.Nodes.{Ok, places-fit, Rooted}
-use Rattle.trees.specs.Edit.{edit, atRoot, Made, no-places, edit-list-places}
+use Rattle.trees.specs.Edit.{edit, atRoot, Made, no-places, page-where, edit-list-places}
 use Rattle.trees.specs.Insert.{Halves, InsertHeld, inserted, InsertMade, Fresh, ins-list-ok, fresh}
 use Rattle.trees.specs.Tied.{Where}
 
@@ -123,11 +123,6 @@ module _ (k a n top : ℕ) (side half most : ℕ → ℕ) (r s : Nodes) (fit fit
   list-sits (suc l) hi es b c q h = splice-sits k (Names n) (Ok fit roomAt r (suc l)) (inserts (suc l)) hi es c q h
       (λ y d. named-sits k n side half (suc l) y (chosen k es) (splice (inserts l) k (r (chosen k es .addr) (suc l))) d)
 
-  pub page-where : (W : Place → Type 0) (l z q : ℕ) (es : List Entry) → s q (suc l) ≡ es → W (record { page = q; level = suc l })
-      → All W (gather (places s l) es) → All W (places s (suc l) (record { key = z; addr = q }))
-  unfolding places
-  page-where W l z q es e w h = (w, rw e h)
-
   pub two-where : (W : Place → Type 0) (l m z : ℕ) (c : List Entry) → Halves k n side s fit′ (suc l) m c → W (record { page = n; level = suc l })
       → W (record { page = side (suc l); level = suc l }) → All W (gather (places s l) c)
       → All W (gather (places s (suc l)) (two k n (side (suc l)) m z c))
@@ -150,9 +145,9 @@ module _ (k a n top : ℕ) (side half most : ℕ → ℕ) (r s : Nodes) (fit fit
           → All W (gather (places s (suc l)) (record { key = z; addr = pick t (side (suc l)) n } ∷
           record { key = next (drop m c) 0; addr = pick t n (side (suc l)) } ∷ []))
       go true i j = join (record { key = z; addr = side (suc l) }) (record { key = next (drop m c) 0; addr = n })
-          (page-where W l z (side (suc l)) (take m c) j w′ lh) (page-where W l (next (drop m c) 0) n (drop m c) i w rh)
+          (page-where s W l z (side (suc l)) (take m c) j w′ lh) (page-where s W l (next (drop m c) 0) n (drop m c) i w rh)
       go false i j = join (record { key = z; addr = n }) (record { key = next (drop m c) 0; addr = side (suc l) })
-          (page-where W l z n (take m c) i w lh) (page-where W l (next (drop m c) 0) (side (suc l)) (drop m c) j w′ rh)
+          (page-where s W l z n (take m c) i w lh) (page-where s W l (next (drop m c) 0) (side (suc l)) (drop m c) j w′ rh)
 
   -- the node on n at a level above the leaves names n
   part-names : (l y : ℕ) (es : List Entry) → 1 ≤ l → 0 < length es → k < y → Rises (Ok fit roomAt r l) y es
@@ -189,7 +184,7 @@ module _ (k a n top : ℕ) (side half most : ℕ → ℕ) (r s : Nodes) (fit fit
           (gather (places s (suc l)) (pick t (record { key = min (e .key) k; addr = n } ∷ [])
           (two k n (side (suc l)) (half (suc l)) (min (e .key) k) c)))
       go true d i = all-append InsertWhere (places s (suc l) (record { key = min (e .key) k; addr = n })) []
-          (page-where InsertWhere l (min (e .key) k) n c i on-n w) tt
+          (page-where s InsertWhere l (min (e .key) k) n c i on-n w) tt
       go false d i = let u = m .0 .1 (leb-false (length c) (2 * half (suc l)) d) in two-where InsertWhere l (half (suc l)) (min (e .key) k) c
           (i, u .0, u .1) on-n (inr (inl (u .2, refl))) w
 
@@ -210,7 +205,7 @@ module _ (k a n top : ℕ) (side half most : ℕ → ℕ) (r s : Nodes) (fit fit
   pub stay-where : (l p : ℕ) → Rooted fit roomAt most top r l p → InsertMade r s k a n side half fit′ Cut l (chosen k (r p (suc l)))
       → s n (suc l) ≡ atRoot (put k a) (inserts l) k l (r p (suc l))
       → All InsertWhere (places s (suc l) (record { key = 0; addr = n }))
-  stay-where l p h m e = page-where InsertWhere l 0 n (atRoot (put k a) (inserts l) k l (r p (suc l))) e
+  stay-where l p h m e = page-where s InsertWhere l 0 n (atRoot (put k a) (inserts l) k l (r p (suc l))) e
       (inl (
         refl,
         omega arith,
@@ -225,7 +220,7 @@ module _ (k a n top : ℕ) (side half most : ℕ → ℕ) (r s : Nodes) (fit fit
       → s n (suc (suc l)) ≡ two k n (side (suc l)) (2 * half (suc l)) (next (atRoot (put k a) (inserts l) k l (r p (suc l))) 0)
       (atRoot (put k a) (inserts l) k l (r p (suc l)))
       → All InsertWhere (places s (suc (suc l)) (record { key = 0; addr = n }))
-  grow-where l p h m hs cut len e = page-where InsertWhere (suc l) 0 n (two k n (side (suc l)) (2 * half (suc l)) (next c 0) c) e
+  grow-where l p h m hs cut len e = page-where s InsertWhere (suc l) 0 n (two k n (side (suc l)) (2 * half (suc l)) (next c 0) c) e
       (inl (refl, omega arith, λ d. rw e (either (turn k (2 * half (suc l)) c))))
       (two-where InsertWhere l (2 * half (suc l)) (next c 0) c hs (inl (
         refl,

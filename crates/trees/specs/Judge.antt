@@ -22,7 +22,7 @@ use Rattle.counts.specs.Lowest.{bad-good, unless-true, good-unless}
 use Rattle.trees.specs.Tests.{true-false, and-pick}
 use Rattle.trees.specs.Lists.{All, Rises, Some, Mem, all-map, all-both, all-get, all-mem, next-le, rises-map}
 use Rattle.trees.specs.Nodes.{Ok, ok-fit, Rooted, fitOf}
-use Rattle.trees.specs.Tied.{Tied}
+use Rattle.trees.specs.Tied.{TiedTo, Tied}
 use Rattle.trees.specs.Live.{mem-live, low-is}
 
 -- ---- findings
@@ -247,31 +247,24 @@ module _ (t : ℕ) (c : Chip) where
   r6-tied in-t h =
       let u = good-unless _ _ _ h in
       let a = none-lower (loose (c .nodes) spots) spots t (leb-true t (lowestPage (loose (c .nodes) spots) spots t) (u .0)) in
-      all-map (λ x. (x .page < t → loose (c .nodes) spots x ≡ false) × (x .page < t))
-      (λ x. All (λ y. x .page ≡ y .page → y .level < x .level → Some (λ e. e .addr ≡ x .page) (c .nodes (x .page) (x .level))) spots) spots
-      (λ x i. all-map (λ y. Mem y spots) (λ y. x .page ≡ y .page → y .level < x .level → Some (λ e. e .addr ≡ x .page)
-      (c .nodes (x .page) (x .level)))
-      spots (λ y m e b. strict x y m e b (i .0 (i .1))) (all-mem spots))
+      all-map (λ x. (x .page < t → loose (c .nodes) spots x ≡ false) × (x .page < t)) (λ x. All (TiedTo (c .nodes) x) spots) spots
+      (λ x i. all-map (λ y. Mem y spots) (TiedTo (c .nodes) x) spots (λ y m e b. strict x y m e b (i .0 (i .1))) (all-mem spots))
       (all-both (λ x. x .page < t → loose (c .nodes) spots x ≡ false) (λ x. x .page < t) spots a in-t)
 
   pub tied-r6 : Tied (c .nodes) spots → r6 t c ≡ Good
   unfolding r6 loose
   tied-r6 h =
       let z : lowestPage (loose (c .nodes) spots) spots t ≡ t = lower-none (loose (c .nodes) spots) spots t
-      (all-map (λ x. All (λ y. x .page ≡ y .page → y .level < x .level → Some (λ e. e .addr ≡ x .page) (c .nodes (x .page) (x .level))) spots
-      × Mem x spots) (λ x. loose (c .nodes) spots x ≡ false) spots (λ x i. fast x (i .0) (i .1))
-      (all-both (λ x. All (λ y. x .page ≡ y .page → y .level < x .level → Some (λ e. e .addr ≡ x .page) (c .nodes (x .page) (x .level))) spots)
-      (λ x. Mem x spots) spots h (all-mem spots))) in
+      (all-map (λ x. All (TiedTo (c .nodes) x) spots × Mem x spots) (λ x. loose (c .nodes) spots x ≡ false) spots (λ x i. fast x (i .0) (i .1))
+      (all-both (λ x. All (TiedTo (c .nodes) x) spots) (λ x. Mem x spots) spots h (all-mem spots))) in
       unless-both _ _ _ (rw z (le-leb t t (omega arith))) refl
     where
-      fast : (x : Place) → All (λ y. x .page ≡ y .page → y .level < x .level → Some (λ e. e .addr ≡ x .page) (c .nodes (x .page) (x .level))) spots
-          → Mem x spots → loose (c .nodes) spots x ≡ false
+      fast : (x : Place) → All (TiedTo (c .nodes) x) spots → Mem x spots → loose (c .nodes) spots x ≡ false
       fast x i m = go (ltb (lowLevel spots (x .page)) (x .level)) refl
         where
           go : (u : Bool) → ltb (lowLevel spots (x .page)) (x .level) ≡ u → (u & not (namesPage (x .page) (c .nodes (x .page) (x .level)))) ≡ false
           go false e = and-false (not (namesPage (x .page) (c .nodes (x .page) (x .level))))
           go true e =
               let w = low-is spots (x .page) (mem-live x spots m) in
-              let s = all-get (λ y. x .page ≡ y .page → y .level < x .level → Some (λ e. e .addr ≡ x .page) (c .nodes (x .page) (x .level)))
-              (record { page = x .page; level = lowLevel spots (x .page) }) spots i (w .0) refl (ltb-true (lowLevel spots (x .page)) (x .level) e) in
+              let s = all-get (TiedTo (c .nodes) x) (record { page = x .page; level = lowLevel spots (x .page) }) spots i (w .0) refl (ltb-true (lowLevel spots (x .page)) (x .level) e) in
               rw (and-true (not (namesPage (x .page) (c .nodes (x .page) (x .level)))), some-names (x .page) (c .nodes (x .page) (x .level)) s) refl

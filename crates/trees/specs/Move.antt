@@ -153,7 +153,7 @@ module _ (p a : ℕ) (half : ℕ → ℕ) (r : Nodes) (fit : ℕ → ℕ → Typ
   reach (suc l) y e h i =
       let z = h .0 .1 i in
       by-le (suc (suc l)) a (λ g. at-lowest (suc l) y e h i (omega (arith, z .0)))
-      (λ g. named-range (Ok tied roomAt′ r (suc l)) key (e .key) y (r (e .addr) (suc (suc l))) (h .3) (h .4) (rw i (z .1 g)) (λ y x. reach l y x))
+      (λ g. named-range (Ok tied roomAt′ r (suc l)) key (e .key) y (r (e .addr) (suc (suc l))) (h .3) (h .4) (rw i (z .1 (omega (arith, g)))) (λ y x. reach l y x))
 
   -- off the path of p's lowest node, p has no live node
   pub off-path : (l y : ℕ) (e : Entry) → e .key < y → Ok tied roomAt′ r l y e → ((y ≤ key) ⊎ (key < e .key))

@@ -11,10 +11,12 @@ use Rattle.geometry.specs.declared.Entry.{Entry}
 use Rattle.geometry.specs.Tests.{pick}
 use Rattle.model.specs.Image.{Nodes}
 use Rattle.model.specs.Tree.{next, chosen}
-use Rattle.model.specs.Edit.{splice, edited, onPath, same}
+use Rattle.model.specs.Edit.{splice, edited, onPath, put, remove, same}
 use Rattle.trees.specs.Lists.{Rises, rises-map, split, splice-cong}
 use Rattle.trees.specs.Nodes.{Ok, the}
 use Rattle.trees.specs.Edit.{edit, atRoot, Made}
+use Rattle.trees.specs.Insert.{put-splice}
+use Rattle.trees.specs.Delete.{remove-splice}
 
 -- a leaf's operation is the splice of what it makes of one pair
 abbrev pub AsSplice : ℕ → (List Entry → List Entry) → (Entry → List Entry) → Type 0
@@ -31,6 +33,12 @@ same-splice k (e ∷ x ∷ es) = go (leb (x .key) k) (same-splice k (x ∷ es))
 
 pub same-as : (k : ℕ) → AsSplice k same (λ e. e ∷ [])
 same-as k hi es c q h = sym (same-splice k es)
+
+pub put-as : (k a : ℕ) → AsSplice k (put k a) (λ e. put k a (e ∷ []))
+put-as k a hi es c q h = sym (put-splice k a hi es c q h)
+
+pub remove-as : (k : ℕ) → AsSplice k (remove k) (λ e. remove k (e ∷ []))
+remove-as k hi es c q h = sym (remove-splice k hi es c q h)
 
 -- at the root too a leaf that stays as it is is a splice
 pub same-root : (r : Nodes) (k : ℕ) (name : ℕ → Entry → List Entry → List Entry) (l : ℕ) (es : List Entry)

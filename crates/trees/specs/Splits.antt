@@ -20,9 +20,9 @@ use Rattle.trees.specs.Tests.{by-eq, and-pick}
 use Rattle.trees.specs.Lists.{Rises, gather-one, rises-map, Split, split}
 use Rattle.trees.specs.Nodes.{Ok}
 use Rattle.trees.specs.Edit.{splice-length, edit, atRoot}
-use Rattle.trees.specs.Insert.{put-splice, inserted}
+use Rattle.trees.specs.Insert.{inserted}
 use Rattle.trees.specs.Seek.{find-list}
-use Rattle.trees.specs.Path.{AsSplice, below-is, onPath-top, onPath-below}
+use Rattle.trees.specs.Path.{put-as, below-is, onPath-top, onPath-below}
 
 -- K is above nothing of a list that begins above it
 pub above-none : (k hi : ℕ) (es : List Entry) → k < next es hi → Rises (λ y x. Unit {0}) hi es → find k es ≡ none
@@ -148,9 +148,6 @@ module _ (k a n : ℕ) (side half : ℕ → ℕ) (r : Nodes) (fit : ℕ → ℕ 
   abbrev lists : ℕ → Entry → ℕ → List Entry
   lists = onPath r k (put k a) (named k n side half)
 
-  as-splice : AsSplice k (put k a) (λ e. put k a (e ∷ []))
-  as-splice hi es c q h = sym (put-splice k a hi es c q h)
-
   -- of the path's nodes below the root those at levels 1 to `splits` are too long, and no others
   pub splits-are : (l hi : ℕ) (e : Entry) → k < hi → (1 ≤ l → 0 < length (r (e .addr) (suc l))) → Rises (Ok fit roomAt r l) hi (r (e .addr) (suc l))
       → isNone (find k (under r (suc l) e)) ≡ absent
@@ -187,8 +184,8 @@ module _ (k a n : ℕ) (side half : ℕ → ℕ) (r : Nodes) (fit : ℕ → ℕ 
       here : j ≡ suc l → Goal
       here z =
           let w : lists (suc l) e (suc l) ≡ splice (inserts l) k (r (x .addr) (suc l)) = onPath-below fit roomAt r k (put k a) (λ e. put k a (e ∷ []))
-          (named k n side half) as-splice l (suc l) e (omega arith) ∙ onPath-top fit roomAt r k (put k a) (λ e. put k a (e ∷ []))
-          (named k n side half) as-splice l x ∙ below-is fit roomAt r k (put k a) (λ e. put k a (e ∷ [])) (named k n side half) as-splice l
+          (named k n side half) (put-as k a) l (suc l) e (omega arith) ∙ onPath-top fit roomAt r k (put k a) (λ e. put k a (e ∷ []))
+          (named k n side half) (put-as k a) l x ∙ below-is fit roomAt r k (put k a) (λ e. put k a (e ∷ [])) (named k n side half) (put-as k a) l
           (next (s .post) hi) x (s .under) (s .here) in
           rw z (
             (λ i. let u = gain-all (over l (next (s .post) hi) x (s .under) (s .here) f′ (rw w at i)) in omega (arith, u)),
@@ -203,7 +200,7 @@ module _ (k a n : ℕ) (side half : ℕ → ℕ) (r : Nodes) (fit : ℕ → ℕ 
           (j ≤ splits r k half absent l (chosen k (r (x .addr) (suc l))) → 2 * half j < length (lists l x j))) → (j ≡ suc l → ⊥) → Goal
       there step z =
           let ih = step (omega arith) in
-          rw (onPath-below fit roomAt r k (put k a) (λ e. put k a (e ∷ [])) (named k n side half) as-splice l j e (omega arith)) (
+          rw (onPath-below fit roomAt r k (put k a) (λ e. put k a (e ∷ [])) (named k n side half) (put-as k a) l j e (omega arith)) (
             (λ i. omega (arith, ih .0 i)),
             (λ i. ih .1 (low (gain (suc l) x) refl i)),
           )

@@ -10,9 +10,12 @@ use Rattle.trees.specs.Lists.{All, Some, Mem, all-map, all-both, all-get
 use Rattle.trees.specs.Nodes.{node-same}
 use Rattle.trees.specs.Move.{Tie}
 
--- R6: of two live nodes on one page the upper one has an entry that names the page
+-- R6: of two live nodes x and y on one page the upper one, x, has an entry that names the page
+abbrev pub TiedTo : Nodes → Place → Place → Type 0
+TiedTo r x y = x .page ≡ y .page → y .level < x .level → Some (λ e. e .addr ≡ x .page) (r (x .page) (x .level))
+
 abbrev pub Tied : Nodes → List Place → Type 0
-Tied r spots = All (λ x. All (λ y. x .page ≡ y .page → y .level < x .level → Some (λ e. e .addr ≡ x .page) (r (x .page) (x .level))) spots) spots
+Tied r spots = All (λ x. All (TiedTo r x) spots) spots
 
 tie-at : (r : Nodes) (p a j q : ℕ) → (q ≡ p → a ≤ j) → (q ≡ p → a < j → Some (λ e. e .addr ≡ p) (r p j)) → Tie r p a j q
 tie-at r p a zero q f g = tt
@@ -21,14 +24,11 @@ tie-at r p a (suc j) q f g = λ i. (f i, g i)
 -- R6 at the page p with lowest live level a
 pub tie-all : (r : Nodes) (p a : ℕ) (spots : List Place) → Tied r spots → Mem (record { page = p; level = a }) spots
     → All (λ x. x .page ≡ p → a ≤ x .level) spots → All (λ x. Tie r p a (x .level) (x .page)) spots
-tie-all r p a spots t m low = all-map (λ x. (x .page ≡ p → a ≤ x .level) × All
-    (λ y. x .page ≡ y .page → y .level < x .level → Some (λ e. e .addr ≡ x .page) (r (x .page) (x .level))) spots) (λ x. Tie r p a (x .level)
-    (x .page)) spots
+tie-all r p a spots t m low =
+    all-map (λ x. (x .page ≡ p → a ≤ x .level) × All (TiedTo r x) spots) (λ x. Tie r p a (x .level) (x .page)) spots
     (λ x h. tie-at r p a (x .level) (x .page) (h .0) (λ i b. subst (λ q. Some (λ e. e .addr ≡ q) (r q (x .level))) i
-    (all-get (λ y. x .page ≡ y .page → y .level < x .level → Some (λ e. e .addr ≡ x .page) (r (x .page) (x .level)))
-    (record { page = p; level = a }) spots (h .1) m i b)))
-    (all-both (λ x. x .page ≡ p → a ≤ x .level) (λ x. All (λ y. x .page ≡ y .page → y .level < x .level → Some (λ e. e .addr ≡ x .page)
-    (r (x .page) (x .level))) spots) spots low t)
+    (all-get (TiedTo r x) (record { page = p; level = a }) spots (h .1) m i (omega (arith, b)))))
+    (all-both (λ x. x .page ≡ p → a ≤ x .level) (λ x. All (TiedTo r x) spots) spots low t)
 
 -- where a place of a new tree is: on the path's page n, its lowest level there low; alone on a side page; or an old one
 abbrev pub Where : Nodes → ℕ → ℕ → (ℕ → ℕ) → (ℕ → Type 0) → (Place → Type 0) → Place → Type 0
@@ -38,10 +38,8 @@ Where s n low side Cut Old x = ((x .page ≡ n) × (low ≤ x .level) × (low < 
 module _ (s : Nodes) (n low : ℕ) (side : ℕ → ℕ) (Cut : ℕ → Type 0) (Old : Place → Type 0)
     (old-n : (x : Place) → Old x → x .page ≡ n → ⊥) (old-side : (x : Place) (l : ℕ) → Old x → Cut l → x .page ≡ side l → ⊥)
     (side-n : (l : ℕ) → Cut l → side l ≡ n → ⊥) (side-inj : (i j : ℕ) → Cut i → Cut j → side i ≡ side j → i ≡ j)
-    (old-tied : (x y : Place) → Old x → Old y → x .page ≡ y .page → y .level < x .level → Some (λ e. e .addr ≡ x .page)
-    (s (x .page) (x .level))) where
-  pair : (x y : Place) → Where s n low side Cut Old x → Where s n low side Cut Old y → x .page ≡ y .page → y .level < x .level
-      → Some (λ e. e .addr ≡ x .page) (s (x .page) (x .level))
+    (old-tied : (x y : Place) → Old x → Old y → TiedTo s x y) where
+  pair : (x y : Place) → Where s n low side Cut Old x → Where s n low side Cut Old y → TiedTo s x y
   pair x y (inl h) (inl i) e b = subst (λ q. Some (λ e. e .addr ≡ q) (s q (x .level))) (sym (h .0)) (h .2 (omega (arith, i .1)))
   pair x y (inl h) (inr (inl i)) e b = absurd (side-n (y .level) (i .0) (sym (i .1) ∙ sym e ∙ h .0))
   pair x y (inl h) (inr (inr i)) e b = absurd (old-n y i (sym e ∙ h .0))
@@ -53,10 +51,8 @@ module _ (s : Nodes) (n low : ℕ) (side : ℕ → ℕ) (Cut : ℕ → Type 0) (
   pair x y (inr (inr h)) (inr (inr i)) e b = old-tied x y h i e b
 
   pub tied-new : (spots : List Place) → All (Where s n low side Cut Old) spots → Tied s spots
-  tied-new spots h = all-map (Where s n low side Cut Old) (λ x. All (λ y. x .page ≡ y .page → y .level < x .level → Some (λ e. e .addr ≡ x .page)
-      (s (x .page) (x .level))) spots) spots
-      (λ x i. all-map (Where s n low side Cut Old) (λ y. x .page ≡ y .page → y .level < x .level → Some (λ e. e .addr ≡ x .page)
-      (s (x .page) (x .level))) spots (λ y j. pair x y i j) h) h
+  tied-new spots h = all-map (Where s n low side Cut Old) (λ x. All (TiedTo s x) spots) spots
+      (λ x i. all-map (Where s n low side Cut Old) (TiedTo s x) spots (λ y j. pair x y i j) h) h
 
 -- an old place: live in the old tree, and its page keeps its content
 module _ (r s : Nodes) (spots : List Place) (t : Tied r spots) (fit : ℕ → ℕ → Type 0)
@@ -64,9 +60,6 @@ module _ (r s : Nodes) (spots : List Place) (t : Tied r spots) (fit : ℕ → �
   abbrev pub Live : Place → Type 0
   Live x = Mem x spots × fit (x .level) (x .page)
 
-  pub live-tied : (x y : Place) → Live x → Live y → x .page ≡ y .page → y .level < x .level → Some (λ e. e .addr ≡ x .page) (s (x .page) (x .level))
+  pub live-tied : (x y : Place) → Live x → Live y → TiedTo s x y
   live-tied x y h i e b = rw (node-same fit r s same (x .page) (x .level) (omega (arith, b)) (h .1))
-      (all-get (λ y. x .page ≡ y .page → y .level < x .level → Some (λ e. e .addr ≡ x .page) (r (x .page) (x .level))) y spots
-      (all-get (λ x. All (λ y. x .page ≡ y .page → y .level < x .level → Some (λ e. e .addr ≡ x .page) (r (x .page) (x .level))) spots) x spots t
-      (h .0))
-      (i .0) e b)
+      (all-get (TiedTo r x) y spots (all-get (λ x. All (TiedTo r x) spots) x spots t (h .0)) (i .0) e b)

@@ -1,0 +1,3 @@
+-- The account of an update, and its laws.
+pub mod Account
+pub mod Laws

@@ -1,0 +1,15 @@
+use borrow.Author.Needs.{needs}
+use Rattle.camera.specs.Laws.{camera-laws}
+use Rattle.camera.proofs.mutree_insert.Statement.{statement}
+use Rattle.camera.proofs.mutree_insert.Tie as tie
+use Rattle.camera.proofs.mutree_insert.Reads as reads
+use Rattle.camera.proofs.mutree_insert.Lts as lts
+use Rattle.camera.proofs.report.Reads as report-reads
+use Rattle.index.proofs.insert.Reads as insert-reads
+
+ruleset all = (needs, camera-laws)
+
+pub mutree-insert-spec : {M : Type 1} → statement M
+mutree-insert-spec =
+    tie.close
+    (tie.spec (λ c. search all) (λ c κs. search all) (λ c κs. search all) (λ c. search all) (λ c. search all) (λ c. search all))

@@ -1,0 +1,22 @@
+use borrow.Author.Needs.{needs}
+use Rattle.insert.specs.Insert.{insert-laws}
+use Rattle.insert.proofs.insert_on.Statement.{statement}
+use Rattle.insert.proofs.insert_on.Tie as tie
+use Rattle.insert.proofs.insert_on.Reads as reads
+use Rattle.insert.proofs.insert_on.Lts as lts
+use Rattle.chip.proofs.good_blocks.Reads as good-blocks-reads
+use Rattle.insert.proofs.insert_blocks.Reads as insert-blocks-reads
+
+ruleset all = (needs, insert-laws)
+
+pub insert-on-spec : {M : Type 1} → statement M
+insert-on-spec =
+    tie.close
+    (tie.spec
+    (λ c κs. search all)
+    (λ c. search all)
+    (λ c. search all)
+    (λ c. search all)
+    (λ c κs. search all)
+    (λ c. search all)
+    (λ c. search all))

@@ -1,0 +1,29 @@
+use Rattle.insert.specs.Insert.{insert-on}
+use borrow.Author.Needs.{needs}
+use Rattle.insert.specs.Insert.{insert-laws}
+use Rattle.insert.proofs.make_stores.Statement.{statement}
+use Rattle.insert.proofs.make_stores.Tie as tie
+use Rattle.insert.proofs.make_stores.Reads as reads
+use Rattle.insert.proofs.make_stores.Lts as lts
+use Rattle.account.proofs.fresh.Reads as fresh-reads
+use Rattle.collect.proofs.collect.Reads as collect-reads
+use Rattle.insertion.proofs.insert_own.Reads as insert-own-reads
+use Rattle.survey.proofs.take_survey.Reads as take-survey-reads
+
+ruleset all = (needs, insert-laws)
+
+pub make-stores-spec : {M : Type 1} → statement M
+make-stores-spec =
+    tie.close
+    (tie.spec
+    (λ c κs. search all)
+    (λ c. search all)
+    (λ c κs. search all)
+    (λ c. search all)
+    (λ c. search all)
+    (λ c. search all)
+    (λ c κs. search all)
+    (λ c κs. search all)
+    (λ c. search all)
+    (λ c. search all)
+    (λ c. insert-on _ _ _ _ _ _ _ (c .before .before .before .before .before .before .before .before .before .before .before .before .before .before .before .before .before .pre .4) _ (c .before .before .before .before .before .before .before .before .before .before .before .before .before .before .fresh .ensures .0) _ _ _ _ _ (c .before .before .insert-own .ensures) (c .before .before .before .before .take-survey .ensures .0) (c .before .before .before .before .before .before .before .before .before .before .before .collect .ensures) (c .before .before .before .before .before .before .if1 .left)))

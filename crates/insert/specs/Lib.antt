@@ -1,0 +1,2 @@
+-- Insert, and its laws.
+pub mod Insert
