@@ -1,120 +1,7 @@
 // Document 01's reading bench cases: lengths, an image of all 255, and damaged trees, one for each rule. For each image
 // a line: its name, the answer of lookup, and the first broken rule with its page (0 0 for none, or for a bad length).
-ghost use Prim.Native.Nat.{_<_, _≤_};
-ghost use lib.ListN.{length};
 use geometry::Geometry;
 use geometry::Verdict;
-
-fn put(img: &mut [u8; 50688], at: usize, b: u8) {
-    if at < 50688 {
-        img[at] = b;
-    }
-}
-
-// A number below 256, in four bytes.
-fn put_number(img: &mut [u8; 50688], at: usize, b: u8)
-    requires { ⌜ at < 1152921504606846976 ⌝ }
-{
-    put(&mut *img, at, b);
-    put(&mut *img, at + 1, 0);
-    put(&mut *img, at + 2, 0);
-    put(&mut *img, at + 3, 0);
-}
-
-fn erase_all(img: &mut [u8; 50688]) {
-    let mut i: usize = 0;
-    while i < 50688 {
-        img[i] = 255;
-        i += 1;
-    }
-}
-
-// A programmed page without nodes.
-fn put_page(img: &mut [u8; 50688], page: u32, seq: u8, height: u8) {
-    let at = geometry::page_base(Geometry::small(), page) + 512;
-    put_number(&mut *img, at, seq);
-    put(&mut *img, at + 4, height);
-    put_number(&mut *img, at + 5, 0);
-    put(&mut *img, at + 9, 0);
-}
-
-fn put_count(img: &mut [u8; 50688], page: u32, level: u32, n: u8) {
-    let at = geometry::page_base(Geometry::small(), page) + 516;
-    put(&mut *img, at + geometry::index(level), n);
-}
-
-fn put_entry(img: &mut [u8; 50688], page: u32, level: u32, i: usize, key: u8, addr: u8)
-    requires { ⌜ i < 64 ⌝ }
-{
-    let at = chip::node_place(Geometry::small(), page, level) + 8 * i;
-    put_number(&mut *img, at, key);
-    put_number(&mut *img, at + 4, addr);
-}
-
-// A node of one entry at a level of a page.
-fn put_one(img: &mut [u8; 50688], page: u32, level: u32, key: u8, addr: u8) {
-    put_count(&mut *img, page, level, 1);
-    put_entry(&mut *img, page, level, 0, key, addr);
-}
-
-// A node of two entries, keys 10 and 20.
-fn put_two(img: &mut [u8; 50688], page: u32, level: u32, addr: u8, other: u8) {
-    put_count(&mut *img, page, level, 2);
-    put_entry(&mut *img, page, level, 0, 10, addr);
-    put_entry(&mut *img, page, level, 1, 20, other);
-}
-
-// Two leaves on pages 0 and 1, and a root of height 2 on page 1.
-fn put_tree(img: &mut [u8; 50688]) {
-    erase_all(&mut *img);
-    put_page(&mut *img, 0, 1, 0);
-    put_one(&mut *img, 0, 1, 10, 110);
-    put_page(&mut *img, 1, 2, 2);
-    put_one(&mut *img, 1, 1, 20, 120);
-    put_two(&mut *img, 1, 2, 0, 1);
-}
-
-// Nodes of level 2 on pages 0 and 1, leaves on pages 1 and 2.
-fn put_levels(img: &mut [u8; 50688]) {
-    put_one(&mut *img, 0, 2, 10, 1);
-    put_one(&mut *img, 1, 2, 20, 2);
-    put_one(&mut *img, 1, 1, 10, 110);
-    put_one(&mut *img, 2, 1, 20, 120);
-}
-
-// The same under a root of height 3 on page 3: page 1 lives at levels 1 and 2 and does not name itself.
-fn put_loose(img: &mut [u8; 50688]) {
-    erase_all(&mut *img);
-    put_page(&mut *img, 0, 1, 0);
-    put_page(&mut *img, 1, 2, 0);
-    put_page(&mut *img, 2, 3, 0);
-    put_levels(&mut *img);
-    put_page(&mut *img, 3, 4, 3);
-    put_two(&mut *img, 3, 3, 0, 1);
-}
-
-// All pages programmed, without nodes.
-fn put_pages(img: &mut [u8; 50688]) {
-    erase_all(&mut *img);
-    let mut page: u32 = 0;
-    let mut seq: u8 = 1;
-    while page < 96 {
-        put_page(&mut *img, page, seq, 0);
-        page += 1;
-        if seq < 255 {
-            seq += 1;
-        }
-    }
-}
-
-// All pages programmed, a live one in each block: leaves on pages 0 and 32, the root on page 95.
-fn put_full(img: &mut [u8; 50688]) {
-    put_pages(&mut *img);
-    put_one(&mut *img, 0, 1, 10, 110);
-    put_one(&mut *img, 32, 1, 20, 120);
-    put_page(&mut *img, 95, 96, 2);
-    put_two(&mut *img, 95, 2, 0, 32);
-}
 
 fn space() {
     io::write_all(1, b" ");
@@ -160,22 +47,22 @@ fn lengths() {
 }
 
 fn sound(img: &mut [u8; 50688]) {
-    put_tree(&mut *img);
+    bench_images::put_tree(&mut *img);
     io::write_all(1, b"sound");
     case(&*img);
 }
 
 fn rule_1(img: &mut [u8; 50688]) {
-    put_tree(&mut *img);
-    put_page(&mut *img, 0, 1, 6);
+    bench_images::put_tree(&mut *img);
+    bench_images::put_page(&mut *img, 0, 1, 6);
     io::write_all(1, b"R1, height byte 6");
     case(&*img);
 }
 
 // The tree with one page more.
 fn page_more(img: &mut [u8; 50688], page: u32, seq: u8) {
-    put_tree(&mut *img);
-    put_page(&mut *img, page, seq, 0);
+    bench_images::put_tree(&mut *img);
+    bench_images::put_page(&mut *img, page, seq, 0);
     case(&*img);
 }
 
@@ -189,24 +76,24 @@ fn rules_2_and_3(img: &mut [u8; 50688]) {
 }
 
 fn rule_4(img: &mut [u8; 50688]) {
-    put_tree(&mut *img);
-    put_page(&mut *img, 1, 2, 0);
+    bench_images::put_tree(&mut *img);
+    bench_images::put_page(&mut *img, 1, 2, 0);
     io::write_all(1, b"R4, no root");
     case(&*img);
 }
 
 fn rule_5(img: &mut [u8; 50688]) {
-    put_tree(&mut *img);
-    put_entry(&mut *img, 0, 1, 0, 20, 110);
+    bench_images::put_tree(&mut *img);
+    bench_images::put_one(&mut *img, 0, 1, 20, 110);
     io::write_all(1, b"R5, a key not below the next entry's");
     case(&*img);
 }
 
 fn rules_6_and_7(img: &mut [u8; 50688]) {
-    put_loose(&mut *img);
+    bench_images::put_loose(&mut *img);
     io::write_all(1, b"R6, page 1 does not name itself");
     case(&*img);
-    put_full(&mut *img);
+    bench_images::put_full(&mut *img);
     io::write_all(1, b"R7, no erased page, a live one in each block");
     case(&*img);
 }

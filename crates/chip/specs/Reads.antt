@@ -51,9 +51,10 @@ pub height-is : (g : Geometry) (img : List ℕ) (p s r : ℕ) → s ≡ pageBase
 unfolding heightAt
 height-is g img p s r e er = er ∙ rw e
 
-pub count-is : (g : Geometry) (img : List ℕ) (p l s k r : ℕ) → s ≡ pageBase g p + g .main → k ≡ l → r ≡ byteAt img (s + 4 + k) → r ≡ countAt g img p l
+pub count-is : (g : Geometry) (img : List ℕ) (p l s k b r : ℕ) → s ≡ pageBase g p + g .main → k ≡ l → b ≡ byteAt img (s + 4 + k) → r ≡ b
+    → r ≡ countAt g img p l
 unfolding countAt
-count-is g img p l s k r e ek er = er ∙ rw (e, ek)
+count-is g img p l s k b r e ek eb er = er ∙ eb ∙ rw (e, ek)
 
 pub tail-none : (g : Geometry) (img : List ℕ) (p a t : ℕ) → a ≡ g .spare → t ≡ g .top → a < 5 + t → true ≡ tailAt g img p
 unfolding tailAt blank

@@ -10,12 +10,6 @@ ghost use Rattle.geometry.specs.Geometry.{pageBase};
 use geometry::Entry;
 use geometry::Geometry;
 
-fn byte_of(b: u8) -> usize
-    ensures { λ r. ⌜ (r ≡ b) × (r < 256) ⌝ }
-{
-    b as usize
-}
-
 fn widen(x: u16) -> u32
     ensures { λ r. ⌜ (r ≡ x) × (r < 65536) ⌝ }
 {
@@ -29,15 +23,6 @@ fn wide(b: u8) -> u32
 }
 
 // The byte at an index.
-pub fn byte_at(img: &[u8], at: usize) -> usize
-    ensures { λ r. ⌜ (r ≡ byteAt (now (img .entry)) at) × (r < 256) ⌝ }
-{
-    if at < img.len() {
-        return byte_of(img[at]);
-    }
-    0
-}
-
 fn wide_at(img: &[u8], at: usize) -> u32
     ensures { λ r. ⌜ (r ≡ byteAt (now (img .entry)) at) × (r < 256) ⌝ }
 {
@@ -113,7 +98,7 @@ fn bytes_blank(img: &[u8], at: usize, n: usize) -> bool
     let mut k: usize = n;
     while 0 < k {
         k -= 1;
-        if byte_at(img, at + k) != 255 {
+        if wide_at(img, at + k) != 255 {
             return false;
         }
     }
@@ -181,7 +166,7 @@ fn count_at(g: Geometry, img: &[u8], page: u32, level: u32) -> usize
     ensures { λ r. ⌜ (r ≡ countAt g (now (img .entry)) page level) × (r < 256) ⌝ }
 {
     let spare = spare_base(g, page);
-    byte_at(img, spare + 4 + geometry::index(level))
+    geometry::index(wide_at(img, spare + 4 + geometry::index(level)))
 }
 
 // Whether the spare bytes after the counts are all 255.

@@ -7,7 +7,7 @@ use Rattle.chip.proofs.bytes_blank.Statement.{statement}
 use Rattle.chip.proofs.bytes_blank.Tie as tie
 use Rattle.chip.proofs.bytes_blank.Reads as reads
 use Rattle.chip.proofs.bytes_blank.Lts as lts
-use Rattle.chip.proofs.byte_at.Reads as byte-at-reads
+use Rattle.chip.proofs.wide_at.Reads as wide-at-reads
 
 ruleset all = (needs, chip-laws)
 

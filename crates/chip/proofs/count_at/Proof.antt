@@ -4,8 +4,8 @@ use Rattle.chip.proofs.count_at.Statement.{statement}
 use Rattle.chip.proofs.count_at.Tie as tie
 use Rattle.chip.proofs.count_at.Reads as reads
 use Rattle.chip.proofs.count_at.Lts as lts
-use Rattle.chip.proofs.byte_at.Reads as byte-at-reads
 use Rattle.chip.proofs.spare_base.Reads as spare-base-reads
+use Rattle.chip.proofs.wide_at.Reads as wide-at-reads
 use Rattle.geometry.proofs.index.Reads as index-reads
 
 ruleset all = (needs, chip-laws)
@@ -18,5 +18,6 @@ count-at-spec =
     (λ c. search all)
     (λ c κs. search all)
     (λ c. search all)
+    (λ c κs. search all)
     (λ c κs. search all)
     (λ c. search all))
