@@ -3,7 +3,7 @@ ghost use mathlib.Core.Path.{_≡_};
 ghost use Prim.Native.Nat.{_<_};
 ghost use Rattle.geometry.specs.Geometry.{small};
 ghost use Rattle.model.specs.Page.{putU32};
-ghost use Rattle.model.specs.Calls.{format, lookup, insert};
+ghost use Rattle.model.specs.Calls.{format, lookup, insert, delete};
 ghost use Rattle.answers.specs.Answers.{numberOf, addressOf, programmedOf, erasedOf};
 ghost use Rattle.camera.specs.Camera.{reportOf, returned};
 use answers::Answer;
@@ -82,5 +82,23 @@ pub extern "C" fn mutree_insert(
         return 1;
     }
     let a = index::insert(&mut *image, key, address, allowance);
+    report(&mut *result, a)
+}
+
+#[no_mangle]
+pub extern "C" fn mutree_delete(
+    image: &mut [u8],
+    key: u32,
+    allowance: u32,
+    result: &mut [u8],
+) -> u32
+    ensures answer { λ r. ⌜ r ≡ returned (delete small (now (image .entry)) key allowance) (now (image .entry)) (now (result .entry)) .answer ⌝ }
+    ensures image { λ _. ⌜ now (image .exit) ≡ returned (delete small (now (image .entry)) key allowance) (now (image .entry)) (now (result .entry)) .image ⌝ }
+    ensures result { λ _. ⌜ now (result .exit) ≡ returned (delete small (now (image .entry)) key allowance) (now (image .entry)) (now (result .entry)) .result ⌝ }
+{
+    if result.len() < 16 {
+        return 1;
+    }
+    let a = index::delete(&mut *image, key, allowance);
     report(&mut *result, a)
 }

@@ -1,0 +1,13 @@
+use borrow.Author.Needs.{needs}
+use Rattle.index.specs.Laws.{index-laws}
+use Rattle.index.proofs.delete.Statement.{statement}
+use Rattle.index.proofs.delete.Tie as tie
+use Rattle.index.proofs.delete.Reads as reads
+use Rattle.index.proofs.delete.Lts as lts
+use Rattle.delete.proofs.delete_on.Reads as delete-on-reads
+use Rattle.geometry.proofs.Geometry.small.Reads as small-reads
+
+ruleset all = (needs, index-laws)
+
+pub delete-spec : {M : Type 1} → statement M
+delete-spec = tie.close (tie.spec (λ c κs. search all) (λ c κs. search all) (λ c. search all) (λ c. search all))
