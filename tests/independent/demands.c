@@ -1,0 +1,352 @@
+/* demands.c: holds the library's own outputs against document 01's demands, with a plain sorted array for the map and
+ * the judge of judge.c. After every allowance the image must be sound and hold the old map, or the new one after the
+ * last store; only erased pages are programmed and only blocks without live pages erased; the counts are the stores made.
+ *
+ * usage: demands [ROUNDS] [SEED]
+ */
+#include "../../c/mutree.h"
+#include "judge.h"
+
+#include <stdio.h>
+#include <stdlib.h>
+#include <string.h>
+
+static struct tree before, state;
+static struct entry oracle[200000];
+static size_t entries;
+static unsigned long updates, prefixes;
+static uint32_t most_own, most_programmed, most_erased;
+
+static void fail(const char *what)
+{
+    printf("independent: %s (update %lu)\n", what, updates);
+    exit(1);
+}
+
+static uint64_t seed;
+
+static uint32_t some(uint32_t below)
+{
+    seed = seed * 6364136223846793005u + 1442695040888963407u;
+    return (uint32_t)((seed >> 33) % below);
+}
+
+/* ---- the map */
+static size_t place_of(uint32_t key)
+{
+    size_t low = 0, high = entries;
+    while (low < high) {
+        size_t middle = (low + high) / 2;
+        if (oracle[middle].key < key)
+            low = middle + 1;
+        else
+            high = middle;
+    }
+    return low;
+}
+
+static int has(uint32_t key)
+{
+    size_t i = place_of(key);
+    return i < entries && oracle[i].key == key;
+}
+
+static void put(uint32_t key, uint32_t address)
+{
+    size_t i = place_of(key);
+    if (!has(key)) {
+        memmove(oracle + i + 1, oracle + i, (entries - i) * sizeof *oracle);
+        entries++;
+    }
+    oracle[i].key = key;
+    oracle[i].address = address;
+}
+
+static void drop(uint32_t key)
+{
+    size_t i = place_of(key);
+    memmove(oracle + i, oracle + i + 1, (entries - i - 1) * sizeof *oracle);
+    entries--;
+}
+
+static int holds_oracle(const struct tree *t)
+{
+    return t->entries == entries && (entries == 0 || memcmp(t->map, oracle, entries * sizeof *oracle) == 0);
+}
+
+/* ---- one update */
+struct update {
+    int adds;
+    uint32_t key, address;
+};
+
+static struct mutree_result run(struct update u, uint8_t *image, size_t length, uint32_t allowance)
+{
+    uint8_t result[24];
+    uint32_t answer;
+    memset(result, 77, sizeof result);
+    answer = u.adds ? mutree_insert(image, length, u.key, u.address, allowance, result, sizeof result)
+                    : mutree_delete(image, length, u.key, allowance, result, sizeof result);
+    if (answer != mutree_read_result(result).answer || mutree_read_result(result).address != 0)
+        fail("the result buffer differs from the answer");
+    if (result[16] != 77 || result[23] != 77)
+        fail("bytes after the 16 changed");
+    return mutree_read_result(result);
+}
+
+static int page_is(const uint8_t *page, int value)
+{
+    int i;
+    for (i = 0; i < PAGE; i++)
+        if (page[i] != value)
+            return 0;
+    return 1;
+}
+
+/* Exactly one store leads from old to new. The tree is the old image's. Returns 1 for a page programmed, 2 for a block erased. */
+static int one_store(const struct tree *old_tree, const uint8_t *old, const uint8_t *new)
+{
+    size_t p, changed = 0, which = 0;
+    for (p = 0; p < old_tree->pages; p++)
+        if (memcmp(old + p * PAGE, new + p * PAGE, PAGE)) {
+            changed++;
+            which = p;
+        }
+    if (changed == 0)
+        fail("a store that changes nothing");
+    if (changed == 1 && old_tree->erased[which])
+        return 1;
+    for (p = which - which % BLOCK_PAGES; p < which - which % BLOCK_PAGES + BLOCK_PAGES; p++) {
+        changed -= memcmp(old + p * PAGE, new + p * PAGE, PAGE) != 0;
+        if (!page_is(new + p * PAGE, 255))
+            fail("a page was programmed that was not erased");
+        if (old_tree->levels[p])
+            fail("a block with a live page was erased");
+    }
+    if (changed)
+        fail("one store changed more than a page or a block");
+    return 2;
+}
+
+static void note(uint32_t n, uint32_t most, uint32_t *seen, const char *what)
+{
+    if (n > most)
+        fail(what);
+    if (n > *seen)
+        *seen = n;
+}
+
+/* The update with every allowance from 0 on; leaves the image as the last one does. Returns the answer. */
+static uint32_t every_allowance(struct update u, uint8_t *image, size_t length)
+{
+    uint8_t *last = malloc(length), *now = malloc(length);
+    uint32_t allowance, programmed = 0, erased = 0, own = 0;
+    size_t nodes;
+    unsigned height;
+    struct mutree_result r;
+    if (last == NULL || now == NULL)
+        exit(71);
+    updates++;
+    if (judge(&before, image, length))
+        fail("the image to start from is not sound");
+    nodes = before.nodes;
+    height = before.height;
+    memcpy(last, image, length);
+    for (allowance = 0;; allowance++) {
+        memcpy(now, image, length);
+        r = run(u, now, length, allowance);
+        if (r.answer != 0 && r.answer != 7) {
+            if (memcmp(now, image, length) || r.programmed || r.erased)
+                fail("a refused update wrote");
+            break;
+        }
+        prefixes++;
+        if (allowance > 0) {
+            int kind = one_store(&before, last, now);
+            programmed += kind == 1;
+            erased += kind == 2;
+            own = kind == 1 ? own + 1 : 0;
+        } else if (memcmp(now, image, length)) {
+            fail("an update without an allowance wrote");
+        }
+        if (r.programmed != programmed || r.erased != erased)
+            fail("the counts are not the stores made");
+        if (judge(&before, now, length))
+            fail("not sound after a store");
+        if (r.answer == 0)
+            break;
+        if (!holds_oracle(&before))
+            fail("a stopped update changed the map");
+        memcpy(last, now, length);
+    }
+    if (r.answer == 0) {
+        if (u.adds)
+            put(u.key, u.address);
+        else
+            drop(u.key);
+        if (!holds_oracle(&before))
+            fail("a finished update left another map");
+        if (u.adds) {
+            uint32_t grown = before.height - height;
+            uint32_t pages = 1 + (uint32_t)(before.nodes - nodes) - grown;
+            if (erased == 0 && programmed != pages)
+                fail("pages programmed are not 1 + splits + growth");
+            note(pages, MUTREE_MOST_OWN_PAGES, &most_own, "more than 5 pages besides collection");
+        } else if (erased == 0 && programmed != 1) {
+            fail("a delete programs one page");
+        }
+        note(programmed, MUTREE_MOST_PAGES, &most_programmed, "more than 191 pages");
+        note(erased, MUTREE_MOST_ERASES, &most_erased, "more than 6 erases");
+        memcpy(image, now, length);
+    }
+    free(last);
+    free(now);
+    return r.answer;
+}
+
+static void look(const uint8_t *image, size_t length, uint32_t key)
+{
+    uint8_t result[16];
+    uint32_t answer = mutree_lookup(image, length, key, result, sizeof result);
+    if (has(key) ? answer != 0 || mutree_read_result(result).address != oracle[place_of(key)].address : answer != 4)
+        fail("lookup differs from the map");
+}
+
+/* ---- random days */
+static uint32_t a_key(int way, uint32_t step)
+{
+    switch (way) {
+    case 0: return step;                        /* rising */
+    case 1: return 4294967295u - step;          /* falling */
+    case 2: return some(400);                   /* dense */
+    default: return some(65536) * 65521u;       /* all over */
+    }
+}
+
+static void day(unsigned blocks, int way, unsigned steps)
+{
+    size_t length = (size_t)blocks * MUTREE_BLOCK_BYTES;
+    uint8_t *image = malloc(length), result[16];
+    unsigned step;
+    if (image == NULL)
+        exit(71);
+    memset(image, (int)some(256), length);
+    if (mutree_format(image, length, result, sizeof result) || mutree_read_result(result).erased != blocks
+        || mutree_read_result(result).programmed != 1)
+        fail("format");
+    entries = 0;
+    for (step = 1; step <= steps; step++) {
+        struct update u;
+        uint32_t answer;
+        u.adds = entries == 0 || some(10) < (way == 2 ? 6u : 8u);
+        u.key = u.adds || some(20) == 0 ? a_key(way, step) : oracle[some((uint32_t)entries)].key;
+        u.address = some(4294967295u);
+        answer = every_allowance(u, image, length);
+        if (u.adds ? answer == 4 : answer == 5 || (answer == 4) != !has(u.key))
+            if (answer != 0)
+                fail("an answer that the map does not allow");
+        if (answer == 2 || answer == 1)
+            fail("a sound image was refused");
+        look(image, length, u.key);
+        look(image, length, some(4294967295u));
+        if (entries)
+            look(image, length, oracle[some((uint32_t)entries)].key);
+    }
+    free(image);
+}
+
+/* ---- an image that reaches all three bounds: 37 blocks, 31 live pages and a dead one in each of the first 36, one dead
+ * page and 31 erased ones in the last. One leaf a page; an inner node stands on the page of its first child. The path of
+ * the smallest key is full below the root, so an insert there needs 5 pages, and each of 6 victims gives back one. */
+static uint8_t *bound_image;
+static uint32_t leaves, sequence, last_key;
+
+static uint8_t *leaf_page(uint32_t leaf)
+{
+    return bound_image + (size_t)(leaf / 31 * 32 + leaf % 31) * PAGE;
+}
+
+static void write_number(uint8_t *at, uint32_t n)
+{
+    int i;
+    for (i = 0; i < 4; i++)
+        at[i] = (uint8_t)(n >> (8 * i));
+}
+
+static void stamp(uint8_t *page, unsigned height)
+{
+    write_number(page + MAIN, ++sequence);
+    memset(page + MAIN + 4, 0, 6);
+    page[MAIN + 4] = (uint8_t)height;
+}
+
+static void add_entry(uint8_t *page, unsigned level, uint32_t key, uint32_t address)
+{
+    static const unsigned first[6] = { 0, 0, 32, 48, 56, 60 };
+    uint8_t *slot = page + 8 * (first[level] + page[MAIN + 4 + level]++);
+    write_number(slot, key);
+    write_number(slot + 4, address);
+}
+
+/* The node at a level with so many leaves below it; returns its first key. Its page is its first leaf's. */
+static uint32_t grow_node(unsigned level, uint32_t below, int full)
+{
+    static const uint32_t most[5] = { 0, 32, 16, 8, 4 };
+    uint32_t first_key = last_key + 2, first_leaf = leaves, i, n;
+    if (level == 1) {
+        uint8_t *page = leaf_page(leaves++);
+        stamp(page, 0);
+        for (i = 0; i < (full ? 32u : 1u); i++)
+            add_entry(page, 1, last_key += 2, 1);
+        return first_key;
+    }
+    n = level == 5 ? 3 : below < most[level] ? below : most[level];
+    for (i = 0; i < n; i++) {
+        uint32_t share = level == 5 ? (i == 0 ? 512 : 302) : (below + n - 1 - i) / n;
+        uint32_t child = leaves;
+        uint32_t key = grow_node(level - 1, share, full && i == 0);
+        add_entry(leaf_page(first_leaf), level, key, (uint32_t)((leaf_page(child) - bound_image) / PAGE));
+    }
+    return first_key;
+}
+
+static void reach_bounds(void)
+{
+    size_t length = 37 * MUTREE_BLOCK_BYTES, i;
+    struct update u = { 1, 3, 99 };
+    uint32_t b;
+    bound_image = malloc(length);
+    if (bound_image == NULL)
+        exit(71);
+    memset(bound_image, 255, length);
+    leaves = last_key = 0;
+    sequence = 10;
+    grow_node(5, 1116, 1);
+    for (b = 0; b < 37; b++)
+        stamp(bound_image + (size_t)(b < 36 ? 32 * b + 31 : 32 * 36) * PAGE, 0);
+    sequence = 4294966000u;
+    write_number(bound_image + MAIN, sequence);
+    bound_image[MAIN + 4] = 5;
+    if (judge(&state, bound_image, length) || state.live != 1116 || state.free_pages != 31)
+        fail("the image for the bounds is not as planned");
+    entries = state.entries;
+    for (i = 0; i < entries; i++)
+        oracle[i] = state.map[i];
+    if (every_allowance(u, bound_image, length) != 0)
+        fail("the update for the bounds was refused");
+    free(bound_image);
+}
+
+int main(int count, char **words)
+{
+    unsigned rounds = count > 1 ? (unsigned)strtoul(words[1], NULL, 10) : 8, i;
+    seed = count > 2 ? strtoull(words[2], NULL, 10) : 1;
+    reach_bounds();
+    if (most_own != MUTREE_MOST_OWN_PAGES || most_programmed != MUTREE_MOST_PAGES || most_erased != MUTREE_MOST_ERASES)
+        fail("a bound was not reached");
+    for (i = 0; i < rounds; i++)
+        day(3 + some(4), (int)(i % 4), 400);
+    printf("independent: %lu updates, %lu images after a store, all sound, old or new map; reached %u own pages, %u pages, %u erases\n",
+           updates, prefixes, (unsigned)most_own, (unsigned)most_programmed, (unsigned)most_erased);
+    return 0;
+}
