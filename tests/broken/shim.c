@@ -1,0 +1,66 @@
+/* shim.c: the library made wrong on purpose, so that the tests can be seen to fail. The real calls have been renamed to
+ * real_format and so on. FAULT says what is wrong:
+ * 1 an insert that says DONE and writes nothing   2 one page more reported than programmed
+ * 3 an insert that also flips a bit of a dead page   4 a delete that pretends   5 a lookup one address off
+ * 6 an insert that makes one store more than its allowance */
+#include "../../c/mutree.h"
+
+#include <stdlib.h>
+#include <string.h>
+
+uint32_t real_format(uint8_t *image, size_t image_len, uint8_t *result, size_t result_len);
+uint32_t real_lookup(const uint8_t *image, size_t image_len, uint32_t key, uint8_t *result, size_t result_len);
+uint32_t real_insert(uint8_t *image, size_t image_len, uint32_t key, uint32_t address, uint32_t allowance, uint8_t *result, size_t result_len);
+uint32_t real_delete(uint8_t *image, size_t image_len, uint32_t key, uint32_t allowance, uint8_t *result, size_t result_len);
+
+uint32_t mutree_format(uint8_t *image, size_t image_len, uint8_t *result, size_t result_len)
+{
+    return real_format(image, image_len, result, result_len);
+}
+
+uint32_t mutree_lookup(const uint8_t *image, size_t image_len, uint32_t key, uint8_t *result, size_t result_len)
+{
+    uint32_t answer = real_lookup(image, image_len, key, result, result_len);
+    if (FAULT == 5 && answer == MUTREE_DONE)
+        result[4]++;
+    return answer;
+}
+
+/* The image as it was, where the call pretends. */
+static void undo(uint8_t *image, const uint8_t *before, size_t length)
+{
+    if (before != NULL)
+        memcpy(image, before, length);
+}
+
+static uint8_t *copy_of(const uint8_t *image, size_t length)
+{
+    uint8_t *copy = malloc(length ? length : 1);
+    if (copy == NULL)
+        abort();
+    memcpy(copy, image, length);
+    return copy;
+}
+
+uint32_t mutree_insert(uint8_t *image, size_t image_len, uint32_t key, uint32_t address, uint32_t allowance, uint8_t *result, size_t result_len)
+{
+    uint8_t *before = FAULT == 1 ? copy_of(image, image_len) : NULL;
+    uint32_t more = FAULT == 6 && allowance < UINT32_MAX;
+    uint32_t answer = real_insert(image, image_len, key, address, allowance + more, result, result_len);
+    undo(image, before, image_len);
+    free(before);
+    if (FAULT == 2 && answer == MUTREE_DONE)
+        result[8]++;
+    if (FAULT == 3 && answer == MUTREE_DONE && image[MUTREE_PAGE_BYTES - 1] == 255)
+        image[0] ^= 1;
+    return answer;
+}
+
+uint32_t mutree_delete(uint8_t *image, size_t image_len, uint32_t key, uint32_t allowance, uint8_t *result, size_t result_len)
+{
+    uint8_t *before = FAULT == 4 ? copy_of(image, image_len) : NULL;
+    uint32_t answer = real_delete(image, image_len, key, allowance, result, result_len);
+    undo(image, before, image_len);
+    free(before);
+    return answer;
+}
