@@ -18,7 +18,7 @@ PROOFS = crates.txt $(shell find crates -type f)
 day: build
 	sh c/day.sh $(TOOL)
 
-build: $(TOOL) build/mutree.pc
+build: $(TOOL)
 
 $(LIBRARY): $(PROOFS)
 	rt staticlib camera
@@ -27,10 +27,6 @@ $(TOOL): $(LIBRARY) $(TOOL_SOURCES) $(TOOL_HEADERS)
 	@mkdir -p build
 	$(CC) $(STRICT) $(CFLAGS) $(TOOL_SOURCES) $(LIBRARY) -o $@
 
-build/mutree.pc: Makefile
-	@mkdir -p build
-	printf 'prefix=%s\nlibdir=$${prefix}/lib\nincludedir=$${prefix}/include\n\nName: mutree\nDescription: a proved mu-Tree index on raw NAND\nVersion: 0.1.0\nLibs: -L$${libdir} -lcamera\nCflags: -I$${includedir}\n' '$(PREFIX)' > $@
-
 check:
 	sh tests/run
 
@@ -38,7 +34,7 @@ install: build
 	install -d $(DESTDIR)$(PREFIX)/include $(DESTDIR)$(PREFIX)/lib/pkgconfig $(DESTDIR)$(PREFIX)/bin
 	install -m 644 c/mutree.h $(DESTDIR)$(PREFIX)/include/mutree.h
 	install -m 644 $(LIBRARY) $(DESTDIR)$(PREFIX)/lib/libcamera.a
-	install -m 644 build/mutree.pc $(DESTDIR)$(PREFIX)/lib/pkgconfig/mutree.pc
+	printf 'prefix=%s\nlibdir=$${prefix}/lib\nincludedir=$${prefix}/include\n\nName: mutree\nDescription: a proved mu-Tree index on raw NAND\nVersion: 0.1.0\nLibs: -L$${libdir} -lcamera\nCflags: -I$${includedir}\n' '$(PREFIX)' > $(DESTDIR)$(PREFIX)/lib/pkgconfig/mutree.pc
 	install -m 755 $(TOOL) $(DESTDIR)$(PREFIX)/bin/mutree
 
 clean:

@@ -176,7 +176,7 @@ static void measure(int at)
 #ifdef WITH_LMDB
 static void measure_lmdb(int at)
 {
-    char folder[] = "/tmp/bench-lmdb-XXXXXX", file[64];
+    char folder[] = "bench-lmdb-XXXXXX", file[64];
     MDB_env *env;
     MDB_txn *txn;
     MDB_dbi dbi;
