@@ -3,11 +3,9 @@ use Prim.Native.Nat.{ℕ, zero, suc, _+_, _-_, _*_, _<_, _≤_}
 use mathlib.Core.Bool.{Bool, true, false}
 use mathlib.Core.Path.{_≡_, refl, sym, ap, _∙_}
 use mathlib.Core.List.{List, [], _∷_, _++_}
-use lib.Dec.{ltb}
 use lib.ListN.{length}
 use native.Mathlib.Omega.{arith}
 use native.Mathlib.Numerals.{add-one}
-use borrow.Author.Tests.{lt-ltb, le-ltb}
 use Rattle.geometry.specs.declared.Geometry.{Geometry}
 use Rattle.geometry.specs.Tests.{pick}
 use Rattle.model.specs.Image.{Chip, chipOf, pagesOf, blocksOf, maxSeq}
@@ -24,11 +22,9 @@ use Rattle.chip.specs.Chip.{chipWith, goodBlocks}
 use Rattle.chip.specs.Blocks.{some-blocks}
 use Rattle.stores.specs.declared.Budget.{Budget}
 use Rattle.stores.specs.Run.{Ran}
-use Rattle.stores.specs.Runs.{ran-then, ran-halted, ran-full}
 use Rattle.survey.specs.declared.Survey.{Survey}
 use Rattle.survey.specs.Survey.{surveyOf}
 use Rattle.walk.specs.Table.{liveIn}
-use Rattle.walk.specs.Lows.{marked-pages}
 use Rattle.victim.specs.Victim.{Looked}
 use Rattle.victim.specs.Laws.{chip-is}
 use Rattle.plan.specs.declared.Plan.{Plan}
@@ -36,40 +32,35 @@ use Rattle.plan.specs.Plan.{Plans}
 use Rattle.judging.specs.Judging.{judgedIn, judged-damaged, judged-rest, judged-looked, judged-room, judged-length, judged-blocks}
 use Rattle.account.specs.Account.{freshOf, answerBy}
 use Rattle.account.specs.Laws.{told-made}
+use Rattle.account.specs.Rest.{worn-is, fresh-is, roomless-is, first-halt, first-then}
 
--- ---- the stores
+-- ---- the stores: collection, then the insert's own on the image that it leaves
 module _ (g : Geometry) (n k a m x : ℕ) (i : List ℕ) (em : m ≡ needs g (chipOf g n i) k) (b : Budget) (eb : b ≡ freshOf x) where
-  stores-are : insertStores g n i k a ≡ collectStores g n m (m + 1) i
-      ++ ownStores g n (maxSeq g n (applyAll g (collectStores g n m (m + 1) i) i)) (chipOf g n (applyAll g (collectStores g n m (m + 1) i) i)) m k a
+  abbrev first : List Store
+  first = collectStores g n m (m + 1) i
+
+  abbrev own : List ℕ → List Store
+  own h = ownStores g n (maxSeq g n h) (chipOf g n h) m k a
+
+  stores-are : insertStores g n i k a ≡ first ++ own (applyAll g first i)
   unfolding insertStores
   stores-are = rw (add-one, em)
 
   pub insert-halt : (r : Budget) (o : List ℕ) → Ran g (collectStores g n m (m + 1) i) b r i o → r .stopped ≡ true → Ran g (insertStores g n i k a) (freshOf x) r i o
-  insert-halt r o run t = rw stores-are (ran-halted g _ _ (freshOf x) r i o (rw eb at run) refl t)
+  insert-halt r o run t = rw stores-are (first-halt g first own x b eb r i o run t)
 
   pub insert-on : (r u : Budget) (s : Survey) (h o : List ℕ) → Ran g (ownStores g n (s .most) (chipWith g h (s .level) (s .root)) m k a) r u h o → s ≡ surveyOf g n h
       → Ran g (collectStores g n m (m + 1) i) b r i h → r .stopped ≡ false → Ran g (insertStores g n i k a) (freshOf x) u i o
   unfolding surveyOf
-  insert-on r u s h o own es run t =
-      let one : Ran g (collectStores g n m (m + 1) i) (freshOf x) r i h = rw eb at run in
-      let made : h ≡ applyAll g (collectStores g n m (m + 1) i) i = ran-full g _ (freshOf x) r i h one refl t in
-      let e : ownStores g n (s .most) (chipWith g h (s .level) (s .root)) m k a ≡ ownStores g n (maxSeq g n h) (chipOf g n h) m k a =
-      (λ z. ownStores g n (es z .most) (chipWith g h (es z .level) (es z .root)) m k a) in
-      rw (stores-are, ← made) (ran-then g _ _ (freshOf x) r u i h o one (rw e at own))
+  insert-on r u s h o mine es run t =
+      let e : ownStores g n (s .most) (chipWith g h (s .level) (s .root)) m k a ≡ own h = (λ z. ownStores g n (es z .most) (chipWith g h (es z .level) (es z .root)) m k a) in
+      rw stores-are (first-then g first own x b eb r i h run u o t (rw e at mine))
 
 -- ---- the answers
 module _ (g : Geometry) (n k a x : ℕ) (i : List ℕ) (s : Survey) (tbl : List ℕ) (lk : Looked g n i s tbl) where
-  most-is : s .most ≡ maxSeq g n i
-  unfolding surveyOf
-  most-is = ap (λ (y : Survey). y .most) (lk .survey)
-
   pub rest-worn : g .worn < s .most → told Worn i ≡ insertRest g n i k a x
-  unfolding insertRest worn
-  rest-worn h = sym (rw (lt-ltb (g .worn) (maxSeq g n i) (rw (← most-is) h)))
-
-  fresh-is : s .most ≤ g .worn → worn g n i ≡ false
-  unfolding worn
-  fresh-is h = le-ltb (g .worn) (maxSeq g n i) (rw (← most-is) h)
+  unfolding insertRest
+  rest-worn h = sym (rw (worn-is g n i s tbl lk h))
 
   module _ (p : Plan) (pl : Plans g (chipWith g i (s .level) (s .root)) k p) (h : s .most ≤ g .worn) where
     plan-is : Plans g (chipOf g n i) k p
@@ -77,23 +68,21 @@ module _ (g : Geometry) (n k a x : ℕ) (i : List ℕ) (s : Survey) (tbl : List 
 
     pub rest-high : p .high ≡ true → told Height i ≡ insertRest g n i k a x
     unfolding insertRest
-    rest-high t = sym (rw (fresh-is h, ← plan-is .high, t))
+    rest-high t = sym (rw (fresh-is g n i s tbl lk h, ← plan-is .high, t))
 
-    lives-is : g .pages * n ≤ length tbl → g .pages * n - count (g .pages * n) (liveIn tbl) ≡ freePages g n (chipOf g n i)
-    lives-is q = rw (marked-pages (chipOf g n i) tbl (lk .marked) (g .pages * n) q)
+    room-is : (b t : Bool) → b ≡ roomless g (g .pages * n - count (g .pages * n) (liveIn tbl)) (p .needs) → g .pages * n ≤ length tbl → b ≡ t
+        → roomless g (freePages g n (chipOf g n i)) (needs g (chipOf g n i) k) ≡ t
+    room-is b t eb q y = rw (← plan-is .needs) (roomless-is g n i s tbl lk (p .needs) b t eb q y)
 
     pub rest-room : (b : Bool) → b ≡ roomless g (g .pages * n - count (g .pages * n) (liveIn tbl)) (p .needs) → p .high ≡ false → g .pages * n ≤ length tbl → b ≡ true → told Room i ≡ insertRest g n i k a x
     unfolding insertRest
-    rest-room b eb t q y =
-        let z : roomless g (freePages g n (chipOf g n i)) (needs g (chipOf g n i) k) ≡ true = rw (← lives-is q, ← plan-is .needs) (sym eb ∙ y) in
-        sym (rw (fresh-is h, ← plan-is .high, t, z))
+    rest-room b eb t q y = sym (rw (fresh-is g n i s tbl lk h, ← plan-is .high, t, room-is b true eb q y))
 
     pub rest-made : (b : Bool) (r : Budget) (c : Answer) (o : List ℕ) → c ≡ answerBy r → Ran g (insertStores g n i k a) (freshOf x) r i o
         → b ≡ roomless g (g .pages * n - count (g .pages * n) (liveIn tbl)) (p .needs) → p .high ≡ false → g .pages * n ≤ length tbl → b ≡ false → told c o ≡ insertRest g n i k a x
     unfolding insertRest
     rest-made b r c o ec run eb t q y =
-        let z : roomless g (freePages g n (chipOf g n i)) (needs g (chipOf g n i) k) ≡ false = rw (← lives-is q, ← plan-is .needs) (sym eb ∙ y) in
-        ap (λ (y : Answer). told y o) ec ∙ told-made g (insertStores g n i k a) x r i o run ∙ sym (rw (fresh-is h, ← plan-is .high, t, z))
+        ap (λ (y : Answer). told y o) ec ∙ told-made g (insertStores g n i k a) x r i o run ∙ sym (rw (fresh-is g n i s tbl lk h, ← plan-is .high, t, room-is b false eb q y))
 
     pub needs-is : p .needs ≡ needs g (chipOf g n i) k
     needs-is = plan-is .needs
