@@ -63,3 +63,8 @@ def loose(rng, fuzz, blocks=None):
 def allowances(rng, stores):
     """Some allowances around what an update needs."""
     return rng.choice([0, 1, stores, max(stores - 1, 0), stores + 1, rng.randrange(stores + 1), 2 ** 32 - 1, 2 ** 32 - 1])
+
+
+if __name__ == "__main__":
+    if load() is None:
+        sys.exit("reference: not run, the reference model is not here")
