@@ -1,7 +1,7 @@
 """Where the reference model of the documents is, and images made with it.
 
 The model is no part of this repository: it stands in the folder `shared/model` beside it, or where the variable
-MUTREE_MODEL says. `load` gives None where it is missing.
+MUTREE_MODEL says. `load` gives None where it is missing; run as a program this file then ends with 3.
 """
 import importlib
 import os
@@ -66,5 +66,4 @@ def allowances(rng, stores):
 
 
 if __name__ == "__main__":
-    if load() is None:
-        sys.exit("reference: not run, the reference model is not here")
+    sys.exit(3 if load() is None else 0)

@@ -10,6 +10,8 @@
 #include <stdlib.h>
 #include <string.h>
 
+enum { RISING_KEYS = 7456 };
+
 static uint8_t *image, result[MUTREE_RESULT_BYTES];
 static size_t length;
 static uint64_t seed = 1;
@@ -47,8 +49,9 @@ static int fill(const char *way, size_t blocks)
     format(blocks);
     while ((answer = insert(strcmp(way, "random") ? keys + 1 : random_key(), UINT32_MAX)) == MUTREE_DONE)
         keys++;
+    printf("limits: %s keys, %u blocks: answer %u after %u keys\n", way, (unsigned)blocks, (unsigned)answer, (unsigned)keys);
     need(answer == MUTREE_HEIGHT, "the chip was full before the tree was; give it more blocks");
-    printf("limits: %s keys, %u blocks: HEIGHT after %u keys\n", way, (unsigned)blocks, (unsigned)keys);
+    need(strcmp(way, "rising") || keys == RISING_KEYS, "c/mutree.h says another number of rising keys");
     return 0;
 }
 
