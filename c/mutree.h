@@ -24,9 +24,9 @@
  *               below the stack catches a stack that is too small.
  *
  * Two calls at once: on different images always; on one image lookups together, but no call beside an insert, delete
- * or format. Interrupts: a call may be interrupted at any place, and the handler may call the library on another image.
- * On the image of an interrupted insert, delete or format it must not: the page or block in work is half written.
- * No call ends early or gives way; docs/BENCHMARKS.md says how long each takes.
+ * or format. Interrupts: a call may be interrupted at any place. A handler that calls the library is a second call at
+ * once, and the same holds for it: no update of an image that a call was interrupted on, and no call at all on one that
+ * is being updated. No call ends early or gives way; docs/BENCHMARKS.md says how long each takes.
  *
  * Capacity: rising keys answer MUTREE_HEIGHT after 7,456 keys however large the chip is; random keys did so after
  * 14,835 to 25,108 keys in ten runs (measured, tests/limits). No tree has more than 65,536 keys.

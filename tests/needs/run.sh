@@ -13,7 +13,7 @@ for tool in sh make uname sed find grep ls wc cat; do ln -s "$(command -v $tool)
 want() {
     text=$1
     shift
-    if out=$(PATH=$folder make -B "$@" 2>&1); then
+    if out=$(PATH=$folder make -B TARGET="$(uname -m)" "$@" 2>&1); then
         echo "needs: 'make $*' did not fail: $out"
         bad=1
     fi
