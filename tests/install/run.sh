@@ -38,6 +38,12 @@ for standard in c99 c11; do
     $compiler -std=$standard -Wall -Wextra -Werror -pedantic $(flags Cflags) "$folder/user.c" $(flags Libs) -o "$folder/user"
     [ "$("$folder/user")" = "$version 1007" ]
 done
+if echo 'int main() {}' | $compiler -x c++ -fsyntax-only - 2> /dev/null; then
+    # shellcheck disable=SC2046
+    $compiler -x c++ -std=c++11 -Wall -Wextra -Werror -pedantic -fsyntax-only $(flags Cflags) "$folder/user.c"
+else
+    echo "install: C++ not tried, $compiler compiles none"
+fi
 make -s uninstall TARGET="$host" PREFIX="$folder/usr"
 left=$(find "$folder/usr" -type f)
 [ -z "$left" ] || { echo "install: make uninstall left $left"; exit 1; }
