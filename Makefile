@@ -1,31 +1,77 @@
-# make            prove and build the library and the tool, and play a short day with them
-# make build      prove and build the library and the tool alone
+# make            prove all crates, build the library and the tool, and play a short day with them
+# make build      the same without the day
+# make library    prove all crates and build the library alone; needs no C compiler
 # make check      pass all tests: the gate and what runs beside it
-# make install    header, library, pkg-config file and tool, under PREFIX
+# make install    header, library, pkg-config file and tool, under PREFIX; make uninstall takes them away
+# make clean      remove all that was built and proved
+#
+# TARGET=x86_64 or TARGET=aarch64 is the processor that is built for; this machine's own if it is not given.
 
+HOST := $(shell uname -m)
+TARGET ?= $(HOST)
 PREFIX ?= /usr/local
-CC ?= cc
 CFLAGS ?= -O2
 STRICT = -std=c99 -Wall -Wextra -pedantic
-LIBRARY = target/staticlib/libcamera.a
+VERSION = $(shell sed -n 's/^.define MUTREE_VERSION "\(.*\)"/\1/p' c/mutree.h)
+
+# The compiler for the processor, what its programs are run with, and where the tool is written. CC is this machine's own compiler.
+CC_x86_64 ?= x86_64-linux-gnu-gcc
+CC_aarch64 ?= aarch64-linux-gnu-gcc
+RUN_x86_64 ?= qemu-x86_64
+RUN_aarch64 ?= qemu-aarch64
+ifeq ($(TARGET),$(HOST))
+COMPILER = $(CC)
+RUN =
+LINK =
 TOOL = build/mutree
-TOOL_SOURCES = c/mutree.c c/image.c c/picture.c
-TOOL_HEADERS = c/mutree.h c/image.h c/picture.h
+else
+COMPILER = $(CC_$(TARGET))
+RUN = $(RUN_$(TARGET))
+LINK = -static
+TOOL = build/$(TARGET)/mutree
+endif
+ifeq ($(filter x86_64 aarch64,$(TARGET)),)
+$(error TARGET is x86_64 or aarch64, not $(TARGET))
+endif
+
+LIBRARY = build/$(TARGET)/libmutree.a
+TOOL_SOURCES = $(wildcard c/*.c)
+TOOL_HEADERS = $(wildcard c/*.h)
 PROOFS = crates.txt $(shell find crates -type f)
+# What is asked for before ten minutes of proving, and not after: the archive alone needs no compiler.
+NEEDS = rt $(if $(filter library,$(MAKECMDGOALS)),,"$(COMPILER)")
 
-.PHONY: day build check install clean
+.PHONY: day build library check install uninstall clean settings
+.DELETE_ON_ERROR:
 
+ifeq ($(TARGET),$(HOST))
 day: build
 	sh c/day.sh $(TOOL)
+else
+day: build
+	@echo "$(TOOL) is for $(TARGET) and this machine is $(HOST): no day is played"
+endif
 
 build: $(TOOL)
 
-$(LIBRARY): $(PROOFS)
-	rt staticlib camera
+library: $(LIBRARY)
+
+# The file stands in target/, which the gate removes: after the gate all is built again from what it proved.
+target/proved: $(PROOFS)
+	@sh scripts/needs $(NEEDS)
+	@sh scripts/prove
+	@touch $@
+
+$(LIBRARY): target/proved scripts/archive scripts/kit
+	sh scripts/archive $(TARGET) $@
 
 $(TOOL): $(LIBRARY) $(TOOL_SOURCES) $(TOOL_HEADERS)
-	@mkdir -p build
-	$(CC) $(STRICT) $(CFLAGS) $(TOOL_SOURCES) $(LIBRARY) -o $@
+	@sh scripts/needs "$(COMPILER)" > /dev/null
+	$(COMPILER) $(STRICT) $(CFLAGS) $(TOOL_SOURCES) $(LIBRARY) -o $@
+
+# The one place from which the tests of the compiled code have their compiler: lines for sh to read.
+settings:
+	@printf "HOST='%s'\nCC='%s'\nRUN='%s'\nLINK='%s'\nLIBRARY='%s'\nTOOL='%s'\n" '$(HOST)' '$(COMPILER)' '$(RUN)' '$(LINK)' '$(LIBRARY)' '$(TOOL)'
 
 check:
 	sh tests/run
@@ -33,9 +79,13 @@ check:
 install: build
 	install -d $(DESTDIR)$(PREFIX)/include $(DESTDIR)$(PREFIX)/lib/pkgconfig $(DESTDIR)$(PREFIX)/bin
 	install -m 644 c/mutree.h $(DESTDIR)$(PREFIX)/include/mutree.h
-	install -m 644 $(LIBRARY) $(DESTDIR)$(PREFIX)/lib/libcamera.a
-	printf 'prefix=%s\nlibdir=$${prefix}/lib\nincludedir=$${prefix}/include\n\nName: mutree\nDescription: a proved mu-Tree index on raw NAND\nVersion: 0.1.0\nLibs: -L$${libdir} -lcamera\nCflags: -I$${includedir}\n' '$(PREFIX)' > $(DESTDIR)$(PREFIX)/lib/pkgconfig/mutree.pc
+	install -m 644 $(LIBRARY) $(DESTDIR)$(PREFIX)/lib/libmutree.a
+	printf 'prefix=%s\nlibdir=$${prefix}/lib\nincludedir=$${prefix}/include\n\nName: mutree\nDescription: a proved mu-Tree index on raw NAND\nVersion: %s\nLibs: -L$${libdir} -lmutree\nCflags: -I$${includedir}\n' '$(PREFIX)' '$(VERSION)' > $(DESTDIR)$(PREFIX)/lib/pkgconfig/mutree.pc
 	install -m 755 $(TOOL) $(DESTDIR)$(PREFIX)/bin/mutree
+
+uninstall:
+	rm -f $(DESTDIR)$(PREFIX)/include/mutree.h $(DESTDIR)$(PREFIX)/lib/libmutree.a
+	rm -f $(DESTDIR)$(PREFIX)/lib/pkgconfig/mutree.pc $(DESTDIR)$(PREFIX)/bin/mutree
 
 clean:
 	rm -rf build target

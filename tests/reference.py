@@ -1,7 +1,7 @@
 """Where the reference model of the documents is, and images made with it.
 
 The model is no part of this repository: it stands in the folder `shared/model` beside it, or where the variable
-MUTREE_MODEL says. `load` gives None where it is missing.
+MUTREE_MODEL says. `load` gives None where it is missing; run as a program this file then ends with 3.
 """
 import importlib
 import os
@@ -63,3 +63,7 @@ def loose(rng, fuzz, blocks=None):
 def allowances(rng, stores):
     """Some allowances around what an update needs."""
     return rng.choice([0, 1, stores, max(stores - 1, 0), stores + 1, rng.randrange(stores + 1), 2 ** 32 - 1, 2 ** 32 - 1])
+
+
+if __name__ == "__main__":
+    sys.exit(3 if load() is None else 0)

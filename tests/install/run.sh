@@ -1,0 +1,50 @@
+#!/bin/sh
+# Installs into an empty folder, builds a user's program against what is there, and takes all away again.
+# usage: run.sh CC
+set -eu
+cd "$(dirname "$0")/../.."
+compiler=$1
+folder=$(mktemp -d)
+trap 'rm -rf "$folder"' EXIT
+host=$(uname -m)
+
+make -s install TARGET="$host" PREFIX="$folder/usr" > /dev/null
+grep -q "^Version: [0-9][0-9.]*$" "$folder/usr/lib/pkgconfig/mutree.pc"
+cat > "$folder/user.c" <<'END'
+#include <mutree.h>
+
+#include <stdio.h>
+
+static uint8_t image[MUTREE_LEAST_BLOCKS * MUTREE_BLOCK_BYTES], result[MUTREE_RESULT_BYTES];
+
+int main(void)
+{
+    if (mutree_format(image, sizeof image, result, sizeof result) != MUTREE_DONE)
+        return 1;
+    if (mutree_insert(image, sizeof image, 7, 1007, UINT32_MAX, result, sizeof result) != MUTREE_DONE)
+        return 1;
+    if (mutree_lookup(image, sizeof image, 7, result, sizeof result) != MUTREE_DONE)
+        return 1;
+    printf("%s %u\n", MUTREE_VERSION, (unsigned)mutree_read_result(result).address);
+    return 0;
+}
+END
+# the flags as pkg-config gives them, read here so that the test does not need it
+prefix=$(sed -n 's/^prefix=//p' "$folder/usr/lib/pkgconfig/mutree.pc")
+flags() { sed -n "s/^$1: //p" "$folder/usr/lib/pkgconfig/mutree.pc" | sed -e "s|\${libdir}|$prefix/lib|" -e "s|\${includedir}|$prefix/include|"; }
+version=$(sed -n 's/^Version: //p' "$folder/usr/lib/pkgconfig/mutree.pc")
+for standard in c99 c11; do
+    # shellcheck disable=SC2046
+    $compiler -std=$standard -Wall -Wextra -Werror -pedantic $(flags Cflags) "$folder/user.c" $(flags Libs) -o "$folder/user"
+    [ "$("$folder/user")" = "$version 1007" ]
+done
+if echo 'int main() {}' | $compiler -x c++ -fsyntax-only - 2> /dev/null; then
+    # shellcheck disable=SC2046
+    $compiler -x c++ -std=c++11 -Wall -Wextra -Werror -pedantic -fsyntax-only $(flags Cflags) "$folder/user.c"
+else
+    echo "install: C++ not tried, $compiler compiles none"
+fi
+make -s uninstall TARGET="$host" PREFIX="$folder/usr"
+left=$(find "$folder/usr" -type f)
+[ -z "$left" ] || { echo "install: make uninstall left $left"; exit 1; }
+echo "install: a user's program links -lmutree $version, and uninstall leaves nothing"

@@ -1,0 +1,151 @@
+/* painted.c: how much stack each call takes. It stands between a test and the library (the linker's --wrap) and makes every call
+ * on a stack of its own, painted beforehand. What is no longer painted was used. The most of each call is printed at the end. */
+#define _XOPEN_SOURCE 600
+#include "../../c/mutree.h"
+
+#include <stdio.h>
+#include <stdlib.h>
+#include <string.h>
+#include <ucontext.h>
+
+uint32_t __real_mutree_format(uint8_t *image, size_t image_len, uint8_t *result, size_t result_len);
+uint32_t __real_mutree_lookup(const uint8_t *image, size_t image_len, uint32_t key, uint8_t *result, size_t result_len);
+uint32_t __real_mutree_insert(uint8_t *image, size_t image_len, uint32_t key, uint32_t address, uint32_t allowance,
+                              uint8_t *result, size_t result_len);
+uint32_t __real_mutree_delete(uint8_t *image, size_t image_len, uint32_t key, uint32_t allowance, uint8_t *result,
+                              size_t result_len);
+
+enum { FORMAT, LOOKUP, INSERT, DELETE, NOTHING, CALLS };
+enum { ROOM = 1 << 20, PAINT = 0xA5 };
+
+static const char *const names[CALLS] = { "format", "lookup", "insert", "delete", "nothing" };
+static unsigned long most[CALLS], made[CALLS];
+static unsigned char *stack;
+static ucontext_t caller, callee;
+
+/* The call that is to be made on the painted stack. */
+static struct {
+    int which;
+    uint8_t *image, *result;
+    size_t image_len, result_len;
+    uint32_t key, address, allowance, answer;
+} now;
+
+static void make_call(void)
+{
+    switch (now.which) {
+    case FORMAT:
+        now.answer = __real_mutree_format(now.image, now.image_len, now.result, now.result_len);
+        break;
+    case LOOKUP:
+        now.answer = __real_mutree_lookup(now.image, now.image_len, now.key, now.result, now.result_len);
+        break;
+    case INSERT:
+        now.answer = __real_mutree_insert(now.image, now.image_len, now.key, now.address, now.allowance, now.result, now.result_len);
+        break;
+    case DELETE:
+        now.answer = __real_mutree_delete(now.image, now.image_len, now.key, now.allowance, now.result, now.result_len);
+        break;
+    }
+}
+
+static unsigned long unpainted(void)
+{
+    unsigned long i = 0;
+    while (i < ROOM && stack[i] == PAINT)
+        i++;
+    return ROOM - i;
+}
+
+static uint32_t on_painted_stack(int which)
+{
+    unsigned long used;
+    now.which = which;
+    memset(stack, PAINT, ROOM);
+    getcontext(&callee);
+    callee.uc_stack.ss_sp = stack;
+    callee.uc_stack.ss_size = ROOM;
+    callee.uc_link = &caller;
+    makecontext(&callee, make_call, 0);
+    swapcontext(&caller, &callee);
+    used = unpainted();
+    made[which]++;
+    if (used > most[which])
+        most[which] = used;
+    return now.answer;
+}
+
+/* The least is what a stack with no call on it shows: this program's own part. */
+static void print_most(void)
+{
+    int i;
+    for (i = 0; i < NOTHING; i++)
+        fprintf(stderr, "stack: %s: %lu bytes at most in %lu calls\n", names[i], made[i] ? most[i] - most[NOTHING] : 0, made[i]);
+}
+
+static void prepare(void)
+{
+    if (stack != NULL)
+        return;
+    stack = malloc(ROOM);
+    if (stack == NULL)
+        exit(71);
+    on_painted_stack(NOTHING);
+    atexit(print_most);
+}
+
+static void set_buffers(const uint8_t *image, size_t image_len, uint8_t *result, size_t result_len)
+{
+    prepare();
+    now.image = (uint8_t *)image;
+    now.image_len = image_len;
+    now.result = result;
+    now.result_len = result_len;
+}
+
+uint32_t __wrap_mutree_format(uint8_t *image, size_t image_len, uint8_t *result, size_t result_len)
+{
+    set_buffers(image, image_len, result, result_len);
+    return on_painted_stack(FORMAT);
+}
+
+uint32_t __wrap_mutree_lookup(const uint8_t *image, size_t image_len, uint32_t key, uint8_t *result, size_t result_len)
+{
+    set_buffers(image, image_len, result, result_len);
+    now.key = key;
+    return on_painted_stack(LOOKUP);
+}
+
+uint32_t __wrap_mutree_delete(uint8_t *image, size_t image_len, uint32_t key, uint32_t allowance, uint8_t *result,
+                              size_t result_len)
+{
+    set_buffers(image, image_len, result, result_len);
+    now.key = key;
+    now.allowance = allowance;
+    return on_painted_stack(DELETE);
+}
+
+/* A finished insert is also undone, on a copy, so that delete meets the trees on which insert needs the most. */
+static void undo_on_copy(const uint8_t *image, size_t image_len, uint32_t key)
+{
+    uint8_t ignored[MUTREE_RESULT_BYTES], *copy = malloc(image_len);
+    if (copy == NULL)
+        exit(71);
+    memcpy(copy, image, image_len);
+    __wrap_mutree_delete(copy, image_len, key, UINT32_MAX, ignored, sizeof ignored);
+    free(copy);
+}
+
+uint32_t __wrap_mutree_insert(uint8_t *image, size_t image_len, uint32_t key, uint32_t address, uint32_t allowance,
+                              uint8_t *result, size_t result_len)
+{
+    uint32_t answer;
+    set_buffers(image, image_len, result, result_len);
+    now.key = key;
+    now.address = address;
+    now.allowance = allowance;
+    answer = on_painted_stack(INSERT);
+    if (answer == MUTREE_DONE)
+        undo_on_copy(image, image_len, key);
+    return answer;
+}
