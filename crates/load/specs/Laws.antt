@@ -12,19 +12,19 @@ use Rattle.geometry.specs.declared.Entry.{Entry}
 use Rattle.geometry.specs.Tests.{pick}
 use Rattle.model.specs.Bytes.{u32At, entriesAt, nodePlace, nodeCount, nodeAt}
 use Rattle.model.specs.Stores.{written}
-use Rattle.model.specs.Tree.{chosen}
-use Rattle.model.specs.Edit.{put, remove}
+use Rattle.model.specs.Tree.{halve, place, chosen}
+use Rattle.model.specs.Edit.{splice, putIn, removeIn}
 use Rattle.chip.specs.Chip.{entryAt}
-use Rattle.chip.specs.Node.{node-is, node-read, entries-length, entries-none, entries-start, entries-turn, entries-past, entries-at, key-is}
-use Rattle.search.specs.Search.{index, ahead}
-use Rattle.search.specs.Places.{chosen-read}
+use Rattle.chip.specs.Node.{node-is, node-read, entries-length, entries-none, key-is}
+use Rattle.search.specs.Search.{ahead}
+use Rattle.search.specs.Places.{key-get, chosen-read}
 use Rattle.lists.specs.Written.{written-none, filled-more}
 use Rattle.lists.specs.Places.{tab, insertAt, removeAt, take-written, length-mapped}
 use Rattle.node.specs.declared.Node.{Node}
 use Rattle.node.specs.Node.{entries}
 use Rattle.node.specs.Laws.{no-entry}
 use Rattle.load.specs.declared.Taken.{Taken}
-use Rattle.load.specs.Load.{place, stands, Takes}
+use Rattle.load.specs.Load.{stands, Takes}
 use Rattle.load.specs.Places.{put-over, put-in, remove-in, remove-out}
 
 -- ---- load
@@ -67,7 +67,7 @@ pub load-is : (g : Geometry) (img : List ℕ) (p l at n : ℕ) (m : Node) → en
 load-is g img p l at n m em ea en = em ∙ node-read g img p l at n ea en
 
 -- ---- the way down
-pub takes : (g : Geometry) (img : List ℕ) (p l k at n i : ℕ) (m : Node) (x : Entry) → at ≡ nodePlace g p l → n ≡ nodeCount g img p l → i ≡ index k (entriesAt img at n)
+pub takes : (g : Geometry) (img : List ℕ) (p l k at n i : ℕ) (m : Node) (x : Entry) → at ≡ nodePlace g p l → n ≡ nodeCount g img p l → i ≡ place k (entriesAt img at n)
     → x ≡ entryAt img (at + 8 * i) → entries m ≡ entriesAt img at n → m .count ≡ n → i ≤ n - 1 → n < 256 → (n ≡ 0 → ⊥)
     → Takes (nodeAt g img p l) k (record { node = m; at = i; entry = x })
 takes g img p l k at n i m x ea en ei ex em cm h few some =
@@ -83,7 +83,7 @@ takes g img p l k at n i m x ea en ei ex em cm h few some =
 pub takes-none : (g : Geometry) (img : List ℕ) (p l k at n : ℕ) (m : Node) → at ≡ nodePlace g p l → n ≡ nodeCount g img p l
     → entries m ≡ entriesAt img at n → m .count ≡ n → n ≡ 0
     → Takes (nodeAt g img p l) k (record { node = m; at = 0; entry = record { key = 0; addr = 0 } })
-unfolding index
+unfolding place chosen halve
 takes-none g img p l k at n m ea en em cm z =
     let q : entriesAt img at n ≡ nodeAt g img p l = node-read g img p l at n ea en in
     let w : nodeAt g img p l ≡ [] = sym q ∙ entries-none img at n z in
@@ -112,55 +112,42 @@ stands-true img at n i k e = go (ltb i n) refl e
     go true p q = (ltb-true _ _ p, eqb-true _ _ q)
     go false p q = absurd (false≢true q)
 
-key-get : (img : List ℕ) (at n i : ℕ) → i < n → getD (entriesAt img at n) i no-entry .key ≡ u32At img (at + 8 * i)
-key-get img at n i h = ap (λ (x : Entry). x .key) (entries-at img at n i h) ∙ key-is img (at + 8 * i)
-
 module _ (img : List ℕ) (at n k a i : ℕ) (m r : Node) (b : Bool) (ei : i ≡ ahead k (entriesAt img at n)) (em : entries m ≡ entriesAt img at n) (eb : b ≡ stands img at n i k) where
-  pub put-found : entries r ≡ set (entries m) i (record { key = k; addr = a }) → b ≡ true → entries r ≡ put k a (entriesAt img at n)
+  pub put-found : entries r ≡ set (entries m) i (record { key = k; addr = a }) → b ≡ true → entries r ≡ putIn k a (entriesAt img at n)
   put-found f q =
       let s = stands-true img at n i k (sym eb ∙ q) in
       f ∙ rw (em, ei) (sym (put-over k a (entriesAt img at n) (rw (← ei, entries-length) (s .0)) (rw (← ei) (key-get img at n i (s .0) ∙ s .1))))
 
-  pub put-new : entries r ≡ insertAt i (record { key = k; addr = a }) (entries m) → b ≡ false → entries r ≡ put k a (entriesAt img at n)
+  pub put-new : entries r ≡ insertAt i (record { key = k; addr = a }) (entries m) → b ≡ false → entries r ≡ putIn k a (entriesAt img at n)
   unfolding stands
   put-new f q =
       f ∙ rw (em, ei) (sym (put-in k a (entriesAt img at n) (rw (← ei, entries-length) (λ h g. false≢true (sym q ∙ eb ∙ simp (lt-ltb _ _ h, eq-eqb _ _ (sym (key-get img at n i h) ∙ g)))))))
 
-pub put-is : (g : Geometry) (img : List ℕ) (p l k a at n : ℕ) (m : Node) → entries m ≡ put k a (entriesAt img at n) → at ≡ nodePlace g p l → n ≡ nodeCount g img p l
-    → entries m ≡ put k a (nodeAt g img p l)
+pub put-is : (g : Geometry) (img : List ℕ) (p l k a at n : ℕ) (m : Node) → entries m ≡ putIn k a (entriesAt img at n) → at ≡ nodePlace g p l → n ≡ nodeCount g img p l
+    → entries m ≡ putIn k a (nodeAt g img p l)
 put-is g img p l k a at n m em ea en = em ∙ rw (node-read g img p l at n ea en)
 
 -- ---- remove
-module _ (img : List ℕ) (at n k : ℕ) where
-  pub place-start : place k (entriesAt img at n) ≡ 0 + place k (entriesAt img (at + 8 * 0) (n - 0))
-  place-start = rw (← (entries-start img at n)) (omega arith)
+pub removed-empty : (img : List ℕ) (at n k : ℕ) (m : Node) → entries m ≡ entriesAt img at n → n ≡ 0 → entries m ≡ removeIn k (entriesAt img at n)
+unfolding removeIn splice
+removed-empty img at n k m em z = em ∙ rw (entries-none img at n z)
 
-  module _ (i : ℕ) (inv : place k (entriesAt img at n) ≡ i + place k (entriesAt img (at + 8 * i) (n - i))) where
-    place-turn : i < n → place k (entriesAt img at n)
-        ≡ i + pick (eqb (u32At img (at + 8 * i)) k) 0 (suc (place k (entriesAt img (at + 8 * (i + 1)) (n - (i + 1)))))
-    unfolding place
-    place-turn h = inv ∙ rw (entries-turn img at n i h, key-is)
+module _ (img : List ℕ) (at n k i b : ℕ) (m : Node) (ei : i ≡ place k (entriesAt img at n)) (h : i ≤ n - 1) (eb : b ≡ u32At img (at + 8 * i))
+    (em : entries m ≡ entriesAt img at n) (full : n ≡ 0 → ⊥) where
+  some-entry : 0 < length (entriesAt img at n)
+  some-entry = rw (entries-length img at n) (omega arith)
 
-    pub place-stop : (b : ℕ) → b ≡ u32At img (at + 8 * i) → i < n → b ≡ k → i ≡ place k (entriesAt img at n)
-    place-stop b e h g = sym (place-turn h ∙ simp (← e, eq-eqb _ _ g) (omega arith))
+  key-read : b ≡ chosen k (entriesAt img at n) .key
+  key-read = eb ∙ sym (key-is img (at + 8 * i)) ∙ ap (λ (x : Entry). x .key) (chosen-read img at n k i (entryAt img (at + 8 * i)) ei h full refl)
 
-    pub place-go : (b : ℕ) → b ≡ u32At img (at + 8 * i) → i < n → (b ≡ k → ⊥)
-        → place k (entriesAt img at n) ≡ i + 1 + place k (entriesAt img (at + 8 * (i + 1)) (n - (i + 1)))
-    place-go b e h g = place-turn h ∙ simp (← e, ne-eqb _ _ g) (omega arith)
+  pub removed-none : (b ≡ k → ⊥) → entries m ≡ removeIn k (entriesAt img at n)
+  removed-none q = em ∙ sym (remove-out k (entriesAt img at n) some-entry (λ z. q (key-read ∙ z)))
 
-    pub place-end : n ≤ i → i ≡ place k (entriesAt img at n)
-    unfolding place
-    place-end h = sym (inv ∙ rw (entries-past img at n i h) (omega arith))
+  pub removed-one : (r : Node) → entries r ≡ removeAt i (entries m) → b ≡ k → entries r ≡ removeIn k (entriesAt img at n)
+  removed-one r er q = er ∙ rw (em, ei) (sym (remove-in k (entriesAt img at n) some-entry (sym key-read ∙ q)))
 
-pub removed-none : (img : List ℕ) (at n k i : ℕ) (m : Node) → entries m ≡ entriesAt img at n → i ≡ place k (entriesAt img at n) → n ≤ i → entries m ≡ remove k (entriesAt img at n)
-removed-none img at n k i m em ei h = em ∙ sym (remove-out k (entriesAt img at n) (rw (← ei, entries-length) h))
-
-pub removed-one : (img : List ℕ) (at n k i : ℕ) (m r : Node) → entries r ≡ removeAt i (entries m) → entries m ≡ entriesAt img at n → i ≡ place k (entriesAt img at n) → i < n
-    → entries r ≡ remove k (entriesAt img at n)
-removed-one img at n k i m r er em ei h = er ∙ rw (em, ei) (sym (remove-in k (entriesAt img at n) (rw (← ei, entries-length) h)))
-
-pub remove-is : (g : Geometry) (img : List ℕ) (p l k at n : ℕ) (m : Node) → entries m ≡ remove k (entriesAt img at n) → at ≡ nodePlace g p l → n ≡ nodeCount g img p l
-    → entries m ≡ remove k (nodeAt g img p l)
+pub remove-is : (g : Geometry) (img : List ℕ) (p l k at n : ℕ) (m : Node) → entries m ≡ removeIn k (entriesAt img at n) → at ≡ nodePlace g p l → n ≡ nodeCount g img p l
+    → entries m ≡ removeIn k (nodeAt g img p l)
 remove-is g img p l k at n m em ea en = em ∙ rw (node-read g img p l at n ea en)
 
-pub ruleset load-laws = (length-mapped, load-start, loaded, load-is, takes, takes-none, stands-not, stands-is, put-found, put-new, put-is, place-start, place-stop, place-go, place-end, removed-none, removed-one, remove-is)
+pub ruleset load-laws = (length-mapped, load-start, loaded, load-is, takes, takes-none, stands-not, stands-is, put-found, put-new, put-is, removed-empty, removed-none, removed-one, remove-is)

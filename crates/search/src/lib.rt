@@ -2,8 +2,8 @@
 ghost use mathlib.Core.Path.{_≡_};
 ghost use Prim.Native.Nat.{ℕ, _+_, _*_, _-_, _≤_, _<_};
 ghost use Rattle.model.specs.Bytes.{entriesAt, nodeAt};
-ghost use Rattle.model.specs.Tree.{chosen, find};
-ghost use Rattle.search.specs.Search.{index, ahead, found};
+ghost use Rattle.model.specs.Tree.{place, chosen, findIn};
+ghost use Rattle.search.specs.Search.{ahead, found};
 use geometry::Entry;
 use geometry::Geometry;
 
@@ -14,18 +14,22 @@ pub enum Found {
 }
 
 // The place of the entry that descent takes, of the n from byte `at`: the last whose key is not above, or the first.
+// The only loop over keys; the keys rise, so it halves.
 pub fn chosen_index(img: &[u8], at: usize, n: usize, key: u32) -> usize
     requires { ⌜ at + 8 * n < 1152921504606846976 ⌝ }
-    ensures { λ r. ⌜ (r ≡ index key (entriesAt (now (img .entry)) at n)) × (r ≤ n - 1) ⌝ }
+    ensures { λ r. ⌜ (r ≡ place key (entriesAt (now (img .entry)) at n)) × (r ≤ n - 1) ⌝ }
 {
-    let mut i: usize = 0;
-    while i + 1 < n {
-        if key < chip::read_u32(img, at + 8 * (i + 1)) {
-            return i;
+    let mut lo: usize = 0;
+    let mut hi: usize = n;
+    while lo + 1 < hi {
+        let mid = lo + (hi - lo) / 2;
+        if key < chip::read_u32(img, at + 8 * mid) {
+            hi = mid;
+        } else {
+            lo = mid;
         }
-        i += 1;
     }
-    i
+    lo
 }
 
 // The entry that descent takes in the node at a level of a page.
@@ -41,39 +45,39 @@ pub fn chosen_entry(g: Geometry, img: &[u8], page: u32, level: u32, key: u32) ->
     chip::entry_at(img, at + 8 * i)
 }
 
-// How many leading keys of the n entries from byte `at` are below a key: the place where it stands or enters.
+// The place in the n entries from byte `at` where a key stands or enters.
 pub fn keys_ahead(img: &[u8], at: usize, n: usize, key: u32) -> usize
     requires { ⌜ at + 8 * n < 1152921504606846976 ⌝ }
     ensures { λ r. ⌜ (r ≡ ahead key (entriesAt (now (img .entry)) at n)) × (r ≤ n) ⌝ }
 {
-    let mut i: usize = 0;
-    while i < n {
-        if key <= chip::read_u32(img, at + 8 * i) {
-            return i;
-        }
-        i += 1;
+    if n == 0 {
+        return 0;
+    }
+    let i = chosen_index(img, at, n, key);
+    if chip::read_u32(img, at + 8 * i) < key {
+        return i + 1;
     }
     i
 }
 
-// The first of the n entries from byte `at` that has a key.
+// What the n entries from byte `at` hold under a key.
 fn find_entry(img: &[u8], at: usize, n: usize, key: u32) -> Found
     requires { ⌜ at + 8 * n < 1152921504606846976 ⌝ }
-    ensures { λ r. ⌜ found r ≡ find key (entriesAt (now (img .entry)) at n) ⌝ }
+    ensures { λ r. ⌜ found r ≡ findIn key (entriesAt (now (img .entry)) at n) ⌝ }
 {
-    let mut i: usize = 0;
-    while i < n {
-        if chip::read_u32(img, at + 8 * i) == key {
-            return Found::At(chip::read_u32(img, at + 8 * i + 4));
-        }
-        i += 1;
+    if n == 0 {
+        return Found::Nothing;
+    }
+    let i = chosen_index(img, at, n, key);
+    if chip::read_u32(img, at + 8 * i) == key {
+        return Found::At(chip::read_u32(img, at + 8 * i + 4));
     }
     Found::Nothing
 }
 
 // What the node at a level of a page holds under a key.
 pub fn find_key(g: Geometry, img: &[u8], page: u32, level: u32, key: u32) -> Found
-    ensures { λ r. ⌜ found r ≡ find key (nodeAt g (now (img .entry)) page level) ⌝ }
+    ensures { λ r. ⌜ found r ≡ findIn key (nodeAt g (now (img .entry)) page level) ⌝ }
 {
     let n = chip::node_count(g, img, page, level);
     let at = chip::node_place(g, page, level);
