@@ -1,24 +1,21 @@
 -- So on a chip that keeps R2, R5 and R6: what a lookup finds, what an update needs and stores. Assumes nothing.
-use mathlib.Core.Path.{_≡_, refl, ap, sym, _∙_}
-use mathlib.Core.List.{List, [], _∷_}
-use mathlib.Core.Bool.{Bool}
-use mathlib.Core.Option.{Option}
-use Prim.Native.Nat.{ℕ, zero, suc, _+_, _*_, _<_, _≤_}
+use mathlib.Core.Path.{_≡_, refl, ap, _∙_}
+use mathlib.Core.List.{List, []}
+use Prim.Native.Nat.{ℕ, suc, _+_, _*_, _<_, _≤_}
 use native.Mathlib.Omega.{arith}
 use lib.ListN.{length}
 use lib.Dec.{eqb, leb}
 use Rattle.geometry.specs.declared.Geometry.{Geometry}
 use Rattle.geometry.specs.declared.Entry.{Entry}
-use Rattle.geometry.specs.Geometry.{half, rootSlots}
+use Rattle.geometry.specs.Geometry.{half}
 use Rattle.geometry.specs.Tests.{pick, bit, _&_}
 use Rattle.model.specs.Image.{Chip, theRoot}
 use Rattle.model.specs.Tree.{sought, placesOf, lowLevel}
 use Rattle.model.specs.Edit.{putIn, put, removeIn, remove, same, named, kept, renamed, pathPart, Top, collapse}
-use Rattle.model.specs.Stores.{Store}
 use Rattle.model.specs.Collect.{moveKey, movePart}
 use Rattle.model.specs.Update.{isNone, rootNode, rootGains, fills, needs, tooHigh, insertList, crownPart, insertPart, ownStores, deleteList, deleteTop, deletePart, deleteStore}
 use Rattle.trees.specs.Lists.{Rises}
-use Rattle.trees.specs.Nodes.{Ok, Rooted, fitOf}
+use Rattle.trees.specs.Nodes.{Ok, fitOf}
 use Rattle.chips.specs.Whole.{Whole}
 use Rattle.trees.specs.Insert.{put-in}
 use Rattle.trees.specs.Delete.{remove-in}

@@ -1,15 +1,15 @@
 -- So for the stores of whole updates, each on the image as it then stands. Assumes nothing.
-use mathlib.Core.Path.{_≡_, refl, ap, sym, _∙_}
+use mathlib.Core.Path.{_≡_, refl, ap, _∙_}
 use mathlib.Core.List.{List, [], _∷_, _++_}
 use mathlib.Core.Bool.{Bool, true, false}
 use mathlib.Core.Option.{Option, none, some}
-use Prim.Native.Nat.{ℕ, zero, suc, _+_, _-_, _*_, _<_, _≤_}
+use Prim.Native.Nat.{ℕ, zero, suc, _+_, _-_, _*_, _<_}
 use native.Mathlib.Omega.{arith}
 use lib.Dec.{ltb}
 use Rattle.geometry.specs.declared.Geometry.{Geometry}
 use Rattle.geometry.specs.declared.Entry.{Entry}
 use Rattle.geometry.specs.Tests.{pick}
-use Rattle.model.specs.Image.{pagesOf, maxSeq, Chip, chipOf}
+use Rattle.model.specs.Image.{pagesOf, maxSeq, chipOf}
 use Rattle.model.specs.Tree.{next, placesOf, live, lowLevel, erasedPages}
 use Rattle.model.specs.Next.{nextPage}
 use Rattle.model.specs.Stores.{Store, erase, applyStore, applyAll}

@@ -1,6 +1,6 @@
 -- So along a path of a tree that R5 holds of: the leaf, the changed nodes, the splits. Assumes nothing.
-use mathlib.Core.Path.{_≡_, refl, ap, sym, _∙_}
-use mathlib.Core.List.{List, [], _∷_}
+use mathlib.Core.Path.{_≡_, refl, ap, _∙_}
+use mathlib.Core.List.{List, []}
 use mathlib.Core.Bool.{Bool}
 use Prim.Native.Nat.{ℕ, zero, suc, _+_, _*_, _<_, _≤_}
 use native.Mathlib.Omega.{arith}
@@ -10,7 +10,7 @@ use Rattle.geometry.specs.declared.Entry.{Entry}
 use Rattle.geometry.specs.Tests.{pick, bit, _&_}
 use Rattle.model.specs.Image.{Nodes}
 use Rattle.model.specs.Tree.{next, chosen, leaf, find, findIn}
-use Rattle.model.specs.Edit.{splice, edited, onPath, gains, splits}
+use Rattle.model.specs.Edit.{edited, onPath, gains, splits}
 use Rattle.trees.specs.Lists.{Rises, rises-map, split, splice-cong}
 use Rattle.trees.specs.Nodes.{Ok}
 use Rattle.linear.specs.Nodes.{chosen-line, splice-line, find-line}

@@ -1,8 +1,8 @@
 -- Searching a node by halving changes no answer and no byte: on every image of bytes, sound or not, each call gives the
 -- outcome that it gave when nodes were searched one entry after another (`Before`). And at every live node of a sound image
 -- the search by halving finds, puts, removes and replaces what the other does. Assumes nothing.
-use mathlib.Core.Path.{_≡_, refl, ap, sym, _∙_}
-use mathlib.Core.List.{List, [], _∷_}
+use mathlib.Core.Path.{_≡_, refl}
+use mathlib.Core.List.{List}
 use mathlib.Core.Bool.{Bool, true, false, false≢true}
 use Prim.Native.Nat.{ℕ, zero, suc, _*_, _<_, _≤_}
 use native.Mathlib.Omega.{arith}

@@ -1,30 +1,27 @@
 -- Laws of nodes read by value, in the form in which the code has the premises. Assumes nothing.
 use Prim.Native.Nat.{ℕ, zero, suc, _+_, _-_, _*_, _<_, _≤_}
-use mathlib.Core.Bool.{Bool, true, false, false≢true}
-use mathlib.Core.Path.{_≡_, refl, sym, ap, _∙_}
-use mathlib.Core.List.{List, [], _∷_, _++_}
-use lib.Dec.{eqb, ltb, leb}
-use lib.ListN.{length, getD, set}
+use mathlib.Core.Bool.{Bool, true, false}
+use mathlib.Core.Path.{_≡_, refl, sym, _∙_}
+use mathlib.Core.List.{List, [], _∷_}
+use lib.ListN.{length, set}
 use native.Mathlib.Omega.{arith}
-use borrow.Author.Tests.{lt-ltb, le-ltb, eq-eqb, ne-eqb, ltb-true, eqb-true}
 use Rattle.geometry.specs.declared.Geometry.{Geometry}
 use Rattle.geometry.specs.declared.Entry.{Entry}
-use Rattle.geometry.specs.Tests.{pick}
-use Rattle.model.specs.Bytes.{u32At, entriesAt, nodePlace, nodeCount, nodeAt}
+use Rattle.model.specs.Bytes.{entriesAt, nodePlace, nodeCount, nodeAt}
 use Rattle.model.specs.Stores.{written}
 use Rattle.model.specs.Tree.{halve, place, chosen}
-use Rattle.model.specs.Edit.{splice, putIn, removeIn}
+use Rattle.model.specs.Halving.{place-is}
+use Rattle.model.specs.Edit.{putIn, removeIn}
 use Rattle.chip.specs.Chip.{entryAt}
-use Rattle.chip.specs.Node.{node-is, node-read, entries-length, entries-none, key-is}
-use Rattle.search.specs.Search.{ahead}
-use Rattle.search.specs.Places.{key-get, chosen-read}
+use Rattle.chip.specs.Node.{node-read, entries-length, entries-none}
+use Rattle.search.specs.Search.{ahead, holds}
+use Rattle.search.specs.Places.{held, chosen-read}
 use Rattle.lists.specs.Written.{written-none, filled-more}
 use Rattle.lists.specs.Places.{tab, insertAt, removeAt, take-written, length-mapped}
 use Rattle.node.specs.declared.Node.{Node}
 use Rattle.node.specs.Node.{entries}
 use Rattle.node.specs.Laws.{no-entry}
-use Rattle.load.specs.declared.Taken.{Taken}
-use Rattle.load.specs.Load.{stands, Takes}
+use Rattle.load.specs.Load.{Takes}
 use Rattle.load.specs.Places.{put-over, put-in, remove-in, remove-out}
 
 -- ---- load
@@ -95,59 +92,40 @@ takes-none g img p l k at n m ea en em cm z =
       few = omega arith;
     }
 
--- ---- put
-pub stands-not : (img : List ℕ) (at n i k : ℕ) → n ≤ i → false ≡ stands img at n i k
-unfolding stands
-stands-not img at n i k h = rw (le-ltb _ _ h)
+-- ---- put and remove, by where the key stands
+module _ (img : List ℕ) (at n k i : ℕ) (m : Node) (b : Bool) (ei : i ≡ ahead k (entriesAt img at n)) (em : entries m ≡ entriesAt img at n)
+    (eb : b ≡ holds k (entriesAt img at n)) where
+  abbrev es : List Entry
+  es = entriesAt img at n
 
-pub stands-is : (img : List ℕ) (at n i k b : ℕ) → b ≡ u32At img (at + 8 * i) → i < n → eqb b k ≡ stands img at n i k
-unfolding stands
-stands-is img at n i k b e h = rw (lt-ltb _ _ h, e)
+  pub stands-inside : m .count ≡ n → b ≡ true → i < m .count
+  stands-inside c q =
+      let w = held k es (sym eb ∙ q) in
+      let less = place-is k es (w .0) .inside in
+      rw (c, ei, w .2) (rw entries-length at less)
 
-stands-true : (img : List ℕ) (at n i k : ℕ) → stands img at n i k ≡ true → (i < n) × (u32At img (at + 8 * i) ≡ k)
-unfolding stands
-stands-true img at n i k e = go (ltb i n) refl e
-  where
-    go : (t : Bool) → ltb i n ≡ t → pick t (eqb (u32At img (at + 8 * i)) k) false ≡ true → (i < n) × (u32At img (at + 8 * i) ≡ k)
-    go true p q = (ltb-true _ _ p, eqb-true _ _ q)
-    go false p q = absurd (false≢true q)
+  pub put-found : (a : ℕ) (r : Node) → entries r ≡ set (entries m) i (record { key = k; addr = a }) → b ≡ true → entries r ≡ putIn k a es
+  put-found a r f q =
+      let w = sym eb ∙ q in
+      f ∙ rw (em, ei) (sym (put-over k es (held k es w .0) a w))
 
-module _ (img : List ℕ) (at n k a i : ℕ) (m r : Node) (b : Bool) (ei : i ≡ ahead k (entriesAt img at n)) (em : entries m ≡ entriesAt img at n) (eb : b ≡ stands img at n i k) where
-  pub put-found : entries r ≡ set (entries m) i (record { key = k; addr = a }) → b ≡ true → entries r ≡ putIn k a (entriesAt img at n)
-  put-found f q =
-      let s = stands-true img at n i k (sym eb ∙ q) in
-      f ∙ rw (em, ei) (sym (put-over k a (entriesAt img at n) (rw (← ei, entries-length) (s .0)) (rw (← ei) (key-get img at n i (s .0) ∙ s .1))))
+  pub put-new : (a : ℕ) (r : Node) → entries r ≡ insertAt i (record { key = k; addr = a }) (entries m) → b ≡ false → entries r ≡ putIn k a es
+  put-new a r f q = f ∙ rw (em, ei) (sym (put-in k a es (sym eb ∙ q)))
 
-  pub put-new : entries r ≡ insertAt i (record { key = k; addr = a }) (entries m) → b ≡ false → entries r ≡ putIn k a (entriesAt img at n)
-  unfolding stands
-  put-new f q =
-      f ∙ rw (em, ei) (sym (put-in k a (entriesAt img at n) (rw (← ei, entries-length) (λ h g. false≢true (sym q ∙ eb ∙ simp (lt-ltb _ _ h, eq-eqb _ _ (sym (key-get img at n i h) ∙ g)))))))
+  pub removed-one : (r : Node) → entries r ≡ removeAt i (entries m) → b ≡ true → entries r ≡ removeIn k es
+  removed-one r f q =
+      let w = sym eb ∙ q in
+      f ∙ rw (em, ei) (sym (remove-in k es (held k es w .0) w))
+
+  pub removed-none : b ≡ false → entries m ≡ removeIn k es
+  removed-none q = em ∙ sym (remove-out k es (sym eb ∙ q))
 
 pub put-is : (g : Geometry) (img : List ℕ) (p l k a at n : ℕ) (m : Node) → entries m ≡ putIn k a (entriesAt img at n) → at ≡ nodePlace g p l → n ≡ nodeCount g img p l
     → entries m ≡ putIn k a (nodeAt g img p l)
 put-is g img p l k a at n m em ea en = em ∙ rw (node-read g img p l at n ea en)
 
--- ---- remove
-pub removed-empty : (img : List ℕ) (at n k : ℕ) (m : Node) → entries m ≡ entriesAt img at n → n ≡ 0 → entries m ≡ removeIn k (entriesAt img at n)
-unfolding removeIn splice
-removed-empty img at n k m em z = em ∙ rw (entries-none img at n z)
-
-module _ (img : List ℕ) (at n k i b : ℕ) (m : Node) (ei : i ≡ place k (entriesAt img at n)) (h : i ≤ n - 1) (eb : b ≡ u32At img (at + 8 * i))
-    (em : entries m ≡ entriesAt img at n) (full : n ≡ 0 → ⊥) where
-  some-entry : 0 < length (entriesAt img at n)
-  some-entry = rw (entries-length img at n) (omega arith)
-
-  key-read : b ≡ chosen k (entriesAt img at n) .key
-  key-read = eb ∙ sym (key-is img (at + 8 * i)) ∙ ap (λ (x : Entry). x .key) (chosen-read img at n k i (entryAt img (at + 8 * i)) ei h full refl)
-
-  pub removed-none : (b ≡ k → ⊥) → entries m ≡ removeIn k (entriesAt img at n)
-  removed-none q = em ∙ sym (remove-out k (entriesAt img at n) some-entry (λ z. q (key-read ∙ z)))
-
-  pub removed-one : (r : Node) → entries r ≡ removeAt i (entries m) → b ≡ k → entries r ≡ removeIn k (entriesAt img at n)
-  removed-one r er q = er ∙ rw (em, ei) (sym (remove-in k (entriesAt img at n) some-entry (sym key-read ∙ q)))
-
 pub remove-is : (g : Geometry) (img : List ℕ) (p l k at n : ℕ) (m : Node) → entries m ≡ removeIn k (entriesAt img at n) → at ≡ nodePlace g p l → n ≡ nodeCount g img p l
     → entries m ≡ removeIn k (nodeAt g img p l)
 remove-is g img p l k at n m em ea en = em ∙ rw (node-read g img p l at n ea en)
 
-pub ruleset load-laws = (length-mapped, load-start, loaded, load-is, takes, takes-none, stands-not, stands-is, put-found, put-new, put-is, removed-empty, removed-none, removed-one, remove-is)
+pub ruleset load-laws = (length-mapped, load-start, loaded, load-is, takes, takes-none, stands-inside, put-found, put-new, put-is, removed-one, removed-none, remove-is)

@@ -1,10 +1,10 @@
 -- `splice`, `putIn` and `removeIn` by the place at which they change a node. Assumes nothing.
-use Prim.Native.Nat.{ℕ, zero, suc, _+_, _-_, _<_, _≤_}
-use mathlib.Core.Bool.{Bool, true, false}
+use Prim.Native.Nat.{ℕ, suc, _+_, _-_, _<_, _≤_}
+use mathlib.Core.Bool.{Bool, true, false, false≢true}
 use mathlib.Core.Path.{_≡_, refl, sym, ap, _∙_}
 use mathlib.Core.List.{List, [], _∷_, _++_}
-use lib.Dec.{eqb, ltb}
-use lib.ListN.{take, drop, length, getD, set}
+use lib.Dec.{ltb}
+use lib.ListN.{take, drop, length, set}
 use lib.Seq.{split-at, take-suc, drop-cons, append-snoc, set-split}
 use native.Mathlib.Omega.{arith}
 use native.Mathlib.Numerals.{add-one}
@@ -13,9 +13,9 @@ use Rattle.geometry.specs.declared.Entry.{Entry}
 use Rattle.geometry.specs.Tests.{pick}
 use Rattle.model.specs.Tree.{entryOf, place, chosen}
 use Rattle.model.specs.Edit.{splice, put, putIn, remove, removeIn}
-use Rattle.model.specs.Halving.{Placed, place-is, swap-cut}
-use Rattle.search.specs.Search.{ahead}
-use Rattle.search.specs.Places.{ahead-some}
+use Rattle.model.specs.Halving.{place-is, swap-cut}
+use Rattle.search.specs.Search.{ahead, holds}
+use Rattle.search.specs.Places.{held}
 use Rattle.lists.specs.Places.{insertAt, removeAt}
 use Rattle.node.specs.Node.{replaceBy}
 use Rattle.node.specs.Laws.{no-entry}
@@ -43,13 +43,15 @@ module _ (k : ℕ) (es : List Entry) (n : 0 < length es) where
   unfolding chosen
   cut = split-at es (place k es) no-entry (place-is k es n .inside)
 
-  pub remove-in : chosen k es .key ≡ k → removeIn k es ≡ removeAt (place k es) es
+  pub remove-in : holds k es ≡ true → removeIn k es ≡ removeAt (ahead k es) es
   unfolding removeIn splice chosen removeAt
-  remove-in q = swap-cut (λ x. remove k (x ∷ [])) (place k es) es (place-is k es n .inside) ∙ rw (eq-eqb _ _ q, add-one)
+  remove-in q =
+      let w = held k es q in
+      swap-cut (λ x. remove k (x ∷ [])) (place k es) es (place-is k es n .inside) ∙ rw (w .2, eq-eqb _ _ (w .1), add-one)
 
-  pub remove-out : (chosen k es .key ≡ k → ⊥) → removeIn k es ≡ es
+  remove-other : (chosen k es .key ≡ k → ⊥) → removeIn k es ≡ es
   unfolding removeIn splice chosen
-  remove-out q = swap-cut (λ x. remove k (x ∷ [])) (place k es) es (place-is k es n .inside) ∙ rw (ne-eqb _ _ q) (sym cut)
+  remove-other q = swap-cut (λ x. remove k (x ∷ [])) (place k es) es (place-is k es n .inside) ∙ rw (ne-eqb _ _ q) (sym cut)
 
   module _ (a : ℕ) where
     put-at : putIn k a es ≡ take (place k es) es ++ (put k a (chosen k es ∷ []) ++ drop (suc (place k es)) es)
@@ -66,14 +68,12 @@ module _ (k : ℕ) (es : List Entry) (n : 0 < length es) where
     abbrev new : Entry
     new = record { key = k; addr = a }
 
-    over : (t : Bool) → ltb (chosen k es .key) k ≡ t → pick t (suc (place k es)) (place k es) < length es
-        → entryOf es (pick t (suc (place k es)) (place k es)) .key ≡ k → putIn k a es ≡ set es (pick t (suc (place k es)) (place k es)) new
-    unfolding chosen
-    over true e h q = absurd (omega (arith, place-is k es n .high h, q))
-    over false e h q = put-by (new ∷ []) (one-same k a (chosen k es) q) ∙ sym (set-split es (place k es) new h)
+    pub put-over : holds k es ≡ true → putIn k a es ≡ set es (ahead k es) new
+    put-over q =
+        let w = held k es q in
+        put-by (new ∷ []) (one-same k a (chosen k es) (w .1)) ∙ rw (w .2) (sym (set-split es (place k es) new (place-is k es n .inside)))
 
-    into : (t : Bool) → ltb (chosen k es .key) k ≡ t
-        → (pick t (suc (place k es)) (place k es) < length es → entryOf es (pick t (suc (place k es)) (place k es)) .key ≡ k → ⊥)
+    into : (t : Bool) → ltb (chosen k es .key) k ≡ t → (chosen k es .key ≡ k → ⊥)
         → putIn k a es ≡ insertAt (pick t (suc (place k es)) (place k es)) new es
     unfolding chosen insertAt
     into true e q =
@@ -81,18 +81,16 @@ module _ (k : ℕ) (es : List Entry) (n : 0 < length es) where
         ∙ sym (rw (take-suc es (place k es) no-entry (place-is k es n .inside)) (append-snoc (take (place k es) es) (chosen k es)
         (new ∷ drop (suc (place k es)) es)))
     into false e q =
-        put-by (new ∷ chosen k es ∷ []) (one-above k a (chosen k es) (ltb-false _ _ e) (q (place-is k es n .inside)))
+        put-by (new ∷ chosen k es ∷ []) (one-above k a (chosen k es) (ltb-false _ _ e) q)
         ∙ ap (λ (l : List Entry). take (place k es) es ++ (new ∷ l)) (sym (drop-cons es (place k es) no-entry (place-is k es n .inside)))
 
-pub put-over : (k a : ℕ) (es : List Entry) → ahead k es < length es → getD es (ahead k es) no-entry .key ≡ k
-    → putIn k a es ≡ set es (ahead k es) (record { key = k; addr = a })
-put-over k a es h q =
-    let n : 0 < length es = omega arith in
-    let w = ahead-some k es n in
-    rw w (over k es n a (ltb (chosen k es .key) k) refl (rw w at h) (rw w at q))
-
-pub put-in : (k a : ℕ) (es : List Entry) → (ahead k es < length es → getD es (ahead k es) no-entry .key ≡ k → ⊥)
-    → putIn k a es ≡ insertAt (ahead k es) (record { key = k; addr = a }) es
-unfolding putIn ahead insertAt
+pub put-in : (k a : ℕ) (es : List Entry) → holds k es ≡ false → putIn k a es ≡ insertAt (ahead k es) (record { key = k; addr = a }) es
+unfolding putIn ahead holds insertAt
 put-in k a [] q = refl
-put-in k a (e ∷ es) q = into k (e ∷ es) (omega arith) a (ltb (chosen k (e ∷ es) .key) k) refl q
+put-in k a (e ∷ es) q =
+    into k (e ∷ es) (omega arith) a (ltb (chosen k (e ∷ es) .key) k) refl (λ z. false≢true (sym q ∙ eq-eqb _ _ z))
+
+pub remove-out : (k : ℕ) (es : List Entry) → holds k es ≡ false → removeIn k es ≡ es
+unfolding removeIn splice holds
+remove-out k [] q = refl
+remove-out k (e ∷ es) q = remove-other k (e ∷ es) (omega arith) (λ z. false≢true (sym q ∙ eq-eqb _ _ z))

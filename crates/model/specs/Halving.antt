@@ -1,22 +1,26 @@
 -- What the place found by halving is, in any node, sorted or not. Assumes nothing.
-use Prim.Native.Nat.{ℕ, zero, suc, _+_, _-_, _/_, _<_, _≤_}
+use Prim.Native.Nat.{ℕ, zero, suc, _+_, _-_, _^_, _<_, _≤_}
 use mathlib.Core.Bool.{Bool, true, false}
 use mathlib.Core.Path.{_≡_, refl, sym, ap, _∙_}
 use mathlib.Core.List.{List, [], _∷_, _++_}
 use lib.Dec.{ltb}
-use lib.ListN.{length, getD, take, drop}
+use lib.ListN.{length, take, drop}
 use native.Mathlib.Omega.{arith}
 use borrow.Author.Tests.{lt-ltb, le-ltb, ltb-true, ltb-false}
 use Rattle.geometry.specs.declared.Entry.{Entry}
 use Rattle.geometry.specs.Tests.{pick}
-use Rattle.model.specs.Tree.{entryOf, middle, halve, place, chosen}
-use Rattle.model.specs.Edit.{swap, splice}
+use Rattle.model.specs.Tree.{entryOf, middle, halve, place}
+use Rattle.model.specs.Edit.{swap}
 
 -- entry i is not above k, unless it is the first; the one that follows is above k, unless i is the last
 pub record Placed (k : ℕ) (es : List Entry) (i : ℕ) : Type 0 where
   pub inside : i < length es
   pub low : 0 < i → entryOf es i .key ≤ k
   pub high : suc i < length es → k < entryOf es (suc i) .key
+
+below-power : (s : ℕ) → s < 2 ^ s
+below-power zero = omega arith
+below-power (suc s) = omega (arith, below-power s)
 
 module _ (k : ℕ) (es : List Entry) where
   -- one step
@@ -38,18 +42,26 @@ module _ (k : ℕ) (es : List Entry) where
       go true q a b = a
       go false q a b = b ∙ q
 
-  -- the steps that are left do not matter once they are enough
-  pub halve-steps : (s t lo hi : ℕ) → hi ≤ lo + 1 + s → hi ≤ lo + 1 + t → halve s k es lo hi ≡ halve t k es lo hi
+  -- s halvings are enough for 2^s entries, and more change nothing
+  pub halve-enough : (s t lo hi : ℕ) → hi ≤ lo + 2 ^ s → hi ≤ lo + 2 ^ t → halve s k es lo hi ≡ halve t k es lo hi
   unfolding halve
-  halve-steps zero t lo hi h g = sym (halve-done t lo hi (omega arith))
-  halve-steps (suc s) zero lo hi h g = halve-done (suc s) lo hi (omega arith)
-  halve-steps (suc s) (suc t) lo hi h g = go (ltb k (entryOf es (middle lo hi) .key))
-      (halve-steps s t lo (middle lo hi) (omega arith) (omega arith)) (halve-steps s t (middle lo hi) hi (omega arith) (omega arith))
+  halve-enough zero t lo hi h g = sym (halve-done t lo hi h)
+  halve-enough (suc s) zero lo hi h g = halve-done (suc s) lo hi g
+  halve-enough (suc s) (suc t) lo hi h g = go (ltb k (entryOf es (middle lo hi) .key))
+      (halve-enough s t lo (middle lo hi) (omega arith) (omega arith)) (halve-enough s t (middle lo hi) hi (omega arith) (omega arith))
     where
       go : (t′ : Bool) → halve s k es lo (middle lo hi) ≡ halve t k es lo (middle lo hi) → halve s k es (middle lo hi) hi ≡ halve t k es (middle lo hi) hi
           → halve s k es (pick t′ lo (middle lo hi)) (pick t′ (middle lo hi) hi) ≡ halve t k es (pick t′ lo (middle lo hi)) (pick t′ (middle lo hi) hi)
       go true a b = a
       go false a b = b
+
+  pub halve-steps : (s t lo hi : ℕ) → hi ≤ lo + 1 + s → hi ≤ lo + 1 + t → halve s k es lo hi ≡ halve t k es lo hi
+  halve-steps s t lo hi h g = halve-enough s t lo hi (omega (arith, below-power s)) (omega (arith, below-power t))
+
+  -- so at most s keys of 2^s entries are looked at: six of a root's 63
+  pub place-few : (s : ℕ) → length es ≤ 2 ^ s → place k es ≡ halve s k es 0 (length es)
+  unfolding place
+  place-few s h = halve-enough (length es) s 0 (length es) (omega (arith, below-power (length es))) (omega arith)
 
   last : (lo hi : ℕ) → hi ≡ suc lo → hi ≤ length es → (0 < lo → entryOf es lo .key ≤ k) → (hi < length es → k < entryOf es hi .key) → Placed k es lo
   last lo hi q d low high = record { inside = omega arith; low = low; high = rw q at high }
@@ -79,6 +91,27 @@ module _ (k : ℕ) (es : List Entry) where
   pub place-is : 0 < length es → Placed k es (place k es)
   unfolding place
   place-is n = halve-placed (length es) 0 (length es) (omega arith) n (omega arith) (λ z. absurd (omega arith)) (λ z. absurd (omega arith))
+
+-- where keys rise: "the last entry whose key is not above K, or the first entry if there is none"
+pub record Last (k : ℕ) (es : List Entry) (i : ℕ) : Type 0 where
+  pub inside : i < length es
+  pub low : 0 < i → entryOf es i .key ≤ k
+  pub rest : (j : ℕ) → i < j → j < length es → k < entryOf es j .key
+
+pub place-last : (k : ℕ) (es : List Entry) → 0 < length es → ((i j : ℕ) → i < j → j < length es → entryOf es i .key < entryOf es j .key)
+    → Last k es (place k es)
+place-last k es n rise =
+    let w = place-is k es n in
+    record { inside = w .inside; low = w .low; rest = λ j h g. go j h g (w .high) (ltb (suc (place k es)) j) refl }
+  where
+    go : (j : ℕ) → place k es < j → j < length es → (suc (place k es) < length es → k < entryOf es (suc (place k es)) .key)
+        → (t : Bool) → ltb (suc (place k es)) j ≡ t → k < entryOf es j .key
+    go j h g high true e =
+        let later = ltb-true (suc (place k es)) j e in
+        omega (arith, high (omega (arith, later)), rise (suc (place k es)) j later g)
+    go j h g high false e =
+        let here : j ≡ suc (place k es) = omega (arith, ltb-false (suc (place k es)) j e) in
+        rw here (high (omega (arith, here)))
 
 -- the place hangs on the keys alone
 halve-keys : (k : ℕ) (xs ys : List Entry) → ((i : ℕ) → entryOf xs i .key ≡ entryOf ys i .key) → (s lo hi : ℕ) → halve s k xs lo hi ≡ halve s k ys lo hi

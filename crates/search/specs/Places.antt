@@ -1,20 +1,21 @@
 -- What the places are good for. Assumes nothing.
-use Prim.Native.Nat.{ℕ, zero, suc, _+_, _-_, _*_, _<_, _≤_}
-use mathlib.Core.Bool.{Bool, true, false}
+use Prim.Native.Nat.{ℕ, suc, _+_, _-_, _*_, _<_, _≤_}
+use mathlib.Core.Bool.{true, false≢true}
 use mathlib.Core.Path.{_≡_, refl, sym, ap, _∙_}
 use mathlib.Core.List.{List, [], _∷_}
-use mathlib.Core.Option.{Option, none, some}
+use mathlib.Core.Option.{none, some}
 use lib.Dec.{eqb, ltb}
-use lib.ListN.{length, getD}
+use lib.ListN.{length}
 use native.Mathlib.Omega.{arith}
+use borrow.Author.Tests.{eqb-true, le-ltb}
 use Rattle.geometry.specs.declared.Geometry.{Geometry}
 use Rattle.geometry.specs.declared.Entry.{Entry}
 use Rattle.geometry.specs.Tests.{pick}
 use Rattle.model.specs.Bytes.{u32At, entriesAt, nodePlace, nodeCount, nodeAt}
 use Rattle.model.specs.Tree.{entryOf, place, chosen, find, findIn}
 use Rattle.chip.specs.Chip.{entryAt}
-use Rattle.chip.specs.Node.{node-is, entries-length, entries-none, entries-at, key-is}
-use Rattle.search.specs.Search.{ahead}
+use Rattle.chip.specs.Node.{node-is, entries-none, entries-at, key-is}
+use Rattle.search.specs.Search.{ahead, holds}
 
 -- a node with an entry in it
 pub ahead-some : (k : ℕ) (es : List Entry) → 0 < length es → ahead k es ≡ pick (ltb (chosen k es .key) k) (suc (place k es)) (place k es)
@@ -22,10 +23,23 @@ unfolding ahead
 ahead-some k [] n = absurd (omega arith)
 ahead-some k (e ∷ es) n = refl
 
-pub find-some : (k : ℕ) (es : List Entry) → 0 < length es → findIn k es ≡ pick (eqb (chosen k es .key) k) (some (chosen k es .addr)) none
-unfolding findIn find
-find-some k [] n = absurd (omega arith)
-find-some k (e ∷ es) n = refl
+pub holds-some : (k : ℕ) (es : List Entry) → 0 < length es → holds k es ≡ eqb (chosen k es .key) k
+unfolding holds
+holds-some k [] n = absurd (omega arith)
+holds-some k (e ∷ es) n = refl
+
+-- a node that holds the key has it at the place that descent takes
+pub held : (k : ℕ) (es : List Entry) → holds k es ≡ true → (0 < length es) × (chosen k es .key ≡ k) × (ahead k es ≡ place k es)
+unfolding holds ahead
+held k [] q = absurd (false≢true q)
+held k (e ∷ es) q =
+    let w = eqb-true (chosen k (e ∷ es) .key) k q in
+    (omega arith, w, rw (le-ltb (chosen k (e ∷ es) .key) k (omega (arith, w))))
+
+pub find-by : (k : ℕ) (es : List Entry) → findIn k es ≡ pick (holds k es) (some (chosen k es .addr)) none
+unfolding findIn find holds
+find-by k [] = refl
+find-by k (e ∷ es) = refl
 
 -- a key of n entries from byte `at`, read there
 pub key-get : (img : List ℕ) (at n i : ℕ) → i < n → entryOf (entriesAt img at n) i .key ≡ u32At img (at + 8 * i)

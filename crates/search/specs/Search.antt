@@ -1,8 +1,9 @@
 -- The place where a key stands or enters, beside the model's `place`. Definitions alone; assumes nothing.
-use Prim.Native.Nat.{ℕ, zero, suc}
+use Prim.Native.Nat.{ℕ, suc}
 use mathlib.Core.List.{List, [], _∷_}
 use mathlib.Core.Option.{Option, none, some}
-use lib.Dec.{ltb}
+use mathlib.Core.Bool.{Bool, false}
+use lib.Dec.{eqb, ltb}
 use Rattle.geometry.specs.declared.Entry.{Entry}
 use Rattle.geometry.specs.Tests.{pick}
 use Rattle.model.specs.Tree.{place, chosen}
@@ -13,6 +14,11 @@ use Rattle.search.specs.declared.Found.the-variants.{At, Nothing}
 unfoldable pub ahead : ℕ → List Entry → ℕ
 ahead k [] = 0
 ahead k (e ∷ es) = pick (ltb (chosen k (e ∷ es) .key) k) (suc (place k (e ∷ es))) (place k (e ∷ es))
+
+-- whether the entry that descent takes has key k
+unfoldable pub holds : ℕ → List Entry → Bool
+holds k [] = false
+holds k (e ∷ es) = eqb (chosen k (e ∷ es) .key) k
 
 -- what the code's answer says
 unfoldable pub found : Found → Option ℕ

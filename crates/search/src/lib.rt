@@ -3,7 +3,7 @@ ghost use mathlib.Core.Path.{_≡_};
 ghost use Prim.Native.Nat.{ℕ, _+_, _*_, _-_, _≤_, _<_};
 ghost use Rattle.model.specs.Bytes.{entriesAt, nodeAt};
 ghost use Rattle.model.specs.Tree.{place, chosen, findIn};
-ghost use Rattle.search.specs.Search.{ahead, found};
+ghost use Rattle.search.specs.Search.{ahead, holds, found};
 use geometry::Entry;
 use geometry::Geometry;
 
@@ -13,23 +13,29 @@ pub enum Found {
     Nothing,
 }
 
+// Where a key stands in a node, or the place at which it would enter.
+pub struct Stand {
+    pub at: usize,
+    pub here: bool,
+}
+
 // The place of the entry that descent takes, of the n from byte `at`: the last whose key is not above, or the first.
-// The only loop over keys; the keys rise, so it halves.
+// It halves, since keys rise.
 pub fn chosen_index(img: &[u8], at: usize, n: usize, key: u32) -> usize
     requires { ⌜ at + 8 * n < 1152921504606846976 ⌝ }
     ensures { λ r. ⌜ (r ≡ place key (entriesAt (now (img .entry)) at n)) × (r ≤ n - 1) ⌝ }
 {
-    let mut lo: usize = 0;
-    let mut hi: usize = n;
-    while lo + 1 < hi {
-        let mid = lo + (hi - lo) / 2;
-        if key < chip::read_u32(img, at + 8 * mid) {
-            hi = mid;
+    let mut low: usize = 0;
+    let mut high: usize = n;
+    while low + 1 < high {
+        let middle = low + (high - low) / 2;
+        if key < chip::read_u32(img, at + 8 * middle) {
+            high = middle;
         } else {
-            lo = mid;
+            low = middle;
         }
     }
-    lo
+    low
 }
 
 // The entry that descent takes in the node at a level of a page.
@@ -45,19 +51,27 @@ pub fn chosen_entry(g: Geometry, img: &[u8], page: u32, level: u32, key: u32) ->
     chip::entry_at(img, at + 8 * i)
 }
 
-// The place in the n entries from byte `at` where a key stands or enters.
-pub fn keys_ahead(img: &[u8], at: usize, n: usize, key: u32) -> usize
+// Where a key stands among the n entries from byte `at`, or would enter.
+pub fn stand_of(img: &[u8], at: usize, n: usize, key: u32) -> Stand
     requires { ⌜ at + 8 * n < 1152921504606846976 ⌝ }
-    ensures { λ r. ⌜ (r ≡ ahead key (entriesAt (now (img .entry)) at n)) × (r ≤ n) ⌝ }
+    ensures { λ r.
+        ⌜ (r .at ≡ ahead key (entriesAt (now (img .entry)) at n)) × (r .here ≡ holds key (entriesAt (now (img .entry)) at n)) × (r .at ≤ n) ⌝ }
 {
     if n == 0 {
-        return 0;
+        return Stand { at: 0, here: false };
     }
     let i = chosen_index(img, at, n, key);
-    if chip::read_u32(img, at + 8 * i) < key {
-        return i + 1;
+    let read = chip::read_u32(img, at + 8 * i);
+    if read < key {
+        return Stand {
+            at: i + 1,
+            here: false,
+        };
     }
-    i
+    Stand {
+        at: i,
+        here: read == key,
+    }
 }
 
 // What the n entries from byte `at` hold under a key.
@@ -65,12 +79,9 @@ fn find_entry(img: &[u8], at: usize, n: usize, key: u32) -> Found
     requires { ⌜ at + 8 * n < 1152921504606846976 ⌝ }
     ensures { λ r. ⌜ found r ≡ findIn key (entriesAt (now (img .entry)) at n) ⌝ }
 {
-    if n == 0 {
-        return Found::Nothing;
-    }
-    let i = chosen_index(img, at, n, key);
-    if chip::read_u32(img, at + 8 * i) == key {
-        return Found::At(chip::read_u32(img, at + 8 * i + 4));
+    let stand = stand_of(img, at, n, key);
+    if stand.here {
+        return Found::At(chip::read_u32(img, at + 8 * stand.at + 4));
     }
     Found::Nothing
 }

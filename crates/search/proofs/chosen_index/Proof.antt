@@ -1,4 +1,4 @@
-use Prim.Native.Nat.{_≤_, _+_, _*_, _-_}
+use Prim.Native.Nat.{_≤_, _-_}
 use mathlib.Core.Path.{_≡_}
 use Rattle.model.specs.Bytes.{entriesAt}
 use Rattle.model.specs.Tree.{halve, place}
@@ -14,11 +14,11 @@ use Rattle.chip.proofs.read_u32.Reads as read-u32-reads
 ruleset all = (needs, search-laws)
 
 abbrev Inv-loop : tie.InvT-loop
-Inv-loop img at n key lo₀ hi₀ lo hi =
-    (lo ≤ n - 1) × (hi ≤ n) × (place key (entriesAt img at n) ≡ halve (hi - lo) key (entriesAt img at n) lo hi)
+Inv-loop img at n key low₀ high₀ low high =
+    (low ≤ n - 1) × (high ≤ n) × (place key (entriesAt img at n) ≡ halve (high - low) key (entriesAt img at n) low high)
 
 abbrev μ-loop : tie.MeasureT-loop
-μ-loop img at n key lo₀ hi₀ lo hi = hi - lo
+μ-loop img at n key low₀ high₀ low high = high - low
 
 pub chosen-index-spec : {M : Type 1} → statement M
 chosen-index-spec =

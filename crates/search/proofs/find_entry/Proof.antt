@@ -5,7 +5,7 @@ use Rattle.search.proofs.find_entry.Tie as tie
 use Rattle.search.proofs.find_entry.Reads as reads
 use Rattle.search.proofs.find_entry.Lts as lts
 use Rattle.chip.proofs.read_u32.Reads as read-u32-reads
-use Rattle.search.proofs.chosen_index.Reads as chosen-index-reads
+use Rattle.search.proofs.stand_of.Reads as stand-of-reads
 
 ruleset all = (needs, search-laws)
 
@@ -13,10 +13,6 @@ pub find-entry-spec : {M : Type 1} → statement M
 find-entry-spec =
     tie.close
     (tie.spec
-    (λ c. search all)
-    (λ c κs. search all)
-    (λ c. search all)
-    (λ c. search all)
     (λ c κs. search all)
     (λ c. search all)
     (λ c. search all)
