@@ -19,10 +19,11 @@ enum { MOST = 255, KEYS = 4096, ROUNDS = 400, TRIES = 7 };
 static uint8_t node[8 * MOST];
 static uint32_t keys[KEYS];
 
+/* Processor time, so that what else the machine does counts little. */
 static double now(void)
 {
     struct timespec t;
-    clock_gettime(CLOCK_MONOTONIC, &t);
+    clock_gettime(CLOCK_PROCESS_CPUTIME_ID, &t);
     return (double)t.tv_sec + 1e-9 * (double)t.tv_nsec;
 }
 
