@@ -1,0 +1,34 @@
+use borrow.Author.Needs.{needs}
+use Rattle.next.specs.Laws.{next-laws}
+use mathlib.Core.Path.{_≡_}
+use Prim.Native.Nat.{_+_, _*_, _-_, _≤_, _<_}
+use Rattle.model.specs.Bytes.{erased}
+use Rattle.model.specs.Count.{least}
+use Rattle.next.specs.Coming.{free, later}
+use Rattle.next.proofs.first_later.Statement.{statement}
+use Rattle.next.proofs.first_later.Tie as tie
+use Rattle.next.proofs.first_later.Reads as reads
+use Rattle.next.proofs.first_later.Lts as lts
+use Rattle.next.proofs.is_later.Reads as is-later-reads
+
+ruleset all = (needs, next-laws)
+
+abbrev Inv-loop : tie.InvT-loop
+Inv-loop g img taken i b n block₀ block = (block ≤ n) × (least block (later (g .pages) (free (erased g img) taken i) b) ≡ block)
+
+abbrev μ-loop : tie.MeasureT-loop
+μ-loop g img taken i b n block₀ block = n - block
+
+pub first-later-spec : {M : Type 1} → statement M
+first-later-spec =
+    tie.close
+    (tie.spec
+    Inv-loop
+    μ-loop
+    (λ c. search all)
+    (λ c κs. search all)
+    (λ c. search all)
+    (λ c. search all)
+    (λ c. search all)
+    (λ c. search all)
+    (λ c. search all))
