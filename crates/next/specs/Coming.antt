@@ -3,7 +3,7 @@ use Prim.Native.Nat.{ℕ, zero, suc, _+_, _*_, _<_}
 use mathlib.Core.Bool.{Bool, false}
 use mathlib.Core.Path.{_≡_}
 use mathlib.Core.List.{List}
-use lib.Dec.{eqb, ltb}
+use lib.Dec.{eqb, leb}
 use lib.ListN.{getD}
 use Rattle.geometry.specs.declared.Geometry.{Geometry}
 use Rattle.geometry.specs.Tests.{pick, _&_}
@@ -17,13 +17,9 @@ unfoldable pub free : (ℕ → Bool) → List ℕ → ℕ → ℕ → Bool
 free er ps zero q = er q
 free er ps (suc i) q = pick (eqb q (getD ps i 0)) false (free er ps i q)
 
--- the first page of block b
-unfoldable pub head : ℕ → (ℕ → Bool) → ℕ → Bool
-head p er b = er (p * b + 0)
-
--- block i comes after block b, and its first page passes
-unfoldable pub later : ℕ → (ℕ → Bool) → ℕ → ℕ → Bool
-later p er b i = ltb b i & er (p * i + 0)
+-- block b is block a or a later one, and its first page passes
+unfoldable pub whole : ℕ → (ℕ → Bool) → ℕ → ℕ → Bool
+whole p er a b = leb a b & er (p * b + 0)
 
 -- what the choice looks at
 abbrev pub seen : (ℕ → Bool) → ℕ → Ahead

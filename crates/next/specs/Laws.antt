@@ -2,19 +2,19 @@
 use Prim.Native.Nat.{ℕ, zero, suc, _+_, _-_, _*_, _/_, _<_, _≤_}
 use mathlib.Core.Bool.{Bool, true, false}
 use mathlib.Core.Path.{_≡_, refl, sym, ap, _∙_}
-use mathlib.Core.List.{List, [], _∷_}
-use lib.Dec.{eqb, ltb}
+use mathlib.Core.List.{List}
+use lib.Dec.{ltb}
 use lib.ListN.{getD, set, length, length-set}
 use lib.Seq.{getD-set-same, getD-set-other}
 use native.Mathlib.Omega.{arith}
-use native.Mathlib.Nat.{div-zero}
+use native.Mathlib.Nat.{div-zero, div-le-self}
 use native.Mathlib.Numerals.{sub-one, add-one}
-use borrow.Author.Tests.{eq-eqb, ne-eqb, lt-ltb, le-ltb}
-use Rattle.geometry.specs.Tests.{pick, _&_, and-true, and-false}
+use borrow.Author.Tests.{eq-eqb, ne-eqb, lt-ltb, le-ltb, le-leb, lt-leb}
+use Rattle.geometry.specs.Tests.{_&_, and-true, and-false}
 use Rattle.model.specs.Count.{least}
-use Rattle.model.specs.Next.{mixed, firstIn, Ahead, round, nextBlock, nextPage, after, onward, taken, nth}
+use Rattle.model.specs.Next.{mixed, firstIn, Ahead, round, nextBlock, nextPage, taken}
 use Rattle.counts.specs.Least.{by-lt, least-zero, least-go, least-hit, least-end}
-use Rattle.next.specs.Coming.{free, head, later, seen, Coming, lastAt}
+use Rattle.next.specs.Coming.{free, whole, seen, Coming, lastAt}
 
 -- ---- is_free
 module _ (er : ℕ → Bool) (ps : List ℕ) (q : ℕ) where
@@ -44,59 +44,58 @@ free-none er ps p n last r e = e
 pub quotient : (a b x y : ℕ) → x ≡ a → y ≡ b → x / y ≡ a / b
 quotient a b x y e f = rw (e, f)
 
+pub quotient-low : (x y : ℕ) → x < 4294967296 → x / y < 4294967296
+quotient-low x y h = omega (arith, div-le-self x y, h)
+
 pub quotient-none : (a b y : ℕ) → y ≡ b → y ≡ 0 → 0 ≡ a / b
 quotient-none a b y e z = sym (ap (λ x. a / x) (sym e ∙ z) ∙ div-zero a)
 
 -- ---- blocks
 module _ (p : ℕ) (er : ℕ → Bool) where
-  pub head-start : least 0 (head p er) ≡ 0
-  head-start = sym (least-zero (head p er))
+  pub whole-no : (a b v : ℕ) → v ≡ b → v < a → false ≡ whole p er a b
+  unfolding whole
+  whole-no a b v e h = sym (rw (lt-leb a b (omega arith)) (and-false (er (p * b + 0))))
 
-  pub head-go : (i q : ℕ) (r : Bool) → least i (head p er) ≡ i → q ≡ p * i + 0 → r ≡ er q → r ≡ false → least (i + 1) (head p er) ≡ i + 1
-  unfolding head
-  head-go i q r e eq er′ f = least-go (head p er) i e (rw (← eq, ← er′) f)
+  pub whole-is : (a b v q : ℕ) (r : Bool) → v ≡ b → a ≤ v → q ≡ p * b + 0 → r ≡ er q → r ≡ whole p er a b
+  unfolding whole
+  whole-is a b v q r e h eq er′ = er′ ∙ sym (rw (le-leb a b (omega arith), ← eq) (and-true (er q)))
 
-  pub head-hit : (n i q : ℕ) (r : Bool) → least i (head p er) ≡ i → q ≡ p * i + 0 → r ≡ er q → r ≡ true → i < n → i ≡ least n (head p er)
-  unfolding head
-  head-hit n i q r e eq er′ f h = sym (least-hit (head p er) n i e (rw (← eq, ← er′) f) h)
+  pub whole-start : (a : ℕ) → least 0 (whole p er a) ≡ 0
+  whole-start a = sym (least-zero (whole p er a))
 
-  pub head-end : (n i : ℕ) → least i (head p er) ≡ i → i ≤ n → n ≤ i → i ≡ least n (head p er)
-  head-end n i e h k = sym (least-end (head p er) n i e h k)
+  pub whole-go : (a b : ℕ) (r : Bool) → least b (whole p er a) ≡ b → r ≡ whole p er a b → r ≡ false → least (b + 1) (whole p er a) ≡ b + 1
+  whole-go a b r e er′ q = least-go (whole p er a) b e (sym er′ ∙ q)
 
-  -- blocks after b
-  pub later-no : (b i v : ℕ) → v ≡ i → v ≤ b → false ≡ later p er b i
-  unfolding later
-  later-no b i v e h = sym (rw (le-ltb b i (omega arith)) (and-false (er (p * i + 0))))
+  pub whole-hit : (n a b : ℕ) (r : Bool) → least b (whole p er a) ≡ b → r ≡ whole p er a b → r ≡ true → b < n → b ≡ least n (whole p er a)
+  whole-hit n a b r e er′ q h = sym (least-hit (whole p er a) n b e (sym er′ ∙ q) h)
 
-  pub later-yes : (b i v q : ℕ) (r : Bool) → v ≡ i → b < v → q ≡ p * i + 0 → r ≡ er q → r ≡ later p er b i
-  unfolding later
-  later-yes b i v q r e h eq er′ = er′ ∙ sym (rw (lt-ltb b i (omega arith), ← eq) (and-true (er q)))
+  pub whole-end : (n a b : ℕ) → least b (whole p er a) ≡ b → b ≤ n → n ≤ b → b ≡ least n (whole p er a)
+  whole-end n a b e h k = sym (least-end (whole p er a) n b e h k)
 
-  pub later-start : (b : ℕ) → least 0 (later p er b) ≡ 0
-  later-start b = sym (least-zero (later p er b))
+  -- from block 0 on is all of them
+  whole-each : (b : ℕ) → whole p er 0 b ≡ er (p * b + 0)
+  unfolding whole
+  whole-each b = rw (le-leb 0 b (omega arith)) (and-true (er (p * b + 0)))
 
-  pub later-go : (b i : ℕ) (r : Bool) → least i (later p er b) ≡ i → r ≡ later p er b i → r ≡ false → least (i + 1) (later p er b) ≡ i + 1
-  later-go b i r e er′ q = least-go (later p er b) i e (sym er′ ∙ q)
-
-  pub later-hit : (n b i : ℕ) (r : Bool) → least i (later p er b) ≡ i → r ≡ later p er b i → r ≡ true → i < n → i ≡ least n (later p er b)
-  later-hit n b i r e er′ q h = sym (least-hit (later p er b) n i e (sym er′ ∙ q) h)
-
-  pub later-end : (n b i : ℕ) → least i (later p er b) ≡ i → i ≤ n → n ≤ i → i ≡ least n (later p er b)
-  later-end n b i e h k = sym (least-end (later p er b) n i e h k)
+  whole-all : whole p er 0 ≡ (λ b. er (p * b + 0))
+  whole-all = λ z b. whole-each b z
 
   pub next-mixed : (n b last : ℕ) → b ≡ least n (mixed p er) → b < n → b ≡ nextBlock p n (seen er last)
   unfolding nextBlock
   next-mixed n b last e h = sym (simp (← e, lt-ltb b n h))
 
-  pub next-later : (n m b j last : ℕ) → m ≡ least n (mixed p er) → n ≤ m → b ≡ last / p → j ≡ least n (later p er b) → j < n
-      → j ≡ nextBlock p n (seen er last)
-  unfolding nextBlock round later
-  next-later n m b j last e h eb f k = sym (rw (← e, le-ltb m n h, ← eb, ← f, lt-ltb j n k) refl)
+  module _ (n m b j last : ℕ) (em : m ≡ least n (mixed p er)) (none : n ≤ m) (eb : b ≡ last / p) (ej : j ≡ least n (whole p er (b + 1))) where
+    later-is : j ≡ least n (λ i. ltb (last / p) i & er (p * i + 0))
+    unfolding whole
+    later-is = ej ∙ rw (add-one b, eb) refl
 
-  pub next-whole : (n m b j v last : ℕ) → m ≡ least n (mixed p er) → n ≤ m → b ≡ last / p → j ≡ least n (later p er b) → n ≤ j
-      → v ≡ least n (head p er) → v ≡ nextBlock p n (seen er last)
-  unfolding nextBlock round later head
-  next-whole n m b j v last e h eb f k ev = ev ∙ sym (rw (← e, le-ltb m n h, ← eb, ← f, le-ltb j n k) refl)
+    pub next-later : j < n → j ≡ nextBlock p n (seen er last)
+    unfolding nextBlock round
+    next-later h = sym (rw (← em, le-ltb m n none, ← later-is, lt-ltb j n h) refl)
+
+    pub next-round : (v : ℕ) → n ≤ j → v ≡ least n (whole p er 0) → v ≡ nextBlock p n (seen er last)
+    unfolding nextBlock round
+    next-round v h ev = ev ∙ rw whole-all (sym (rw (← em, le-ltb m n none, ← later-is, le-ltb j n h) refl))
 
   pub after-is : (n b j last r : ℕ) → r ≡ p * b + j → b ≡ nextBlock p n (seen er last) → j ≡ firstIn p er b → r ≡ nextPage p n (seen er last)
   after-is n b j last r e eb ej = e ∙ rw (ej, eb)
@@ -143,4 +142,4 @@ module _ (p n : ℕ) (w : Ahead) where
 pub set-length : (ps : List ℕ) (k x m : ℕ) → length ps ≡ m → length (set ps k x) ≡ m
 set-length ps k x m e = length-set ps k x ∙ e
 
-pub ruleset next-laws = (quotient, quotient-none, free-start, free-stop, free-go, free-end, free-none, head-start, head-go, head-hit, head-end, later-no, later-yes, later-start, later-go, later-hit, later-end, next-mixed, next-later, next-whole, after-is, last-start, last-more, coming-none, coming-more, coming-done)
+pub ruleset next-laws = (quotient, quotient-low, quotient-none, free-start, free-stop, free-go, free-end, free-none, whole-no, whole-is, whole-start, whole-go, whole-hit, whole-end, next-mixed, next-later, next-round, after-is, last-start, last-more, coming-none, coming-more, coming-done)

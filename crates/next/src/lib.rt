@@ -6,7 +6,7 @@ ghost use lib.ListN.{length};
 ghost use Rattle.model.specs.Bytes.{erased};
 ghost use Rattle.model.specs.Count.{least};
 ghost use Rattle.model.specs.Next.{mixed, firstIn, nextBlock, nextPage};
-ghost use Rattle.next.specs.Coming.{free, head, later, seen, Coming};
+ghost use Rattle.next.specs.Coming.{free, whole, seen, Coming};
 use geometry::Geometry;
 
 // Whether a page is erased and not yet chosen.
@@ -65,24 +65,9 @@ fn first_mixed(g: Geometry, img: &[u8], taken: [u32; 256], i: usize, n: u16) -> 
     block
 }
 
-// The lowest block whose first page is free, or n.
-fn first_whole(g: Geometry, img: &[u8], taken: [u32; 256], i: usize, n: u16) -> u16
-    requires { ⌜ i ≤ 256 ⌝ }
-    ensures { λ r. ⌜ r ≡ least n (head (g .pages) (free (erased g (now (img .entry))) taken i)) ⌝ }
-{
-    let mut block: u16 = 0;
-    while block < n {
-        if is_free(g, img, taken, i, chip::page_of(g, block, 0)) {
-            return block;
-        }
-        block += 1;
-    }
-    block
-}
-
 // The block that holds a page.
 fn block_of(g: Geometry, page: u32) -> usize
-    ensures { λ r. ⌜ r ≡ page / g .pages ⌝ }
+    ensures { λ r. ⌜ (r ≡ page / g .pages) × (r < 4294967296) ⌝ }
 {
     let pages = geometry::wide(g.pages);
     if pages == 0 {
@@ -91,25 +76,25 @@ fn block_of(g: Geometry, page: u32) -> usize
     geometry::index(page) / pages
 }
 
-// Whether a block comes after block b and its first page is free.
-fn is_later(g: Geometry, img: &[u8], taken: [u32; 256], i: usize, b: usize, block: u16) -> bool
+// Whether a block is block `from` or a later one, and its first page is free.
+fn is_whole(g: Geometry, img: &[u8], taken: [u32; 256], i: usize, from: usize, block: u16) -> bool
     requires { ⌜ i ≤ 256 ⌝ }
-    ensures { λ r. ⌜ r ≡ later (g .pages) (free (erased g (now (img .entry))) taken i) b block ⌝ }
+    ensures { λ r. ⌜ r ≡ whole (g .pages) (free (erased g (now (img .entry))) taken i) from block ⌝ }
 {
-    if geometry::wide(block) <= b {
+    if geometry::wide(block) < from {
         return false;
     }
     is_free(g, img, taken, i, chip::page_of(g, block, 0))
 }
 
 // The lowest such block, or n.
-fn first_later(g: Geometry, img: &[u8], taken: [u32; 256], i: usize, b: usize, n: u16) -> u16
+fn first_whole(g: Geometry, img: &[u8], taken: [u32; 256], i: usize, from: usize, n: u16) -> u16
     requires { ⌜ i ≤ 256 ⌝ }
-    ensures { λ r. ⌜ r ≡ least n (later (g .pages) (free (erased g (now (img .entry))) taken i) b) ⌝ }
+    ensures { λ r. ⌜ r ≡ least n (whole (g .pages) (free (erased g (now (img .entry))) taken i) from) ⌝ }
 {
     let mut block: u16 = 0;
     while block < n {
-        if is_later(g, img, taken, i, b, block) {
+        if is_whole(g, img, taken, i, from, block) {
             return block;
         }
         block += 1;
@@ -122,16 +107,16 @@ fn next_block(g: Geometry, img: &[u8], taken: [u32; 256], i: usize, n: u16, last
     requires { ⌜ i ≤ 256 ⌝ }
     ensures { λ r. ⌜ r ≡ nextBlock (g .pages) n (seen (free (erased g (now (img .entry))) taken i) last) ⌝ }
 {
-    let block = first_mixed(g, img, taken, i, n);
-    if block < n {
-        return block;
+    let mixed = first_mixed(g, img, taken, i, n);
+    if mixed < n {
+        return mixed;
     }
-    let b = block_of(g, last);
-    let later = first_later(g, img, taken, i, b, n);
+    let after = block_of(g, last) + 1;
+    let later = first_whole(g, img, taken, i, after, n);
     if later < n {
         return later;
     }
-    first_whole(g, img, taken, i, n)
+    first_whole(g, img, taken, i, 0, n)
 }
 
 // The page that follows the chosen ones; `last` is the last of them, or the page with the largest number.

@@ -2,7 +2,7 @@ use Rattle.page_rules.specs.Blocks.{block-laws}
 use borrow.Author.Needs.{needs}
 use Rattle.next.specs.Laws.{next-laws}
 use mathlib.Core.Path.{_≡_}
-use Prim.Native.Nat.{_+_, _*_, _-_, _≤_, _<_}
+use Prim.Native.Nat.{_-_, _≤_}
 use lib.ListN.{length}
 use Rattle.model.specs.Bytes.{erased}
 use Rattle.next.specs.Coming.{seen, Coming, lastAt}

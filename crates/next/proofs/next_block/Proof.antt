@@ -5,7 +5,6 @@ use Rattle.next.proofs.next_block.Tie as tie
 use Rattle.next.proofs.next_block.Reads as reads
 use Rattle.next.proofs.next_block.Lts as lts
 use Rattle.next.proofs.block_of.Reads as block-of-reads
-use Rattle.next.proofs.first_later.Reads as first-later-reads
 use Rattle.next.proofs.first_mixed.Reads as first-mixed-reads
 use Rattle.next.proofs.first_whole.Reads as first-whole-reads
 
@@ -18,6 +17,7 @@ next-block-spec =
     (λ c κs. search all)
     (λ c. search all)
     (λ c κs. search all)
+    (λ c. search all)
     (λ c κs. search all)
     (λ c. search all)
     (λ c κs. search all)
