@@ -4,13 +4,13 @@ use mathlib.Core.Path.{_≡_, refl, ap, sym, _∙_}
 use mathlib.Core.Bool.{Bool, true, false}
 use Prim.Native.Nat.{ℕ, zero, suc, _+_, _-_, _*_, _/_, _<_, _≤_}
 use native.Mathlib.Omega.{arith}
-use native.Mathlib.Nat.{mul-suc, mul-zero, mul-le-mul-left}
+use native.Mathlib.Nat.{mul-suc, mul-zero, mul-comm, mul-le-mul-left, div-lt-iff-lt-mul}
 use lib.Dec.{eqb, ltb}
 use borrow.Author.Tests.{ne-eqb, le-ltb, ltb-true, ltb-false, eqb-false}
 use Rattle.geometry.specs.Tests.{pick, _&_, and-left, and-right, and-both}
 use Rattle.model.specs.Count.{count, least}
 use Rattle.model.specs.Next.{mixed, firstIn, Ahead, round, nextBlock, nextPage, after, taken, nth}
-use Rattle.counts.specs.Least.{by-lt, Least, least-is, least-most}
+use Rattle.counts.specs.Least.{by-lt, Least, least-is, least-most, least-zero, least-hit}
 use Rattle.trees.specs.Tests.{by-eq, true-false}
 use Rattle.chips.specs.Count.{some-true, count-gone}
 
@@ -111,6 +111,16 @@ round-first n b i f q h e = go (ltb (least n (λ i. ltb b i & f i)) n) refl (lea
         before true y = absurd (no y)
         before false y = rw (le-ltb b (least n f) (omega (arith, lowest k, ltb-false b i y))) (omega (arith, lowest k))
 
+-- every page of block b is erased
+abbrev pub Wholly : ℕ → (ℕ → Bool) → ℕ → Type 0
+Wholly g er b = (j : ℕ) → j < g → er (g * b + j) ≡ true
+
+-- the next page is page 0 of a wholly erased block, which is met no later than block c
+pub record First (g n : ℕ) (w : Ahead) (c : ℕ) : Type 0 where
+  pub wholly : Wholly g (w .er) (nextBlock g n w)
+  pub page : nextPage g n w ≡ g * nextBlock g n w
+  pub met : steps n (w .last / g) (nextBlock g n w) ≤ steps n (w .last / g) c
+
 module _ (g n : ℕ) (w : Ahead) (g-pos : 1 ≤ g) (r2 : R2 g n (w .er)) where
   abbrev er : ℕ → Bool
   er = w .er
@@ -181,6 +191,36 @@ module _ (g n : ℕ) (w : Ahead) (g-pos : 1 ≤ g) (r2 : R2 g n (w .er)) where
           → b ≡ pick t (least n (mixed g er)) (round n (w .last / g) (λ b. er (g * b + 0)))
       go true e l = let z = ltb-true (least n (mixed g er)) n e in r2 .one b (least n (mixed g er)) q z h (l .there z)
       go false e l = let z = ltb-false (least n (mixed g er)) n e in absurd (true-false (mixed g er b) h (l .before b (omega arith)))
+
+  -- request 2: where no block is partly programmed, the first wholly erased block met from the one after the block of the page
+  -- with the largest number on, round past the end to the start, is taken
+  module _ (none : (b : ℕ) → b < n → mixed g er b ≡ false) where
+    abbrev heads : ℕ → Bool
+    heads b = er (g * b + 0)
+
+    goes-round : nextBlock g n w ≡ round n (w .last / g) heads
+    unfolding nextBlock
+    goes-round = go (ltb (least n (mixed g er)) n) refl (least-is (mixed g er) n)
+      where
+        go : (t : Bool) → ltb (least n (mixed g er)) n ≡ t → Least (mixed g er) n (least n (mixed g er))
+            → pick t (least n (mixed g er)) (round n (w .last / g) heads) ≡ round n (w .last / g) heads
+        go true e l = let z = ltb-true (least n (mixed g er)) n e in absurd (true-false _ (l .there z) (none (least n (mixed g er)) z))
+        go false e l = refl
+
+    pub next-first : w .last < g * n → (c : ℕ) → c < n → Wholly g er c → First g n w c
+    next-first low c q h =
+        let head = h 0 (omega arith) in
+        let k = round-found n (w .last / g) c heads q head in
+        let b = nextBlock g n w in
+        let inside : b < n = rw goes-round (k .0) in
+        let first : er (g * b + 0) ≡ true = rw goes-round (k .1) in
+        let met = round-first n (w .last / g) c heads (div-lt-iff-lt-mul g-pos .1 (rw (mul-comm n g) low)) q head in
+        let start = least-hit (λ j. er (g * b + j)) g 0 (sym (least-zero (λ j. er (g * b + j)))) first (omega arith) in
+        record {
+          wholly = λ j v. r2 .mono b 0 j inside (omega arith) v first;
+          page = ap (λ j. g * b + j) start ∙ omega arith;
+          met = rw goes-round met;
+        }
 
   module _ (here : nextBlock g n w < n) (inside : firstIn g er (nextBlock g n w) < g) where
     abbrev er′ : ℕ → Bool
