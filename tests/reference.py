@@ -25,6 +25,7 @@ def rules(fuzz):
 
 
 def mu(fuzz):
+    """The model of the rules as they stand here."""
     return fuzz.Mu(fuzz.SMALL, rules(fuzz))
 
 
@@ -66,7 +67,7 @@ def loose(rng, fuzz, blocks=None):
             return None
     if rng.random() < .5:
         return fuzz.hand_image(rng, mu(fuzz), blocks, wild=True)
-    return fuzz.hand_image(rng, WithoutR7(), blocks)
+    return fuzz.hand_image(rng, WithoutR7(fuzz.SMALL, rules(fuzz)), blocks)
 
 
 def allowances(rng, stores):
