@@ -17,6 +17,8 @@
 #include <stddef.h>
 #include <stdint.h>
 
+#define MUTREE_VERSION "0.2.0"
+
 #ifdef __cplusplus
 extern "C" {
 #endif
