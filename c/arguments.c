@@ -1,7 +1,7 @@
 #include "arguments.h"
 #include "say.h"
 
-#include <stddef.h>
+#include <stdio.h>
 #include <string.h>
 
 struct option {
@@ -39,9 +39,12 @@ int read_number(const char *word, const char *what, uint32_t *number)
     return fault != NULL;
 }
 
-static int usage(const struct command *command)
+/* What is wrong (a format with one word in it), and how the command is written. */
+static int usage(const struct command *command, const char *wrong, const char *word)
 {
-    complain("usage: mutree %s %s", command->name, command->words);
+    char line[256];
+    snprintf(line, sizeof line, wrong, word);
+    complain("%s; usage: mutree %s %s", line, command->name, command->words);
     return 1;
 }
 
@@ -57,10 +60,8 @@ static const struct option *option_of(const struct command *command, const char 
 
 static int take(const struct command *command, const struct option *option, const char *value, struct arguments *arguments)
 {
-    if (option->has_value && value == NULL) {
-        complain("%s needs a word after it", option->name);
-        return usage(command);
-    }
+    if (option->has_value && value == NULL)
+        return usage(command, "%s needs a word after it", option->name);
     switch (option->bit) {
     case TAKES_ALLOW: return read_number(value, "allowance", &arguments->allowance);
     case TAKES_FORCE: arguments->force = 1; return 0;
@@ -82,14 +83,12 @@ int arguments_read(const struct command *command, int count, char **words, struc
                 return 1;
             i += option->has_value;
         } else if (strncmp(words[i], "--", 2) == 0) {
-            complain("%s has no option '%s'", command->name, words[i]);
-            return usage(command);
+            return usage(command, "there is no option '%s' here", words[i]);
         } else if (found == command->word_count) {
-            complain("'%s' is one word too many", words[i]);
-            return usage(command);
+            return usage(command, "'%s' is one word too many", words[i]);
         } else {
             arguments->word[found++] = words[i];
         }
     }
-    return found < command->word_count ? usage(command) : 0;
+    return found < command->word_count ? usage(command, "too few words after '%s'", command->name) : 0;
 }

@@ -98,9 +98,9 @@ static void legend(FILE *out, const struct survey *s)
         return;
     fprintf(out, "<text x='%d' y='76'>live: %zu, by their lowest live level:</text>\n", MARGIN + 280, s->live);
     for (level = 1; level <= LEVELS; level++)
-        legend_item(out, MARGIN + 90 * (level - 1), 88, colours[level + 1], names[level], s->level[level]);
-    fprintf(out, "<rect x='%d' y='88' width='11' height='11' fill='none' stroke='#000' stroke-width='3'/>"
-                 "<text x='%d' y='98'>root</text>\n", MARGIN + 450, MARGIN + 468);
+        legend_item(out, MARGIN + 95 * (level - 1), 88, colours[level + 1], names[level], s->level[level]);
+    fprintf(out, "<rect x='%d' y='88' width='11' height='11' fill='none' stroke='#000' stroke-width='2'/>"
+                 "<text x='%d' y='98'>root</text>\n", MARGIN + 475, MARGIN + 492);
 }
 
 /* Numbers beside the rows: all of them where there is room, else every eighth. */
@@ -169,8 +169,8 @@ static void grid(FILE *out, const struct survey *s, const struct layout *l)
 static void root_frame(FILE *out, const struct survey *s, const struct layout *l)
 {
     size_t block = s->root / MUTREE_BLOCK_PAGES;
-    fprintf(out, "<rect x='%zu' y='%zu' width='%u' height='%u' fill='none' stroke='#000' stroke-width='3'/>\n",
-            left_of(l, block) + l->cell * (s->root % MUTREE_BLOCK_PAGES), top_of(l, block), l->cell, l->line);
+    fprintf(out, "<rect x='%zu' y='%zu' width='%u' height='%u' fill='none' stroke='#000' stroke-width='2'/>\n",
+            left_of(l, block) + l->cell * (s->root % MUTREE_BLOCK_PAGES) - 1, top_of(l, block) - 1, l->cell + 2, l->line + 2);
 }
 
 void draw_survey(FILE *out, const struct survey *s)
