@@ -13,8 +13,9 @@ cd "$folder" || exit 1
 chip=chip.img
 bad=0
 
+# fail TEXT: one line, however long the text is
 fail() {
-    echo "tool: $*"
+    printf 'tool: %s' "$*" | tr '\n' ' ' | cut -c 1-300
     bad=1
 }
 
