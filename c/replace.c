@@ -29,16 +29,16 @@ static int keep_owner_and_mode(int descriptor, const struct file *file)
 {
     struct stat new;
     if (fstat(descriptor, &new) != 0) {
-        complain_of(file->name, "cannot write the new file");
+        complain_of(file->name, "left as it was; the new file cannot be written");
         return 1;
     }
     if ((new.st_uid != file->state.st_uid || new.st_gid != file->state.st_gid)
         && fchown(descriptor, file->state.st_uid, file->state.st_gid) != 0) {
-        complain_of(file->name, "its owner and group could not be kept; run this as its owner");
+        complain_of(file->name, "left as it was; its owner and group cannot be kept, so run this as its owner");
         return 1;
     }
     if (fchmod(descriptor, file->state.st_mode & 07777) != 0) {
-        complain_of(file->name, "its mode could not be kept");
+        complain_of(file->name, "left as it was; its mode cannot be kept");
         return 1;
     }
     return 0;
@@ -49,11 +49,11 @@ static int fill(int descriptor, const struct file *file, const uint8_t *bytes, s
 {
     int bad = keep_owner_and_mode(descriptor, file);
     if (!bad && (write_all(descriptor, bytes, length) || fsync(descriptor))) {
-        complain_of(file->name, "the new file cannot be written; the old one is as it was");
+        complain_of(file->name, "left as it was; the new file cannot be written");
         bad = 1;
     }
     if (close(descriptor) != 0 && !bad) {
-        complain_of(file->name, "the new file cannot be written; the old one is as it was");
+        complain_of(file->name, "left as it was; the new file cannot be written");
         bad = 1;
     }
     return bad;
@@ -86,7 +86,7 @@ int file_replace(struct file *file, const uint8_t *bytes, size_t length)
         return BAD_FILE;
     }
     if (temporary_become(file->path)) {
-        complain_of(file->name, "cannot replace it; it is as it was");
+        complain_of(file->name, "left as it was; the new file cannot take its place");
         temporary_remove();
         return BAD_FILE;
     }

@@ -55,7 +55,7 @@ keep "$chip"
 out=$( (ulimit -f 20 && "$tool" insert "$chip" 2 2) 2>&1)
 status=$?
 [ "$status" -eq 66 ] || fail "an insert without room for the file ended with $status: $out"
-has "$out" "the old one is as it was" || fail "an insert without room for the file printed '$out'"
+has "$out" "left as it was" || fail "an insert without room for the file printed '$out'"
 same "$chip" "an insert without room for the file"
 no_leftover "an insert without room for the file"
 rm "$chip"
