@@ -57,7 +57,7 @@ static int refused_change(const char *name, const struct stat *state)
         return BAD_FILE;
     }
     if (state->st_nlink > 1) {
-        complain("%s has %lu names (hard links), and a change would part it from the others; copy it with cp, and change the copy",
+        complain("%s has %lu names (hard links), and a change would part it from the others; copy it with cp, change the copy",
                  name, (unsigned long)state->st_nlink);
         return BAD_FILE;
     }

@@ -34,6 +34,8 @@ if have flock; then
     want 75 "changed by another process" insert "$chip" 1 1 --no-wait
     want 75 "changed by another process" delete "$chip" 1 --no-wait
     want 75 "changed by another process" format "$chip" 3 --force --no-wait
+    out=$(echo "insert 1 1" | "$tool" apply "$chip" --no-wait 2>&1)
+    [ $? -eq 75 ] || fail "apply --no-wait on a locked file: $out"
     want 0 "sound" show "$chip"
     want 0 "DONE" insert "$chip" 1 1
     [ -e released ] || fail "an insert did not wait for another writer"
