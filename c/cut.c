@@ -1,4 +1,5 @@
-#define _XOPEN_SOURCE 700
+#include "posix.h"
+
 #include "commands.h"
 #include "mutree.h"
 #include "file.h"

@@ -1,4 +1,5 @@
-#define _XOPEN_SOURCE 700
+#include "posix.h"
+
 #include "file.h"
 #include "lock.h"
 #include "mutree.h"
@@ -69,7 +70,7 @@ static int open_once(struct file *file, int may_make)
 {
     struct stat before;
     int missing = stat(file->name, &before) != 0;
-    if ((missing && (errno != ENOENT || !may_make))) {
+    if (missing && (errno != ENOENT || !may_make)) {
         complain_of(file->name, "cannot open");
         return BAD_FILE;
     }

@@ -1,4 +1,5 @@
-#define _DEFAULT_SOURCE /* flock */
+#include "posix.h"
+
 #include "lock.h"
 #include "say.h"
 #include "status.h"

@@ -1,6 +1,7 @@
 /* mutree: the index at the bench. Works on a raw dump, pages with their spare bytes one after another, as
  * `nanddump --oob` writes it. help.c says what it takes and which exit statuses it gives. */
-#define _XOPEN_SOURCE 700
+#include "posix.h"
+
 #include "commands.h"
 #include "help.h"
 #include "mutree.h"

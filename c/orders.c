@@ -1,4 +1,5 @@
-#define _XOPEN_SOURCE 700
+#include "posix.h"
+
 #include "orders.h"
 #include "arguments.h"
 #include "image.h"
@@ -24,10 +25,10 @@ const char *order_name(enum order_kind kind)
 static int part(char *text, char **words)
 {
     int count = 0;
-    char *word = strtok(text, " \t\r\n");
+    char *word = strtok(text, " \t\n");
     while (word != NULL && count < WORDS_A_LINE) {
         words[count++] = word;
-        word = strtok(NULL, " \t\r\n");
+        word = strtok(NULL, " \t\n");
     }
     return count;
 }
@@ -92,6 +93,8 @@ static int read_line(struct orders *orders, char *text, size_t length, size_t li
         complain("line %zu holds a byte 0; nothing was changed", line);
         return 1;
     }
+    if (length > 1 && text[length - 2] == '\r')
+        text[length - 2] = ' ';
     count = part(text, words);
     if (count == 0 || words[0][0] == '#')
         return 0;

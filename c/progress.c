@@ -1,4 +1,5 @@
-#define _XOPEN_SOURCE 700
+#include "posix.h"
+
 #include "progress.h"
 
 #include <stdio.h>

@@ -1,3 +1,5 @@
+#include "posix.h"
+
 #include "commands.h"
 #include "mutree.h"
 #include "replace.h"

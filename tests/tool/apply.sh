@@ -57,6 +57,8 @@ printf 'insert 200 1\ninsert 201 10' > commands
 applied 64 "line 2 does not end"
 printf 'insert 200 1\ninsert 201\0 10\n' > commands
 applied 64 "line 2 holds a byte 0"
+printf 'insert 200\r1\n' > commands
+applied 64 "line 1"
 : > commands
 applied 64 "no command"
 lines "lookup 7"
@@ -77,8 +79,13 @@ cat > command.sh <<END
 "$tool" apply "$chip" < commands
 END
 if have script && script -qec true /dev/null > /dev/null 2>&1; then
+    began=$(date +%s)
     script -qec "sh command.sh" /dev/null > typed < /dev/null
-    has "$(cat typed)" "of 600" || fail "no progress on a terminal: $(head -c 300 typed)"
+    if [ $(($(date +%s) - began)) -lt 3 ]; then
+        left_out "progress on a terminal, this machine is too fast for it"
+    else
+        has "$(cat typed)" "of 600" || fail "no progress on a terminal: $(head -c 300 typed)"
+    fi
     has "$(cat typed)" "DONE: 600 inserted" || fail "apply on a terminal: $(head -c 300 typed)"
 else
     left_out "progress on a terminal, there is no script here"
