@@ -21,7 +21,7 @@ def load():
 
 def rules(fuzz):
     """The requests that have landed and that the model tells apart."""
-    return fuzz.Rules(wish2=True)
+    return fuzz.Rules(wish2=True, wish11=True)
 
 
 def mu(fuzz):

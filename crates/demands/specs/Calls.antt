@@ -90,7 +90,7 @@ module _ (g : Geometry) (img : List ℕ) (k a al : ℕ) where
   unfolding insertRest
   insert-rest = refl
 
-  delete-rest : deleteRest g n img k al ≡ tested img (worn g n img) 3 (isNone (sought c k)) 4 (roomless g (freePages g n c) 1) 6 del
+  delete-rest : deleteRest g n img k al ≡ tested img (worn g n img) 3 (isNone (sought c k)) 4 false 6 del
   unfolding deleteRest
   delete-rest = refl
 
@@ -103,7 +103,7 @@ module _ (g : Geometry) (img : List ℕ) (k a al : ℕ) where
   pub delete-untouched : Untouched img (delete g img k al)
   unfolding delete
   delete-untouched = judged-untouched g img (deleteRest g n img k al) (subst (Untouched img) (sym delete-rest)
-      (tested-untouched img (worn g n img) 3 (isNone (sought c k)) 4 (roomless g (freePages g n c) 1) 6 del
+      (tested-untouched img (worn g n img) 3 (isNone (sought c k)) 4 false 6 del
       (made-untouched g (deleteStores g n img k) al img)))
 
   module _ (ready : Ready g img) where
@@ -111,7 +111,7 @@ module _ (g : Geometry) (img : List ℕ) (k a al : ℕ) where
     unfolding insert
     insert-is = judged-ready g img (insertRest g n img k a al) ready ∙ insert-rest
 
-    pub delete-is : delete g img k al ≡ tested img (worn g n img) 3 (isNone (sought c k)) 4 (roomless g (freePages g n c) 1) 6 del
+    pub delete-is : delete g img k al ≡ tested img (worn g n img) 3 (isNone (sought c k)) 4 false 6 del
     unfolding delete
     delete-is = judged-ready g img (deleteRest g n img k al) ready ∙ delete-rest
 
@@ -123,9 +123,9 @@ module _ (g : Geometry) (img : List ℕ) (k a al : ℕ) where
         record { first = p .first; second = p .second; third = p .third; is = insert-is ∙ p .is }
 
     pub delete-passed : Began (delete g img k al)
-        → Passed (worn g n img) (isNone (sought c k)) (roomless g (freePages g n c) 1) (delete g img k al) del
+        → Passed (worn g n img) (isNone (sought c k)) false (delete g img k al) del
     delete-passed b =
-        let p = tested-passed img (worn g n img) 3 (isNone (sought c k)) 4 (roomless g (freePages g n c) 1) 6 del (omega arith) (omega arith)
+        let p = tested-passed img (worn g n img) 3 (isNone (sought c k)) 4 false 6 del (omega arith) (omega arith)
         (omega arith) (omega arith) (omega arith) (omega arith) (subst Began delete-is b) in
         record { first = p .first; second = p .second; third = p .third; is = delete-is ∙ p .is }
 

@@ -53,8 +53,8 @@ module _ (g : Geometry) (shape : Shape g) (img : List ℕ) (ready : Ready g img)
   pub insert-height : (a al : ℕ) → insert g img k a al .answer ≡ 5 → find k (mapAt g img) ≡ none
   insert-height a al h = height-absent g shape img ready k k-low a al h
 
-  -- delete answers 0, 3, 4, 6 or 7, and 4 exactly for an absent key, unless the chip is worn
-  pub delete-answers : (al : ℕ) → OneOf (delete g img k al .answer) (0 ∷ 3 ∷ 4 ∷ 6 ∷ 7 ∷ [])
+  -- delete answers 0, 3, 4 or 7, and 4 exactly for an absent key, unless the chip is worn
+  pub delete-answers : (al : ℕ) → OneOf (delete g img k al .answer) (0 ∷ 3 ∷ 4 ∷ 7 ∷ [])
   delete-answers al = delete-one g shape img ready k al
 
   pub delete-absent : (al : ℕ) → delete g img k al .answer ≡ 4 → find k (mapAt g img) ≡ none

@@ -80,10 +80,16 @@ module _ (g : Geometry) (shape : Shape g) (img : List ℕ) (ready : Ready g img)
       (three (worn g n img) (tooHigh g c k) (roomless g (freePages g n c) (needs g c k)) 3 5 6 (made g (insertStores g n img k a) al img)
       (made-began (insertStores g n img k a) al))
 
-  pub delete-one : (al : ℕ) → OneOf (delete g img k al .answer) (0 ∷ 3 ∷ 4 ∷ 6 ∷ 7 ∷ [])
-  delete-one al = subst (λ (o : Outcome). OneOf (o .answer) (0 ∷ 3 ∷ 4 ∷ 6 ∷ 7 ∷ [])) (sym (delete-is g img k 0 al ready))
-      (three (worn g n img) (isNone (sought c k)) (roomless g (freePages g n c) 1) 3 4 6 (made g (deleteStores g n img k) al img)
-      (made-began (deleteStores g n img k) al))
+  two : (x y : Bool) (i j : ℕ) (o : Outcome) → (o .answer ≡ 0) ⊎ (o .answer ≡ 7)
+      → OneOf (pick x (refused i img) (pick y (refused j img) o) .answer) (0 ∷ i ∷ j ∷ 7 ∷ [])
+  two true y i j o h = inr (inl refl)
+  two false true i j o h = inr (inr (inl refl))
+  two false false i j o (inl h) = inl h
+  two false false i j o (inr h) = inr (inr (inr (inl h)))
+
+  pub delete-one : (al : ℕ) → OneOf (delete g img k al .answer) (0 ∷ 3 ∷ 4 ∷ 7 ∷ [])
+  delete-one al = subst (λ (o : Outcome). OneOf (o .answer) (0 ∷ 3 ∷ 4 ∷ 7 ∷ [])) (sym (delete-is g img k 0 al ready))
+      (two (worn g n img) (isNone (sought c k)) 3 4 (made g (deleteStores g n img k) al img) (made-began (deleteStores g n img k) al))
 
   module _ (k-low : k < 4294967296) where
     pub found : sought c k ≡ find k (mapAt g img)
@@ -100,7 +106,7 @@ module _ (g : Geometry) (shape : Shape g) (img : List ℕ) (ready : Ready g img)
 
     pub absent-answer : (al : ℕ) → delete g img k al .answer ≡ 4 → find k (mapAt g img) ≡ none
     absent-answer al h = sym found ∙ none-is (sought c k)
-        (second (worn g n img) (isNone (sought c k)) (roomless g (freePages g n c) 1) 3 4 6 (made g (deleteStores g n img k) al img)
+        (second (worn g n img) (isNone (sought c k)) false 3 4 6 (made g (deleteStores g n img k) al img)
         (made-began (deleteStores g n img k) al) (λ z. omega (arith, z)) (λ z. omega (arith, z)) (λ z. omega (arith, z)) (λ z. omega (arith, z))
         (sym (ap (λ (o : Outcome). o .answer) (delete-is g img k 0 al ready)) ∙ h))
 
@@ -109,9 +115,8 @@ module _ (g : Geometry) (shape : Shape g) (img : List ℕ) (ready : Ready g img)
         (go (worn g n img) (isNone (sought c k)) (ap isNone (found ∙ h)))
       where
         go : (x y : Bool) → y ≡ true
-            → (pick x (refused 3 img) (pick y (refused 4 img) (pick (roomless g (freePages g n c) 1) (refused 6 img)
-            (made g (deleteStores g n img k) al img))) .answer ≡ 3) ⊎ (pick x (refused 3 img) (pick y (refused 4 img) (pick
-            (roomless g (freePages g n c) 1) (refused 6 img) (made g (deleteStores g n img k) al img))) .answer ≡ 4)
+            → (pick x (refused 3 img) (pick y (refused 4 img) (made g (deleteStores g n img k) al img)) .answer ≡ 3) ⊎
+            (pick x (refused 3 img) (pick y (refused 4 img) (made g (deleteStores g n img k) al img)) .answer ≡ 4)
         go true y e = inl refl
         go false true e = inr refl
         go false false e = absurd (true-false false e refl)
@@ -155,7 +160,7 @@ module _ (g : Geometry) (shape : Shape g) (img : List ℕ) (ready : Ready g img)
         let p = delete-passed g img k 0 al ready b in
         updated-kept g shape img ready (mapAt g img) (remove k (mapAt g img)) (deleteStores g n img k) 1 (let z = shape .top-low in omega (arith, z))
         (delete-updated g shape n (few g shape img ready) (mapAt g img) img keeps (not-worn g n img (p .first)) (some-pages g shape img ready) k k-low
-        (p .second) (p .third))
+        (p .second))
 
     -- the image of a finished call, and of a stopped one
     pub insert-ends : (a al : ℕ) → a < 4294967296 → insert g img k a al .answer ≡ 0 → Holds g (put k a (mapAt g img)) (insert g img k a al .image)
