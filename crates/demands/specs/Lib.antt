@@ -3,6 +3,7 @@
 pub mod Words
 pub mod Maps
 pub mod Bridges
+pub mod Tests
 pub mod Calls
 pub mod Proofs
 pub mod Demands
