@@ -18,7 +18,7 @@
  *               will do where the processor takes unaligned reads (on ARM64: normal memory, not device memory).
  *   stack       measured, in bytes; it does not grow with the image:
  *                              format   lookup    insert    delete
- *                     ARM64     2,192   92,640   151,420   141,772
+ *                     ARM64     2,192   92,656   151,532   141,916
  *                     x86-64    2,192   90,592   151,628   141,388
  *               160 KiB serve every call. Large frames are touched page by page as they are made, so a guard page
  *               below the stack catches a stack that is too small.
