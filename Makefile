@@ -2,6 +2,7 @@
 # make build      the same without the day
 # make library    prove all crates and build the library alone; needs no C compiler
 # make check      pass all tests: the gate and what runs beside it
+# make search     time the search in one node (bench/search.c)
 # make install    header, library, pkg-config file and tool, under PREFIX; make uninstall takes them away
 # make clean      remove all that was built and proved
 #
@@ -41,7 +42,7 @@ PROOFS = crates.txt $(shell find crates -type f)
 # What is asked for before ten minutes of proving, and not after: the archive alone needs no compiler.
 NEEDS = rt $(if $(filter library,$(MAKECMDGOALS)),,"$(COMPILER)")
 
-.PHONY: day build library check install uninstall clean settings
+.PHONY: day build library check search install uninstall clean settings
 .DELETE_ON_ERROR:
 
 ifeq ($(TARGET),$(HOST))
@@ -75,6 +76,16 @@ settings:
 
 check:
 	sh tests/run
+
+# The crate bench_search has the search alone.
+build/$(TARGET)/libsearch.a: target/proved scripts/archive scripts/kit
+	sh scripts/archive $(TARGET) $@ bench_search
+
+build/$(TARGET)/search: bench/search.c build/$(TARGET)/libsearch.a
+	$(COMPILER) $(STRICT) $(CFLAGS) $(LINK) $^ -o $@
+
+search: build/$(TARGET)/search
+	$(RUN) $<
 
 install: build
 	install -d $(DESTDIR)$(PREFIX)/include $(DESTDIR)$(PREFIX)/lib/pkgconfig $(DESTDIR)$(PREFIX)/bin

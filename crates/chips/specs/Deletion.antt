@@ -16,7 +16,7 @@ use Rattle.model.specs.Count.{count}
 use Rattle.model.specs.Image.{Nodes, Chip, theRoot}
 use Rattle.model.specs.Tree.{gather, under, mapOf, next, chosen, find, sought}
 use Rattle.model.specs.Next.{taken}
-use Rattle.model.specs.Edit.{remove, kept, Top, collapse}
+use Rattle.model.specs.Edit.{remove, removeIn, kept, Top, collapse}
 use Rattle.model.specs.Update.{isNone, rootNode, sidePage, deleteList, deleteTop, deletePart}
 use Rattle.trees.specs.Tests.{by-le, true-false}
 use Rattle.trees.specs.Lists.{split}
@@ -62,7 +62,7 @@ module _ (g : Geometry) (shape : Shape g) (n k : ℕ) (k-low : k < 4294967296) (
   roomAt l = 2 * half g l
 
   abbrev rootList : List Entry
-  rootList = atRoot (remove k) (deleted r k N (c .level)) k (c .level) es
+  rootList = atRoot (removeIn k) (deleted r k N (c .level)) k (c .level) es
 
   abbrev top : Top
   top = deleteTop c k N
@@ -78,8 +78,8 @@ module _ (g : Geometry) (shape : Shape g) (n k : ℕ) (k-low : k < 4294967296) (
 
   root-list : lists (suc (c .level)) ≡ rootList
   unfolding deleteList
-  root-list = onPath-top fit roomAt r k (remove k) (λ e. remove k (e ∷ [])) (kept N) (remove-as k) (c .level) (theRoot c)
-      ∙ root-is fit roomAt r k (remove k) (λ e. remove k (e ∷ [])) (kept N) (remove-as k) (c .level) 4294967296 (c .root) k-low (λ _. some-root)
+  root-list = onPath-top fit roomAt r k (removeIn k) (λ e. remove k (e ∷ [])) (kept N) (remove-as k) (c .level) (theRoot c)
+      ∙ root-is fit roomAt r k (removeIn k) (λ e. remove k (e ∷ [])) (kept N) (remove-as k) (c .level) 4294967296 (c .root) k-low (λ _. some-root)
       (good .sound .rooted .rises)
 
   -- where the root's list is more than one entry, or the tree is a leaf, the root stays
@@ -124,7 +124,7 @@ module _ (g : Geometry) (shape : Shape g) (n k : ℕ) (k-low : k < 4294967296) (
         let ls : collapse r (c .level) (lists (suc (c .level))) .list ≡ lists (suc (c .level)) = ap (λ (x : Top). x .list) e in
         let here : s N (suc (c .level)) ≡ rootList = at-N (suc (c .level)) (omega arith) high ∙ rw (lv, eq-eqb (suc (c .level)) (suc (c .level)) refl)
         (ls ∙ root-list) in
-        let made : DeleteMade r s k N (c .level) (chosen k es) = made-from fit roomAt r k (remove k) (λ e. remove k (e ∷ [])) (kept N) (remove-as k)
+        let made : DeleteMade r s k N (c .level) (chosen k es) = made-from fit roomAt r k (removeIn k) (λ e. remove k (e ∷ [])) (kept N) (remove-as k)
         (λ j d. 1 ≤ length d → s N j ≡ d) (c .level) 4294967296 (theRoot c) k-low (λ _. some-root) (good .sound .rooted .rises)
         (λ j b d _. at-N j b (omega (arith, d, high)) ∙ rw (
           lv,
@@ -148,7 +148,7 @@ module _ (g : Geometry) (shape : Shape g) (n k : ℕ) (k-low : k < 4294967296) (
 
     -- one entry is left of a root above level 1
     drop : (lv : ℕ) (xs : List Entry) → Proper fit roomAt (rootMost g) 4294967296 r lv (c .root)
-        → xs ≡ atRoot (remove k) (deleted r k N lv) k lv (r (c .root) (suc lv)) → 1 ≤ lv → length xs ≡ 1
+        → xs ≡ atRoot (removeIn k) (deleted r k N lv) k lv (r (c .root) (suc lv)) → 1 ≤ lv → length xs ≡ 1
         → s N (suc (collapse r lv xs .level)) ≡ collapse r lv xs .list
         → Proper fit′ roomAt (rootMost g) 4294967296 s (collapse r lv xs .level) N ×
         (under s (suc (collapse r lv xs .level)) (the N) ≡ remove k (under r (suc lv) (the (c .root))))
@@ -171,7 +171,7 @@ module _ (g : Geometry) (shape : Shape g) (n k : ℕ) (k-low : k < 4294967296) (
 
     -- a root above level 1 keeps an entry
     some-left : (lv : ℕ) → Proper fit roomAt (rootMost g) 4294967296 r lv (c .root) → 1 ≤ lv
-        → 1 ≤ length (atRoot (remove k) (deleted r k N lv) k lv (r (c .root) (suc lv)))
+        → 1 ≤ length (atRoot (removeIn k) (deleted r k N lv) k lv (r (c .root) (suc lv)))
     unfolding atRoot
     some-left zero h i = absurd (omega arith)
     some-left (suc l) h i =

@@ -16,7 +16,7 @@ use Rattle.model.specs.Count.{count}
 use Rattle.model.specs.Image.{Nodes, Chip, theRoot}
 use Rattle.model.specs.Tree.{under, mapOf, next, chosen, find, sought}
 use Rattle.model.specs.Next.{taken}
-use Rattle.model.specs.Edit.{put, pathHalf, sideHalf, two, named, pathPart, gains, splits}
+use Rattle.model.specs.Edit.{put, putIn, pathHalf, sideHalf, two, named, pathPart, gains, splits}
 use Rattle.model.specs.Update.{isNone, rootNode, rootGains, fills, needs, tooHigh, insertList, crownPart, insertPart, crownHeight, sidePage}
 use Rattle.counts.specs.Tally.{bit-most}
 use Rattle.trees.specs.Tests.{by-eq, by-test, true-false}
@@ -74,7 +74,7 @@ module _ (g : Geometry) (shape : Shape g) (n k a : ℕ) (k-low : k < 4294967296)
   roomAt l = 2 * half g l
 
   abbrev rootList : List Entry
-  rootList = atRoot (put k a) (inserted r k a N side (half g) (c .level)) k (c .level) es
+  rootList = atRoot (putIn k a) (inserted r k a N side (half g) (c .level)) k (c .level) es
 
   some-root : 1 ≤ c .level → 0 < length es
   some-root i = let z = good .sound .rooted .least i in omega (arith, z)
@@ -84,8 +84,8 @@ module _ (g : Geometry) (shape : Shape g) (n k a : ℕ) (k-low : k < 4294967296)
 
   root-list : lists (suc (c .level)) ≡ rootList
   unfolding insertList
-  root-list = onPath-top fit roomAt r k (put k a) (λ e. put k a (e ∷ [])) (named k N side (half g)) (put-as k a) (c .level) (theRoot c)
-      ∙ root-is fit roomAt r k (put k a) (λ e. put k a (e ∷ [])) (named k N side (half g)) (put-as k a) (c .level) 4294967296 (c .root) k-low some-root
+  root-list = onPath-top fit roomAt r k (putIn k a) (λ e. put k a (e ∷ [])) (named k N side (half g)) (put-as k a) (c .level) (theRoot c)
+      ∙ root-is fit roomAt r k (putIn k a) (λ e. put k a (e ∷ [])) (named k N side (half g)) (put-as k a) (c .level) 4294967296 (c .root) k-low some-root
       (good .sound .rooted .rises)
 
   pub root-length : length (lists (suc (c .level))) ≡ length es + bit gained
@@ -177,7 +177,7 @@ module _ (g : Geometry) (shape : Shape g) (n k a : ℕ) (k-low : k < 4294967296)
 
     made : InsertMade r s k a N side (half g) fit′ Cut (c .level) (chosen k es)
     unfolding insertPart sideList insertList
-    made = made-from fit roomAt r k (put k a) (λ e. put k a (e ∷ [])) (named k N side (half g)) (put-as k a)
+    made = made-from fit roomAt r k (putIn k a) (λ e. put k a (e ∷ [])) (named k N side (half g)) (put-as k a)
         (λ j d. (s N j ≡ pathPart k (half g) j d) × (roomAt j < length d → (s (side j) j ≡ sideHalf k (half g j) d) × fit′ j (side j) × Cut j))
         (c .level) 4294967296 (theRoot c) k-low some-root (good .sound .rooted .rises)
         (λ j b d. at j b d _ refl)

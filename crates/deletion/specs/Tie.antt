@@ -16,7 +16,7 @@ use Rattle.model.specs.Image.{Chip, Nodes}
 use Rattle.model.specs.Next.{nth, nextPage, taken}
 use Rattle.model.specs.Page.{built, sealed, only}
 use Rattle.model.specs.Stores.{Store, program}
-use Rattle.model.specs.Edit.{remove, kept, edited, onPath, collapse}
+use Rattle.model.specs.Edit.{removeIn, kept, edited, onPath, collapse}
 use Rattle.model.specs.Update.{deleteList, deleteTop, deletePart, deleteStore, sidePage}
 use Rattle.page.specs.Page.{blanks, laidLevel, laid, bare}
 use Rattle.page.specs.Levels.{laid-more, laid-agree, page-is}

@@ -9,7 +9,7 @@ use Rattle.geometry.specs.declared.Geometry.{Geometry}
 use Rattle.geometry.specs.declared.Entry.{Entry}
 use Rattle.model.specs.Bytes.{nodeAt}
 use Rattle.model.specs.Image.{Nodes}
-use Rattle.model.specs.Tree.{chosen, leaf, find, sought}
+use Rattle.model.specs.Tree.{chosen, leaf, findIn, sought}
 use Rattle.chip.specs.Chip.{named, chipWith}
 use Rattle.search.specs.declared.Found.{Found}
 use Rattle.search.specs.Search.{found}
@@ -37,7 +37,7 @@ leaf-end g img w k l p inv h =
     sym (inv ∙ rw z refl)
 
 pub sought-is : (g : Geometry) (img : List ℕ) (l p k q : ℕ) (r : Found) → nodeAt g img q 1 ≡ leaf (nodeAt g img) k l (named p)
-    → found r ≡ find k (nodeAt g img q 1) → found r ≡ sought (chipWith g img l p) k
-sought-is g img l p k q r e er = er ∙ ap (λ (es : List Entry). find k es) e
+    → found r ≡ findIn k (nodeAt g img q 1) → found r ≡ sought (chipWith g img l p) k
+sought-is g img l p k q r e er = er ∙ ap (λ (es : List Entry). findIn k es) e
 
 pub ruleset descent-laws = (leaf-go, leaf-end, sought-is)

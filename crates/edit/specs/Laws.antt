@@ -9,7 +9,7 @@ use Rattle.geometry.specs.declared.Geometry.{Geometry}
 use Rattle.geometry.specs.declared.Entry.{Entry}
 use Rattle.model.specs.Bytes.{nodeAt}
 use Rattle.model.specs.Tree.{chosen}
-use Rattle.model.specs.Edit.{put, remove, edited, onPath}
+use Rattle.model.specs.Edit.{putIn, removeIn, edited, onPath}
 use Rattle.model.specs.Stores.{Store, applyAll}
 use Rattle.node.specs.declared.Node.{Node}
 use Rattle.node.specs.Node.{entries, carried, replaceBy}
@@ -31,11 +31,11 @@ use Rattle.edit.specs.Edit.{changed, pathOf, partsOf, sidesUp, Rejoined,
 use Rattle.edit.specs.Paths.{path-top, path-below}
 
 -- ---- the leaf
-pub leaf-put : (w : Change) (k a : ℕ) (m : Node) (es : List Entry) → entries m ≡ put k a es → w ≡ Put a → entries m ≡ leafOf w k es
+pub leaf-put : (w : Change) (k a : ℕ) (m : Node) (es : List Entry) → entries m ≡ putIn k a es → w ≡ Put a → entries m ≡ leafOf w k es
 unfolding leafOf
 leaf-put w k a m es em q = em ∙ rw q
 
-pub leaf-remove : (w : Change) (k : ℕ) (m : Node) (es : List Entry) → entries m ≡ remove k es → w ≡ Remove → entries m ≡ leafOf w k es
+pub leaf-remove : (w : Change) (k : ℕ) (m : Node) (es : List Entry) → entries m ≡ removeIn k es → w ≡ Remove → entries m ≡ leafOf w k es
 unfolding leafOf
 leaf-remove w k m es em q = em ∙ rw q
 

@@ -16,7 +16,7 @@ use Rattle.model.specs.Image.{Chip}
 use Rattle.model.specs.Next.{nth}
 use Rattle.model.specs.Page.{built}
 use Rattle.model.specs.Stores.{Store, program}
-use Rattle.model.specs.Edit.{put, named, pathPart, edited, onPath}
+use Rattle.model.specs.Edit.{putIn, named, pathPart, edited, onPath}
 use Rattle.model.specs.Update.{insertList, crownPart, crownStore, crownHeight, insertPart, sideStore, splitStore, sideStores, sidePage, ownStores}
 use Rattle.stores.specs.declared.Budget.{Budget}
 use Rattle.stores.specs.Run.{Ran}
@@ -78,7 +78,7 @@ module _ (g : Geometry) (n : ℕ) (i : List ℕ) (seq l p m k a : ℕ) (j : Job)
   list-is x =
       ap (λ (y : ℕ). onPath (nodeAt g i) y (leafOf (j .change) y) (nameOf g (j .change) j) l (rootAt p) x) (pj .key)
       ∙ ap (λ (v : Change). onPath (nodeAt g i) k (leafOf v k) (nameOf g (j .change) j) l (rootAt p) x) (pj .change)
-      ∙ path-agree (nodeAt g i) k (put k a) (nameOf g (j .change) j) (named k (side g n i l p m) (side g n i l p) (half g)) l (rootAt p) x name-is
+      ∙ path-agree (nodeAt g i) k (putIn k a) (nameOf g (j .change) j) (named k (side g n i l p m) (side g n i l p) (half g)) l (rootAt p) x name-is
 
   top-is : changed g j i l (rootAt p) ≡ lists g n i l p m k a (suc l)
   unfolding changed pathOf

@@ -1,30 +1,27 @@
 -- Laws of nodes read by value, in the form in which the code has the premises. Assumes nothing.
 use Prim.Native.Nat.{ℕ, zero, suc, _+_, _-_, _*_, _<_, _≤_}
-use mathlib.Core.Bool.{Bool, true, false, false≢true}
-use mathlib.Core.Path.{_≡_, refl, sym, ap, _∙_}
-use mathlib.Core.List.{List, [], _∷_, _++_}
-use lib.Dec.{eqb, ltb, leb}
-use lib.ListN.{length, getD, set}
+use mathlib.Core.Bool.{Bool, true, false}
+use mathlib.Core.Path.{_≡_, refl, sym, _∙_}
+use mathlib.Core.List.{List, [], _∷_}
+use lib.ListN.{length, set}
 use native.Mathlib.Omega.{arith}
-use borrow.Author.Tests.{lt-ltb, le-ltb, eq-eqb, ne-eqb, ltb-true, eqb-true}
 use Rattle.geometry.specs.declared.Geometry.{Geometry}
 use Rattle.geometry.specs.declared.Entry.{Entry}
-use Rattle.geometry.specs.Tests.{pick}
-use Rattle.model.specs.Bytes.{u32At, entriesAt, nodePlace, nodeCount, nodeAt}
+use Rattle.model.specs.Bytes.{entriesAt, nodePlace, nodeCount, nodeAt}
 use Rattle.model.specs.Stores.{written}
-use Rattle.model.specs.Tree.{chosen}
-use Rattle.model.specs.Edit.{put, remove}
+use Rattle.model.specs.Tree.{halve, place, chosen}
+use Rattle.model.specs.Halving.{place-is}
+use Rattle.model.specs.Edit.{putIn, removeIn}
 use Rattle.chip.specs.Chip.{entryAt}
-use Rattle.chip.specs.Node.{node-is, node-read, entries-length, entries-none, entries-start, entries-turn, entries-past, entries-at, key-is}
-use Rattle.search.specs.Search.{index, ahead}
-use Rattle.search.specs.Places.{chosen-read}
+use Rattle.chip.specs.Node.{node-read, entries-length, entries-none}
+use Rattle.search.specs.Search.{ahead, holds}
+use Rattle.search.specs.Places.{held, chosen-read}
 use Rattle.lists.specs.Written.{written-none, filled-more}
 use Rattle.lists.specs.Places.{tab, insertAt, removeAt, take-written, length-mapped}
 use Rattle.node.specs.declared.Node.{Node}
 use Rattle.node.specs.Node.{entries}
 use Rattle.node.specs.Laws.{no-entry}
-use Rattle.load.specs.declared.Taken.{Taken}
-use Rattle.load.specs.Load.{place, stands, Takes}
+use Rattle.load.specs.Load.{Takes}
 use Rattle.load.specs.Places.{put-over, put-in, remove-in, remove-out}
 
 -- ---- load
@@ -67,7 +64,7 @@ pub load-is : (g : Geometry) (img : List ℕ) (p l at n : ℕ) (m : Node) → en
 load-is g img p l at n m em ea en = em ∙ node-read g img p l at n ea en
 
 -- ---- the way down
-pub takes : (g : Geometry) (img : List ℕ) (p l k at n i : ℕ) (m : Node) (x : Entry) → at ≡ nodePlace g p l → n ≡ nodeCount g img p l → i ≡ index k (entriesAt img at n)
+pub takes : (g : Geometry) (img : List ℕ) (p l k at n i : ℕ) (m : Node) (x : Entry) → at ≡ nodePlace g p l → n ≡ nodeCount g img p l → i ≡ place k (entriesAt img at n)
     → x ≡ entryAt img (at + 8 * i) → entries m ≡ entriesAt img at n → m .count ≡ n → i ≤ n - 1 → n < 256 → (n ≡ 0 → ⊥)
     → Takes (nodeAt g img p l) k (record { node = m; at = i; entry = x })
 takes g img p l k at n i m x ea en ei ex em cm h few some =
@@ -83,7 +80,7 @@ takes g img p l k at n i m x ea en ei ex em cm h few some =
 pub takes-none : (g : Geometry) (img : List ℕ) (p l k at n : ℕ) (m : Node) → at ≡ nodePlace g p l → n ≡ nodeCount g img p l
     → entries m ≡ entriesAt img at n → m .count ≡ n → n ≡ 0
     → Takes (nodeAt g img p l) k (record { node = m; at = 0; entry = record { key = 0; addr = 0 } })
-unfolding index
+unfolding place chosen halve
 takes-none g img p l k at n m ea en em cm z =
     let q : entriesAt img at n ≡ nodeAt g img p l = node-read g img p l at n ea en in
     let w : nodeAt g img p l ≡ [] = sym q ∙ entries-none img at n z in
@@ -95,72 +92,40 @@ takes-none g img p l k at n m ea en em cm z =
       few = omega arith;
     }
 
--- ---- put
-pub stands-not : (img : List ℕ) (at n i k : ℕ) → n ≤ i → false ≡ stands img at n i k
-unfolding stands
-stands-not img at n i k h = rw (le-ltb _ _ h)
+-- ---- put and remove, by where the key stands
+module _ (img : List ℕ) (at n k i : ℕ) (m : Node) (b : Bool) (ei : i ≡ ahead k (entriesAt img at n)) (em : entries m ≡ entriesAt img at n)
+    (eb : b ≡ holds k (entriesAt img at n)) where
+  abbrev es : List Entry
+  es = entriesAt img at n
 
-pub stands-is : (img : List ℕ) (at n i k b : ℕ) → b ≡ u32At img (at + 8 * i) → i < n → eqb b k ≡ stands img at n i k
-unfolding stands
-stands-is img at n i k b e h = rw (lt-ltb _ _ h, e)
+  pub stands-inside : m .count ≡ n → b ≡ true → i < m .count
+  stands-inside c q =
+      let w = held k es (sym eb ∙ q) in
+      let less = place-is k es (w .0) .inside in
+      rw (c, ei, w .2) (rw entries-length at less)
 
-stands-true : (img : List ℕ) (at n i k : ℕ) → stands img at n i k ≡ true → (i < n) × (u32At img (at + 8 * i) ≡ k)
-unfolding stands
-stands-true img at n i k e = go (ltb i n) refl e
-  where
-    go : (t : Bool) → ltb i n ≡ t → pick t (eqb (u32At img (at + 8 * i)) k) false ≡ true → (i < n) × (u32At img (at + 8 * i) ≡ k)
-    go true p q = (ltb-true _ _ p, eqb-true _ _ q)
-    go false p q = absurd (false≢true q)
+  pub put-found : (a : ℕ) (r : Node) → entries r ≡ set (entries m) i (record { key = k; addr = a }) → b ≡ true → entries r ≡ putIn k a es
+  put-found a r f q =
+      let w = sym eb ∙ q in
+      f ∙ rw (em, ei) (sym (put-over k es (held k es w .0) a w))
 
-key-get : (img : List ℕ) (at n i : ℕ) → i < n → getD (entriesAt img at n) i no-entry .key ≡ u32At img (at + 8 * i)
-key-get img at n i h = ap (λ (x : Entry). x .key) (entries-at img at n i h) ∙ key-is img (at + 8 * i)
+  pub put-new : (a : ℕ) (r : Node) → entries r ≡ insertAt i (record { key = k; addr = a }) (entries m) → b ≡ false → entries r ≡ putIn k a es
+  put-new a r f q = f ∙ rw (em, ei) (sym (put-in k a es (sym eb ∙ q)))
 
-module _ (img : List ℕ) (at n k a i : ℕ) (m r : Node) (b : Bool) (ei : i ≡ ahead k (entriesAt img at n)) (em : entries m ≡ entriesAt img at n) (eb : b ≡ stands img at n i k) where
-  pub put-found : entries r ≡ set (entries m) i (record { key = k; addr = a }) → b ≡ true → entries r ≡ put k a (entriesAt img at n)
-  put-found f q =
-      let s = stands-true img at n i k (sym eb ∙ q) in
-      f ∙ rw (em, ei) (sym (put-over k a (entriesAt img at n) (rw (← ei, entries-length) (s .0)) (rw (← ei) (key-get img at n i (s .0) ∙ s .1))))
+  pub removed-one : (r : Node) → entries r ≡ removeAt i (entries m) → b ≡ true → entries r ≡ removeIn k es
+  removed-one r f q =
+      let w = sym eb ∙ q in
+      f ∙ rw (em, ei) (sym (remove-in k es (held k es w .0) w))
 
-  pub put-new : entries r ≡ insertAt i (record { key = k; addr = a }) (entries m) → b ≡ false → entries r ≡ put k a (entriesAt img at n)
-  unfolding stands
-  put-new f q =
-      f ∙ rw (em, ei) (sym (put-in k a (entriesAt img at n) (rw (← ei, entries-length) (λ h g. false≢true (sym q ∙ eb ∙ simp (lt-ltb _ _ h, eq-eqb _ _ (sym (key-get img at n i h) ∙ g)))))))
+  pub removed-none : b ≡ false → entries m ≡ removeIn k es
+  removed-none q = em ∙ sym (remove-out k es (sym eb ∙ q))
 
-pub put-is : (g : Geometry) (img : List ℕ) (p l k a at n : ℕ) (m : Node) → entries m ≡ put k a (entriesAt img at n) → at ≡ nodePlace g p l → n ≡ nodeCount g img p l
-    → entries m ≡ put k a (nodeAt g img p l)
+pub put-is : (g : Geometry) (img : List ℕ) (p l k a at n : ℕ) (m : Node) → entries m ≡ putIn k a (entriesAt img at n) → at ≡ nodePlace g p l → n ≡ nodeCount g img p l
+    → entries m ≡ putIn k a (nodeAt g img p l)
 put-is g img p l k a at n m em ea en = em ∙ rw (node-read g img p l at n ea en)
 
--- ---- remove
-module _ (img : List ℕ) (at n k : ℕ) where
-  pub place-start : place k (entriesAt img at n) ≡ 0 + place k (entriesAt img (at + 8 * 0) (n - 0))
-  place-start = rw (← (entries-start img at n)) (omega arith)
-
-  module _ (i : ℕ) (inv : place k (entriesAt img at n) ≡ i + place k (entriesAt img (at + 8 * i) (n - i))) where
-    place-turn : i < n → place k (entriesAt img at n)
-        ≡ i + pick (eqb (u32At img (at + 8 * i)) k) 0 (suc (place k (entriesAt img (at + 8 * (i + 1)) (n - (i + 1)))))
-    unfolding place
-    place-turn h = inv ∙ rw (entries-turn img at n i h, key-is)
-
-    pub place-stop : (b : ℕ) → b ≡ u32At img (at + 8 * i) → i < n → b ≡ k → i ≡ place k (entriesAt img at n)
-    place-stop b e h g = sym (place-turn h ∙ simp (← e, eq-eqb _ _ g) (omega arith))
-
-    pub place-go : (b : ℕ) → b ≡ u32At img (at + 8 * i) → i < n → (b ≡ k → ⊥)
-        → place k (entriesAt img at n) ≡ i + 1 + place k (entriesAt img (at + 8 * (i + 1)) (n - (i + 1)))
-    place-go b e h g = place-turn h ∙ simp (← e, ne-eqb _ _ g) (omega arith)
-
-    pub place-end : n ≤ i → i ≡ place k (entriesAt img at n)
-    unfolding place
-    place-end h = sym (inv ∙ rw (entries-past img at n i h) (omega arith))
-
-pub removed-none : (img : List ℕ) (at n k i : ℕ) (m : Node) → entries m ≡ entriesAt img at n → i ≡ place k (entriesAt img at n) → n ≤ i → entries m ≡ remove k (entriesAt img at n)
-removed-none img at n k i m em ei h = em ∙ sym (remove-out k (entriesAt img at n) (rw (← ei, entries-length) h))
-
-pub removed-one : (img : List ℕ) (at n k i : ℕ) (m r : Node) → entries r ≡ removeAt i (entries m) → entries m ≡ entriesAt img at n → i ≡ place k (entriesAt img at n) → i < n
-    → entries r ≡ remove k (entriesAt img at n)
-removed-one img at n k i m r er em ei h = er ∙ rw (em, ei) (sym (remove-in k (entriesAt img at n) (rw (← ei, entries-length) h)))
-
-pub remove-is : (g : Geometry) (img : List ℕ) (p l k at n : ℕ) (m : Node) → entries m ≡ remove k (entriesAt img at n) → at ≡ nodePlace g p l → n ≡ nodeCount g img p l
-    → entries m ≡ remove k (nodeAt g img p l)
+pub remove-is : (g : Geometry) (img : List ℕ) (p l k at n : ℕ) (m : Node) → entries m ≡ removeIn k (entriesAt img at n) → at ≡ nodePlace g p l → n ≡ nodeCount g img p l
+    → entries m ≡ removeIn k (nodeAt g img p l)
 remove-is g img p l k at n m em ea en = em ∙ rw (node-read g img p l at n ea en)
 
-pub ruleset load-laws = (length-mapped, load-start, loaded, load-is, takes, takes-none, stands-not, stands-is, put-found, put-new, put-is, place-start, place-stop, place-go, place-end, removed-none, removed-one, remove-is)
+pub ruleset load-laws = (length-mapped, load-start, loaded, load-is, takes, takes-none, stands-inside, put-found, put-new, put-is, removed-one, removed-none, remove-is)

@@ -1,29 +1,16 @@
--- Places in a node, and what a node taken by value stands for. Definitions alone; assumes nothing.
-use mathlib.Core.Bool.{Bool, false}
+-- What a node taken by value stands for. Definitions alone; assumes nothing.
 use mathlib.Core.Path.{_≡_}
-use mathlib.Core.List.{List, [], _∷_}
-use Prim.Native.Nat.{ℕ, suc, _+_, _*_, _-_, _≤_}
-use lib.Dec.{ltb, eqb}
+use mathlib.Core.List.{List}
+use Prim.Native.Nat.{ℕ, suc, _-_, _≤_}
 use Rattle.geometry.specs.declared.Entry.{Entry}
-use Rattle.geometry.specs.Tests.{pick}
-use Rattle.model.specs.Bytes.{u32At}
-use Rattle.model.specs.Tree.{chosen}
-use Rattle.search.specs.Search.{index}
+use Rattle.model.specs.Tree.{place, chosen}
 use Rattle.node.specs.Node.{entries}
 use Rattle.load.specs.declared.Taken.{Taken}
 
--- the place of the first entry that has key k, else the length
-unfoldable pub place : ℕ → List Entry → ℕ
-place k [] = 0
-place k (e ∷ es) = pick (eqb (e .key) k) 0 (suc (place k es))
-
--- entry i of the n from byte `at` is there and has key k
-unfoldable pub stands : List ℕ → ℕ → ℕ → ℕ → ℕ → Bool
-stands img at n i k = pick (ltb i n) (eqb (u32At img (at + 8 * i)) k) false
-
+-- a node with the place and the entry that descent takes
 pub record Takes (es : List Entry) (k : ℕ) (r : Taken) : Type 0 where
   pub node : entries (r .node) ≡ es
-  pub at : r .at ≡ index k es
+  pub at : r .at ≡ place k es
   pub entry : r .entry ≡ chosen k es
   pub inside : r .at ≤ r .node .count - 1
   pub few : suc (r .node .count) ≤ 256

@@ -1,74 +1,96 @@
--- `splice`, `put` and `remove` by the place at which they change a node. Assumes nothing.
-use Prim.Native.Nat.{ℕ, zero, suc, _+_, _-_, _<_, _≤_}
-use mathlib.Core.Bool.{Bool, true, false}
+-- `splice`, `putIn` and `removeIn` by the place at which they change a node. Assumes nothing.
+use Prim.Native.Nat.{ℕ, suc, _+_, _-_, _<_, _≤_}
+use mathlib.Core.Bool.{Bool, true, false, false≢true}
 use mathlib.Core.Path.{_≡_, refl, sym, ap, _∙_}
-use mathlib.Core.List.{List, [], _∷_, _++_, append-nil}
-use lib.Dec.{eqb, ltb, leb}
-use lib.ListN.{take, drop, length, getD, set}
+use mathlib.Core.List.{List, [], _∷_, _++_}
+use lib.Dec.{ltb}
+use lib.ListN.{take, drop, length, set}
+use lib.Seq.{split-at, take-suc, drop-cons, append-snoc, set-split}
 use native.Mathlib.Omega.{arith}
 use native.Mathlib.Numerals.{add-one}
-use borrow.Author.Tests.{eq-eqb, ne-eqb}
+use borrow.Author.Tests.{lt-ltb, le-ltb, eq-eqb, ne-eqb, ltb-true, ltb-false}
 use Rattle.geometry.specs.declared.Entry.{Entry}
 use Rattle.geometry.specs.Tests.{pick}
-use Rattle.model.specs.Tree.{chosen}
-use Rattle.model.specs.Edit.{splice, put, remove}
-use Rattle.search.specs.Search.{index, ahead}
+use Rattle.model.specs.Tree.{entryOf, place, chosen}
+use Rattle.model.specs.Edit.{splice, put, putIn, remove, removeIn}
+use Rattle.model.specs.Halving.{place-is, swap-cut}
+use Rattle.search.specs.Search.{ahead, holds}
+use Rattle.search.specs.Places.{held}
 use Rattle.lists.specs.Places.{insertAt, removeAt}
 use Rattle.node.specs.Node.{replaceBy}
 use Rattle.node.specs.Laws.{no-entry}
-use Rattle.load.specs.Load.{place}
 
 -- splice is a replacement at the place that descent takes
-pub splice-is : (f : Entry → List Entry) (k : ℕ) (es : List Entry) → splice f k es ≡ replaceBy (index k es) (f (chosen k es)) es
-unfolding index replaceBy
+pub splice-is : (f : Entry → List Entry) (k : ℕ) (es : List Entry) → splice f k es ≡ replaceBy (place k es) (f (chosen k es)) es
+unfolding splice chosen replaceBy
 splice-is f k [] = refl
-splice-is f k (e ∷ []) = sym (append-nil (f e))
-splice-is f k (e ∷ x ∷ es) = go (leb (x .key) k) (splice-is f k (x ∷ es))
-  where
-    go : (t : Bool) → splice f k (x ∷ es) ≡ replaceBy (index k (x ∷ es)) (f (chosen k (x ∷ es))) (x ∷ es)
-        → pick t (e ∷ splice f k (x ∷ es)) (f e ++ (x ∷ es)) ≡ replaceBy (pick t (suc (index k (x ∷ es))) 0) (f (pick t (chosen k (x ∷ es)) e)) (e ∷ x ∷ es)
-    go true i = ap (λ (l : List Entry). e ∷ l) i
-    go false i = refl
+splice-is f k (e ∷ es) = swap-cut f (place k (e ∷ es)) (e ∷ es) (place-is k (e ∷ es) (omega arith) .inside)
 
-pub put-over : (k a : ℕ) (es : List Entry) → ahead k es < length es → getD es (ahead k es) no-entry .key ≡ k
-    → put k a es ≡ set es (ahead k es) (record { key = k; addr = a })
-unfolding ahead
-put-over k a [] h q = absurd (omega arith)
-put-over k a (e ∷ es) h q = go (ltb (e .key) k) (put-over k a es) h q
-  where
-    go : (t : Bool) → (ahead k es < length es → getD es (ahead k es) no-entry .key ≡ k → put k a es ≡ set es (ahead k es) (record { key = k; addr = a })) → pick t (suc (ahead k es)) 0 < length (e ∷ es) → getD (e ∷ es) (pick t (suc (ahead k es)) 0) no-entry .key ≡ k
-        → pick t (e ∷ put k a es) (record { key = k; addr = a } ∷ pick (eqb (e .key) k) es (e ∷ es))
-        ≡ set (e ∷ es) (pick t (suc (ahead k es)) 0) (record { key = k; addr = a })
-    go true i h q = ap (λ (l : List Entry). e ∷ l) (i (omega arith) q)
-    go false i h q = rw (eq-eqb _ _ q)
+-- put at one entry
+module _ (k a : ℕ) (x : Entry) where
+  one-below : x .key < k → put k a (x ∷ []) ≡ x ∷ record { key = k; addr = a } ∷ []
+  one-below h = rw (lt-ltb _ _ h)
 
-pub put-in : (k a : ℕ) (es : List Entry) → (ahead k es < length es → getD es (ahead k es) no-entry .key ≡ k → ⊥)
-    → put k a es ≡ insertAt (ahead k es) (record { key = k; addr = a }) es
-unfolding ahead insertAt
+  one-same : x .key ≡ k → put k a (x ∷ []) ≡ record { key = k; addr = a } ∷ []
+  one-same h = rw (le-ltb (x .key) k (omega (arith, h)), eq-eqb _ _ h)
+
+  one-above : k ≤ x .key → (x .key ≡ k → ⊥) → put k a (x ∷ []) ≡ record { key = k; addr = a } ∷ x ∷ []
+  one-above h g = rw (le-ltb (x .key) k h, ne-eqb _ _ g)
+
+module _ (k : ℕ) (es : List Entry) (n : 0 < length es) where
+  -- the node, cut at the place
+  cut : es ≡ take (place k es) es ++ (chosen k es ∷ drop (suc (place k es)) es)
+  unfolding chosen
+  cut = split-at es (place k es) no-entry (place-is k es n .inside)
+
+  pub remove-in : holds k es ≡ true → removeIn k es ≡ removeAt (ahead k es) es
+  unfolding removeIn splice chosen removeAt
+  remove-in q =
+      let w = held k es q in
+      swap-cut (λ x. remove k (x ∷ [])) (place k es) es (place-is k es n .inside) ∙ rw (w .2, eq-eqb _ _ (w .1), add-one)
+
+  remove-other : (chosen k es .key ≡ k → ⊥) → removeIn k es ≡ es
+  unfolding removeIn splice chosen
+  remove-other q = swap-cut (λ x. remove k (x ∷ [])) (place k es) es (place-is k es n .inside) ∙ rw (ne-eqb _ _ q) (sym cut)
+
+  module _ (a : ℕ) where
+    put-at : putIn k a es ≡ take (place k es) es ++ (put k a (chosen k es ∷ []) ++ drop (suc (place k es)) es)
+    unfolding putIn splice chosen
+    put-at = go es n
+      where
+        go : (l : List Entry) → 0 < length l → putIn k a l ≡ take (place k l) l ++ (put k a (entryOf l (place k l) ∷ []) ++ drop (suc (place k l)) l)
+        go [] m = absurd (omega arith)
+        go (e ∷ l) m = swap-cut (λ x. put k a (x ∷ [])) (place k (e ∷ l)) (e ∷ l) (place-is k (e ∷ l) m .inside)
+
+    put-by : (l : List Entry) → put k a (chosen k es ∷ []) ≡ l → putIn k a es ≡ take (place k es) es ++ (l ++ drop (suc (place k es)) es)
+    put-by l e = put-at ∙ ap (λ (m : List Entry). take (place k es) es ++ (m ++ drop (suc (place k es)) es)) e
+
+    abbrev new : Entry
+    new = record { key = k; addr = a }
+
+    pub put-over : holds k es ≡ true → putIn k a es ≡ set es (ahead k es) new
+    put-over q =
+        let w = held k es q in
+        put-by (new ∷ []) (one-same k a (chosen k es) (w .1)) ∙ rw (w .2) (sym (set-split es (place k es) new (place-is k es n .inside)))
+
+    into : (t : Bool) → ltb (chosen k es .key) k ≡ t → (chosen k es .key ≡ k → ⊥)
+        → putIn k a es ≡ insertAt (pick t (suc (place k es)) (place k es)) new es
+    unfolding chosen insertAt
+    into true e q =
+        put-by (chosen k es ∷ new ∷ []) (one-below k a (chosen k es) (ltb-true _ _ e))
+        ∙ sym (rw (take-suc es (place k es) no-entry (place-is k es n .inside)) (append-snoc (take (place k es) es) (chosen k es)
+        (new ∷ drop (suc (place k es)) es)))
+    into false e q =
+        put-by (new ∷ chosen k es ∷ []) (one-above k a (chosen k es) (ltb-false _ _ e) q)
+        ∙ ap (λ (l : List Entry). take (place k es) es ++ (new ∷ l)) (sym (drop-cons es (place k es) no-entry (place-is k es n .inside)))
+
+pub put-in : (k a : ℕ) (es : List Entry) → holds k es ≡ false → putIn k a es ≡ insertAt (ahead k es) (record { key = k; addr = a }) es
+unfolding putIn ahead holds insertAt
 put-in k a [] q = refl
-put-in k a (e ∷ es) q = go (ltb (e .key) k) (put-in k a es) q
-  where
-    go : (t : Bool) → ((ahead k es < length es → getD es (ahead k es) no-entry .key ≡ k → ⊥) → put k a es ≡ insertAt (ahead k es) (record { key = k; addr = a }) es) → (pick t (suc (ahead k es)) 0 < length (e ∷ es) → getD (e ∷ es) (pick t (suc (ahead k es)) 0) no-entry .key ≡ k → ⊥)
-        → pick t (e ∷ put k a es) (record { key = k; addr = a } ∷ pick (eqb (e .key) k) es (e ∷ es))
-        ≡ insertAt (pick t (suc (ahead k es)) 0) (record { key = k; addr = a }) (e ∷ es)
-    go true i q = ap (λ (l : List Entry). e ∷ l) (i (λ h. q (omega arith)))
-    go false i q = rw (ne-eqb _ _ (q (omega arith)))
+put-in k a (e ∷ es) q =
+    into k (e ∷ es) (omega arith) a (ltb (chosen k (e ∷ es) .key) k) refl (λ z. false≢true (sym q ∙ eq-eqb _ _ z))
 
-pub remove-in : (k : ℕ) (es : List Entry) → place k es < length es → remove k es ≡ removeAt (place k es) es
-unfolding place removeAt
-remove-in k [] h = absurd (omega arith)
-remove-in k (e ∷ es) h = go (eqb (e .key) k) (remove-in k es) h
-  where
-    go : (t : Bool) → (place k es < length es → remove k es ≡ take (place k es) es ++ drop (place k es + 1) es) → pick t 0 (suc (place k es)) < length (e ∷ es)
-        → pick t es (e ∷ remove k es) ≡ take (pick t 0 (suc (place k es))) (e ∷ es) ++ drop (pick t 0 (suc (place k es)) + 1) (e ∷ es)
-    go true i h = refl
-    go false i h = let q : suc (place k es) + 1 ≡ suc (place k es + 1) = omega arith in rw q (ap (λ (l : List Entry). e ∷ l) (i (omega arith)))
-
-pub remove-out : (k : ℕ) (es : List Entry) → length es ≤ place k es → remove k es ≡ es
-unfolding place
-remove-out k [] h = refl
-remove-out k (e ∷ es) h = go (eqb (e .key) k) (remove-out k es) h
-  where
-    go : (t : Bool) → (length es ≤ place k es → remove k es ≡ es) → length (e ∷ es) ≤ pick t 0 (suc (place k es)) → pick t es (e ∷ remove k es) ≡ e ∷ es
-    go true i h = absurd (omega arith)
-    go false i h = ap (λ (l : List Entry). e ∷ l) (i (omega arith))
+pub remove-out : (k : ℕ) (es : List Entry) → holds k es ≡ false → removeIn k es ≡ es
+unfolding removeIn splice holds
+remove-out k [] q = refl
+remove-out k (e ∷ es) q = remove-other k (e ∷ es) (omega arith) (λ z. false≢true (sym q ∙ eq-eqb _ _ z))

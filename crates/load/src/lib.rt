@@ -2,9 +2,9 @@
 ghost use mathlib.Core.Path.{_≡_};
 ghost use Prim.Native.Nat.{ℕ, _+_, _*_, _-_, _≤_, _<_};
 ghost use Rattle.model.specs.Bytes.{entriesAt, nodeAt};
-ghost use Rattle.model.specs.Edit.{put, remove};
+ghost use Rattle.model.specs.Edit.{putIn, removeIn};
 ghost use Rattle.node.specs.Node.{entries};
-ghost use Rattle.load.specs.Load.{place, stands, Takes};
+ghost use Rattle.load.specs.Load.{Takes};
 use geometry::Entry;
 use geometry::Geometry;
 use node::Node;
@@ -63,74 +63,48 @@ pub fn take_node(g: Geometry, img: &[u8], page: u32, level: u32, key: u32) -> Ta
     }
 }
 
-// Whether entry i of the n from byte `at` has a key.
-fn stands_at(img: &[u8], at: usize, n: usize, i: usize, key: u32) -> bool
-    requires { ⌜ at + 8 * n < 1152921504606846976 ⌝ }
-    ensures { λ r. ⌜ r ≡ stands (now (img .entry)) at n i key ⌝ }
-{
-    if n <= i {
-        return false;
-    }
-    chip::read_u32(img, at + 8 * i) == key
-}
-
 // The n entries from byte `at` with a key at an address.
 fn put_entries(img: &[u8], at: usize, n: usize, key: u32, addr: u32) -> Node
     requires { ⌜ (n < 256) × (at + 8 * n < 1152921504606846976) ⌝ }
-    ensures { λ r. ⌜ (entries r ≡ put key addr (entriesAt (now (img .entry)) at n)) × (r .count ≤ n + 1) ⌝ }
+    ensures { λ r. ⌜ (entries r ≡ putIn key addr (entriesAt (now (img .entry)) at n)) × (r .count ≤ n + 1) ⌝ }
 {
-    let i = search::keys_ahead(img, at, n, key);
+    let stand = search::stand_of(img, at, n, key);
     let m = load(img, at, n);
     let x = Entry {
         key: key,
         addr: addr,
     };
-    if stands_at(img, at, n, i, key) {
-        return node::replace_at(m, i, x);
+    if stand.here {
+        return node::replace_at(m, stand.at, x);
     }
-    node::insert_at(m, i, x)
+    node::insert_at(m, stand.at, x)
 }
 
 // A leaf with a key put in.
 pub fn put_leaf(g: Geometry, img: &[u8], page: u32, key: u32, addr: u32) -> Node
-    ensures { λ r. ⌜ (entries r ≡ put key addr (nodeAt g (now (img .entry)) page 1)) × (r .count ≤ 256) ⌝ }
+    ensures { λ r. ⌜ (entries r ≡ putIn key addr (nodeAt g (now (img .entry)) page 1)) × (r .count ≤ 256) ⌝ }
 {
     let at = chip::node_place(g, page, 1);
     let n = chip::node_count(g, img, page, 1);
     put_entries(img, at, n, key, addr)
 }
 
-// The place of the first of the n entries from byte `at` that has a key, else n.
-fn place_of(img: &[u8], at: usize, n: usize, key: u32) -> usize
-    requires { ⌜ at + 8 * n < 1152921504606846976 ⌝ }
-    ensures { λ r. ⌜ (r ≡ place key (entriesAt (now (img .entry)) at n)) × (r ≤ n) ⌝ }
-{
-    let mut i: usize = 0;
-    while i < n {
-        if chip::read_u32(img, at + 8 * i) == key {
-            return i;
-        }
-        i += 1;
-    }
-    i
-}
-
 // The n entries from byte `at` without a key.
 fn remove_entry(img: &[u8], at: usize, n: usize, key: u32) -> Node
     requires { ⌜ (n < 256) × (at + 8 * n < 1152921504606846976) ⌝ }
-    ensures { λ r. ⌜ (entries r ≡ remove key (entriesAt (now (img .entry)) at n)) × (r .count ≤ 256) ⌝ }
+    ensures { λ r. ⌜ (entries r ≡ removeIn key (entriesAt (now (img .entry)) at n)) × (r .count ≤ 256) ⌝ }
 {
-    let i = place_of(img, at, n, key);
+    let stand = search::stand_of(img, at, n, key);
     let m = load(img, at, n);
-    if n <= i {
-        return m;
+    if stand.here {
+        return node::remove_at(m, stand.at);
     }
-    node::remove_at(m, i)
+    m
 }
 
 // A leaf with a key taken out.
 pub fn remove_leaf(g: Geometry, img: &[u8], page: u32, key: u32) -> Node
-    ensures { λ r. ⌜ (entries r ≡ remove key (nodeAt g (now (img .entry)) page 1)) × (r .count ≤ 256) ⌝ }
+    ensures { λ r. ⌜ (entries r ≡ removeIn key (nodeAt g (now (img .entry)) page 1)) × (r .count ≤ 256) ⌝ }
 {
     let at = chip::node_place(g, page, 1);
     let n = chip::node_count(g, img, page, 1);

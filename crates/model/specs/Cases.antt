@@ -9,7 +9,7 @@ use Rattle.geometry.specs.declared.Entry.{Entry}
 use Rattle.geometry.specs.Geometry.{small, firstSlot, slotsOf, half, rootSlots}
 use Rattle.geometry.specs.Tests.{_&_, bit}
 use Rattle.model.specs.Image.{Chip, theRoot}
-use Rattle.model.specs.Tree.{chosen, leaf, find, sought}
+use Rattle.model.specs.Tree.{halve, place, chosen, leaf, find, findIn, sought}
 use Rattle.model.specs.Edit.{put, pathHalf, sideHalf, gains}
 use Rattle.model.specs.Update.{rootGains, tooHigh}
 use Rattle.model.specs.Calls.{roomless}
@@ -60,5 +60,5 @@ cases =
     ∷ []
 
 pub cases-hold : map (λ (c : Case). c .given) cases ≡ map (λ (c : Case). c .wanted) cases
-unfolding firstSlot slotsOf rootSlots roomless tooHigh rootGains gains leaf find _&_
+unfolding firstSlot slotsOf rootSlots roomless tooHigh rootGains gains leaf find findIn halve place chosen _&_
 cases-hold = refl

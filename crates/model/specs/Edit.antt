@@ -8,13 +8,17 @@ use lib.ListN.{length, take, drop}
 use Rattle.geometry.specs.declared.Entry.{Entry}
 use Rattle.geometry.specs.Tests.{pick, bit, _&_}
 use Rattle.model.specs.Image.{Nodes}
-use Rattle.model.specs.Tree.{next, chosen}
+use Rattle.model.specs.Tree.{next, place, chosen}
+
+-- entry i gives way to the list f makes of it
+abbrev pub swap : (Entry → List Entry) → ℕ → List Entry → List Entry
+swap f i [] = []
+swap f zero (e ∷ es) = f e ++ es
+swap f (suc i) (e ∷ es) = e ∷ swap f i es
 
 -- the entry that descent with K takes gives way to the list f makes of it
-abbrev pub splice : (Entry → List Entry) → ℕ → List Entry → List Entry
-splice f k [] = []
-splice f k (e ∷ []) = f e
-splice f k (e ∷ x ∷ es) = pick (leb (x .key) k) (e ∷ splice f k (x ∷ es)) (f e ++ (x ∷ es))
+unfoldable pub splice : (Entry → List Entry) → ℕ → List Entry → List Entry
+splice f k es = swap f (place k es) es
 
 -- the edited node at level suc l that e names: a leaf by `leaf`; above, the chosen entry x gives way to what `name` says
 -- of x and of the edited node below
@@ -29,10 +33,15 @@ onPath r k leaf name (suc l) e j =
     pick (eqb j (suc (suc l))) (edited r k leaf name (suc l) e) (onPath r k leaf name l (chosen k (r (e .addr) (suc (suc l)))) j)
 
 -- ---- insert
--- "If K is present its address is replaced. If absent, .. K enters the leaf"
+-- a sorted list with K: "If K is present its address is replaced. If absent, .. K enters the leaf"
 abbrev pub put : ℕ → ℕ → List Entry → List Entry
 put k a [] = record { key = k; addr = a } ∷ []
 put k a (e ∷ es) = pick (ltb (e .key) k) (e ∷ put k a es) (record { key = k; addr = a } ∷ pick (eqb (e .key) k) es (e ∷ es))
+
+-- a leaf with K: put at the entry that descent takes
+unfoldable pub putIn : ℕ → ℕ → List Entry → List Entry
+putIn k a [] = put k a []
+putIn k a (e ∷ es) = splice (λ x. put k a (x ∷ [])) k (e ∷ es)
 
 -- "of the c+1 entries in order the left half takes c/2 and the right the rest"; m is where the cut falls.
 -- "The path half is, in a leaf, the half that holds K, and above, the half that names page N": the right one exactly
@@ -74,10 +83,14 @@ splits r k half absent zero e = 0
 splits r k half absent (suc l) e = bit (gains r k half absent (suc l) e) + splits r k half absent l (chosen k (r (e .addr) (suc l)))
 
 -- ---- delete
--- "The entry leaves its leaf"
+-- a sorted list without K: "The entry leaves its leaf"
 abbrev pub remove : ℕ → List Entry → List Entry
 remove k [] = []
 remove k (e ∷ es) = pick (eqb (e .key) k) es (e ∷ remove k es)
+
+-- a leaf without K: taken out at the entry that descent takes
+unfoldable pub removeIn : ℕ → List Entry → List Entry
+removeIn k es = splice (λ x. remove k (x ∷ [])) k es
 
 -- "An emptied node .. vanishes with its entry above"; else the entry names N
 abbrev pub kept : ℕ → ℕ → Entry → List Entry → List Entry

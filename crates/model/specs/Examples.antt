@@ -10,10 +10,10 @@ use Rattle.geometry.specs.Tests.{_&_}
 use Rattle.model.specs.Bytes.{u32At, blank, erased, seqAt, heightAt, countAt, tailAt, entriesAt, nodePlace, nodeCount, nodeAt}
 use Rattle.model.specs.Count.{count, least}
 use Rattle.model.specs.Image.{Nodes, Chip, theRoot}
-use Rattle.model.specs.Tree.{gather, under, places, lowLevel, live, chosen}
+use Rattle.model.specs.Tree.{gather, under, places, lowLevel, live, halve, place, chosen}
 use Rattle.model.specs.Next.{nextBlock, nextPage, taken, nth}
 use Rattle.model.specs.Page.{putU32, putEntry, putEntries, putLevel, putLevels, sealed, built, only}
-use Rattle.model.specs.Edit.{splice, edited, onPath, put, pathHalf, sideHalf, two, named, pathPart, remove, kept, collapse, renamed, same}
+use Rattle.model.specs.Edit.{splice, edited, onPath, put, putIn, pathHalf, sideHalf, two, named, pathPart, removeIn, kept, collapse, renamed, same}
 
 -- n pairs from key b on, each with its key for an address
 abbrev run : ℕ → ℕ → List Entry
@@ -41,12 +41,12 @@ after-64 (suc p) (suc zero) = run 33 32
 after-64 (suc p) (suc (suc l)) = pair 1 0 ∷ pair 33 1 ∷ []
 
 -- key 65: page 2 takes 33 to 48, page 3 takes 49 to 65 and the root 1, 33, 49 naming 0, 2, 3
-key-65-root : edited after-64 65 (put 65 65) (named 65 3 (λ l. 2) (half small)) 1 (pair 0 1) ≡ pair 1 0 ∷ pair 33 2 ∷ pair 49 3 ∷ []
-unfolding edited slotsOf
+key-65-root : edited after-64 65 (putIn 65 65) (named 65 3 (λ l. 2) (half small)) 1 (pair 0 1) ≡ pair 1 0 ∷ pair 33 2 ∷ pair 49 3 ∷ []
+unfolding edited slotsOf splice chosen place halve putIn
 key-65-root = refl
 
-key-65-leaf : onPath after-64 65 (put 65 65) (named 65 3 (λ l. 2) (half small)) 1 (pair 0 1) 1 ≡ run 33 33
-unfolding onPath edited
+key-65-leaf : onPath after-64 65 (putIn 65 65) (named 65 3 (λ l. 2) (half small)) 1 (pair 0 1) 1 ≡ run 33 33
+unfolding onPath edited splice chosen place halve putIn
 key-65-leaf = refl
 
 key-65-halves : (pathPart 65 (half small) 1 (run 33 33) ≡ run 49 17) × (sideHalf 65 (half small 1) (run 33 33) ≡ run 33 16)
@@ -54,8 +54,8 @@ unfolding slotsOf
 key-65-halves = (refl, refl)
 
 -- a key below all enters the first leaf, which splits; the first key above is lowered to it
-lowering : edited after-64 0 (put 0 9) (named 0 3 (λ l. 2) (half small)) 1 (pair 0 1) ≡ pair 0 3 ∷ pair 16 2 ∷ pair 33 1 ∷ []
-unfolding edited slotsOf
+lowering : edited after-64 0 (putIn 0 9) (named 0 3 (λ l. 2) (half small)) 1 (pair 0 1) ≡ pair 0 3 ∷ pair 16 2 ∷ pair 33 1 ∷ []
+unfolding edited slotsOf splice chosen place halve putIn
 lowering = refl
 
 -- a root of two leaves with one pair each, on pages 4 and 5
@@ -64,13 +64,13 @@ thin zero l = pair 10 4 ∷ pair 20 5 ∷ []
 thin (suc p) l = pair (10 * (p - 2)) 7 ∷ []
 
 -- collapse: the leaf of 20 vanishes with its entry, and the other leaf becomes the root
-shrinks : collapse thin 1 (edited thin 20 (remove 20) (kept 6) 1 (pair 0 0)) ≡ record { level = 0; list = pair 10 7 ∷ [] }
-unfolding edited collapse
+shrinks : collapse thin 1 (edited thin 20 (removeIn 20) (kept 6) 1 (pair 0 0)) ≡ record { level = 0; list = pair 10 7 ∷ [] }
+unfolding edited collapse splice chosen place halve removeIn
 shrinks = refl
 
 -- a move renames the path's entry and keeps the rest
 moves : onPath after-64 33 same (renamed 1 9) 1 (pair 0 1) 2 ≡ pair 1 0 ∷ pair 33 9 ∷ []
-unfolding onPath edited
+unfolding onPath edited splice chosen place halve putIn
 moves = refl
 
 -- the live pages of the tree, and the lowest live level of its root's page

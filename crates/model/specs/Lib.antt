@@ -11,5 +11,6 @@ pub mod Edit
 pub mod Collect
 pub mod Update
 pub mod Calls
+pub mod Halving
 pub mod Cases
 pub mod Examples

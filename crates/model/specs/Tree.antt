@@ -1,9 +1,10 @@
 -- The tree from the root down: its map, its live pages, descent. Level 0 is the pair itself. Definitions alone; assumes nothing.
-use Prim.Native.Nat.{ℕ, zero, suc, _+_, min}
+use Prim.Native.Nat.{ℕ, zero, suc, _+_, _-_, _/_, min}
 use mathlib.Core.Bool.{Bool, true, false}
 use mathlib.Core.List.{List, [], _∷_, _++_}
 use mathlib.Core.Option.{Option, none, some}
-use lib.Dec.{eqb, leb}
+use lib.Dec.{eqb, ltb}
+use lib.ListN.{length, getD}
 use Rattle.geometry.specs.declared.Entry.{Entry}
 use Rattle.geometry.specs.Tests.{pick}
 use Rattle.model.specs.Count.{count}
@@ -56,21 +57,47 @@ abbrev pub next : List Entry → ℕ → ℕ
 next [] hi = hi
 next (e ∷ es) hi = e .key
 
+-- ---- search in a node, by halving
+-- entry i of a node; past the end the pair of zeros
+abbrev pub entryOf : List Entry → ℕ → Entry
+entryOf es i = getD es i (record { key = 0; addr = 0 })
+
+-- the entry halfway from lo to hi
+abbrev pub middle : ℕ → ℕ → ℕ
+middle lo hi = lo + (hi - lo) / 2
+
+-- s halvings of the entries from lo to hi, hi left out: the half before the middle where its key is above K, else the half
+-- that starts with it. Of one entry or none lo stays
+unfoldable pub halve : ℕ → ℕ → List Entry → ℕ → ℕ → ℕ
+halve zero k es lo hi = lo
+halve (suc s) k es lo hi =
+    let m = middle lo hi in
+    let above = ltb k (entryOf es m .key) in
+    halve s k es (pick above lo m) (pick above m hi)
+
+-- where descent with K goes on
+unfoldable pub place : ℕ → List Entry → ℕ
+place k es = halve (length es) k es 0 (length es)
+
 -- "Descent takes the last entry whose key is not above K, or the first entry if there is none"
-abbrev pub chosen : ℕ → List Entry → Entry
-chosen k [] = record { key = 0; addr = 0 }
-chosen k (e ∷ []) = e
-chosen k (e ∷ x ∷ es) = pick (leb (x .key) k) (chosen k (x ∷ es)) e
+unfoldable pub chosen : ℕ → List Entry → Entry
+chosen k es = entryOf es (place k es)
 
 -- the leaf where descent from the entry e ends, l levels below it
 unfoldable pub leaf : Nodes → ℕ → ℕ → Entry → List Entry
 leaf r k zero e = r (e .addr) 1
 leaf r k (suc l) e = leaf r k l (chosen k (r (e .addr) (suc (suc l))))
 
+-- what a sorted list has under K
 unfoldable pub find : ℕ → List Entry → Option ℕ
 find k [] = none
 find k (e ∷ es) = pick (eqb (e .key) k) (some (e .addr)) (find k es)
 
+-- what a leaf has under K: the entry that descent takes, if its key is K
+unfoldable pub findIn : ℕ → List Entry → Option ℕ
+findIn k [] = none
+findIn k (e ∷ es) = find k (chosen k (e ∷ es) ∷ [])
+
 -- what lookup finds of K
 abbrev pub sought : Chip → ℕ → Option ℕ
-sought c k = find k (leaf (c .nodes) k (c .level) (theRoot c))
+sought c k = findIn k (leaf (c .nodes) k (c .level) (theRoot c))

@@ -14,7 +14,7 @@ use Rattle.model.specs.Tree.{next, chosen, sought}
 use Rattle.model.specs.Next.{nth}
 use Rattle.model.specs.Page.{built, only}
 use Rattle.model.specs.Stores.{Store, program, erase, applyAll}
-use Rattle.model.specs.Edit.{onPath, put, pathHalf, sideHalf, two, named, pathPart, gains, splits, remove, kept, Top, collapse}
+use Rattle.model.specs.Edit.{onPath, putIn, pathHalf, sideHalf, two, named, pathPart, gains, splits, removeIn, kept, Top, collapse}
 use Rattle.model.specs.Collect.{collectStores}
 
 abbrev pub isNone : {A : Type 0} → Option A → Bool
@@ -45,7 +45,7 @@ tooHigh g c k = eqb (suc (c .level)) (g .top) & eqb (length (rootNode c)) (rootS
 -- ---- insert. n is page N, side l the page of the other half at level l
 -- the path's changed node at level j, the root's too
 unfoldable pub insertList : Geometry → Chip → ℕ → ℕ → ℕ → (ℕ → ℕ) → ℕ → List Entry
-insertList g c k a n side j = onPath (c .nodes) k (put k a) (named k n side (half g)) (c .level) (theRoot c) j
+insertList g c k a n side j = onPath (c .nodes) k (putIn k a) (named k n side (half g)) (c .level) (theRoot c) j
 
 -- the root's changed node es at level l, as it stands on N at level j: as it is, or halved under a two-entry root
 unfoldable pub crownPart : Geometry → ℕ → ℕ → (ℕ → ℕ) → ℕ → List Entry → ℕ → List Entry
@@ -98,7 +98,7 @@ ownStores g n seq c m k a =
 -- ---- delete
 -- the path's changed node at level j
 unfoldable pub deleteList : Chip → ℕ → ℕ → ℕ → List Entry
-deleteList c k n j = onPath (c .nodes) k (remove k) (kept n) (c .level) (theRoot c) j
+deleteList c k n j = onPath (c .nodes) k (removeIn k) (kept n) (c .level) (theRoot c) j
 
 -- the root that is left
 unfoldable pub deleteTop : Chip → ℕ → ℕ → Top

@@ -14,7 +14,7 @@ use Rattle.geometry.specs.declared.Entry.{Entry}
 use Rattle.geometry.specs.Geometry.{half, rootSlots}
 use Rattle.geometry.specs.Tests.{pick, bit, _&_, and-true, and-false}
 use Rattle.model.specs.Bytes.{nodeAt, nodeCount}
-use Rattle.model.specs.Tree.{chosen, leaf, find, sought}
+use Rattle.model.specs.Tree.{chosen, leaf, findIn, sought}
 use Rattle.model.specs.Edit.{gains, splits}
 use Rattle.model.specs.Update.{isNone, fills, needs, tooHigh, rootGains}
 use Rattle.chip.specs.Chip.{chipWith}
@@ -27,14 +27,14 @@ use Rattle.plan.specs.declared.Plan.{Plan}
 use Rattle.plan.specs.Plan.{high, Counts, Plans}
 
 -- ---- seek
-pub seek-leaf : (g : Geometry) (img : List ℕ) (k l : ℕ) (e : Entry) (r : Found) → found r ≡ find k (nodeAt g img (e .addr) 1) → l ≡ 0
-    → found r ≡ find k (leaf (nodeAt g img) k l e)
+pub seek-leaf : (g : Geometry) (img : List ℕ) (k l : ℕ) (e : Entry) (r : Found) → found r ≡ findIn k (nodeAt g img (e .addr) 1) → l ≡ 0
+    → found r ≡ findIn k (leaf (nodeAt g img) k l e)
 unfolding leaf
 seek-leaf g img k zero e r er z = er
 seek-leaf g img k (suc l) e r er z = absurd (omega arith)
 
-pub seek-on : (g : Geometry) (img : List ℕ) (k l : ℕ) (e x : Entry) (r : Found) → found r ≡ find k (leaf (nodeAt g img) k (l - 1) x) → x ≡ chosen k (nodeAt g img (e .addr) (l + 1)) → (l ≡ 0 → ⊥)
-    → found r ≡ find k (leaf (nodeAt g img) k l e)
+pub seek-on : (g : Geometry) (img : List ℕ) (k l : ℕ) (e x : Entry) (r : Found) → found r ≡ findIn k (leaf (nodeAt g img) k (l - 1) x) → x ≡ chosen k (nodeAt g img (e .addr) (l + 1)) → (l ≡ 0 → ⊥)
+    → found r ≡ findIn k (leaf (nodeAt g img) k l e)
 unfolding leaf
 seek-on g img k zero e x r er ex z = absurd (z refl)
 seek-on g img k (suc l) e x r er ex z = rw sub-one at er ∙ rw (ex, add-one)
@@ -131,16 +131,16 @@ unfolding high
 high-is g l m k t s b ek et es h q = simp (eq-eqb l (g .top) (sym ek ∙ h ∙ et), ← es, eq-eqb m s q, and-true)
 
 pub planned : (g : Geometry) (img : List ℕ) (l p k : ℕ) (a : Bool) (x : Entry) (r : Run) (m m′ n : ℕ) (grows h : Bool)
-    → Counts g img k a l x r → a ≡ isNone (find k (leaf (nodeAt g img) k l (record { key = 0; addr = p }))) → x ≡ chosen k (nodeAt g img p (l + 1)) → m ≡ nodeCount g img p (l + 1)
+    → Counts g img k a l x r → a ≡ isNone (findIn k (leaf (nodeAt g img) k l (record { key = 0; addr = p }))) → x ≡ chosen k (nodeAt g img p (l + 1)) → m ≡ nodeCount g img p (l + 1)
     → m′ ≡ m + bit (r .gains) → grows ≡ fills g (l + 1) m′ → n ≡ suc (r .splits + bit grows) → n ≤ r .splits + 2 → h ≡ high g (l + 1) m (r .gains)
     → Plans g (chipWith g img l p) k (record { absent = a; needs = n; high = h })
 unfolding needs tooHigh high rootGains
 planned g img l p k a x r m m′ n grows h c ea ex em em′ eg en few eh =
     let s : l + 1 ≡ suc l = add-one l in
     let lm : length (nodeAt g img p (suc l)) ≡ m = node-length g img p (suc l) ∙ sym (em ∙ rw s) in
-    let gs : gains (nodeAt g img) k (half g) (isNone (find k (leaf (nodeAt g img) k l (record { key = 0; addr = p })))) l (chosen k (nodeAt g img p (suc l))) ≡ r .gains =
+    let gs : gains (nodeAt g img) k (half g) (isNone (findIn k (leaf (nodeAt g img) k l (record { key = 0; addr = p })))) l (chosen k (nodeAt g img p (suc l))) ≡ r .gains =
     rw (← ea, ← s, ← ex) (sym (c .more)) in
-    let ss : splits (nodeAt g img) k (half g) (isNone (find k (leaf (nodeAt g img) k l (record { key = 0; addr = p })))) l (chosen k (nodeAt g img p (suc l))) ≡ r .splits =
+    let ss : splits (nodeAt g img) k (half g) (isNone (findIn k (leaf (nodeAt g img) k l (record { key = 0; addr = p })))) l (chosen k (nodeAt g img p (suc l))) ≡ r .splits =
     rw (← ea, ← s, ← ex) (sym (c .count)) in
     record {
       absent = ea;

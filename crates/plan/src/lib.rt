@@ -6,7 +6,7 @@ ghost use lib.Dec.{eqb};
 ghost use lib.ListN.{length};
 ghost use Rattle.geometry.specs.Geometry.{half};
 ghost use Rattle.model.specs.Bytes.{nodeAt};
-ghost use Rattle.model.specs.Tree.{leaf, find};
+ghost use Rattle.model.specs.Tree.{leaf, findIn};
 ghost use Rattle.geometry.specs.Tests.{bit};
 ghost use Rattle.model.specs.Update.{isNone, fills};
 ghost use Rattle.search.specs.Search.{found};
@@ -32,7 +32,7 @@ pub struct Plan {
 // What lookup finds of a key, from the entry e with `below` levels under its node.
 pub fn seek(g: Geometry, img: &[u8], key: u32, below: u32, e: Entry) -> Found
     requires { ⌜ below < 256 ⌝ }
-    ensures { λ r. ⌜ found r ≡ find key (leaf (nodeAt g (now (img .entry))) key below e) ⌝ }
+    ensures { λ r. ⌜ found r ≡ findIn key (leaf (nodeAt g (now (img .entry))) key below e) ⌝ }
 {
     if below == 0 {
         return search::find_key(g, img, e.addr, 1, key);
@@ -125,7 +125,7 @@ fn too_high(g: Geometry, level: u32, m: usize, gains: bool) -> bool
 
 fn is_absent(g: Geometry, img: &[u8], key: u32, below: u32, e: Entry) -> bool
     requires { ⌜ below < 256 ⌝ }
-    ensures { λ r. ⌜ r ≡ isNone (find key (leaf (nodeAt g (now (img .entry))) key below e)) ⌝ }
+    ensures { λ r. ⌜ r ≡ isNone (findIn key (leaf (nodeAt g (now (img .entry))) key below e)) ⌝ }
 {
     let r = seek(g, img, key, below, e);
     match r {

@@ -1,98 +1,100 @@
--- The loops over the entries of a node, in the form in which the code has the premises. Assumes nothing.
-use Prim.Native.Nat.{ℕ, zero, suc, _+_, _-_, _*_, _<_, _≤_}
+-- Searching the entries of a node, in the form in which the code has the premises. Assumes nothing.
+use Prim.Native.Nat.{ℕ, suc, _+_, _-_, _*_, _/_, _<_, _≤_}
 use mathlib.Core.Bool.{Bool, true, false}
-use mathlib.Core.Path.{_≡_, refl, sym, _∙_}
-use mathlib.Core.List.{List, [], _∷_}
-use mathlib.Core.Option.{Option, none, some}
-use lib.Dec.{eqb, ltb, leb}
+use mathlib.Core.Path.{_≡_, refl, sym, ap, _∙_}
+use mathlib.Core.List.{List}
+use mathlib.Core.Option.{some}
+use lib.Dec.{eqb}
+use lib.ListN.{length}
 use native.Mathlib.Omega.{arith}
-use borrow.Author.Tests.{lt-ltb, le-ltb, le-leb, lt-leb, eq-eqb, ne-eqb}
+use native.Mathlib.Numerals.{add-one}
+use borrow.Author.Tests.{lt-ltb, le-ltb, ne-eqb}
 use Rattle.geometry.specs.declared.Geometry.{Geometry}
 use Rattle.geometry.specs.declared.Entry.{Entry}
-use Rattle.geometry.specs.Tests.{pick}
 use Rattle.model.specs.Bytes.{u32At, entriesAt, nodePlace, nodeCount, nodeAt}
-use Rattle.model.specs.Tree.{find}
+use Rattle.model.specs.Tree.{halve, place, chosen, findIn}
+use Rattle.model.specs.Halving.{place-is, halve-left, halve-right, halve-done, halve-steps}
 use Rattle.chip.specs.Chip.{entryAt}
-use Rattle.chip.specs.Node.{node-read, entries-start, entries-turn, entries-past, key-is, addr-is}
+use Rattle.chip.specs.Node.{node-read, entries-length, entries-none, key-is, addr-is}
 use Rattle.search.specs.declared.Found.{Found}
 use Rattle.search.specs.declared.Found.the-variants.{At, Nothing}
-use Rattle.search.specs.Search.{index, ahead, found}
-use Rattle.search.specs.Places.{chosen-none, chosen-some}
+use Rattle.search.specs.Search.{ahead, holds, found}
+use Rattle.search.specs.Places.{ahead-some, holds-some, held, find-by, key-get, chosen-read, chosen-none, chosen-some}
 
-few : (img : List ℕ) (at m k i : ℕ) → m ≤ 1 → i + index k (entriesAt img at m) ≡ i
-unfolding index entriesAt
-few img at zero k i h = omega arith
-few img at (suc zero) k i h = omega arith
-few img at (suc (suc m)) k i h = absurd (omega arith)
-
--- the place of the entry that descent takes
+-- the place of the entry that descent takes: lo and hi bound what is left to halve
 module _ (img : List ℕ) (at n k : ℕ) where
-  pub index-start : index k (entriesAt img at n) ≡ 0 + index k (entriesAt img (at + 8 * 0) (n - 0))
-  index-start = rw (← (entries-start img at n)) (omega arith)
+  pub place-start : place k (entriesAt img at n) ≡ halve (n - 0) k (entriesAt img at n) 0 n
+  unfolding place
+  place-start = let q : n - 0 ≡ n = omega arith in rw (entries-length img at n, q)
 
-  module _ (i : ℕ) (inv : index k (entriesAt img at n) ≡ i + index k (entriesAt img (at + 8 * i) (n - i))) where
-    index-turn : i + 1 < n → index k (entriesAt img at n)
-        ≡ i + pick (leb (u32At img (at + 8 * (i + 1))) k) (suc (index k (entriesAt img (at + 8 * (i + 1)) (n - (i + 1))))) 0
-    unfolding index
-    index-turn h = inv ∙ rw (entries-turn img at n i (omega arith), entries-turn img at n (i + 1) h, key-is)
+  module _ (lo hi : ℕ) (inv : place k (entriesAt img at n) ≡ halve (hi - lo) k (entriesAt img at n) lo hi) where
+    one-less : lo + 1 < hi → place k (entriesAt img at n) ≡ halve (suc (hi - lo - 1)) k (entriesAt img at n) lo hi
+    one-less h = let q : hi - lo ≡ suc (hi - lo - 1) = omega arith in inv ∙ ap (λ (s : ℕ). halve s k (entriesAt img at n) lo hi) q
 
-    pub index-stop : (b : ℕ) → b ≡ u32At img (at + 8 * (i + 1)) → i + 1 < n → k < b → i ≡ index k (entriesAt img at n)
-    index-stop b e h g = sym (index-turn h ∙ simp (← e, lt-leb _ _ g) (omega arith))
+    pub place-left : (b : ℕ) → b ≡ u32At img (at + 8 * (lo + (hi - lo) / 2)) → lo + 1 < hi → hi ≤ n → k < b
+        → place k (entriesAt img at n) ≡ halve (lo + (hi - lo) / 2 - lo) k (entriesAt img at n) lo (lo + (hi - lo) / 2)
+    place-left b e h m g =
+        one-less h
+        ∙ halve-left k (entriesAt img at n) (hi - lo - 1) lo hi (rw (key-get img at n (lo + (hi - lo) / 2) (omega arith), ← e) g)
+        ∙ halve-steps k (entriesAt img at n) (hi - lo - 1) (lo + (hi - lo) / 2 - lo) lo (lo + (hi - lo) / 2) (omega arith) (omega arith)
 
-    pub index-go : (b : ℕ) → b ≡ u32At img (at + 8 * (i + 1)) → i + 1 < n → b ≤ k
-        → index k (entriesAt img at n) ≡ i + 1 + index k (entriesAt img (at + 8 * (i + 1)) (n - (i + 1)))
-    index-go b e h g = index-turn h ∙ simp (← e, le-leb _ _ g) (omega arith)
+    pub place-right : (b : ℕ) → b ≡ u32At img (at + 8 * (lo + (hi - lo) / 2)) → lo + 1 < hi → hi ≤ n → b ≤ k
+        → place k (entriesAt img at n) ≡ halve (hi - (lo + (hi - lo) / 2)) k (entriesAt img at n) (lo + (hi - lo) / 2) hi
+    place-right b e h m g =
+        one-less h
+        ∙ halve-right k (entriesAt img at n) (hi - lo - 1) lo hi (rw (key-get img at n (lo + (hi - lo) / 2) (omega arith), ← e) g)
+        ∙ halve-steps k (entriesAt img at n) (hi - lo - 1) (hi - (lo + (hi - lo) / 2)) (lo + (hi - lo) / 2) hi (omega arith) (omega arith)
 
-    pub index-end : n ≤ i + 1 → i ≡ index k (entriesAt img at n)
-    index-end h = sym (inv ∙ few img (at + 8 * i) (n - i) k i (omega arith))
+    pub place-end : hi ≤ lo + 1 → lo ≡ place k (entriesAt img at n)
+    place-end h = sym (inv ∙ halve-done k (entriesAt img at n) (hi - lo) lo hi h)
 
--- the keys below k
+-- where a key stands or enters
 module _ (img : List ℕ) (at n k : ℕ) where
-  pub ahead-start : ahead k (entriesAt img at n) ≡ 0 + ahead k (entriesAt img (at + 8 * 0) (n - 0))
-  ahead-start = rw (← (entries-start img at n)) (omega arith)
+  pub ahead-none : n ≡ 0 → 0 ≡ ahead k (entriesAt img at n)
+  unfolding ahead
+  ahead-none z = rw (entries-none img at n z)
 
-  module _ (i : ℕ) (inv : ahead k (entriesAt img at n) ≡ i + ahead k (entriesAt img (at + 8 * i) (n - i))) where
-    ahead-turn : i < n → ahead k (entriesAt img at n)
-        ≡ i + pick (ltb (u32At img (at + 8 * i)) k) (suc (ahead k (entriesAt img (at + 8 * (i + 1)) (n - (i + 1))))) 0
-    unfolding ahead
-    ahead-turn h = inv ∙ rw (entries-turn img at n i h, key-is)
+  pub holds-none : n ≡ 0 → false ≡ holds k (entriesAt img at n)
+  unfolding holds
+  holds-none z = rw (entries-none img at n z)
 
-    pub ahead-stop : (b : ℕ) → b ≡ u32At img (at + 8 * i) → i < n → k ≤ b → i ≡ ahead k (entriesAt img at n)
-    ahead-stop b e h g = sym (ahead-turn h ∙ simp (← e, le-ltb _ _ g) (omega arith))
+  module _ (i b : ℕ) (ei : i ≡ place k (entriesAt img at n)) (h : i ≤ n - 1) (some-n : n ≡ 0 → ⊥) (eb : b ≡ u32At img (at + 8 * i)) where
+    key-read : chosen k (entriesAt img at n) .key ≡ b
+    key-read = ap (λ (x : Entry). x .key) (sym (chosen-read img at n k i (entryAt img (at + 8 * i)) ei h some-n refl)) ∙ key-is img (at + 8 * i) ∙ sym eb
 
-    pub ahead-go : (b : ℕ) → b ≡ u32At img (at + 8 * i) → i < n → b < k
-        → ahead k (entriesAt img at n) ≡ i + 1 + ahead k (entriesAt img (at + 8 * (i + 1)) (n - (i + 1)))
-    ahead-go b e h g = ahead-turn h ∙ simp (← e, lt-ltb _ _ g) (omega arith)
+    full : 0 < length (entriesAt img at n)
+    full = rw (entries-length img at n) (omega arith)
 
-    pub ahead-end : n ≤ i → i ≡ ahead k (entriesAt img at n)
-    unfolding ahead
-    ahead-end h = sym (inv ∙ rw (entries-past img at n i h) (omega arith))
+    pub ahead-after : b < k → i + 1 ≡ ahead k (entriesAt img at n)
+    ahead-after g = sym (ahead-some k (entriesAt img at n) full ∙ rw (key-read, lt-ltb _ _ g, ← ei) (sym (add-one i)))
 
--- the entry that has the key
-module _ (img : List ℕ) (at n k : ℕ) where
-  pub find-start : find k (entriesAt img at n) ≡ find k (entriesAt img (at + 8 * 0) (n - 0))
-  find-start = rw (← (entries-start img at n))
+    pub ahead-here : k ≤ b → i ≡ ahead k (entriesAt img at n)
+    ahead-here g = sym (ahead-some k (entriesAt img at n) full ∙ rw (key-read, le-ltb _ _ g) (sym ei))
 
-  module _ (i : ℕ) (inv : find k (entriesAt img at n) ≡ find k (entriesAt img (at + 8 * i) (n - i))) where
-    find-turn : i < n → find k (entriesAt img at n)
-        ≡ pick (eqb (u32At img (at + 8 * i)) k) (some (u32At img (at + 8 * i + 4))) (find k (entriesAt img (at + 8 * (i + 1)) (n - (i + 1))))
-    unfolding find
-    find-turn h = inv ∙ rw (entries-turn img at n i h, key-is, addr-is)
+    pub holds-is : eqb b k ≡ holds k (entriesAt img at n)
+    holds-is = sym (holds-some k (entriesAt img at n) full ∙ rw key-read)
 
-    pub find-stop : (b a : ℕ) → b ≡ u32At img (at + 8 * i) → a ≡ u32At img (at + 8 * i + 4) → i < n → b ≡ k → found (At a) ≡ find k (entriesAt img at n)
+    pub holds-less : b < k → false ≡ holds k (entriesAt img at n)
+    holds-less g = sym (ne-eqb b k (λ q. absurd (omega (arith, g, q)))) ∙ holds-is
+
+  -- what stands under a key
+  module _ (i : ℕ) (b : Bool) (ei : i ≡ ahead k (entriesAt img at n)) (eb : b ≡ holds k (entriesAt img at n)) where
+    pub find-hit : (a : ℕ) → a ≡ u32At img (at + 8 * i + 4) → b ≡ true → found (At a) ≡ findIn k (entriesAt img at n)
     unfolding found
-    find-stop b a e f h g = sym (find-turn h ∙ simp (← e, ← f, eq-eqb _ _ g))
+    find-hit a ea q =
+        let w = held k (entriesAt img at n) (sym eb ∙ q) in
+        let less : place k (entriesAt img at n) < n = rw entries-length at (place-is k (entriesAt img at n) (w .0) .inside) in
+        let z = ei ∙ w .2 in
+        ap some (ea ∙ sym (addr-is img (at + 8 * i)) ∙ ap (λ (x : Entry). x .addr)
+        (chosen-read img at n k i (entryAt img (at + 8 * i)) z (omega (arith, less, z)) (λ o. absurd (omega (arith, less, o))) refl))
+        ∙ sym (find-by k (entriesAt img at n) ∙ rw (← eb, q))
 
-    pub find-go : (b : ℕ) → b ≡ u32At img (at + 8 * i) → i < n → (b ≡ k → ⊥)
-        → find k (entriesAt img at n) ≡ find k (entriesAt img (at + 8 * (i + 1)) (n - (i + 1)))
-    find-go b e h g = find-turn h ∙ simp (← e, ne-eqb _ _ g)
-
-    pub find-end : n ≤ i → found Nothing ≡ find k (entriesAt img at n)
-    unfolding find found
-    find-end h = sym (inv ∙ rw (entries-past img at n i h))
+    pub find-miss : b ≡ false → found Nothing ≡ findIn k (entriesAt img at n)
+    unfolding found
+    find-miss q = sym (find-by k (entriesAt img at n) ∙ rw (← eb, q))
 
 pub find-node : (g : Geometry) (img : List ℕ) (p l at n k : ℕ) (r : Found) → n ≡ nodeCount g img p l → at ≡ nodePlace g p l
-    → found r ≡ find k (entriesAt img at n) → found r ≡ find k (nodeAt g img p l)
+    → found r ≡ findIn k (entriesAt img at n) → found r ≡ findIn k (nodeAt g img p l)
 find-node g img p l at n k r en ea er = er ∙ rw (node-read g img p l at n ea en)
 
-pub ruleset search-laws = (index-start, index-stop, index-go, index-end, ahead-start, ahead-stop, ahead-go, ahead-end, find-start, find-stop, find-go, find-end, find-node, chosen-none, chosen-some)
+pub ruleset search-laws = (place-start, place-left, place-right, place-end, ahead-none, ahead-after, ahead-here, holds-none, holds-is, holds-less, find-hit, find-miss, find-node, chosen-none, chosen-some)

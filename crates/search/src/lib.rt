@@ -2,8 +2,8 @@
 ghost use mathlib.Core.Path.{_≡_};
 ghost use Prim.Native.Nat.{ℕ, _+_, _*_, _-_, _≤_, _<_};
 ghost use Rattle.model.specs.Bytes.{entriesAt, nodeAt};
-ghost use Rattle.model.specs.Tree.{chosen, find};
-ghost use Rattle.search.specs.Search.{index, ahead, found};
+ghost use Rattle.model.specs.Tree.{place, chosen, findIn};
+ghost use Rattle.search.specs.Search.{ahead, holds, found};
 use geometry::Entry;
 use geometry::Geometry;
 
@@ -13,19 +13,29 @@ pub enum Found {
     Nothing,
 }
 
+// Where a key stands in a node, or the place at which it would enter.
+pub struct Stand {
+    pub at: usize,
+    pub here: bool,
+}
+
 // The place of the entry that descent takes, of the n from byte `at`: the last whose key is not above, or the first.
+// It halves, since keys rise.
 pub fn chosen_index(img: &[u8], at: usize, n: usize, key: u32) -> usize
     requires { ⌜ at + 8 * n < 1152921504606846976 ⌝ }
-    ensures { λ r. ⌜ (r ≡ index key (entriesAt (now (img .entry)) at n)) × (r ≤ n - 1) ⌝ }
+    ensures { λ r. ⌜ (r ≡ place key (entriesAt (now (img .entry)) at n)) × (r ≤ n - 1) ⌝ }
 {
-    let mut i: usize = 0;
-    while i + 1 < n {
-        if key < chip::read_u32(img, at + 8 * (i + 1)) {
-            return i;
+    let mut low: usize = 0;
+    let mut high: usize = n;
+    while low + 1 < high {
+        let middle = low + (high - low) / 2;
+        if key < chip::read_u32(img, at + 8 * middle) {
+            high = middle;
+        } else {
+            low = middle;
         }
-        i += 1;
     }
-    i
+    low
 }
 
 // The entry that descent takes in the node at a level of a page.
@@ -41,39 +51,44 @@ pub fn chosen_entry(g: Geometry, img: &[u8], page: u32, level: u32, key: u32) ->
     chip::entry_at(img, at + 8 * i)
 }
 
-// How many leading keys of the n entries from byte `at` are below a key: the place where it stands or enters.
-pub fn keys_ahead(img: &[u8], at: usize, n: usize, key: u32) -> usize
+// Where a key stands among the n entries from byte `at`, or would enter.
+pub fn stand_of(img: &[u8], at: usize, n: usize, key: u32) -> Stand
     requires { ⌜ at + 8 * n < 1152921504606846976 ⌝ }
-    ensures { λ r. ⌜ (r ≡ ahead key (entriesAt (now (img .entry)) at n)) × (r ≤ n) ⌝ }
+    ensures { λ r.
+        ⌜ (r .at ≡ ahead key (entriesAt (now (img .entry)) at n)) × (r .here ≡ holds key (entriesAt (now (img .entry)) at n)) × (r .at ≤ n) ⌝ }
 {
-    let mut i: usize = 0;
-    while i < n {
-        if key <= chip::read_u32(img, at + 8 * i) {
-            return i;
-        }
-        i += 1;
+    if n == 0 {
+        return Stand { at: 0, here: false };
     }
-    i
+    let i = chosen_index(img, at, n, key);
+    let read = chip::read_u32(img, at + 8 * i);
+    if read < key {
+        return Stand {
+            at: i + 1,
+            here: false,
+        };
+    }
+    Stand {
+        at: i,
+        here: read == key,
+    }
 }
 
-// The first of the n entries from byte `at` that has a key.
+// What the n entries from byte `at` hold under a key.
 fn find_entry(img: &[u8], at: usize, n: usize, key: u32) -> Found
     requires { ⌜ at + 8 * n < 1152921504606846976 ⌝ }
-    ensures { λ r. ⌜ found r ≡ find key (entriesAt (now (img .entry)) at n) ⌝ }
+    ensures { λ r. ⌜ found r ≡ findIn key (entriesAt (now (img .entry)) at n) ⌝ }
 {
-    let mut i: usize = 0;
-    while i < n {
-        if chip::read_u32(img, at + 8 * i) == key {
-            return Found::At(chip::read_u32(img, at + 8 * i + 4));
-        }
-        i += 1;
+    let stand = stand_of(img, at, n, key);
+    if stand.here {
+        return Found::At(chip::read_u32(img, at + 8 * stand.at + 4));
     }
     Found::Nothing
 }
 
 // What the node at a level of a page holds under a key.
 pub fn find_key(g: Geometry, img: &[u8], page: u32, level: u32, key: u32) -> Found
-    ensures { λ r. ⌜ found r ≡ find key (nodeAt g (now (img .entry)) page level) ⌝ }
+    ensures { λ r. ⌜ found r ≡ findIn key (nodeAt g (now (img .entry)) page level) ⌝ }
 {
     let n = chip::node_count(g, img, page, level);
     let at = chip::node_place(g, page, level);

@@ -9,7 +9,7 @@ use Rattle.geometry.specs.declared.Geometry.{Geometry}
 use Rattle.geometry.specs.declared.Entry.{Entry}
 use Rattle.geometry.specs.Geometry.{half}
 use Rattle.geometry.specs.Tests.{pick}
-use Rattle.model.specs.Edit.{put, remove, same, named, kept, renamed, pathPart, pathHalf, sideHalf, two}
+use Rattle.model.specs.Edit.{putIn, removeIn, same, named, kept, renamed, pathPart, pathHalf, sideHalf, two}
 use Rattle.model.specs.Stores.{Store}
 use Rattle.model.specs.Update.{sideStore, splitStore}
 use Rattle.node.specs.Node.{entries, carried}
@@ -28,8 +28,8 @@ sideOf j l = getD (j .sides) (l - 1) 0
 
 -- the changed leaf
 unfoldable pub leafOf : Change → ℕ → List Entry → List Entry
-leafOf (Put a) k = put k a
-leafOf Remove k = remove k
+leafOf (Put a) k = putIn k a
+leafOf Remove k = removeIn k
 leafOf (Rename m) k = same
 
 -- what stands above a changed node

@@ -11,7 +11,7 @@ use Rattle.geometry.specs.declared.Entry.{Entry}
 use Rattle.geometry.specs.Tests.{pick}
 use Rattle.model.specs.Image.{Nodes}
 use Rattle.model.specs.Tree.{gather, under, next, chosen}
-use Rattle.model.specs.Edit.{splice, remove, kept, Top, collapse}
+use Rattle.model.specs.Edit.{splice, remove, removeIn, kept, Top, collapse}
 use Rattle.trees.specs.Lists.{All, In, Rises, gather-eq, gather-one, rises-map, rises-all, split, splice-cong}
 use Rattle.trees.specs.Nodes.{Ok, ok-more, ok-same, under-same, the, Rooted}
 use Rattle.trees.specs.Edit.{Local, splice-op, splice-length, splice-rises, edit, atRoot, Made, Out, edit-list, edit-list-ok}
@@ -42,6 +42,11 @@ remove-splice k hi es n q h =
     ∙ splice-op k (remove k) (remove-local k) (λ y x. Unit {0}) (λ e. e ∷ []) (λ e. e ∷ []) (λ e. remove k (e ∷ [])) (λ y x b i. (omega arith, tt))
     (λ y x i. refl) hi es n q h (λ y _ _ _. gather-one (remove k (chosen k es ∷ [])))
     ∙ ap (remove k) (gather-one es)
+
+pub remove-in : (k hi : ℕ) (es : List Entry) → k < hi → Rises (λ y x. Unit {0}) hi es → removeIn k es ≡ remove k es
+unfolding removeIn splice
+remove-in k hi [] q h = refl
+remove-in k hi (e ∷ es) q h = remove-splice k hi (e ∷ es) (omega arith) q h
 
 abbrev pub deleted : Nodes → ℕ → ℕ → ℕ → Entry → List Entry
 deleted r k n l e = edit r k (λ e. remove k (e ∷ [])) (kept n) l e
@@ -110,15 +115,14 @@ module _ (k n top : ℕ) (half most : ℕ → ℕ) (r s : Nodes) (fit fit′ : �
       record { pairs-are = p; rises = o .up; few = omega (arith, o .few); many = omega (arith, o .many) }
 
   pub gone : (l : ℕ) (es : List Entry) → (1 ≤ l → 2 ≤ length es) → Rises (Ok fit roomAt r l) top es → Making l (chosen k es)
-      → Gone l es (atRoot (remove k) (deletes l) k l es)
-  unfolding atRoot edit under Ok
+      → Gone l es (atRoot (removeIn k) (deletes l) k l es)
+  unfolding atRoot edit under Ok removeIn splice
   gone zero [] g h m = record { pairs-are = gather-one [] ∙ ap (remove k) (sym (gather-one [])); rises = tt; few = omega arith; many = omega arith }
-  gone zero (e ∷ es) g h m = rw (remove-splice k top (e ∷ es) (omega arith) k-top
-      (rises-map (Ok fit roomAt r 0) (λ y x. Unit {0}) top (e ∷ es) (λ y x _ _ _. tt) h)) at (gone-some zero (e ∷ es) (omega arith) h m)
+  gone zero (e ∷ es) g h m = gone-some zero (e ∷ es) (omega arith) h m
   gone (suc l) es g h m = gone-some (suc l) es (omega (arith, g (omega arith))) h m
 
   abbrev rootLess : ℕ → ℕ → List Entry
-  rootLess l p = atRoot (remove k) (deletes l) k l (r p (suc l))
+  rootLess l p = atRoot (removeIn k) (deletes l) k l (r p (suc l))
 
   -- the root stays at its level
   pub less-pairs : (l p : ℕ) → Rooted fit roomAt most top r l p → Making l (chosen k (r p (suc l))) → s n (suc l) ≡ rootLess l p

@@ -11,7 +11,7 @@ use Rattle.geometry.specs.declared.Entry.{Entry}
 use Rattle.geometry.specs.Tests.{pick}
 use Rattle.model.specs.Image.{Nodes}
 use Rattle.model.specs.Tree.{gather, under, next, chosen}
-use Rattle.model.specs.Edit.{splice, put, turn, pathHalf, sideHalf, two, named, pathPart}
+use Rattle.model.specs.Edit.{splice, put, putIn, turn, pathHalf, sideHalf, two, named, pathPart}
 use Rattle.trees.specs.Lists.{All, In, Rises, gather-append, gather-one, next-append, rises-left, rises-right, next-le, rises-map}
 use Rattle.trees.specs.Nodes.{Ok, next-more, the, Rooted}
 use Rattle.trees.specs.Edit.{Local, splice-op, edit, atRoot, Made, Out, Changed, edit-list, edit-list-ok}
@@ -43,6 +43,11 @@ put-splice k a hi es n q h =
     ∙ splice-op k (put k a) (put-local k a) (λ y x. Unit {0}) (λ e. e ∷ []) (λ e. e ∷ []) (λ e. put k a (e ∷ [])) (λ y x b i. (omega arith, tt))
     (λ y x i. refl) hi es n q h (λ y _ _ _. gather-one (put k a (chosen k es ∷ [])))
     ∙ ap (put k a) (gather-one es)
+
+pub put-in : (k a hi : ℕ) (es : List Entry) → k < hi → Rises (λ y x. Unit {0}) hi es → putIn k a es ≡ put k a es
+unfolding putIn
+put-in k a hi [] q h = refl
+put-in k a hi (e ∷ es) q h = put-splice k a hi (e ∷ es) (omega arith) q h
 
 -- the halves stand where they should: the path half on n, the other on its side page
 abbrev pub Halves : ℕ → ℕ → (ℕ → ℕ) → Nodes → (ℕ → ℕ → Type 0) → ℕ → ℕ → List Entry → Type 0
@@ -235,8 +240,8 @@ module _ (k a n top : ℕ) (side half most : ℕ → ℕ) (r s : Nodes) (fit fit
       record { pairs-are = p; rises = o .up; few = omega (arith, o .few); some = omega (arith, o .few); many = omega (arith, o .many) }
 
   pub fresh : (l : ℕ) (es : List Entry) → (1 ≤ l → 2 ≤ length es) → Rises (Ok fit roomAt r l) top es → Making l (chosen k es)
-      → Fresh l es (atRoot (put k a) (inserts l) k l es)
-  unfolding atRoot edit under Ok
+      → Fresh l es (atRoot (putIn k a) (inserts l) k l es)
+  unfolding atRoot edit under Ok putIn
   fresh zero [] g h m = record {
     pairs-are = gather-one (put k a []) ∙ ap (put k a) (sym (gather-one []));
     rises = (k-top, fit-a, tt);
@@ -245,12 +250,11 @@ module _ (k a n top : ℕ) (side half most : ℕ → ℕ) (r s : Nodes) (fit fit
     some = omega arith;
     many = omega arith;
   }
-  fresh zero (e ∷ es) g h m = rw (put-splice k a top (e ∷ es) (omega arith) k-top
-      (rises-map (Ok fit roomAt r 0) (λ y x. Unit {0}) top (e ∷ es) (λ y x _ _ _. tt) h)) at (fresh-some zero (e ∷ es) (omega arith) h m)
+  fresh zero (e ∷ es) g h m = fresh-some zero (e ∷ es) (omega arith) h m
   fresh (suc l) es g h m = fresh-some (suc l) es (omega (arith, g (omega arith))) h m
 
   abbrev rootList : ℕ → ℕ → List Entry
-  rootList l p = atRoot (put k a) (inserts l) k l (r p (suc l))
+  rootList l p = atRoot (putIn k a) (inserts l) k l (r p (suc l))
 
   -- the root does not grow
   pub stay-pairs : (l p : ℕ) → Rooted fit roomAt most top r l p → Making l (chosen k (r p (suc l))) → s n (suc l) ≡ rootList l p

@@ -12,7 +12,7 @@ use Rattle.geometry.specs.declared.Entry.{Entry}
 use Rattle.geometry.specs.Tests.{pick}
 use Rattle.model.specs.Image.{Nodes}
 use Rattle.model.specs.Tree.{gather, Place, places, next, chosen}
-use Rattle.model.specs.Edit.{splice, put, turn, pathHalf, two, named, pathPart}
+use Rattle.model.specs.Edit.{splice, put, putIn, turn, pathHalf, two, named, pathPart}
 use Rattle.trees.specs.Lists.{All, Rises, Some, all-left, all-right, all-append, all-map, gather-append, next-append, Split, split}
 use Rattle.trees.specs.Nodes.{Ok, places-fit, Rooted}
 use Rattle.trees.specs.Edit.{edit, atRoot, Made, no-places, page-where, edit-list-places}
@@ -190,35 +190,35 @@ module _ (k a n top : ℕ) (side half most : ℕ → ℕ) (r s : Nodes) (fit fit
 
   -- the places below the root's list
   root-where : (l p : ℕ) → Rooted fit roomAt most top r l p → InsertMade r s k a n side half fit′ Cut l (chosen k (r p (suc l)))
-      → All InsertWhere (gather (places s l) (atRoot (put k a) (inserts l) k l (r p (suc l))))
+      → All InsertWhere (gather (places s l) (atRoot (putIn k a) (inserts l) k l (r p (suc l))))
   unfolding atRoot
-  root-where zero p h m = no-places InsertWhere s (put k a (r p 1))
+  root-where zero p h m = no-places InsertWhere s (putIn k a (r p 1))
   root-where (suc l) p h m = let g = h .least (omega arith) in edit-list-places fit fit′ roomAt r s keep same k (λ e. put k a (e ∷ []))
       (named k n side half) (InsertHeld k n side half s fit′ Cut) InsertWhere off-where name-where (suc l) top (r p (suc (suc l))) (omega arith) k-top
       (h .rises) m
 
-  root-names : (l p : ℕ) → 1 ≤ l → Rooted fit roomAt most top r l p → Sits k (Names n) top (atRoot (put k a) (inserts l) k l (r p (suc l)))
+  root-names : (l p : ℕ) → 1 ≤ l → Rooted fit roomAt most top r l p → Sits k (Names n) top (atRoot (putIn k a) (inserts l) k l (r p (suc l)))
   unfolding atRoot
   root-names zero p b h = absurd (omega arith)
   root-names (suc l) p b h = let g = h .least (omega arith) in list-sits (suc l) top (r p (suc (suc l))) (omega arith) (omega arith) k-top (h .rises)
 
   pub stay-where : (l p : ℕ) → Rooted fit roomAt most top r l p → InsertMade r s k a n side half fit′ Cut l (chosen k (r p (suc l)))
-      → s n (suc l) ≡ atRoot (put k a) (inserts l) k l (r p (suc l))
+      → s n (suc l) ≡ atRoot (putIn k a) (inserts l) k l (r p (suc l))
       → All InsertWhere (places s (suc l) (record { key = 0; addr = n }))
-  stay-where l p h m e = page-where s InsertWhere l 0 n (atRoot (put k a) (inserts l) k l (r p (suc l))) e
+  stay-where l p h m e = page-where s InsertWhere l 0 n (atRoot (putIn k a) (inserts l) k l (r p (suc l))) e
       (inl (
         refl,
         omega arith,
-        λ d. rw e (sits-some k (Names n) top (atRoot (put k a) (inserts l) k l (r p (suc l)))
+        λ d. rw e (sits-some k (Names n) top (atRoot (putIn k a) (inserts l) k l (r p (suc l)))
             (root-names l p (omega arith) h)),
       ))
       (root-where l p h m)
 
   pub grow-where : (l p : ℕ) → Rooted fit roomAt most top r l p → InsertMade r s k a n side half fit′ Cut l (chosen k (r p (suc l)))
-      → Halves k n side s fit′ (suc l) (2 * half (suc l)) (atRoot (put k a) (inserts l) k l (r p (suc l))) → Cut (suc l)
-      → length (atRoot (put k a) (inserts l) k l (r p (suc l))) ≡ 4 * half (suc l)
-      → s n (suc (suc l)) ≡ two k n (side (suc l)) (2 * half (suc l)) (next (atRoot (put k a) (inserts l) k l (r p (suc l))) 0)
-      (atRoot (put k a) (inserts l) k l (r p (suc l)))
+      → Halves k n side s fit′ (suc l) (2 * half (suc l)) (atRoot (putIn k a) (inserts l) k l (r p (suc l))) → Cut (suc l)
+      → length (atRoot (putIn k a) (inserts l) k l (r p (suc l))) ≡ 4 * half (suc l)
+      → s n (suc (suc l)) ≡ two k n (side (suc l)) (2 * half (suc l)) (next (atRoot (putIn k a) (inserts l) k l (r p (suc l))) 0)
+      (atRoot (putIn k a) (inserts l) k l (r p (suc l)))
       → All InsertWhere (places s (suc (suc l)) (record { key = 0; addr = n }))
   grow-where l p h m hs cut len e = page-where s InsertWhere (suc l) 0 n (two k n (side (suc l)) (2 * half (suc l)) (next c 0) c) e
       (inl (refl, omega arith, λ d. rw e (either (turn k (2 * half (suc l)) c))))
@@ -231,7 +231,7 @@ module _ (k a n top : ℕ) (side half most : ℕ → ℕ) (r s : Nodes) (fit fit
       )) (inr (inl (cut, refl))) (root-where l p h m))
     where
       c : List Entry
-      c = atRoot (put k a) (inserts l) k l (r p (suc l))
+      c = atRoot (putIn k a) (inserts l) k l (r p (suc l))
 
       f : Fresh k a n top side half most r s fit fit′ Cut fit-n fit-a keep same k-top l (r p (suc l)) c
       f = fresh k a n top side half most r s fit fit′ Cut fit-n fit-a keep same k-top l (r p (suc l)) (h .least) (h .rises) m

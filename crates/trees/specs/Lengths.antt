@@ -5,36 +5,36 @@ use mathlib.Core.Bool.{Bool, true, false}
 use Prim.Native.Nat.{ℕ, zero, suc, _+_, _<_, _≤_}
 use native.Mathlib.Omega.{arith}
 use lib.ListN.{length, take, drop, length-append}
-use lib.Dec.{eqb, leb}
+use lib.Dec.{eqb}
 use borrow.Author.Tests.{eq-eqb, ne-eqb}
 use Rattle.geometry.specs.declared.Entry.{Entry}
 use Rattle.geometry.specs.Tests.{pick}
 use Rattle.model.specs.Image.{Nodes}
-use Rattle.model.specs.Tree.{chosen}
-use Rattle.model.specs.Edit.{splice, edited, onPath}
+use Rattle.model.specs.Tree.{next, entryOf, place, chosen}
+use Rattle.model.specs.Edit.{swap, splice, edited, onPath}
+use Rattle.model.specs.Halving.{place-is}
 use Rattle.trees.specs.Tests.{by-eq}
 use Rattle.trees.specs.Lists.{All, Rises, all-append}
 use Rattle.trees.specs.Nodes.{Ok}
 
+swap-all : (P : Entry → Type 0) (f : Entry → List Entry) (i : ℕ) (es : List Entry) → ((e : Entry) → P e → All P (f e)) → All P es → All P (swap f i es)
+swap-all P f i [] h a = tt
+swap-all P f zero (e ∷ es) h a = all-append P (f e) es (h e (a .0)) (a .1)
+swap-all P f (suc i) (e ∷ es) h a = (a .0, swap-all P f i es h (a .1))
+
 pub splice-all : (P : Entry → Type 0) (f : Entry → List Entry) (k : ℕ) (es : List Entry) → ((e : Entry) → P e → All P (f e)) → All P es
     → All P (splice f k es)
-splice-all P f k [] h a = tt
-splice-all P f k (e ∷ []) h a = h e (a .0)
-splice-all P f k (e ∷ x ∷ es) h a = go (leb (x .key) k) (splice-all P f k (x ∷ es) h (a .1))
-  where
-    go : (t : Bool) → All P (splice f k (x ∷ es)) → All P (pick t (e ∷ splice f k (x ∷ es)) (f e ++ (x ∷ es)))
-    go true i = (a .0, i)
-    go false i = all-append P (f e) (x ∷ es) (h e (a .0)) (a .1)
+unfolding splice
+splice-all P f k es h a = swap-all P f (place k es) es h a
 
-splice-most : (f : Entry → List Entry) (k d : ℕ) (es : List Entry) → ((e : Entry) → length (f e) ≤ suc d) → length (splice f k es) ≤ length es + d
-splice-most f k d [] h = omega arith
-splice-most f k d (e ∷ []) h = omega (arith, h e)
-splice-most f k d (e ∷ x ∷ es) h = go (leb (x .key) k) (splice-most f k d (x ∷ es) h)
-  where
-    go : (t : Bool) → length (splice f k (x ∷ es)) ≤ length (x ∷ es) + d
-        → length (pick t (e ∷ splice f k (x ∷ es)) (f e ++ (x ∷ es))) ≤ suc (length (x ∷ es)) + d
-    go true i = omega (arith, i)
-    go false i = let w = length-append (f e) (x ∷ es) in omega (arith, w, h e)
+swap-most : (f : Entry → List Entry) (i d : ℕ) (es : List Entry) → ((e : Entry) → length (f e) ≤ suc d) → length (swap f i es) ≤ length es + d
+swap-most f i d [] h = omega arith
+swap-most f zero d (e ∷ es) h = let w = length-append (f e) es in omega (arith, w, h e)
+swap-most f (suc i) d (e ∷ es) h = let w = swap-most f i d es h in omega (arith, w)
+
+pub splice-most : (f : Entry → List Entry) (k d : ℕ) (es : List Entry) → ((e : Entry) → length (f e) ≤ suc d) → length (splice f k es) ≤ length es + d
+unfolding splice
+splice-most f k d es h = swap-most f (place k es) d es h
 
 pub all-take : (P : Entry → Type 0) (m : ℕ) (es : List Entry) → All P es → All P (take m es)
 all-take P zero es h = tt
@@ -46,14 +46,14 @@ all-drop P zero es h = h
 all-drop P (suc m) [] h = tt
 all-drop P (suc m) (e ∷ es) h = all-drop P m es (h .1)
 
+entry-ok : (P : ℕ → Entry → Type 0) (i hi : ℕ) (es : List Entry) → i < length es → Rises P hi es → (y : ℕ) × P y (entryOf es i)
+entry-ok P i hi [] n h = absurd (omega arith)
+entry-ok P zero hi (e ∷ es) n h = (next es hi, h .1)
+entry-ok P (suc i) hi (e ∷ es) n h = entry-ok P i hi es (omega arith) (h .2)
+
 chosen-ok : (P : ℕ → Entry → Type 0) (k hi : ℕ) (es : List Entry) → 1 ≤ length es → Rises P hi es → (y : ℕ) × P y (chosen k es)
-chosen-ok P k hi [] n h = absurd (omega arith)
-chosen-ok P k hi (e ∷ []) n h = (hi, h .1)
-chosen-ok P k hi (e ∷ x ∷ es) n h = go (leb (x .key) k) (chosen-ok P k hi (x ∷ es) (omega arith) (h .2))
-  where
-    go : (t : Bool) → (y : ℕ) × P y (chosen k (x ∷ es)) → (y : ℕ) × P y (pick t (chosen k (x ∷ es)) e)
-    go true i = i
-    go false i = (x .key, h .1)
+unfolding chosen
+chosen-ok P k hi es n h = entry-ok P (place k es) hi es (place-is k es n .inside) h
 
 module _ (r : Nodes) (k : ℕ) (leaf : List Entry → List Entry) (name : ℕ → Entry → List Entry → List Entry) where
   -- what holds of all entries of the nodes holds of the edited ones

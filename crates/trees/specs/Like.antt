@@ -6,12 +6,13 @@ use Prim.Native.Nat.{ℕ, zero, suc, _<_}
 use native.Mathlib.Omega.{arith}
 use lib.ListN.{length}
 use lib.Dec.{leb}
-use borrow.Author.Tests.{leb-true, leb-false}
+use borrow.Author.Tests.{leb-true}
 use Rattle.geometry.specs.declared.Entry.{Entry}
 use Rattle.geometry.specs.Tests.{pick}
 use Rattle.model.specs.Image.{Nodes}
-use Rattle.model.specs.Tree.{next, chosen}
+use Rattle.model.specs.Tree.{next, entryOf, place, chosen}
 use Rattle.model.specs.Edit.{splice, gains, splits}
+use Rattle.model.specs.Halving.{place-is, place-keys}
 use Rattle.trees.specs.Lists.{Rises, Split, split}
 use Rattle.trees.specs.Nodes.{Ok}
 use Rattle.trees.specs.Edit.{edit, Made}
@@ -51,23 +52,26 @@ likes-length R [] (y ∷ ys) h = absurd h
 likes-length R (x ∷ xs) [] h = absurd h
 likes-length R (x ∷ xs) (y ∷ ys) h = ap suc (likes-length R xs ys (h .1))
 
+likes-keys : (R : Entry → Entry → Type 0) (xs ys : List Entry) → ((x y : Entry) → R x y → x .key ≡ y .key) → Likes R xs ys
+    → (i : ℕ) → entryOf xs i .key ≡ entryOf ys i .key
+likes-keys R [] [] f h i = refl
+likes-keys R [] (y ∷ ys) f h i = absurd h
+likes-keys R (x ∷ xs) [] f h i = absurd h
+likes-keys R (x ∷ xs) (y ∷ ys) f h zero = f x y (h .0)
+likes-keys R (x ∷ xs) (y ∷ ys) f h (suc i) = likes-keys R xs ys f (h .1) i
+
+likes-at : (R : Entry → Entry → Type 0) (xs ys : List Entry) (i : ℕ) → i < length xs → Likes R xs ys → R (entryOf xs i) (entryOf ys i)
+likes-at R [] ys i n h = absurd (omega arith)
+likes-at R (x ∷ xs) [] i n h = absurd h
+likes-at R (x ∷ xs) (y ∷ ys) zero n h = h .0
+likes-at R (x ∷ xs) (y ∷ ys) (suc i) n h = likes-at R xs ys i (omega arith) (h .1)
+
 -- descent goes alike
 pub likes-chosen : (R : Entry → Entry → Type 0) (k : ℕ) (xs ys : List Entry) → ((x y : Entry) → R x y → x .key ≡ y .key) → 0 < length xs
     → Likes R xs ys → R (chosen k xs) (chosen k ys)
-likes-chosen R k [] ys f n h = absurd (omega arith)
-likes-chosen R k (x ∷ xs) [] f n h = absurd h
-likes-chosen R k (x ∷ []) (y ∷ []) f n h = h .0
-likes-chosen R k (x ∷ []) (y ∷ y′ ∷ ys) f n h = absurd (h .1)
-likes-chosen R k (x ∷ x′ ∷ xs) (y ∷ []) f n h = absurd (h .1)
-likes-chosen R k (x ∷ x′ ∷ xs) (y ∷ y′ ∷ ys) f n h = go (leb (x′ .key) k) (leb (y′ .key) k) refl refl
-    (likes-chosen R k (x′ ∷ xs) (y′ ∷ ys) f (omega arith) (h .1))
-  where
-    go : (t u : Bool) → leb (x′ .key) k ≡ t → leb (y′ .key) k ≡ u → R (chosen k (x′ ∷ xs)) (chosen k (y′ ∷ ys))
-        → R (pick t (chosen k (x′ ∷ xs)) x) (pick u (chosen k (y′ ∷ ys)) y)
-    go true true a b i = i
-    go true false a b i = absurd (omega (arith, leb-true (x′ .key) k a, leb-false (y′ .key) k b, f x′ y′ (h .1 .0)))
-    go false true a b i = absurd (omega (arith, leb-false (x′ .key) k a, leb-true (y′ .key) k b, f x′ y′ (h .1 .0)))
-    go false false a b i = h .0
+unfolding chosen
+likes-chosen R k xs ys f n h = rw (← (place-keys k xs ys (likes-length R xs ys h) (likes-keys R xs ys f h)))
+    (likes-at R xs ys (place k xs) (place-is k xs n .inside) h)
 
 module _ (fit : ℕ → ℕ → Type 0) (room : ℕ → ℕ) (r s : Nodes) (k : ℕ) (half : ℕ → ℕ) (absent : Bool) where
   pub gains-like : (l hi : ℕ) (e e′ : Entry) → Ok fit room r l hi e → k < hi → Like r s l e e′
@@ -145,6 +149,7 @@ module _ (k a n : ℕ) (room : ℕ → ℕ) (r s : Nodes) (fit : ℕ → ℕ →
 
   pub move-root-like : (l hi : ℕ) (es : List Entry) → k < hi → Rises (Ok fit room r l) hi es → MoveMade r s k a n l (chosen k es)
       → Likes (Like r s l) es (splice (moves l) k es)
+  unfolding splice
   move-root-like l hi [] q h m = tt
   move-root-like l hi (e ∷ es) q h m = move-list-like l hi (e ∷ es) (omega arith) q h m
 

@@ -1,17 +1,15 @@
 -- Lists of entries: joined lists, keys that rise, and where descent stands in such a list. Assumes nothing.
 use mathlib.Core.Path.{_≡_, refl, ap, sym, subst, _∙_}
-use mathlib.Core.List.{List, [], _∷_, _++_, append-nil, append-assoc}
-use mathlib.Core.Bool.{Bool, true, false}
+use mathlib.Core.List.{List, [], _∷_, _++_, append-assoc}
 use mathlib.Core.Logic.{_⊎_, inl, inr}
-use Prim.Native.Nat.{ℕ, _<_, _≤_}
+use Prim.Native.Nat.{ℕ, zero, suc, _<_, _≤_}
 use native.Mathlib.Omega.{arith}
-use lib.ListN.{length}
-use lib.Dec.{leb}
-use borrow.Author.Tests.{leb-true, leb-false}
+use lib.ListN.{length, take, drop}
+use lib.Seq.{split-at}
 use Rattle.geometry.specs.declared.Entry.{Entry}
-use Rattle.geometry.specs.Tests.{pick}
-use Rattle.model.specs.Tree.{gather, next, chosen}
+use Rattle.model.specs.Tree.{gather, next, entryOf, place, chosen}
 use Rattle.model.specs.Edit.{splice}
+use Rattle.model.specs.Halving.{place-is, swap-cut}
 
 abbrev pub All : {A : Type 0} → (A → Type 0) → List A → Type 0
 All P [] = Unit {0}
@@ -171,60 +169,36 @@ pub record Split (P : ℕ → Entry → Type 0) (k hi : ℕ) (es : List Entry) (
   pub here : P (next post hi) x
   pub rest : Rises P hi post
 
+next-drop : (k hi i : ℕ) (es : List Entry) → k < hi → (i < length es → k < entryOf es i .key) → k < next (drop i es) hi
+next-drop k hi zero [] q f = q
+next-drop k hi zero (e ∷ es) q f = f (omega arith)
+next-drop k hi (suc i) [] q f = q
+next-drop k hi (suc i) (e ∷ es) q f = next-drop k hi i es q (λ h. f (omega arith))
+
+some-before : (i : ℕ) (es : List Entry) → 0 < length (take i es) → 0 < i
+some-before zero es h = h
+some-before (suc i) es h = omega arith
+
 pub split : (P : ℕ → Entry → Type 0) (k hi : ℕ) (es : List Entry) → 0 < length es → k < hi → Rises P hi es
     → Split P k hi es (chosen k es) (λ f. splice f k es)
-split P k hi [] n q h = absurd (omega arith)
-split P k hi (e ∷ []) n q h = record {
-  pre = [];
-  post = [];
-  whole = refl;
-  spliced = λ f. sym (append-nil (f e));
-  before = tt;
-  upto =
-      λ z. absurd (omega arith);
-  under = q;
-  up = h .0;
-  here = h .1;
-  rest = tt;
-}
-split P k hi (e ∷ g ∷ es) n q h = go (leb (g .key) k) refl (split P k hi (g ∷ es) (omega arith) q (h .2))
-  where
-    first : (pre : List Entry) (x : Entry) (post : List Entry) → g ∷ es ≡ pre ++ (x ∷ post) → g .key ≡ next pre (x .key)
-    first pre x post w = ap (λ l. next l 0) w ∙ next-append pre (x ∷ post) 0
-
-    low : (pre : List Entry) (x : Entry) → Rises P (x .key) pre → (0 < length pre → x .key ≤ k) → g .key ≤ k → g .key ≡ next pre (x .key) → x .key ≤ k
-    low [] x r u b w = omega arith
-    low (y ∷ pre) x r u b w = u (omega arith)
-
-    go : (t : Bool) → leb (g .key) k ≡ t → Split P k hi (g ∷ es) (chosen k (g ∷ es)) (λ f. splice f k (g ∷ es))
-        → Split P k hi (e ∷ g ∷ es) (pick t (chosen k (g ∷ es)) e) (λ f. pick t (e ∷ splice f k (g ∷ es)) (f e ++ (g ∷ es)))
-    go true b s =
-        let x = chosen k (g ∷ es) in
-        let w = first (s .pre) x (s .post) (s .whole) in
-        record {
-          pre = e ∷ s .pre;
-          post = s .post;
-          whole = ap (λ l. e ∷ l) (s .whole);
-          spliced = λ f. ap (λ l. e ∷ l) (s .spliced f);
-          before = (rw w at (h .0), subst (λ y. P y e) w (h .1), s .before);
-          upto = λ z. low (s .pre) x (s .before) (s .upto) (leb-true (g .key) k b) w;
-          under = s .under;
-          up = s .up;
-          here = s .here;
-          rest = s .rest;
-        }
-    go false b s = record {
-      pre = [];
-      post = g ∷ es;
-      whole = refl;
-      spliced = λ f. refl;
-      before = tt;
-      upto = λ z. absurd (omega arith);
-      under =
-          leb-false (g .key) k b;
-      up = h .0;
-      here = h .1;
-      rest = h .2;
+unfolding chosen splice
+split P k hi es n q h =
+    let i = place k es in
+    let at = place-is k es n in
+    let w = split-at es i (record { key = 0; addr = 0 }) (at .inside) in
+    let up = subst (Rises P hi) w h in
+    let r = rises-right P hi (take i es) (entryOf es i ∷ drop (suc i) es) up in
+    record {
+      pre = take i es;
+      post = drop (suc i) es;
+      whole = w;
+      spliced = λ f. swap-cut f i es (at .inside);
+      before = rises-left P hi (take i es) (entryOf es i ∷ drop (suc i) es) up;
+      upto = λ z. at .low (some-before i es z);
+      under = next-drop k hi (suc i) es q (at .high);
+      up = r .0;
+      here = r .1;
+      rest = r .2;
     }
 
 -- a splice hangs on what it makes of the chosen entry alone

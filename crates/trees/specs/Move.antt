@@ -74,6 +74,7 @@ module _ (k a n top : ℕ) (half most : ℕ → ℕ) (r s : Nodes) (fit fit′ :
 
   pub carried : (l : ℕ) (es : List Entry) → (0 < length es → k < top) → Rises (Ok fit roomAt r l) top es → Making l (chosen k es)
       → Carried l es (splice (moves l) k es)
+  unfolding splice
   carried l [] q h m = record { pairs-are = go; rises = tt; many = refl }
     where
       go : gather (under s l) [] ≡ gather (under r l) []

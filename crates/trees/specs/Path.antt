@@ -1,44 +1,42 @@
 -- The definitions' recursion, `edited` and `onPath`, is the one that the theorems are about, `edit`. Assumes nothing.
 use mathlib.Core.Path.{_≡_, refl, ap, sym, subst, _∙_}
 use mathlib.Core.List.{List, [], _∷_}
-use mathlib.Core.Bool.{Bool, true, false}
 use Prim.Native.Nat.{ℕ, zero, suc, _<_, _≤_}
 use native.Mathlib.Omega.{arith}
 use lib.ListN.{length}
-use lib.Dec.{leb}
 use borrow.Author.Tests.{eq-eqb, ne-eqb}
 use Rattle.geometry.specs.declared.Entry.{Entry}
-use Rattle.geometry.specs.Tests.{pick}
 use Rattle.model.specs.Image.{Nodes}
-use Rattle.model.specs.Tree.{next, chosen}
-use Rattle.model.specs.Edit.{splice, edited, onPath, put, remove, same}
+use Rattle.model.specs.Tree.{next, place, chosen}
+use Rattle.model.specs.Edit.{swap, splice, edited, onPath, put, putIn, remove, removeIn, same}
 use Rattle.trees.specs.Lists.{Rises, rises-map, split, splice-cong}
 use Rattle.trees.specs.Nodes.{Ok, the}
 use Rattle.trees.specs.Edit.{edit, atRoot, Made}
-use Rattle.trees.specs.Insert.{put-splice}
-use Rattle.trees.specs.Delete.{remove-splice}
 
 -- a leaf's operation is the splice of what it makes of one pair
 abbrev pub AsSplice : ℕ → (List Entry → List Entry) → (Entry → List Entry) → Type 0
 AsSplice k leaf base = (hi : ℕ) (es : List Entry) → 0 < length es → k < hi → Rises (λ y x. Unit {0}) hi es → leaf es ≡ splice base k es
 
+same-swap : (i : ℕ) (es : List Entry) → swap (λ e. e ∷ []) i es ≡ es
+same-swap i [] = refl
+same-swap zero (e ∷ es) = refl
+same-swap (suc i) (e ∷ es) = ap (λ l. e ∷ l) (same-swap i es)
+
 pub same-splice : (k : ℕ) (es : List Entry) → splice (λ e. e ∷ []) k es ≡ es
-same-splice k [] = refl
-same-splice k (e ∷ []) = refl
-same-splice k (e ∷ x ∷ es) = go (leb (x .key) k) (same-splice k (x ∷ es))
-  where
-    go : (t : Bool) → splice (λ e. e ∷ []) k (x ∷ es) ≡ x ∷ es → pick t (e ∷ splice (λ e. e ∷ []) k (x ∷ es)) (e ∷ x ∷ es) ≡ e ∷ x ∷ es
-    go true i = ap (λ l. e ∷ l) i
-    go false i = refl
+unfolding splice
+same-splice k es = same-swap (place k es) es
 
 pub same-as : (k : ℕ) → AsSplice k same (λ e. e ∷ [])
 same-as k hi es c q h = sym (same-splice k es)
 
-pub put-as : (k a : ℕ) → AsSplice k (put k a) (λ e. put k a (e ∷ []))
-put-as k a hi es c q h = sym (put-splice k a hi es c q h)
+pub put-as : (k a : ℕ) → AsSplice k (putIn k a) (λ e. put k a (e ∷ []))
+unfolding putIn
+put-as k a hi [] c q h = absurd (omega arith)
+put-as k a hi (e ∷ es) c q h = refl
 
-pub remove-as : (k : ℕ) → AsSplice k (remove k) (λ e. remove k (e ∷ []))
-remove-as k hi es c q h = sym (remove-splice k hi es c q h)
+pub remove-as : (k : ℕ) → AsSplice k (removeIn k) (λ e. remove k (e ∷ []))
+unfolding removeIn
+remove-as k hi es c q h = refl
 
 -- at the root too a leaf that stays as it is is a splice
 pub same-root : (r : Nodes) (k : ℕ) (name : ℕ → Entry → List Entry → List Entry) (l : ℕ) (es : List Entry)

@@ -8,13 +8,13 @@ use lib.ListN.{length}
 use Rattle.geometry.specs.declared.Entry.{Entry}
 use Rattle.model.specs.Image.{Nodes}
 use Rattle.model.specs.Tree.{under, Place, places, next, chosen}
-use Rattle.model.specs.Edit.{splice, put, two, remove, collapse}
+use Rattle.model.specs.Edit.{splice, put, putIn, two, remove, removeIn, collapse}
 use Rattle.model.specs.Calls.{made}
 use Rattle.trees.specs.Lists.{All, Rises, Mem, all-map, all-get, all-mem, gather-all, rises-map, rises-all}
 use Rattle.trees.specs.Nodes.{Ok, places-fit, the, Rooted, rooted-with}
 use Rattle.trees.specs.Edit.{edit, atRoot}
 use Rattle.trees.specs.Insert.{Halves, inserted, InsertMade, first-below, stay-pairs, stay-ok, grow-pairs, grow-ok}
-use Rattle.trees.specs.Delete.{remove-splice, deleted, DeleteMade, less-pairs, less-ok, the-top, collapse-pairs, collapse-ok}
+use Rattle.trees.specs.Delete.{deleted, DeleteMade, less-pairs, less-ok, the-top, collapse-pairs, collapse-ok}
 use Rattle.trees.specs.Move.{moved, MoveMade, move-pairs, move-ok, Tie, MoveWhere, moved-where, moved-dead}
 use Rattle.trees.specs.Tied.{Tied, tie-all, Where, tied-new, live-tied}
 use Rattle.trees.specs.InsertPages.{stay-where, grow-where}
@@ -74,7 +74,7 @@ module _ (n top : ℕ) (half most : ℕ → ℕ) (r s : Nodes) (fit fit′ : ℕ
       (side-n : (l : ℕ) → Cut l → side l ≡ n → ⊥) (side-inj : (i j : ℕ) → Cut i → Cut j → side i ≡ side j → i ≡ j)
       (new-side : (l j : ℕ) → Cut l → fit (suc j) (side l) → ⊥) where
     abbrev rootList : ℕ → ℕ → List Entry
-    rootList l p = atRoot (put k a) (inserted r k a n side half l) k l (r p (suc l))
+    rootList l p = atRoot (putIn k a) (inserted r k a n side half l) k l (r p (suc l))
 
     pub insert-stay : (l p : ℕ) → Proper fit roomAt most top r l p → InsertMade r s k a n side half fit′ Cut l (chosen k (r p (suc l)))
         → s n (suc l) ≡ rootList l p → length (rootList l p) ≤ most (suc l)
@@ -109,12 +109,12 @@ module _ (n top : ℕ) (half most : ℕ → ℕ) (r s : Nodes) (fit fit′ : ℕ
 
   module _ (k : ℕ) (k-top : k < top) where
     abbrev rootLess : ℕ → ℕ → List Entry
-    rootLess l p = atRoot (remove k) (deleted r k n l) k l (r p (suc l))
+    rootLess l p = atRoot (removeIn k) (deleted r k n l) k l (r p (suc l))
 
     less-is : (l : ℕ) (es : List Entry) → 0 < length es → Rises (Ok fit roomAt r l) top es
-        → atRoot (remove k) (deleted r k n l) k l es ≡ splice (deleted r k n l) k es
-    unfolding atRoot edit
-    less-is zero es c h = sym (remove-splice k top es c k-top (rises-map (Ok fit roomAt r 0) (λ y x. Unit {0}) top es (λ y x _ _ _. tt) h))
+        → atRoot (removeIn k) (deleted r k n l) k l es ≡ splice (deleted r k n l) k es
+    unfolding atRoot edit removeIn
+    less-is zero es c h = refl
     less-is (suc l) es c h = refl
 
     pub delete-stay : (l p : ℕ) → Proper fit roomAt most top r l p → 0 < length (r p (suc l)) → DeleteMade r s k n l (chosen k (r p (suc l)))

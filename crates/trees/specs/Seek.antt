@@ -11,7 +11,7 @@ use borrow.Author.Tests.{ne-eqb}
 use Rattle.geometry.specs.declared.Entry.{Entry}
 use Rattle.geometry.specs.Tests.{pick}
 use Rattle.model.specs.Image.{Nodes}
-use Rattle.model.specs.Tree.{gather, under, next, chosen, leaf, find}
+use Rattle.model.specs.Tree.{gather, under, next, chosen, leaf, find, findIn}
 use Rattle.model.specs.Edit.{splice}
 use Rattle.trees.specs.Lists.{All, In, Rises, gather-append, gather-one, rises-append, next-le, rises-more, Split, split}
 use Rattle.trees.specs.Nodes.{Ok, under-in, the, Rooted}
@@ -73,10 +73,16 @@ module _ (fit : ℕ → ℕ → Type 0) (room : ℕ → ℕ) (r : Nodes) (k : �
       raise : (y : ℕ) (xs zs : List Entry) → y ≤ hi → All (In y hi) zs → Rises (λ y x. Unit {0}) y xs → Rises (λ y x. Unit {0}) (next zs hi) xs
       raise y xs zs b i j = rises-more (λ y x. Unit {0}) (λ y x. Unit {0}) y (next zs hi) xs (first y zs b i) (λ y y′ x _ _ _. tt) j
 
+  -- a leaf has under k what its list has
+  pub find-in : (hi : ℕ) (es : List Entry) → k < hi → Rises (Ok fit room r 0) hi es → findIn k es ≡ find k es
+  unfolding findIn find under
+  find-in hi [] q h = refl
+  find-in hi (e ∷ es) q h = sym (ap (find k) (sym (gather-one (e ∷ es))) ∙ find-list 0 hi (e ∷ es) (omega arith) q h)
+
   -- descent from an entry finds what the pairs under it have
-  pub find-leaf : (l hi : ℕ) (e : Entry) → k < hi → Ok fit room r (suc l) hi e → find k (under r (suc l) e) ≡ find k (leaf r k l e)
+  pub find-leaf : (l hi : ℕ) (e : Entry) → k < hi → Ok fit room r (suc l) hi e → find k (under r (suc l) e) ≡ findIn k (leaf r k l e)
   unfolding under leaf Ok
-  find-leaf zero hi e q h = ap (find k) (gather-one (r (e .addr) 1))
+  find-leaf zero hi e q h = ap (find k) (gather-one (r (e .addr) 1)) ∙ sym (find-in hi (r (e .addr) 1) q (h .4))
   find-leaf (suc l) hi e q h =
       let es = r (e .addr) (suc (suc l)) in
       let s = split (Ok fit room r (suc l)) k hi es (h .1) q (h .4) in
@@ -84,9 +90,9 @@ module _ (fit : ℕ → ℕ → Type 0) (room : ℕ → ℕ) (r : Nodes) (k : �
 
   -- lookup answers as the map does
   pub find-root : (most : ℕ → ℕ) (top l p : ℕ) → k < top → Rooted fit room most top r l p
-      → find k (leaf r k l (the p)) ≡ find k (under r (suc l) (the p))
+      → findIn k (leaf r k l (the p)) ≡ find k (under r (suc l) (the p))
   unfolding under leaf
-  find-root most top zero p q h = ap (find k) (sym (gather-one (r p 1)))
+  find-root most top zero p q h = find-in top (r p 1) q (h .rises) ∙ ap (find k) (sym (gather-one (r p 1)))
   find-root most top (suc l) p q h =
       let es = r p (suc (suc l)) in
       let g = h .least (omega arith) in

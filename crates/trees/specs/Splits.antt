@@ -13,14 +13,14 @@ use Rattle.geometry.specs.declared.Entry.{Entry}
 use Rattle.geometry.specs.Tests.{pick, _&_, bit, and-left, and-right}
 use Rattle.model.specs.Image.{Nodes}
 use Rattle.model.specs.Tree.{gather, under, next, chosen, find}
-use Rattle.model.specs.Edit.{splice, onPath, put, two, named, gains, splits}
+use Rattle.model.specs.Edit.{splice, onPath, put, putIn, two, named, gains, splits}
 use Rattle.model.specs.Update.{isNone}
 use Rattle.counts.specs.Tally.{bit-most}
 use Rattle.trees.specs.Tests.{by-eq, and-pick}
 use Rattle.trees.specs.Lists.{Rises, gather-one, rises-map, Split, split}
 use Rattle.trees.specs.Nodes.{Ok}
 use Rattle.trees.specs.Edit.{splice-length, edit, atRoot}
-use Rattle.trees.specs.Insert.{inserted}
+use Rattle.trees.specs.Insert.{put-in, inserted}
 use Rattle.trees.specs.Seek.{find-list}
 use Rattle.trees.specs.Path.{put-as, below-is, onPath-top, onPath-below}
 
@@ -101,10 +101,11 @@ module _ (k a n : ℕ) (side half : ℕ → ℕ) (r : Nodes) (fit : ℕ → ℕ 
   -- the root's too, also an empty leaf
   pub root-size : (l hi : ℕ) (es : List Entry) → (1 ≤ l → 0 < length es) → k < hi → Rises (Ok fit roomAt r l) hi es
       → isNone (find k (gather (under r l) es)) ≡ absent
-      → length (atRoot (put k a) (inserts l) k l es) ≡ length es + bit (gain l (chosen k es))
+      → length (atRoot (putIn k a) (inserts l) k l es) ≡ length es + bit (gain l (chosen k es))
   unfolding atRoot gains under
   root-size zero hi es c q h f =
-      put-size k a hi es (rises-map (Ok fit roomAt r 0) (λ y x. Unit {0}) hi es (λ y x _ _ _. tt) h) ∙ ap (λ t. length es + bit t)
+      let up = rises-map (Ok fit roomAt r 0) (λ y x. Unit {0}) hi es (λ y x _ _ _. tt) h in
+      ap length (put-in k a hi es q up) ∙ put-size k a hi es up ∙ ap (λ t. length es + bit t)
       (ap (λ m. isNone (find k m)) (sym (gather-one es)) ∙ f)
   root-size (suc l) hi es c q h f = size-list (suc l) hi es (c (omega arith)) q h f
 
@@ -146,7 +147,7 @@ module _ (k a n : ℕ) (side half : ℕ → ℕ) (r : Nodes) (fit : ℕ → ℕ 
   splits-le (suc l) e = omega (arith, splits-le l (chosen k (r (e .addr) (suc l))), bit-most (gain (suc l) e))
 
   abbrev lists : ℕ → Entry → ℕ → List Entry
-  lists = onPath r k (put k a) (named k n side half)
+  lists = onPath r k (putIn k a) (named k n side half)
 
   -- of the path's nodes below the root those at levels 1 to `splits` are too long, and no others
   pub splits-are : (l hi : ℕ) (e : Entry) → k < hi → (1 ≤ l → 0 < length (r (e .addr) (suc l))) → Rises (Ok fit roomAt r l) hi (r (e .addr) (suc l))
@@ -183,9 +184,9 @@ module _ (k a n : ℕ) (side half : ℕ → ℕ) (r : Nodes) (fit : ℕ → ℕ 
 
       here : j ≡ suc l → Goal
       here z =
-          let w : lists (suc l) e (suc l) ≡ splice (inserts l) k (r (x .addr) (suc l)) = onPath-below fit roomAt r k (put k a) (λ e. put k a (e ∷ []))
-          (named k n side half) (put-as k a) l (suc l) e (omega arith) ∙ onPath-top fit roomAt r k (put k a) (λ e. put k a (e ∷ []))
-          (named k n side half) (put-as k a) l x ∙ below-is fit roomAt r k (put k a) (λ e. put k a (e ∷ [])) (named k n side half) (put-as k a) l
+          let w : lists (suc l) e (suc l) ≡ splice (inserts l) k (r (x .addr) (suc l)) = onPath-below fit roomAt r k (putIn k a) (λ e. put k a (e ∷ []))
+          (named k n side half) (put-as k a) l (suc l) e (omega arith) ∙ onPath-top fit roomAt r k (putIn k a) (λ e. put k a (e ∷ []))
+          (named k n side half) (put-as k a) l x ∙ below-is fit roomAt r k (putIn k a) (λ e. put k a (e ∷ [])) (named k n side half) (put-as k a) l
           (next (s .post) hi) x (s .under) (s .here) in
           rw z (
             (λ i. let u = gain-all (over l (next (s .post) hi) x (s .under) (s .here) f′ (rw w at i)) in omega (arith, u)),
@@ -200,7 +201,7 @@ module _ (k a n : ℕ) (side half : ℕ → ℕ) (r : Nodes) (fit : ℕ → ℕ 
           (j ≤ splits r k half absent l (chosen k (r (x .addr) (suc l))) → 2 * half j < length (lists l x j))) → (j ≡ suc l → ⊥) → Goal
       there step z =
           let ih = step (omega arith) in
-          rw (onPath-below fit roomAt r k (put k a) (λ e. put k a (e ∷ [])) (named k n side half) (put-as k a) l j e (omega arith)) (
+          rw (onPath-below fit roomAt r k (putIn k a) (λ e. put k a (e ∷ [])) (named k n side half) (put-as k a) l j e (omega arith)) (
             (λ i. omega (arith, ih .0 i)),
             (λ i. ih .1 (low (gain (suc l) x) refl i)),
           )

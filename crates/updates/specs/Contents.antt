@@ -15,13 +15,13 @@ use Rattle.geometry.specs.Shape.{Shape}
 use Rattle.model.specs.Image.{pagesOf, Chip, theRoot}
 use Rattle.model.specs.Tree.{next, chosen, sought}
 use Rattle.model.specs.Page.{only}
-use Rattle.model.specs.Edit.{put, turn, pathHalf, sideHalf, two, named, pathPart, splits}
+use Rattle.model.specs.Edit.{put, putIn, turn, pathHalf, sideHalf, two, named, pathPart, splits}
 use Rattle.model.specs.Update.{isNone, rootNode, fills, needs, tooHigh, insertList, crownPart, insertPart, crownHeight, sidePage}
 use Rattle.counts.specs.Tally.{bit-most}
 use Rattle.trees.specs.Tests.{by-le, by-test}
 use Rattle.trees.specs.Lists.{All}
 use Rattle.trees.specs.Nodes.{fitOf}
-use Rattle.trees.specs.Lengths.{all-take, all-drop, path-all, path-most}
+use Rattle.trees.specs.Lengths.{splice-all, splice-most, all-take, all-drop, path-all, path-most}
 use Rattle.chips.specs.Whole.{Whole}
 use Rattle.chips.specs.Pages.{side-most}
 use Rattle.chips.specs.Insertion.{sideList, mainList, needs-is, cuts-le, grow-all, stay-most, two-root}
@@ -56,24 +56,31 @@ half-most k m r c a b = go (turn k m c)
     go false = (lt, ld)
 
 module _ (k a : ℕ) (k-fits : k < 4294967296) (a-fits : a < 4294967296) where
-  put-fits : (es : List Entry) → All Fits es → All Fits (put k a es)
-  put-fits [] h = ((k-fits, a-fits), tt)
-  put-fits (e ∷ es) h = go (ltb (e .key) k) (eqb (e .key) k) (put-fits es (h .1))
+  one-fits : (e : Entry) → Fits e → All Fits (put k a (e ∷ []))
+  one-fits e h = go (ltb (e .key) k) (eqb (e .key) k)
     where
-      go : (t u : Bool) → All Fits (put k a es) → All Fits (pick t (e ∷ put k a es) (record { key = k; addr = a } ∷ pick u es (e ∷ es)))
-      go true u i = (h .0, i)
-      go false true i = ((k-fits, a-fits), h .1)
-      go false false i = ((k-fits, a-fits), h)
+      go : (t u : Bool) → All Fits (pick t (e ∷ record { key = k; addr = a } ∷ []) (record { key = k; addr = a } ∷ pick u [] (e ∷ [])))
+      go true u = (h, ((k-fits, a-fits), tt))
+      go false true = ((k-fits, a-fits), tt)
+      go false false = ((k-fits, a-fits), (h, tt))
 
-  put-most : (es : List Entry) → length (put k a es) ≤ length es + 1
-  put-most [] = omega arith
-  put-most (e ∷ es) = go (ltb (e .key) k) (eqb (e .key) k) (put-most es)
+  put-fits : (es : List Entry) → All Fits es → All Fits (putIn k a es)
+  unfolding putIn
+  put-fits [] h = ((k-fits, a-fits), tt)
+  put-fits (e ∷ es) h = splice-all Fits (λ x. put k a (x ∷ [])) k (e ∷ es) one-fits h
+
+  one-most : (e : Entry) → length (put k a (e ∷ [])) ≤ 2
+  one-most e = go (ltb (e .key) k) (eqb (e .key) k)
     where
-      go : (t u : Bool) → length (put k a es) ≤ length es + 1
-          → length (pick t (e ∷ put k a es) (record { key = k; addr = a } ∷ pick u es (e ∷ es))) ≤ suc (length es) + 1
-      go true u i = omega (arith, i)
-      go false true i = omega arith
-      go false false i = omega arith
+      go : (t u : Bool) → length (pick t (e ∷ record { key = k; addr = a } ∷ []) (record { key = k; addr = a } ∷ pick u [] (e ∷ []))) ≤ 2
+      go true u = omega arith
+      go false true = omega arith
+      go false false = omega arith
+
+  put-most : (es : List Entry) → length (putIn k a es) ≤ length es + 1
+  unfolding putIn
+  put-most [] = omega arith
+  put-most (e ∷ es) = splice-most (λ x. put k a (x ∷ [])) k 1 (e ∷ es) one-most
 
   module _ (n : ℕ) (side half : ℕ → ℕ) (n-fits : n < 4294967296) (side-fits : (l : ℕ) → side l < 4294967296) where
     pub two-fits : (l m z : ℕ) (c : List Entry) → z < 4294967296 → All Fits c → All Fits (two k n (side l) m z c)
@@ -130,12 +137,12 @@ module _ (g : Geometry) (shape : Shape g) (n : ℕ) (few : pagesOf g n + g .page
 
   lists-fit : (j : ℕ) → All Fits (lists j)
   unfolding insertList
-  lists-fit j = path-all (c .nodes) k (put k a) (named k N side (half g)) Fits (put-fits k a k-low a-low)
+  lists-fit j = path-all (c .nodes) k (putIn k a) (named k N side (half g)) Fits (put-fits k a k-low a-low)
       (named-fits k a k-low a-low N side (half g) (side-low m) side-low) all-fit (c .level) (theRoot c) j
 
   lists-most : (j : ℕ) → 1 ≤ j → j ≤ c .level → length (lists j) ≤ 2 * half g j + 1
   unfolding insertList
-  lists-most j b d = path-most (c .nodes) k (put k a) (named k N side (half g)) 1 (put-most k a k-low a-low)
+  lists-most j b d = path-most (c .nodes) k (putIn k a) (named k N side (half g)) 1 (put-most k a k-low a-low)
       (named-most k a k-low a-low N side (half g) (side-low m) side-low) (fitOf (pagesOf g n) (c .er)) (λ l. 2 * half g l) (c .level) 4294967296
       (theRoot c)
       (λ i. let z = whole .sound .rooted .least i in omega (arith, z)) (whole .sound .rooted .rises) j b d

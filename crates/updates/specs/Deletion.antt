@@ -17,12 +17,12 @@ use Rattle.model.specs.Image.{pagesOf, maxSeq, Nodes, Chip, chipOf, theRoot}
 use Rattle.model.specs.Tree.{mapOf, sought}
 use Rattle.model.specs.Next.{nextPage, after, taken}
 use Rattle.model.specs.Stores.{applyAll}
-use Rattle.model.specs.Edit.{remove, kept, Top, collapse}
+use Rattle.model.specs.Edit.{remove, removeIn, kept, Top, collapse}
 use Rattle.model.specs.Update.{isNone, sidePage, deleteList, deleteTop, deletePart, deleteStore}
 use Rattle.trees.specs.Tests.{by-eq}
 use Rattle.trees.specs.Lists.{All}
 use Rattle.trees.specs.Nodes.{fitOf}
-use Rattle.trees.specs.Lengths.{path-all, path-most}
+use Rattle.trees.specs.Lengths.{splice-all, splice-most, path-all, path-most}
 use Rattle.chips.specs.Whole.{Whole}
 use Rattle.chips.specs.Pages.{side-erased, new-side}
 use Rattle.chips.specs.Deletion.{leftList, top-low, delete-done, top-most}
@@ -36,21 +36,27 @@ use Rattle.updates.specs.Along.{Keeps, runs-none}
 use Rattle.updates.specs.Table.{parts-most}
 use Rattle.updates.specs.Updated.{Updated, updated}
 
-remove-fits : (k : ℕ) (es : List Entry) → All Fits es → All Fits (remove k es)
-remove-fits k [] h = tt
-remove-fits k (e ∷ es) h = go (eqb (e .key) k) (remove-fits k es (h .1))
+remove-fits : (k : ℕ) (es : List Entry) → All Fits es → All Fits (removeIn k es)
+unfolding removeIn
+remove-fits k es h = splice-all Fits (λ x. remove k (x ∷ [])) k es one h
   where
-    go : (t : Bool) → All Fits (remove k es) → All Fits (pick t es (e ∷ remove k es))
-    go true i = h .1
-    go false i = (h .0, i)
+    one : (e : Entry) → Fits e → All Fits (remove k (e ∷ []))
+    one e f = go (eqb (e .key) k)
+      where
+        go : (t : Bool) → All Fits (pick t [] (e ∷ []))
+        go true = tt
+        go false = (f, tt)
 
-remove-most : (k : ℕ) (es : List Entry) → length (remove k es) ≤ length es + 0
-remove-most k [] = omega arith
-remove-most k (e ∷ es) = go (eqb (e .key) k) (remove-most k es)
+remove-most : (k : ℕ) (es : List Entry) → length (removeIn k es) ≤ length es + 0
+unfolding removeIn
+remove-most k es = splice-most (λ x. remove k (x ∷ [])) k 0 es one
   where
-    go : (t : Bool) → length (remove k es) ≤ length es + 0 → length (pick t es (e ∷ remove k es)) ≤ suc (length es) + 0
-    go true i = omega arith
-    go false i = omega (arith, i)
+    one : (e : Entry) → length (remove k (e ∷ [])) ≤ 1
+    one e = go (eqb (e .key) k)
+      where
+        go : (t : Bool) → length (pick t [] (e ∷ [])) ≤ 1
+        go true = omega arith
+        go false = omega arith
 
 kept-fits : (n : ℕ) → n < 4294967296 → (l : ℕ) (e : Entry) (c : List Entry) → Fits e → All Fits c → All Fits (kept n l e c)
 kept-fits n q l e [] f h = tt
@@ -103,13 +109,13 @@ module _ (g : Geometry) (shape : Shape g) (n : ℕ) (few : pagesOf g n + g .page
 
   lists-fit : (j : ℕ) → All Fits (lists j)
   unfolding deleteList
-  lists-fit j = path-all (c .nodes) k (remove k) (kept N) Fits (remove-fits k) (kept-fits N (omega (arith, N-in, few))) all-fit (c .level)
+  lists-fit j = path-all (c .nodes) k (removeIn k) (kept N) Fits (remove-fits k) (kept-fits N (omega (arith, N-in, few))) all-fit (c .level)
       (theRoot c) j
 
   lists-most : (j : ℕ) → 1 ≤ j → j ≤ c .level → length (lists j) ≤ slotsOf g j
   unfolding deleteList
   lists-most j b d =
-      let w = path-most (c .nodes) k (remove k) (kept N) 0 (remove-most k) (kept-most N) (fitOf t (c .er)) (λ l. 2 * half g l) (c .level) 4294967296
+      let w = path-most (c .nodes) k (removeIn k) (kept N) 0 (remove-most k) (kept-most N) (fitOf t (c .er)) (λ l. 2 * half g l) (c .level) 4294967296
       (theRoot c) (λ i. let z = whole .sound .rooted .least i in omega (arith, z)) (whole .sound .rooted .rises) j b d in
       let e = shape .even j in
       omega (arith, w, e)

@@ -5,10 +5,9 @@ use Rattle.load.proofs.put_entries.Tie as tie
 use Rattle.load.proofs.put_entries.Reads as reads
 use Rattle.load.proofs.put_entries.Lts as lts
 use Rattle.load.proofs.load.Reads as load-reads
-use Rattle.load.proofs.stands_at.Reads as stands-at-reads
 use Rattle.node.proofs.insert_at.Reads as insert-at-reads
 use Rattle.node.proofs.replace_at.Reads as replace-at-reads
-use Rattle.search.proofs.keys_ahead.Reads as keys-ahead-reads
+use Rattle.search.proofs.stand_of.Reads as stand-of-reads
 
 ruleset all = (needs, load-laws)
 
@@ -16,7 +15,6 @@ pub put-entries-spec : {M : Type 1} → statement M
 put-entries-spec =
     tie.close
     (tie.spec
-    (λ c κs. search all)
     (λ c κs. search all)
     (λ c κs. search all)
     (λ c κs. search all)

@@ -5,11 +5,11 @@ use Rattle.load.proofs.remove_entry.Tie as tie
 use Rattle.load.proofs.remove_entry.Reads as reads
 use Rattle.load.proofs.remove_entry.Lts as lts
 use Rattle.load.proofs.load.Reads as load-reads
-use Rattle.load.proofs.place_of.Reads as place-of-reads
 use Rattle.node.proofs.remove_at.Reads as remove-at-reads
+use Rattle.search.proofs.stand_of.Reads as stand-of-reads
 
 ruleset all = (needs, load-laws)
 
 pub remove-entry-spec : {M : Type 1} → statement M
 remove-entry-spec =
-    tie.close (tie.spec (λ c κs. search all) (λ c κs. search all) (λ c. search all) (λ c κs. search all) (λ c. search all))
+    tie.close (tie.spec (λ c κs. search all) (λ c κs. search all) (λ c κs. search all) (λ c. search all) (λ c. search all))

@@ -1,8 +1,8 @@
-use Prim.Native.Nat.{_≤_, _+_, _*_, _-_}
+use Prim.Native.Nat.{_≤_, _-_}
 use mathlib.Core.Path.{_≡_}
 use Rattle.model.specs.Bytes.{entriesAt}
-use Rattle.search.specs.Search.{index}
-use Rattle.search.specs.Loops.{index-go}
+use Rattle.model.specs.Tree.{halve, place}
+use Rattle.search.specs.Loops.{place-left, place-right}
 use borrow.Author.Needs.{needs}
 use Rattle.search.specs.Loops.{search-laws}
 use Rattle.search.proofs.chosen_index.Statement.{statement}
@@ -14,11 +14,11 @@ use Rattle.chip.proofs.read_u32.Reads as read-u32-reads
 ruleset all = (needs, search-laws)
 
 abbrev Inv-loop : tie.InvT-loop
-Inv-loop img at n key i₀ i =
-    (i ≤ n - 1) × (index key (entriesAt img at n) ≡ i + index key (entriesAt img (at + 8 * i) (n - i)))
+Inv-loop img at n key low₀ high₀ low high =
+    (low ≤ n - 1) × (high ≤ n) × (place key (entriesAt img at n) ≡ halve (high - low) key (entriesAt img at n) low high)
 
 abbrev μ-loop : tie.MeasureT-loop
-μ-loop img at n key i₀ i = n - i
+μ-loop img at n key low₀ high₀ low high = high - low
 
 pub chosen-index-spec : {M : Type 1} → statement M
 chosen-index-spec =
@@ -31,9 +31,10 @@ chosen-index-spec =
     (λ c. search all)
     (λ c. search all)
     (λ c. search all)
+    (λ c. search all)
     (λ c κs. search all)
     (λ c. search all)
+    (λ c. (search all, search all, search place-left))
     (λ c. search all)
-    (λ c. search all)
-    (λ c. (search all, search index-go))
+    (λ c. (search all, search all, search place-right))
     (λ c. search all))

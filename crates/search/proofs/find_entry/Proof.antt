@@ -1,7 +1,3 @@
-use Prim.Native.Nat.{_≤_, _+_, _*_, _-_}
-use mathlib.Core.Path.{_≡_}
-use Rattle.model.specs.Bytes.{entriesAt}
-use Rattle.model.specs.Tree.{find}
 use borrow.Author.Needs.{needs}
 use Rattle.search.specs.Loops.{search-laws}
 use Rattle.search.proofs.find_entry.Statement.{statement}
@@ -9,32 +5,18 @@ use Rattle.search.proofs.find_entry.Tie as tie
 use Rattle.search.proofs.find_entry.Reads as reads
 use Rattle.search.proofs.find_entry.Lts as lts
 use Rattle.chip.proofs.read_u32.Reads as read-u32-reads
+use Rattle.search.proofs.stand_of.Reads as stand-of-reads
 
 ruleset all = (needs, search-laws)
-
-abbrev Inv-loop : tie.InvT-loop
-Inv-loop img at n key i₀ i =
-    (i ≤ n) × (find key (entriesAt img at n) ≡ find key (entriesAt img (at + 8 * i) (n - i)))
-
-abbrev μ-loop : tie.MeasureT-loop
-μ-loop img at n key i₀ i = n - i
 
 pub find-entry-spec : {M : Type 1} → statement M
 find-entry-spec =
     tie.close
     (tie.spec
-    Inv-loop
-    μ-loop
-    (λ c. search all)
-    (λ c. search all)
-    (λ c. search all)
     (λ c κs. search all)
     (λ c. search all)
     (λ c. search all)
     (λ c. search all)
     (λ c κs. search all)
-    (λ c. search all)
-    (λ c. search all)
-    (λ c. search all)
     (λ c. search all)
     (λ c. search all))
