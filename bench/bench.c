@@ -239,39 +239,67 @@ static void table(void)
     }
 }
 
-/* Microseconds, by powers of ten from 0.1 to 1,000,000, to a height in the plot. */
+/* The decimal logarithm of x >= 1, to 20 binary places: a square doubles it. */
+static double logarithm(double x)
+{
+    double sum = 0, place = 0.5;
+    for (; x >= 10; x /= 10)
+        sum += 1;
+    for (; place > 1e-6; place /= 2) {
+        x *= x;
+        if (x >= 10) {
+            sum += place;
+            x /= 10;
+        }
+    }
+    return sum;
+}
+
+/* Where a time stands in the plot: powers of ten from 0.1 to 1,000,000 microseconds are 54 apart, all between by logarithm. */
 static double height_of(double seconds)
 {
-    double micro = 1e6 * seconds, power = 0, step;
-    for (step = 0.1; step * 10 <= micro; step *= 10)
-        power += 1;
-    return 400 - 54 * (power + (micro / step - 1) / 9);
+    double tenths = 1e7 * seconds;
+    return 400 - 54 * (tenths < 1 ? 0 : logarithm(tenths));
+}
+
+/* The same across, from the fewest blocks to the most. */
+static double across(unsigned blocks)
+{
+    return 80 + 400 * logarithm((double)blocks / sizes[0]) / logarithm((double)sizes[SIZES - 1] / sizes[0]);
+}
+
+static const char *const colours[KINDS] = { "#000000", "#1b7837", "#2166ac", "#b2182b", "#762a83", "#e08214", "#4d9221", "#8073ac" };
+
+/* One call's line through its three points, and its name. */
+static void plot_kind(FILE *f, int kind)
+{
+    int at;
+    fprintf(f, "<polyline fill='none' stroke='%s' stroke-width='2' points='", colours[kind]);
+    for (at = 0; at < SIZES; at++)
+        fprintf(f, "%.1f,%.1f ", across(sizes[at]), height_of(times[at][kind]));
+    fprintf(f, "'/>\n");
+    for (at = 0; at < SIZES; at++)
+        fprintf(f, "<circle cx='%.1f' cy='%.1f' r='3' fill='%s'/>", across(sizes[at]), height_of(times[at][kind]), colours[kind]);
+    fprintf(f, "\n<line x1='510' x2='534' y1='%d' y2='%d' stroke='%s' stroke-width='2'/><text x='540' y='%d'>%s</text>\n",
+            40 + 20 * kind, 40 + 20 * kind, colours[kind], 44 + 20 * kind, names[kind]);
 }
 
 static void plot(const char *path)
 {
-    static const char *const colours[KINDS] = { "#000000", "#1b7837", "#2166ac", "#b2182b", "#762a83", "#e08214", "#4d9221", "#8073ac" };
-    static const int across[SIZES] = { 80, 280, 480 };
     FILE *f = fopen(path, "w");
     int at, kind, line;
     need(f != NULL, "cannot write the plot");
     fprintf(f, "<svg xmlns='http://www.w3.org/2000/svg' width='720' height='460' font-family='sans-serif' font-size='12'>\n"
-               "<rect width='100%%' height='100%%' fill='#ffffff'/>\n<text x='70' y='20'>time of a call against blocks</text>\n");
+               "<rect width='100%%' height='100%%' fill='#ffffff'/>\n<text x='70' y='14'>time of a call against blocks, both axes logarithmic</text>\n");
     for (line = 0; line <= 7; line++)
         fprintf(f, "<line x1='70' x2='490' y1='%d' y2='%d' stroke='#dddddd'/><text x='64' y='%d' text-anchor='end'>%s</text>\n",
                 400 - 54 * line, 400 - 54 * line, 404 - 54 * line,
                 (const char *const[]){ "0.1 µs", "1 µs", "10 µs", "100 µs", "1 ms", "10 ms", "100 ms", "1 s" }[line]);
     for (at = 0; at < SIZES; at++)
-        fprintf(f, "<text x='%d' y='424' text-anchor='middle'>%u blocks</text>\n", across[at], sizes[at]);
-    for (kind = 0; kind < KINDS; kind++) {
-        if (times[0][kind] == 0)
-            continue;
-        fprintf(f, "<polyline fill='none' stroke='%s' stroke-width='2' points='", colours[kind]);
-        for (at = 0; at < SIZES; at++)
-            fprintf(f, "%d,%.1f ", across[at], height_of(times[at][kind]));
-        fprintf(f, "'/>\n<line x1='510' x2='534' y1='%d' y2='%d' stroke='%s' stroke-width='2'/><text x='540' y='%d'>%s</text>\n",
-                40 + 20 * kind, 40 + 20 * kind, colours[kind], 44 + 20 * kind, names[kind]);
-    }
+        fprintf(f, "<text x='%.1f' y='424' text-anchor='middle'>%u blocks</text>\n", across(sizes[at]), sizes[at]);
+    for (kind = 0; kind < KINDS; kind++)
+        if (times[0][kind] > 0)
+            plot_kind(f, kind);
     fputs("</svg>\n", f);
     need(fclose(f) == 0, "cannot write the plot");
 }

@@ -1,4 +1,4 @@
-/* image.h: image files, and what a person wants to see of an image. */
+/* image.h: an image in memory. */
 #ifndef MUTREE_IMAGE_H
 #define MUTREE_IMAGE_H
 
@@ -10,38 +10,21 @@ struct image {
     size_t length;
 };
 
-/* What stands on a page, for a picture: PAGE_ERASED, PAGE_DEAD, or the lowest live level (1 to 5). */
-enum { PAGE_ERASED = -1, PAGE_DEAD = 0 };
+/* The pointer itself, or an end with status 71 where it is NULL. */
+void *need(void *pointer);
 
-struct pair {
-    uint32_t key;
-    uint32_t address;
-};
-
-struct survey {
-    size_t pages;
-    signed char *page;     /* one for each page */
-    uint32_t root;         /* the root's page, where there is one */
-    unsigned height;       /* 0: no page carries a root */
-    uint32_t largest;      /* the largest sequence number */
-    size_t live, dead, erased;
-    struct pair *pairs;    /* the map, in rising order */
-    size_t entries, room;
-};
-
-/* Reads a whole file. On failure says why on standard error and returns nonzero. */
-int image_load(const char *path, struct image *image);
-
-/* Writes a temporary file beside `path` and renames it, so that a crash leaves the old file or the new one. */
-int image_save(const char *path, const struct image *image);
-
-/* A copy, or exit. */
+/* An image whose bytes are all 255. */
+struct image image_erased(size_t length);
 struct image image_copy(const struct image *image);
 void image_free(struct image *image);
 
-/* Looks at a sound image. Of another one only the erased pages and the largest number are told. */
-struct survey survey_image(const struct image *image, int sound);
-void survey_free(struct survey *survey);
-int same_map(const struct survey *a, const struct survey *b);
+/* Whether `count` bytes are all 255. */
+int all_255(const uint8_t *bytes, size_t count);
+
+/* 16,896 bytes times 3 to 1,024. */
+int length_fits(uintmax_t length);
+
+/* What the library says of an image: MUTREE_DONE for a sound one, MUTREE_LENGTH or MUTREE_DAMAGED. */
+uint32_t image_judge(const struct image *image);
 
 #endif

@@ -2,7 +2,8 @@
  * real_format and so on. FAULT says what is wrong:
  * 1 an insert that says DONE and writes nothing   2 one page more reported than programmed
  * 3 an insert that also flips a bit of a dead page   4 a delete that pretends   5 a lookup one address off
- * 6 an insert that makes one store more than its allowance */
+ * 6 an insert that makes one store more than its allowance
+ * 7 a lookup that reads one byte past the image   8 an insert that reads one byte past the result buffer */
 #include "../../c/mutree.h"
 
 #include <stdlib.h>
@@ -13,6 +14,8 @@ uint32_t real_lookup(const uint8_t *image, size_t image_len, uint32_t key, uint8
 uint32_t real_insert(uint8_t *image, size_t image_len, uint32_t key, uint32_t address, uint32_t allowance, uint8_t *result, size_t result_len);
 uint32_t real_delete(uint8_t *image, size_t image_len, uint32_t key, uint32_t allowance, uint8_t *result, size_t result_len);
 
+static volatile uint8_t seen; /* what faults 7 and 8 read */
+
 uint32_t mutree_format(uint8_t *image, size_t image_len, uint8_t *result, size_t result_len)
 {
     return real_format(image, image_len, result, result_len);
@@ -21,6 +24,8 @@ uint32_t mutree_format(uint8_t *image, size_t image_len, uint8_t *result, size_t
 uint32_t mutree_lookup(const uint8_t *image, size_t image_len, uint32_t key, uint8_t *result, size_t result_len)
 {
     uint32_t answer = real_lookup(image, image_len, key, result, result_len);
+    if (FAULT == 7)
+        seen = image[image_len];
     if (FAULT == 5 && answer == MUTREE_DONE)
         result[4]++;
     return answer;
@@ -49,6 +54,8 @@ uint32_t mutree_insert(uint8_t *image, size_t image_len, uint32_t key, uint32_t 
     uint32_t answer = real_insert(image, image_len, key, address, allowance + more, result, result_len);
     undo(image, before, image_len);
     free(before);
+    if (FAULT == 8)
+        seen = result[result_len];
     if (FAULT == 2 && answer == MUTREE_DONE)
         result[8]++;
     if (FAULT == 3 && answer == MUTREE_DONE && image[MUTREE_PAGE_BYTES - 1] == 255)

@@ -14,6 +14,7 @@ sys.path.insert(0, os.path.dirname(os.path.dirname(os.path.abspath(__file__))))
 import reference
 
 CALLS = {"format": 0, "lookup": 1, "insert": 2, "delete": 3}
+ANSWERS = ["DONE", "LENGTH", "DAMAGED", "WORN", "ABSENT", "HEIGHT", "ROOM", "STOPPED"]
 LARGEST = 2 ** 32 - 1
 
 
@@ -34,7 +35,7 @@ class Library:
     def hold(self, wanted, name, img, buf, **args):
         got = self.call(name, img, buf, **args)
         self.calls += 1
-        key = "%s %d" % (name, wanted[0])
+        key = name, wanted[0]
         self.met[key] = self.met.get(key, 0) + 1
         if got != wanted:
             with open("build/differs.img", "wb") as f:
@@ -113,6 +114,33 @@ def hand_made(library, m, fuzz, rng):
         img = every_update(library, m, rng, img, call)
 
 
+def highest(rng, m, fuzz):
+    """A sound image of height 5 whose root has 4 entries, and the keys of a leaf with nothing but full nodes above it."""
+    while True:
+        root = fuzz.build_full(rng, m, 5, True, 4)
+        if not fuzz.assign_keys(rng, root):
+            continue
+        erased = rng.choice([0, 1, 31, 32, 33, 40])
+        img = fuzz.lay_out(rng, m, rng.choice([3, 3, 4, 5]), fuzz.place(rng, root, rng.choice([0, .5, 1])), root, erased, False)
+        if img is None or m.first_damage(img):
+            continue
+        leaf = max((n for n in fuzz.all_nodes(root) if n.level == 1), key=lambda n: n.n)
+        return img, [key for key, _ in leaf.entries]
+
+
+def full_path(library, m, fuzz, rng):
+    """Trees that can grow no higher: new and present keys on the full path, then one key less, then that key again."""
+    img, keys = highest(rng, m, fuzz)
+    known = dict(m.map_of(img))
+    beside = [k + d for k in keys for d in (-1, 1) if keys[0] < k + d < keys[-1] and k + d not in known]
+    for key in rng.sample(beside, min(3, len(beside))) + rng.sample(keys, 1):
+        img = every_update(library, m, rng, img, ("insert", key, rng.randrange(2 ** 32)))
+        lookups(library, m, rng, img, [key])
+    gone = rng.choice(keys)
+    img = every_update(library, m, rng, img, ("delete", gone))
+    every_update(library, m, rng, img, ("insert", gone, 5))
+
+
 def broken(library, m, fuzz, rng):
     """Damaged trees, random bytes, bad lengths."""
     img = fuzz.hand_image(rng, m, 3)
@@ -131,6 +159,15 @@ def broken(library, m, fuzz, rng):
         library.hold(m.c_call("format", x, buf), "format", x, buf)
 
 
+def tell_met(library, wanted):
+    """The count of each answer. A run of 20,000 calls must have met all of them."""
+    counts = [sum(n for (_, answer), n in library.met.items() if answer == a) for a in range(8)]
+    print("  answers: " + ", ".join("%s %d" % x for x in zip(ANSWERS, counts)))
+    print("  by call: " + ", ".join("%s %s: %d" % (call, ANSWERS[a], n) for (call, a), n in sorted(library.met.items())))
+    if wanted >= 20000 and 0 in counts:
+        sys.exit("differential: never met " + ", ".join(name for name, n in zip(ANSWERS, counts) if n == 0))
+
+
 def main():
     fuzz = reference.load()
     if fuzz is None:
@@ -139,9 +176,9 @@ def main():
     wanted = int(sys.argv[2]) if len(sys.argv) > 2 else 20000
     rng, library, m = random.Random(int(sys.argv[3]) if len(sys.argv) > 3 else 1), Library(sys.argv[1]), fuzz.Mu()
     while library.calls < wanted:
-        rng.choice([a_log, hand_made, hand_made, broken])(library, m, fuzz, rng)
+        rng.choice([a_log, hand_made, hand_made, broken, full_path])(library, m, fuzz, rng)
     print("differential: %d calls agree with the reference model" % library.calls)
-    print("  met: " + ", ".join("%s: %d" % x for x in sorted(library.met.items())))
+    tell_met(library, wanted)
 
 
 main()

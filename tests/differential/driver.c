@@ -2,57 +2,67 @@
  *
  * A request: six 32-bit numbers (call 0 to 3: format, lookup, insert, delete; key; address; allowance; image length;
  * result length), least byte first, then the image and the result buffer. The reply: the returned number, then the
- * image and the result buffer as the call left them. */
+ * image and the result buffer as the call left them. Both stand against a guard page (guarded.h), so that a byte read too
+ * far ends the driver: with an even key the one behind them, with an odd key the one before. */
+#define _DEFAULT_SOURCE
 #include "../../c/mutree.h"
+#include "../guarded.h"
 
 #include <stdio.h>
-#include <stdlib.h>
 
 static uint32_t number(const uint8_t *at)
 {
     return (uint32_t)at[0] | (uint32_t)at[1] << 8 | (uint32_t)at[2] << 16 | (uint32_t)at[3] << 24;
 }
 
-static uint8_t *room(uint32_t n)
+/* The six numbers of a request. */
+enum { CALL, KEY, ADDRESS, ALLOWANCE, IMAGE_LENGTH, RESULT_LENGTH, NUMBERS };
+
+static int read_request(uint32_t *n)
 {
-    uint8_t *p = malloc(n ? n : 1);
-    if (p == NULL)
-        exit(71);
-    return p;
+    uint8_t head[4 * NUMBERS];
+    int i;
+    if (fread(head, 1, sizeof head, stdin) != sizeof head)
+        return 0;
+    for (i = 0; i < NUMBERS; i++)
+        n[i] = number(head + 4 * i);
+    return 1;
 }
 
 static uint32_t call(const uint32_t *n, uint8_t *image, uint8_t *result)
 {
-    switch (n[0]) {
-    case 0: return mutree_format(image, n[4], result, n[5]);
-    case 1: return mutree_lookup(image, n[4], n[1], result, n[5]);
-    case 2: return mutree_insert(image, n[4], n[1], n[2], n[3], result, n[5]);
-    default: return mutree_delete(image, n[4], n[1], n[3], result, n[5]);
+    switch (n[CALL]) {
+    case 0: return mutree_format(image, n[IMAGE_LENGTH], result, n[RESULT_LENGTH]);
+    case 1: return mutree_lookup(image, n[IMAGE_LENGTH], n[KEY], result, n[RESULT_LENGTH]);
+    case 2: return mutree_insert(image, n[IMAGE_LENGTH], n[KEY], n[ADDRESS], n[ALLOWANCE], result, n[RESULT_LENGTH]);
+    default: return mutree_delete(image, n[IMAGE_LENGTH], n[KEY], n[ALLOWANCE], result, n[RESULT_LENGTH]);
     }
+}
+
+static void reply(uint32_t answer, const struct guarded *image, const struct guarded *result)
+{
+    uint8_t bytes[4];
+    int i;
+    for (i = 0; i < 4; i++)
+        bytes[i] = (uint8_t)(answer >> (8 * i));
+    fwrite(bytes, 1, 4, stdout);
+    fwrite(image->bytes, 1, image->length, stdout);
+    fwrite(result->bytes, 1, result->length, stdout);
+    fflush(stdout);
 }
 
 int main(void)
 {
-    uint8_t head[24], answer[4];
-    while (fread(head, 1, sizeof head, stdin) == sizeof head) {
-        uint32_t n[6], r;
-        uint8_t *image, *result;
-        int i;
-        for (i = 0; i < 6; i++)
-            n[i] = number(head + 4 * i);
-        image = room(n[4]);
-        result = room(n[5]);
-        if (fread(image, 1, n[4], stdin) != n[4] || fread(result, 1, n[5], stdin) != n[5])
+    uint32_t n[NUMBERS];
+    while (read_request(n)) {
+        int at_end = n[KEY] % 2 == 0;
+        struct guarded image = guarded_make(n[IMAGE_LENGTH], at_end), result = guarded_make(n[RESULT_LENGTH], at_end);
+        if (fread(image.bytes, 1, image.length, stdin) != image.length
+            || fread(result.bytes, 1, result.length, stdin) != result.length)
             return 1;
-        r = call(n, image, result);
-        for (i = 0; i < 4; i++)
-            answer[i] = (uint8_t)(r >> (8 * i));
-        fwrite(answer, 1, 4, stdout);
-        fwrite(image, 1, n[4], stdout);
-        fwrite(result, 1, n[5], stdout);
-        fflush(stdout);
-        free(image);
-        free(result);
+        reply(call(n, image.bytes, result.bytes), &image, &result);
+        guarded_free(&image);
+        guarded_free(&result);
     }
     return 0;
 }

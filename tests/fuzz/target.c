@@ -1,84 +1,122 @@
-/* target.c: any bytes, any lengths, small buffers, through the four calls; for libFuzzer with sanitizers.
+/* target.c: any bytes, any lengths, small buffers, through the four calls; for libFuzzer with sanitizers, or for main.c.
  *
- * The first bytes choose the call, the key, the allowance and the result buffer's length; the rest is the image. Where
- * the input says so the image is a formatted one with the rest laid over it, so that sound and nearly sound images are met.
- * Checked besides the sanitizers' own findings: refused calls leave the image, a finished call leaves one that is not
- * DAMAGED, and guard bytes round the result stay. */
+ * The first bytes choose the call, the key, the allowance, the result buffer's length and which guard page the buffers stand
+ * against; the rest is the image. Where the input says so the image is a formatted one with the rest laid over it, so that
+ * sound and nearly sound images are met. The library itself has no sanitizers in it. So the image and the result buffer lie
+ * in mapped memory before a guard page, or after one: a byte read or written past their ends ends the run. Checked
+ * besides: refused calls leave the image, a finished call leaves one that is not DAMAGED, a short result buffer stays as
+ * it was, and so do the bytes after the 16. */
+#define _DEFAULT_SOURCE
 #include "../../c/mutree.h"
+#include "../guarded.h"
 
 #include <stdlib.h>
 #include <string.h>
+
+/* The first bytes of an input. */
+struct head {
+    int kind, over_format, at_end;
+    size_t room;
+    uint32_t key, allowance;
+};
+
+enum { HEAD = 8 };
 
 static uint32_t number(const uint8_t *at)
 {
     return (uint32_t)at[0] | (uint32_t)at[1] << 8 | (uint32_t)at[2] << 16 | (uint32_t)at[3] << 24;
 }
 
-/* The image is a block of its own, so that a read past its end is seen. */
-static uint8_t *make_image(const uint8_t *data, size_t size, int over_format, size_t *length)
+static struct head head_of(const uint8_t *data)
 {
-    uint8_t *image, result[MUTREE_RESULT_BYTES];
+    struct head head;
+    head.kind = data[0] & 3;
+    head.room = data[1] % 33;
+    head.key = number(data + 2) % 1024;
+    head.allowance = data[6] == 255 ? UINT32_MAX : data[6];
+    head.over_format = data[7] & 1;
+    head.at_end = !(data[7] & 2);
+    return head;
+}
+
+/* Five bytes a change: an insert, or one byte of the image. */
+static void lay_over(struct guarded image, const uint8_t *data, size_t size)
+{
+    uint8_t result[MUTREE_RESULT_BYTES];
     size_t i;
-    *length = over_format ? MUTREE_LEAST_BLOCKS * MUTREE_BLOCK_BYTES : size;
-    image = malloc(*length ? *length : 1);
-    if (image == NULL)
-        abort();
-    if (!over_format) {
-        memcpy(image, data, size);
+    for (i = 0; i + 5 <= size; i += 5) {
+        uint32_t n = number(data + i + 1);
+        if (data[i] & 1)
+            mutree_insert(image.bytes, image.length, n % 512, n, UINT32_MAX, result, sizeof result);
+        else
+            image.bytes[n % image.length] = data[i];
+    }
+}
+
+static struct guarded make_image(const uint8_t *data, size_t size, struct head head)
+{
+    uint8_t result[MUTREE_RESULT_BYTES];
+    struct guarded image = guarded_make(head.over_format ? MUTREE_LEAST_BLOCKS * MUTREE_BLOCK_BYTES : size, head.at_end);
+    if (!head.over_format) {
+        memcpy(image.bytes, data, size);
         return image;
     }
-    memset(image, 255, *length);
-    mutree_format(image, *length, result, sizeof result);
-    for (i = 0; i + 5 <= size; i += 5) {
-        if (data[i] & 1)
-            mutree_insert(image, *length, number(data + i + 1) % 512, number(data + i + 1), UINT32_MAX, result, sizeof result);
-        else
-            image[number(data + i + 1) % *length] = data[i];
-    }
+    memset(image.bytes, 255, image.length);
+    mutree_format(image.bytes, image.length, result, sizeof result);
+    lay_over(image, data, size);
     return image;
 }
 
-static uint32_t call(int kind, uint8_t *image, size_t length, uint32_t key, uint32_t allowance, uint8_t *result, size_t room)
+static uint32_t call(struct head head, struct guarded image, struct guarded result)
 {
-    switch (kind) {
-    case 0: return mutree_format(image, length, result, room);
-    case 1: return mutree_lookup(image, length, key, result, room);
-    case 2: return mutree_insert(image, length, key, ~key, allowance, result, room);
-    default: return mutree_delete(image, length, key, allowance, result, room);
+    switch (head.kind) {
+    case 0: return mutree_format(image.bytes, image.length, result.bytes, result.length);
+    case 1: return mutree_lookup(image.bytes, image.length, head.key, result.bytes, result.length);
+    case 2: return mutree_insert(image.bytes, image.length, head.key, ~head.key, head.allowance, result.bytes, result.length);
+    default: return mutree_delete(image.bytes, image.length, head.key, head.allowance, result.bytes, result.length);
     }
+}
+
+/* A result buffer that is too short stays as it was, and so do the bytes after the 16. */
+static void check_result(struct guarded result)
+{
+    size_t i;
+    for (i = result.length < MUTREE_RESULT_BYTES ? 0 : MUTREE_RESULT_BYTES; i < result.length; i++)
+        if (result.bytes[i] != 7)
+            abort();
+}
+
+static void check_image(uint32_t answer, struct guarded image, const uint8_t *before)
+{
+    uint8_t judged[MUTREE_RESULT_BYTES];
+    if (answer >= MUTREE_LENGTH && answer <= MUTREE_ROOM && memcmp(before, image.bytes, image.length) != 0)
+        abort();
+    if ((answer == MUTREE_DONE || answer == MUTREE_STOPPED)
+        && mutree_lookup(image.bytes, image.length, 0, judged, sizeof judged) == MUTREE_DAMAGED)
+        abort();
 }
 
 int LLVMFuzzerTestOneInput(const uint8_t *data, size_t size);
 
 int LLVMFuzzerTestOneInput(const uint8_t *data, size_t size)
 {
-    uint8_t *image, *before, *result, judged[MUTREE_RESULT_BYTES];
-    size_t length, room, i;
-    uint32_t key, allowance, answer;
-    int kind;
-    if (size < 8)
+    struct guarded image, result;
+    struct head head;
+    uint8_t *before;
+    if (size < HEAD)
         return 0;
-    kind = data[0] & 3;
-    room = data[1] % 33;
-    key = number(data + 2) % 1024;
-    allowance = data[6] == 255 ? UINT32_MAX : data[6];
-    image = make_image(data + 8, size - 8, data[7] & 1, &length);
-    before = malloc(length ? length : 1);
-    result = malloc(room ? room : 1);
-    if (before == NULL || result == NULL)
+    head = head_of(data);
+    image = make_image(data + HEAD, size - HEAD, head);
+    result = guarded_make(head.room, head.at_end);
+    before = malloc(image.length ? image.length : 1);
+    if (before == NULL)
         abort();
-    memcpy(before, image, length);
-    memset(result, 7, room);
-    answer = call(kind, image, length, key, allowance, result, room);
-    if (answer >= 1 && answer <= 6 && memcmp(before, image, length))
-        abort();
-    for (i = room < MUTREE_RESULT_BYTES ? 0 : MUTREE_RESULT_BYTES; i < room; i++)
-        if (result[i] != 7)
-            abort();
-    if ((answer == 0 || answer == 7) && mutree_lookup(image, length, key, judged, sizeof judged) == MUTREE_DAMAGED)
-        abort();
-    free(image);
+    memcpy(before, image.bytes, image.length);
+    memset(result.bytes, 7, result.length);
+    check_image(call(head, image, result), image, before);
+    check_result(result);
     free(before);
-    free(result);
+    guarded_free(&image);
+    guarded_free(&result);
     return 0;
 }

@@ -1,71 +1,87 @@
 #!/bin/sh
-# The command-line tool as a user meets it, mistakes included: what it prints and its exit status.
+# The command-line tool as a user meets it, mistakes included: what it prints, its exit status, and what it leaves in files.
 # usage: run.sh TOOL
+# Needs a POSIX shell and the usual small programs. What a machine has not is told in a line and left out.
 set -u
-tool=$1
+here=$(cd "$(dirname "$0")" && pwd)
+root=$(cd "$here/../.." && pwd)
+tool=$(cd "$(dirname "$1")" && pwd)/$(basename "$1")
 folder=$(mktemp -d) || exit 1
 trap 'rm -rf "$folder"' EXIT
-chip=$folder/chip.img
+trap 'exit 1' INT TERM HUP
+cd "$folder" || exit 1
+chip=chip.img
 bad=0
+
+# fail TEXT: one line, however long the text is
+fail() {
+    printf 'tool: %s' "$*" | tr '\n' ' ' | cut -c 1-300
+    bad=1
+}
+
+left_out() {
+    echo "tool: left out: $*"
+}
+
+have() {
+    command -v "$1" > /dev/null 2>&1
+}
+
+# limited WORDS..: runs the tool, at most 30 seconds
+limited() {
+    if have timeout; then
+        timeout 30 "$tool" "$@"
+    else
+        "$tool" "$@"
+    fi
+}
+
+# has TEXT PART: whether the text holds the part
+has() {
+    case $1 in
+    *"$2"*) return 0 ;;
+    esac
+    return 1
+}
 
 # want STATUS TEXT WORDS..: the tool's exit status, and a text in what it prints
 want() {
     status=$1
     text=$2
     shift 2
-    out=$("$tool" "$@" 2>&1)
+    out=$(limited "$@" 2>&1)
     got=$?
-    if [ "$got" -ne "$status" ]; then
-        echo "tool: 'mutree $*' ended with $got, wanted $status: $out"
-        bad=1
-    fi
-    case $out in
-    *"$text"*) ;;
-    *)
-        echo "tool: 'mutree $*' printed '$out', wanted '$text'"
-        bad=1
-        ;;
-    esac
+    [ "$got" -eq "$status" ] || fail "'mutree $*' ended with $got, wanted $status: $out"
+    has "$out" "$text" || fail "'mutree $*' printed '$out', wanted '$text'"
 }
 
-want 64 "usage:"
-want 64 "usage:" nonsense "$chip"
-want 66 "cannot open" lookup "$chip" 1
-want 66 "cannot open" show "$chip"
-want 1 "3 to 1024 blocks" format "$chip" 2
-want 1 "3 to 1024 blocks" format "$chip" 1025
-want 64 "is no number" format "$chip" three
-want 0 "DONE: 1 programmed, 3 erased" format "$chip" 3
-want 64 "--force" format "$chip" 4
-want 0 "DONE" format "$chip" 3
-want 4 "ABSENT" lookup "$chip" 7
-want 4 "ABSENT" delete "$chip" 7
-want 0 "DONE: 1 programmed, 0 erased" insert "$chip" 7 1000
-want 0 "1000" lookup "$chip" 7
-want 7 "STOPPED: 0 programmed, 0 erased" insert "$chip" 8 1001 --allow 0
-want 4 "ABSENT" lookup "$chip" 8
-want 64 "is no number" insert "$chip" 4294967296 1
-want 64 "is no number" insert "$chip" -1 1
-want 64 "is no number" insert "$chip" 1 1x
-want 64 "is no number" insert "$chip" 1 1 --allow many
-want 64 "usage:" insert "$chip" 1
-want 64 "usage:" insert "$chip" 1 2 --alow 3
-want 0 "DONE" insert "$chip" 4294967295 4294967295
-want 0 "4294967295" lookup "$chip" 4294967295
-want 0 "height 1, 2 entries" show "$chip" --svg "$folder/chip.svg"
-want 66 "cannot write" show "$chip" --svg "$folder/none/chip.svg"
-want 0 "old map" cut "$chip" 9 1
-want 0 "new map" cut "$chip" 9 1
-want 4 "ABSENT" lookup "$chip" 9
-want 0 "DONE" delete "$chip" 7
-want 4 "ABSENT" lookup "$chip" 7
-grep -q "</svg>" "$folder/chip.svg" || { echo "tool: no whole SVG"; bad=1; }
-printf 'x' > "$folder/short.img"
-want 1 "LENGTH" lookup "$folder/short.img" 1
-want 1 "LENGTH" show "$folder/short.img"
-head -c 50688 /dev/zero > "$folder/zeros.img"
-want 2 "DAMAGED" insert "$folder/zeros.img" 1 1
-want 2 "DAMAGED" show "$folder/zeros.img"
-want 2 "DAMAGED" cut "$folder/zeros.img" 1 1
+# fresh [FILE] [BLOCKS]: a formatted chip
+fresh() {
+    rm -f "${1:-$chip}"
+    "$tool" format "${1:-$chip}" "${2:-3}" > /dev/null || fail "format ${1:-$chip} ${2:-3}"
+}
+
+# keep FILE and same FILE WHAT: that a file did not change in between
+keep() {
+    cp "$1" "$1".kept
+}
+
+same() {
+    cmp -s "$1" "$1".kept || fail "$2 changed $1"
+    rm -f "$1".kept
+}
+
+# no_leftover WHAT: that nothing stands beside the chip
+no_leftover() {
+    for name in "$chip".*; do
+        [ ! -e "$name" ] || fail "$1 left $name behind"
+        rm -f "$name"
+    done
+}
+
+for part in words overwriting links kinds writers interrupts printing lengths apply pictures documents; do
+    . "$here/$part.sh"
+    rm -rf "$folder"/*
+done
 [ "$bad" -eq 0 ] && echo "tool: all as it should be"
 exit "$bad"

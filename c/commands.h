@@ -1,0 +1,15 @@
+/* commands.h: the tool's commands. Each takes its words and gives an exit status. */
+#ifndef MUTREE_COMMANDS_H
+#define MUTREE_COMMANDS_H
+
+#include "arguments.h"
+
+int format_command(const struct arguments *arguments);
+int insert_command(const struct arguments *arguments);
+int delete_command(const struct arguments *arguments);
+int lookup_command(const struct arguments *arguments);
+int apply_command(const struct arguments *arguments);
+int show_command(const struct arguments *arguments);
+int cut_command(const struct arguments *arguments);
+
+#endif

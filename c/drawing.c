@@ -1,0 +1,193 @@
+#include "drawing.h"
+#include "mutree.h"
+#include "say.h"
+
+enum { MARGIN = 20, LABEL = 34, GAP = 14, TOP = 128, KINDS = LEVELS + 2, STRETCH = 4 };
+
+/* Places in the picture, in pixels. A cell is a page. */
+struct layout {
+    unsigned cell, row, line; /* a cell's width, a row's height, and how much of the row is inked */
+    size_t columns, rows, width, height;
+};
+
+static const char *const colours[KINDS] = { "#ffffff", "#bdbdbd", "#1b7837", "#7fbf7b", "#2166ac", "#762a83", "#b2182b" };
+
+/* The kinds of pages by colour: 0 erased, 1 dead, 2 to 6 levels 1 to 5. */
+static unsigned kind_of(const struct survey *s, size_t page)
+{
+    return (unsigned)(s->page[page] + 1);
+}
+
+static void measure(struct layout *l, size_t blocks, size_t columns)
+{
+    l->columns = columns;
+    l->rows = (blocks + columns - 1) / columns;
+    l->width = 2 * MARGIN + columns * (LABEL + l->cell * MUTREE_BLOCK_PAGES + GAP);
+    l->height = TOP + l->rows * l->row + MARGIN;
+}
+
+/* How far a picture is from 3:2. */
+static size_t miss(const struct layout *l)
+{
+    return 2 * l->width > 3 * l->height ? 2 * l->width - 3 * l->height : 3 * l->height - 2 * l->width;
+}
+
+/* Rows of a low picture are made higher. */
+static void stretch(struct layout *l, size_t blocks)
+{
+    while (l->row < STRETCH * l->cell && 2 * l->width > 3 * l->height) {
+        l->row++;
+        measure(l, blocks, l->columns);
+    }
+}
+
+static struct layout lay_out(size_t blocks)
+{
+    struct layout best, next;
+    best.cell = blocks <= 64 ? 14 : blocks <= 256 ? 8 : 5;
+    best.row = best.cell;
+    measure(&best, blocks, 1);
+    next = best;
+    while (next.columns < blocks) {
+        measure(&next, blocks, next.columns + 1);
+        if (miss(&next) < miss(&best))
+            best = next;
+    }
+    if (best.columns == 1)
+        stretch(&best, blocks);
+    best.line = best.row > 8 ? best.row - 2 : best.row - 1;
+    return best;
+}
+
+static size_t left_of(const struct layout *l, size_t block)
+{
+    return MARGIN + LABEL + block / l->rows * (LABEL + l->cell * MUTREE_BLOCK_PAGES + GAP);
+}
+
+static size_t top_of(const struct layout *l, size_t block)
+{
+    return TOP + block % l->rows * l->row;
+}
+
+static void heading(FILE *out, const struct survey *s)
+{
+    fprintf(out, "<title>Index of %zu blocks</title>\n<text x='%d' y='34' font-size='18'>Index of %zu blocks, %s</text>\n",
+            s->blocks, MARGIN, s->blocks, s->sound ? "sound" : "DAMAGED");
+    if (s->sound)
+        fprintf(out, "<text x='%d' y='54'>%zu %s, height %u, root on page %u; largest sequence number %u</text>\n", MARGIN,
+                s->entries, entries_word(s->entries), s->height, (unsigned)s->root, (unsigned)s->largest);
+    else
+        fprintf(out, "<text x='%d' y='54'>live and dead pages can't be told apart; largest sequence number %u</text>\n", MARGIN,
+                (unsigned)s->largest);
+    fprintf(out, "<text x='%d' y='118'>a row is a block of 32 pages, page 0 of it at the left</text>\n", MARGIN);
+}
+
+static void legend_item(FILE *out, size_t x, unsigned y, const char *colour, const char *name, size_t count)
+{
+    fprintf(out, "<rect x='%zu' y='%u' width='11' height='11' fill='%s' stroke='#777'/><text x='%zu' y='%u'>%s %zu</text>\n",
+            x, y, colour, x + 16, y + 10, name, count);
+}
+
+static void legend(FILE *out, const struct survey *s)
+{
+    static const char *const names[] = { "", "level 1:", "level 2:", "level 3:", "level 4:", "level 5:" };
+    unsigned level;
+    legend_item(out, MARGIN, 66, colours[0], "erased pages:", s->erased);
+    legend_item(out, MARGIN + 160, 66, colours[1], s->sound ? "dead:" : "programmed:", s->sound ? s->dead : s->pages - s->erased);
+    if (!s->sound)
+        return;
+    fprintf(out, "<text x='%d' y='76'>live: %zu, by their lowest live level:</text>\n", MARGIN + 280, s->live);
+    for (level = 1; level <= LEVELS; level++)
+        legend_item(out, MARGIN + 95 * (level - 1), 88, colours[level + 1], names[level], s->level[level]);
+    fprintf(out, "<rect x='%d' y='88' width='11' height='11' fill='none' stroke='#000' stroke-width='2'/>"
+                 "<text x='%d' y='98'>root</text>\n", MARGIN + 475, MARGIN + 492);
+}
+
+/* Numbers beside the rows: all of them where there is room, else every eighth. */
+static void labels(FILE *out, const struct survey *s, const struct layout *l)
+{
+    size_t block, step = l->row >= 10 ? 1 : 8;
+    for (block = 0; block < s->blocks; block++)
+        if (block % l->rows % step == 0)
+            fprintf(out, "<text x='%zu' y='%zu' text-anchor='end'>%zu</text>\n", left_of(l, block) - 5,
+                    top_of(l, block) + l->row / 2 + 4, block);
+}
+
+/* The last column may be shorter. */
+static size_t rows_from(const struct survey *s, const struct layout *l, size_t block)
+{
+    return s->blocks - block < l->rows ? s->blocks - block : l->rows;
+}
+
+/* A white ground with a frame for each column, so that erased pages show. */
+static void ground(FILE *out, const struct survey *s, const struct layout *l)
+{
+    size_t block;
+    for (block = 0; block < s->blocks; block += l->rows)
+        fprintf(out, "<rect x='%zu' y='%zu' width='%zu' height='%zu' fill='%s' stroke='#777'/>\n", left_of(l, block) - 1,
+                top_of(l, block) - 1, (size_t)l->cell * MUTREE_BLOCK_PAGES + 2, rows_from(s, l, block) * l->row + 1, colours[0]);
+}
+
+/* The page after a run of pages of one kind, which ends with its block. */
+static size_t run_end(const struct survey *s, size_t page)
+{
+    size_t end = page + 1;
+    while (end % MUTREE_BLOCK_PAGES != 0 && s->page[end] == s->page[page])
+        end++;
+    return end;
+}
+
+/* One path for all pages of a kind: a stroke for each run. */
+static void runs(FILE *out, const struct survey *s, const struct layout *l, unsigned kind)
+{
+    size_t page, end;
+    fprintf(out, "<path stroke='%s' stroke-width='%u' d='", colours[kind], l->line);
+    for (page = 0; page < s->pages; page = end) {
+        size_t block = page / MUTREE_BLOCK_PAGES;
+        end = run_end(s, page);
+        if (kind_of(s, page) == kind)
+            fprintf(out, "M%zu %zu%sh%zu\n", left_of(l, block) + l->cell * (page % MUTREE_BLOCK_PAGES),
+                    top_of(l, block) + l->line / 2, l->line % 2 ? ".5" : "", l->cell * (end - page));
+    }
+    fputs("'/>\n", out);
+}
+
+/* Thin lines between pages, where there is room. */
+static void grid(FILE *out, const struct survey *s, const struct layout *l)
+{
+    size_t line, lines = (s->blocks + l->rows - 1) / l->rows * MUTREE_BLOCK_PAGES;
+    fputs("<path stroke='#e4e4e4' stroke-width='1' d='", out);
+    for (line = 0; line < lines; line++) {
+        size_t block = line / MUTREE_BLOCK_PAGES * l->rows;
+        if (line % MUTREE_BLOCK_PAGES != 0)
+            fprintf(out, "M%zu %dv%zu\n", left_of(l, block) + l->cell * (line % MUTREE_BLOCK_PAGES), TOP,
+                    l->row * rows_from(s, l, block) - 1);
+    }
+    fputs("'/>\n", out);
+}
+
+static void root_frame(FILE *out, const struct survey *s, const struct layout *l)
+{
+    size_t block = s->root / MUTREE_BLOCK_PAGES;
+    fprintf(out, "<rect x='%zu' y='%zu' width='%u' height='%u' fill='none' stroke='#000' stroke-width='2'/>\n",
+            left_of(l, block) + l->cell * (s->root % MUTREE_BLOCK_PAGES) - 1, top_of(l, block) - 1, l->cell + 2, l->line + 2);
+}
+
+void draw_survey(FILE *out, const struct survey *s)
+{
+    struct layout l = lay_out(s->blocks);
+    unsigned kind;
+    fprintf(out, DRAWING_BEGINS " width='%zu' height='%zu' viewBox='0 0 %zu %zu' font-family='sans-serif' font-size='11'>\n"
+                 "<rect width='100%%' height='100%%' fill='#fafafa'/>\n", l.width, l.height, l.width, l.height);
+    heading(out, s);
+    legend(out, s);
+    labels(out, s, &l);
+    ground(out, s, &l);
+    for (kind = 1; kind < KINDS; kind++)
+        runs(out, s, &l, kind);
+    if (l.cell >= 8)
+        grid(out, s, &l);
+    if (s->sound)
+        root_frame(out, s, &l);
+    fputs("</svg>\n", out);
+}

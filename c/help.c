@@ -1,0 +1,24 @@
+#include "help.h"
+
+static void print_commands(FILE *out, const struct command *commands, size_t count)
+{
+    size_t i;
+    for (i = 0; i < count; i++)
+        fprintf(out, "  mutree %s %s\n        %s\n", commands[i].name, commands[i].words, commands[i].does);
+}
+
+void print_help(FILE *out, const struct command *commands, size_t count)
+{
+    fputs("usage: mutree COMMAND FILE ..       the index at the bench\n\n", out);
+    print_commands(out, commands, count);
+    fputs("  mutree help, mutree --version\n\n"
+          "FILE is a raw dump with spare bytes, as nanddump --oob writes it: a regular file. KEY, ADDRESS and N are\n"
+          "0 to 4294967295 without leading zeros. A change holds a lock and replaces the file whole, or leaves it as it\n"
+          "was; a second change waits for the first, and with --no-wait it is refused.\n\n"
+          "apply reads a command a line: insert KEY ADDRESS, delete KEY or lookup KEY; empty lines and lines that begin\n"
+          "with # are passed over, the last line ends like the others. Every line must be understood and DONE, else\n"
+          "nothing is changed and the line is named. Lookups print key and address.\n\n"
+          "Exit status: 0 DONE, 1 LENGTH, 2 DAMAGED, 3 WORN, 4 ABSENT, 5 HEIGHT, 6 ROOM, 7 STOPPED; 64 the command was\n"
+          "not understood or needs --force, 66 a file can't be read or written, 71 out of memory, 74 the output can't be\n"
+          "printed, 75 another process is changing the file.\n", out);
+}

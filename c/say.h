@@ -1,0 +1,39 @@
+/* say.h: what the tool prints of answers, and whether it could be printed. */
+#ifndef MUTREE_SAY_H
+#define MUTREE_SAY_H
+
+#include "mutree.h"
+
+#include <stddef.h>
+
+/* DONE, LENGTH and so on. */
+const char *answer_name(uint32_t answer);
+
+/* What a number other than DONE means. */
+const char *answer_meaning(uint32_t answer);
+
+/* "1 entry", "2 entries": the ending for a count. */
+const char *entries_word(size_t count);
+
+/* A line on standard error, after all that was printed before it: "mutree: " and what is wrong. */
+void complain(const char *format, ...);
+
+/* The same for a call on a file that failed, with the system's reason. */
+void complain_of(const char *path, const char *what);
+
+/* Prints an answer that is not DONE. Returns it as an exit status. */
+int say_refused(uint32_t answer);
+
+/* Prints the answer of a format, an insert or a delete. Returns it as an exit status. */
+int say_result(struct mutree_result result);
+
+/* Prints LENGTH for a file of this length. Returns it as an exit status. */
+int say_length(const char *path, uintmax_t length);
+
+/* Remembers that the file is changed, for a report that can't be printed. */
+void say_changed(void);
+
+/* Closes standard output. Returns the status, or BAD_OUTPUT with a line where something could not be printed. */
+int say_finished(int status);
+
+#endif

@@ -1,0 +1,52 @@
+/* main.c: drives target.c without libFuzzer, with inputs from a counter. So any C compiler can run it; it is no search, but
+ * it meets all four calls, sound and broken images, good and bad lengths, and both guard pages.
+ *
+ * usage: fuzz [ROUNDS]
+ */
+#include "../../c/mutree.h"
+
+#include <stdio.h>
+#include <stdlib.h>
+#include <string.h>
+
+int LLVMFuzzerTestOneInput(const uint8_t *data, size_t size);
+
+enum { MOST = 60000 };
+
+static uint64_t seed = 1;
+
+static uint32_t some(uint32_t below)
+{
+    seed = seed * 6364136223846793005u + 1442695040888963407u;
+    return (uint32_t)((seed >> 33) % below);
+}
+
+static void fill(uint8_t *bytes, size_t count)
+{
+    while (count > 0)
+        bytes[--count] = (uint8_t)some(256);
+}
+
+/* The first bytes at random, then lengths that matter: short ones, an index's, and one byte beside it. */
+static size_t input(uint8_t *data)
+{
+    static const uint32_t lengths[] = { 0, 1, 528, 16896, 50687, 50688, 50689, 59000 };
+    size_t size = data[7] & 1 ? some(400) : lengths[some(8)];
+    if (data[7] & 1)
+        fill(data + 8, size);
+    else
+        memset(data + 8, some(2) ? 255 : (int)some(256), size);
+    return 8 + size;
+}
+
+int main(int count, char **words)
+{
+    static uint8_t data[MOST];
+    long round, rounds = count > 1 ? atol(words[1]) : 2000;
+    for (round = 0; round < rounds; round++) {
+        fill(data, 8);
+        LLVMFuzzerTestOneInput(data, input(data));
+    }
+    printf("fuzz: %ld inputs, no finding\n", rounds);
+    return 0;
+}

@@ -1,0 +1,44 @@
+# README shows what the tool prints, and the plot of docs/BENCHMARKS.md fits its figures.
+sh "$root/c/day.sh" "$tool" > day 2>&1 || fail "the short day ended with $?"
+
+# README's lines of the day, without their indentation; '..' stands for lines left out
+sed -n '/^    A chip of three blocks is formatted\.$/,/^[^ ]/p' "$root/README.md" | sed -n 's/^    //p' > shown
+[ "$(wc -l < shown)" -gt 20 ] || fail "README shows no day"
+exec 3< day
+while IFS= read -r line; do
+    [ "$line" = ".." ] && continue
+    found=0
+    while [ "$found" -eq 0 ] && IFS= read -r printed <&3; do
+        [ "$printed" != "$line" ] || found=1
+    done
+    [ "$found" -eq 1 ] || { fail "README shows '$line', which the day does not print there"; break; }
+done < shown
+exec 3<&-
+
+# A point's height: 54 for each power of ten, from 0.1 microseconds at 400. The figures have one decimal.
+if have awk; then
+    awk '
+    function height(v) { return 400 - 54 * (log(v < 0.1 ? 0.1 : v) / log(10) + 1) }
+    FNR == NR && /^\| .* \([0-9.]*\) \|/ {
+        split($0, part, "|")
+        for (i = 3; i <= 5; i++) { split(part[i], word, " "); figure[row + 0, i - 2] = word[1] }
+        row++
+    }
+    FNR != NR && /<polyline/ {
+        sub(/.*points=./, "")
+        split($0, point, " ")
+        for (i = 1; i <= 3; i++) {
+            split(point[i], place, ",")
+            v = figure[line + 0, i]
+            if (place[2] > height(v - 0.06) + 0.1 || place[2] < height(v + 0.06) - 0.1) {
+                print "tool: docs/bench.svg: " v " microseconds stand at " place[2] ", not at " height(v)
+                wrong = 1
+            }
+        }
+        line++
+    }
+    END { if (row == 0 || row != line) { print "tool: docs/bench.svg has " line " lines for " row " figures"; wrong = 1 } exit wrong }
+    ' "$root/docs/BENCHMARKS.md" "$root/docs/bench.svg" || bad=1
+else
+    left_out "the plot, there is no awk here"
+fi
