@@ -3,6 +3,7 @@
 # make library    prove all crates and build the library alone; needs no C compiler
 # make check      pass all tests: the gate and what runs beside it
 # make search     time the search in one node (bench/search.c)
+# make wear       play a year of a camera's life and draw how often each block is erased (bench/wear.c, docs/WEAR.md)
 # make install    header, library, pkg-config file and tool, under PREFIX; make uninstall takes them away
 # make clean      remove all that was built and proved
 #
@@ -42,7 +43,7 @@ PROOFS = crates.txt $(shell find crates -type f)
 # What is asked for before ten minutes of proving, and not after: the archive alone needs no compiler.
 NEEDS = rt $(if $(filter library,$(MAKECMDGOALS)),,"$(COMPILER)")
 
-.PHONY: day build library check search install uninstall clean settings
+.PHONY: day build library check search wear install uninstall clean settings
 .DELETE_ON_ERROR:
 
 ifeq ($(TARGET),$(HOST))
@@ -86,6 +87,12 @@ build/$(TARGET)/search: bench/search.c build/$(TARGET)/libsearch.a
 
 search: build/$(TARGET)/search
 	$(RUN) $<
+
+build/$(TARGET)/wear: bench/wear.c c/mutree.h $(LIBRARY)
+	$(COMPILER) $(STRICT) $(CFLAGS) $(LINK) bench/wear.c $(LIBRARY) -o $@
+
+wear: build/$(TARGET)/wear
+	$(RUN) $< --svg docs/wear.svg docs/wear-before.txt > docs/wear-after.txt
 
 install: build
 	install -d $(DESTDIR)$(PREFIX)/include $(DESTDIR)$(PREFIX)/lib/pkgconfig $(DESTDIR)$(PREFIX)/bin

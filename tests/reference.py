@@ -19,6 +19,16 @@ def load():
     return importlib.import_module("fuzz_claims")
 
 
+def rules(fuzz):
+    """The requests that have landed and that the model tells apart."""
+    return fuzz.Rules(wish2=True)
+
+
+def mu(fuzz):
+    """The model of the rules as they stand here."""
+    return fuzz.Mu(fuzz.SMALL, rules(fuzz))
+
+
 def damaged(rng, m, img):
     """The image with one to three things broken: keys, counts, numbers, erased or exchanged pages, single bits."""
     g, b, live = m.G, bytearray(img), m.live_nodes(img)
@@ -56,8 +66,8 @@ def loose(rng, fuzz, blocks=None):
         def R7(self, img):
             return None
     if rng.random() < .5:
-        return fuzz.hand_image(rng, fuzz.Mu(), blocks, wild=True)
-    return fuzz.hand_image(rng, WithoutR7(), blocks)
+        return fuzz.hand_image(rng, mu(fuzz), blocks, wild=True)
+    return fuzz.hand_image(rng, WithoutR7(fuzz.SMALL, rules(fuzz)), blocks)
 
 
 def allowances(rng, stores):

@@ -29,7 +29,7 @@ def compare(seconds, seed):
     if fuzz is None:
         print("definitions: skipped, the reference model is not here")
         return
-    d, m, rng = Definitions(reference.ROOT), fuzz.Mu(), random.Random(seed)
+    d, m, rng = Definitions(reference.ROOT), reference.mu(fuzz), random.Random(seed)
     small, calls, met = force(d["small"]), 0, {}
     rest = lambda r: (r.answer, r.address, r.programmed, r.erased, r.img)
     end = time.time() + seconds

@@ -174,7 +174,7 @@ def main():
         print("differential: skipped, the reference model is not here")
         return
     wanted = int(sys.argv[2]) if len(sys.argv) > 2 else 20000
-    rng, library, m = random.Random(int(sys.argv[3]) if len(sys.argv) > 3 else 1), Library(sys.argv[1]), fuzz.Mu()
+    rng, library, m = random.Random(int(sys.argv[3]) if len(sys.argv) > 3 else 1), Library(sys.argv[1]), reference.mu(fuzz)
     while library.calls < wanted:
         rng.choice([a_log, hand_made, hand_made, broken, full_path])(library, m, fuzz, rng)
     print("differential: %d calls agree with the reference model" % library.calls)

@@ -1,6 +1,7 @@
 /* demands.c: holds the library's own outputs against document 01's demands, with a plain sorted array for the map and
  * the judge of judge.c. After every allowance the image must be sound and hold the old map, or the new one after the
  * last store; only erased pages are programmed and only blocks without live pages erased; the counts are the stores made.
+ * Where a page is programmed on a wholly erased block, that block is the one that request 2 names.
  *
  * usage: demands [ROUNDS] [SEED]
  */
@@ -16,6 +17,7 @@ static struct entry oracle[200000];
 static size_t entries;
 static unsigned long updates, prefixes;
 static uint32_t most_own, most_programmed, most_erased;
+static unsigned long choices, from_several, past_the_end;
 
 static void fail(const char *what)
 {
@@ -103,6 +105,48 @@ static int page_is(const uint8_t *page, int value)
     return 1;
 }
 
+/* ---- request 2: "the choice starts after the block that holds the page with the largest sequence number and goes round past
+ * the end to the start; the first wholly erased block met is taken" */
+static int wholly_erased(const struct tree *t, size_t block)
+{
+    size_t p;
+    for (p = block * BLOCK_PAGES; p < (block + 1) * BLOCK_PAGES; p++)
+        if (!t->erased[p])
+            return 0;
+    return 1;
+}
+
+/* Over all programmed pages, live or dead. */
+static size_t block_of_largest(const struct tree *t, const uint8_t *image)
+{
+    size_t p, found = 0;
+    uint32_t largest = 0;
+    for (p = 0; p < t->pages; p++)
+        if (!t->erased[p] && number_at(image + p * PAGE + MAIN) > largest) {
+            largest = number_at(image + p * PAGE + MAIN);
+            found = p;
+        }
+    return found / BLOCK_PAGES;
+}
+
+/* The page that a store programs on this image. That a partly programmed block comes first is R2 of the image after it. */
+static void goes_round(const struct tree *t, const uint8_t *image, size_t page)
+{
+    size_t blocks = t->pages / BLOCK_PAGES, start = block_of_largest(t, image), met = start, several = 0, b;
+    if (!wholly_erased(t, page / BLOCK_PAGES))
+        return;
+    do
+        met = (met + 1) % blocks;
+    while (!wholly_erased(t, met));
+    if (met != page / BLOCK_PAGES)
+        fail("the block taken is not the first wholly erased one after that of the largest number, going round");
+    for (b = 0; b < blocks; b++)
+        several += (size_t)wholly_erased(t, b);
+    choices++;
+    from_several += several > 1;
+    past_the_end += met < start;
+}
+
 /* Exactly one store leads from old to new. The tree is the old image's. Returns 1 for a page programmed, 2 for a block erased. */
 static int one_store(const struct tree *old_tree, const uint8_t *old, const uint8_t *new)
 {
@@ -114,8 +158,10 @@ static int one_store(const struct tree *old_tree, const uint8_t *old, const uint
         }
     if (changed == 0)
         fail("a store that changes nothing");
-    if (changed == 1 && old_tree->erased[which])
+    if (changed == 1 && old_tree->erased[which]) {
+        goes_round(old_tree, old, which);
         return 1;
+    }
     for (p = which - which % BLOCK_PAGES; p < which - which % BLOCK_PAGES + BLOCK_PAGES; p++) {
         changed -= memcmp(old + p * PAGE, new + p * PAGE, PAGE) != 0;
         if (!page_is(new + p * PAGE, 255))
@@ -223,6 +269,18 @@ static uint32_t a_key(int way, uint32_t step)
     }
 }
 
+/* The battery is lost after a store or two, and the day goes on from there: the page with the largest number may be dead. */
+static void stop(struct update u, uint8_t *image, size_t length)
+{
+    uint8_t *copy = malloc(length);
+    if (copy == NULL)
+        exit(71);
+    memcpy(copy, image, length);
+    if (run(u, copy, length, 1 + some(2)).answer == 7)
+        memcpy(image, copy, length);
+    free(copy);
+}
+
 static void day(unsigned blocks, int way, unsigned steps)
 {
     size_t length = (size_t)blocks * MUTREE_BLOCK_BYTES;
@@ -241,6 +299,8 @@ static void day(unsigned blocks, int way, unsigned steps)
         u.adds = entries == 0 || some(10) < (way == 2 ? 6u : 8u);
         u.key = u.adds || some(20) == 0 ? a_key(way, step) : oracle[some((uint32_t)entries)].key;
         u.address = some(4294967295u);
+        if (some(8) == 0)
+            stop(u, image, length);
         answer = every_allowance(u, image, length);
         if (u.adds ? answer == 4 : answer == 5 || (answer == 4) != !has(u.key))
             if (answer != 0)
@@ -346,7 +406,11 @@ int main(int count, char **words)
         fail("a bound was not reached");
     for (i = 0; i < rounds; i++)
         day(3 + some(4), (int)(i % 4), 400);
+    if (from_several == 0 || past_the_end == 0)
+        fail("a choice among several wholly erased blocks, or one past the end, was not met");
     printf("independent: %lu updates, %lu images after a store, all sound, old or new map; reached %u own pages, %u pages, %u erases\n",
            updates, prefixes, (unsigned)most_own, (unsigned)most_programmed, (unsigned)most_erased);
+    printf("independent: %lu times a wholly erased block was taken, %lu times one of several, %lu times past the end\n", choices,
+           from_several, past_the_end);
     return 0;
 }

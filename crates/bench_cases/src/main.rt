@@ -144,14 +144,14 @@ fn grows(img: &mut [u8; 50688]) {
     fill(&mut *img);
     found(&*img, 64);
     insert(&mut *img, 64);
-    show_page(&*img, 0);
-    show_page(&*img, 1);
+    show_page(&*img, 64);
+    show_page(&*img, 65);
 }
 
 fn splits(img: &mut [u8; 50688]) {
     insert(&mut *img, 65);
-    show_page(&*img, 2);
-    show_page(&*img, 3);
+    show_page(&*img, 66);
+    show_page(&*img, 67);
     found(&*img, 70);
 }
 

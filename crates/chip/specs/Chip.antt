@@ -5,7 +5,7 @@ use Rattle.geometry.specs.declared.Geometry.{Geometry}
 use Rattle.geometry.specs.declared.Entry.{Entry}
 use Rattle.geometry.specs.Tests.{pick}
 use Rattle.model.specs.Bytes.{u32At, erased, nodeAt}
-use Rattle.model.specs.Image.{Chip, blocksOf, goodLength}
+use Rattle.model.specs.Image.{Chip, blocksOf, goodLength, seqOf}
 
 -- the slot at an index
 unfoldable pub entryAt : List ℕ → ℕ → Entry
@@ -21,4 +21,4 @@ goodBlocks g img = pick (goodLength g img) (blocksOf g img) 0
 
 -- what the rules see of an image whose root stands at this page, with so many levels below it
 abbrev pub chipWith : Geometry → List ℕ → ℕ → ℕ → Chip
-chipWith g img level root = record { er = erased g img; nodes = nodeAt g img; level = level; root = root }
+chipWith g img level root = record { er = erased g img; seq = seqOf g img; nodes = nodeAt g img; level = level; root = root }

@@ -15,7 +15,7 @@ use Rattle.geometry.specs.Shape.{Shape}
 use Rattle.model.specs.Count.{count}
 use Rattle.model.specs.Image.{Nodes, Chip, theRoot}
 use Rattle.model.specs.Tree.{gather, under, mapOf, next, chosen, find, sought}
-use Rattle.model.specs.Next.{taken}
+use Rattle.model.specs.Next.{ahead, taken}
 use Rattle.model.specs.Edit.{remove, removeIn, kept, Top, collapse}
 use Rattle.model.specs.Update.{isNone, rootNode, sidePage, deleteList, deleteTop, deletePart}
 use Rattle.trees.specs.Tests.{by-le, true-false}
@@ -98,14 +98,14 @@ module _ (g : Geometry) (shape : Shape g) (n k : ℕ) (k-low : k < 4294967296) (
   unfolding deleteTop
   top-low = collapse-low r (c .level) (lists (suc (c .level)))
 
-  module _ (free : 1 ≤ count (g .pages * n) (c .er)) (s : Nodes)
+  module _ (free : 1 ≤ count (g .pages * n) (c .er)) (s : Nodes) (numbers : ℕ → ℕ)
       (at-N : (j : ℕ) → 1 ≤ j → j ≤ g .top → s N j ≡ leftList g n c k j)
       (stays : (q l : ℕ) → fit (suc l) q → s q (suc l) ≡ r q (suc l)) (high : suc (c .level) ≤ g .top) where
     abbrev fit′ : ℕ → ℕ → Type 0
-    fit′ = fitOf (g .pages * n) (taken (g .pages) n (c .er) 1)
+    fit′ = fitOf (g .pages * n) (taken (g .pages) n (ahead g n c) 1 .er)
 
-    after-r2 : R2 (g .pages) n (taken (g .pages) n (c .er) 1)
-    after-r2 = step (g .pages) n (c .er) (some-page g shape) (good .r2) 1 free .r2
+    after-r2 : R2 (g .pages) n (taken (g .pages) n (ahead g n c) 1 .er)
+    after-r2 = step (g .pages) n (ahead g n c) (some-page g shape) (good .r2) 1 free .r2
 
     fit-N : (l : ℕ) → fit′ (suc l) N
     fit-N l = fit-side g shape n c (good .r2) 1 free 1 (suc l) (omega arith) (omega arith)
@@ -114,7 +114,7 @@ module _ (g : Geometry) (shape : Shape g) (n k : ℕ) (k-low : k < 4294967296) (
     new-N l = new-side g shape n c (good .r2) 1 free 1 l (omega arith) (omega arith)
 
     abbrev Done : ℕ → Type 0
-    Done l = Whole g n (record { er = taken (g .pages) n (c .er) 1; nodes = s; level = l; root = N }) × (under s (suc l) (the N) ≡ remove k (mapOf c))
+    Done l = Whole g n (record { er = taken (g .pages) n (ahead g n c) 1 .er; seq = numbers; nodes = s; level = l; root = N }) × (under s (suc l) (the N) ≡ remove k (mapOf c))
 
     stay : Stays (c .level) (lists (suc (c .level))) → Done (c .level)
     unfolding deletePart deleteTop deleteList Stays
@@ -218,7 +218,7 @@ module _ (g : Geometry) (shape : Shape g) (n k : ℕ) (k-low : k < 4294967296) (
     pub top-most : length (top .list) ≤ rootMost g (suc (top .level))
     unfolding deletePart
     top-most =
-        let w = delete-done free s (λ j _ _. s-N j) (λ q l h. rw (ne-eqb q N
+        let w = delete-done free s (c .seq) (λ j _ _. s-N j) (λ q l h. rw (ne-eqb q N
         (λ z. new-side g shape n c (good .r2) 1 free 1 l (omega arith) (omega arith)
         (subst (fit (suc l)) z h))) refl) high .0 .sound .rooted .atmost in
         let e : s N (suc (top .level)) ≡ top .list = s-N (suc (top .level)) ∙ rw (eq-eqb (suc (top .level)) (suc (top .level)) refl) refl in

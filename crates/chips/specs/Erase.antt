@@ -60,6 +60,7 @@ blankNode g l = nodeAt g (replicate (pageBytes g) 255) 0 l
 unfoldable pub eraseBlock : Geometry → ℕ → Chip → Chip
 eraseBlock g v c = record {
   er = λ q. pick (inB (g .pages) v q) true (c .er q);
+  seq = λ q. pick (inB (g .pages) v q) 0 (c .seq q);
   nodes = λ q j. pick (inB (g .pages) v q) (blankNode g j)
       (c .nodes q j);
   level = c .level;
@@ -147,7 +148,7 @@ module _ (g : Geometry) (shape : Shape g) (n : ℕ) (v : ℕ) (v-in : v < n) (c 
 
   pub erased-alike : Same g c c′
   unfolding eraseBlock
-  erased-alike = same-like g (g .pages * n) (c .er) (c′ .er) (c .nodes) (c′ .nodes) (c .level) (c .root) (c .root) (sw .good .sound .rooted)
+  erased-alike = same-like g (g .pages * n) (c .er) (c′ .er) (c .seq) (c′ .seq) (c .nodes) (c′ .nodes) (c .level) (c .root) (c .root) (sw .good .sound .rooted)
       (rw (same (c .root) (c .level) (rooted .fits)) (root-like-same 0 0 0 (λ l. 2 * half g l) (c .nodes) (c′ .nodes) fitOutside same
       (c .level) 4294967296
       (c .nodes (c .root) (suc (c .level))) (rooted .rises)))

@@ -15,7 +15,7 @@ use Rattle.geometry.specs.Shape.{Shape}
 use Rattle.model.specs.Count.{count}
 use Rattle.model.specs.Image.{Nodes, Chip, theRoot}
 use Rattle.model.specs.Tree.{under, mapOf, next, chosen, find, sought}
-use Rattle.model.specs.Next.{taken}
+use Rattle.model.specs.Next.{ahead, taken}
 use Rattle.model.specs.Edit.{put, putIn, pathHalf, sideHalf, two, named, pathPart, gains, splits}
 use Rattle.model.specs.Update.{isNone, rootNode, rootGains, fills, needs, tooHigh, insertList, crownPart, insertPart, crownHeight, sidePage}
 use Rattle.counts.specs.Tally.{bit-most}
@@ -166,11 +166,11 @@ module _ (g : Geometry) (shape : Shape g) (n k a : ℕ) (k-low : k < 4294967296)
       let z = shape .top-slots in rw x (omega (arith, d, z)))
 
   -- ---- the nodes s after the m pages
-  module _ (free : m ≤ count (g .pages * n) (c .er)) (s : Nodes)
+  module _ (free : m ≤ count (g .pages * n) (c .er)) (s : Nodes) (numbers : ℕ → ℕ)
       (at-N : (j : ℕ) → 1 ≤ j → j ≤ g .top → s N j ≡ mainList g n c k a j) (at-side : (j : ℕ) → 1 ≤ j → j < m → s (side j) j ≡ sideList g n c k a j)
       (stays : (q l : ℕ) → fit (suc l) q → s q (suc l) ≡ r q (suc l)) (high : suc (c .level) ≤ g .top) where
     abbrev fit′ : ℕ → ℕ → Type 0
-    fit′ = fitOf (g .pages * n) (taken (g .pages) n (c .er) m)
+    fit′ = fitOf (g .pages * n) (taken (g .pages) n (ahead g n c) m .er)
 
     abbrev Cut : ℕ → Type 0
     Cut j = (1 ≤ j) × (j < m)
@@ -203,11 +203,11 @@ module _ (g : Geometry) (shape : Shape g) (n k a : ℕ) (k-low : k < 4294967296)
     inj : (i j : ℕ) → Cut i → Cut j → side i ≡ side j → i ≡ j
     inj i j h h′ e = side-inj g shape n c (good .r2) m free i j (h .0) (omega (arith, h .1)) (h′ .0) (omega (arith, h′ .1)) e
 
-    pub after-r2 : R2 (g .pages) n (taken (g .pages) n (c .er) m)
-    after-r2 = step (g .pages) n (c .er) (some-page g shape) (good .r2) m free .r2
+    pub after-r2 : R2 (g .pages) n (taken (g .pages) n (ahead g n c) m .er)
+    after-r2 = step (g .pages) n (ahead g n c) (some-page g shape) (good .r2) m free .r2
 
     abbrev Done : ℕ → Type 0
-    Done l = Whole g n (record { er = taken (g .pages) n (c .er) m; nodes = s; level = l; root = N }) × (under s (suc l) (the N) ≡ put k a (mapOf c))
+    Done l = Whole g n (record { er = taken (g .pages) n (ahead g n c) m .er; seq = numbers; nodes = s; level = l; root = N }) × (under s (suc l) (the N) ≡ put k a (mapOf c))
 
     -- the root stays
     stay : tooHigh g c k ≡ false → grows ≡ false → Done (c .level)

@@ -12,10 +12,10 @@ use Rattle.geometry.specs.declared.Entry.{Entry}
 use Rattle.geometry.specs.Tests.{pick, bit}
 use Rattle.geometry.specs.Geometry.{half, rootMost}
 use Rattle.geometry.specs.Shape.{Shape}
-use Rattle.model.specs.Count.{count}
+use Rattle.model.specs.Count.{count, peak}
 use Rattle.model.specs.Image.{Chip, theRoot}
 use Rattle.model.specs.Tree.{mapOf, placesOf, live, lowLevel, next, chosen, find}
-use Rattle.model.specs.Next.{firstIn, nextBlock, nextPage, after}
+use Rattle.model.specs.Next.{firstIn, ahead, nextBlock, nextPage, after}
 use Rattle.model.specs.Edit.{splice, renamed, same}
 use Rattle.model.specs.Collect.{moveKey, movePart}
 use Rattle.trees.specs.Tests.{true-false}
@@ -31,9 +31,15 @@ use Rattle.chips.specs.Next.{after-false, next-found, next-in, r2-next}
 use Rattle.chips.specs.Whole.{some-page, Whole, sought-map, Same, same-like}
 use Rattle.chips.specs.Pages.{fit-after}
 
--- the chip after page p has moved to page m
-unfoldable pub moveTo : Chip → ℕ → ℕ → Chip
-moveTo c p m = record { er = after m (c .er); nodes = λ q j. pick (eqb q m) (movePart c p m j) (c .nodes q j); level = c .level; root = m }
+-- the chip after page p has moved to page m, with the largest number of t pages plus 1
+unfoldable pub moveTo : ℕ → Chip → ℕ → ℕ → Chip
+moveTo t c p m = record {
+  er = after m (c .er);
+  seq = λ q. pick (eqb q m) (suc (peak t (c .seq))) (c .seq q);
+  nodes = λ q j. pick (eqb q m) (movePart c p m j) (c .nodes q j);
+  level = c .level;
+  root = m;
+}
 
 -- what a move does: sound again, the same pairs, p dead, nothing else come alive but the new page, one page fewer erased
 pub record MoveStep (g : Geometry) (n : ℕ) (c c′ : Chip) (p new : ℕ) : Type 0 where
@@ -50,16 +56,16 @@ pub record MoveStep (g : Geometry) (n : ℕ) (c c′ : Chip) (p new : ℕ) : Typ
 module _ (g : Geometry) (shape : Shape g) (n : ℕ) (c : Chip) (good : Whole g n c) (p : ℕ) (alive : live (placesOf c) p ≡ true)
     (free : 1 ≤ count (g .pages * n) (c .er)) where
   abbrev new : ℕ
-  new = nextPage (g .pages) n (c .er)
+  new = nextPage (g .pages) n (ahead g n c)
 
   abbrev c′ : Chip
-  c′ = moveTo c p new
+  c′ = moveTo (g .pages * n) c p new
 
-  found : (nextBlock (g .pages) n (c .er) < n) × (firstIn (g .pages) (c .er) (nextBlock (g .pages) n (c .er)) < g .pages) × (c .er new ≡ true)
-  found = next-found (g .pages) n (c .er) (some-page g shape) (good .r2) free
+  found : (nextBlock (g .pages) n (ahead g n c) < n) × (firstIn (g .pages) (c .er) (nextBlock (g .pages) n (ahead g n c)) < g .pages) × (c .er new ≡ true)
+  found = next-found (g .pages) n (ahead g n c) (some-page g shape) (good .r2) free
 
   new-in : new < g .pages * n
-  new-in = next-in (g .pages) n (c .er) (some-page g shape) (good .r2) free
+  new-in = next-in (g .pages) n (ahead g n c) (some-page g shape) (good .r2) free
 
   keep : (l b : ℕ) → fitOf (g .pages * n) (c .er) l b → fitOf (g .pages * n) (after new (c .er)) l b
   keep = fit-after (g .pages * n) new (c .er)
@@ -142,10 +148,10 @@ module _ (g : Geometry) (shape : Shape g) (n : ℕ) (c : Chip) (good : Whole g n
       }
     where
       good′ : Whole g n c′
-      good′ = record { r2 = r2-next (g .pages) n (c .er) (some-page g shape) (good .r2) (found .0) (found .1); sound = the-move .sound }
+      good′ = record { r2 = r2-next (g .pages) n (ahead g n c) (some-page g shape) (good .r2) (found .0) (found .1); sound = the-move .sound }
 
       alike′ : Same g c c′
-      alike′ = same-like g (g .pages * n) (c .er) (c′ .er) (c .nodes) (c′ .nodes) (c .level) (c .root) new (good .sound .rooted)
+      alike′ = same-like g (g .pages * n) (c .er) (c′ .er) (c .seq) (c′ .seq) (c .nodes) (c′ .nodes) (c .level) (c .root) new (good .sound .rooted)
           (subst (λ m. Likes (Like (c .nodes) (c′ .nodes) (c .level)) es m) (sym at-root)
           (move-root-like k a new (λ l. 2 * half g l) (c .nodes) (c′ .nodes) fit stays (c .level) 4294967296 es k-low
           (good .sound .rooted .rises) made))

@@ -9,7 +9,7 @@ use Rattle.geometry.specs.Shape.{Shape}
 use Rattle.model.specs.Count.{count}
 use Rattle.model.specs.Image.{Chip}
 use Rattle.model.specs.Tree.{mapOf, placesOf, live}
-use Rattle.model.specs.Next.{nextPage}
+use Rattle.model.specs.Next.{ahead, nextPage}
 use Rattle.model.specs.Collect.{livesIn}
 use Rattle.trees.specs.Tests.{by-eq, true-false}
 use Rattle.chips.specs.Count.{count-drop}
@@ -24,7 +24,7 @@ bit-zero false c h e = refl
 unfoldable pub sweep : Geometry → ℕ → ℕ → ℕ → Chip → Chip
 sweep g n v zero c = c
 sweep g n v (suc j) c = pick (live (placesOf c) (g .pages * v + (g .pages - suc j)))
-    (sweep g n v j (moveTo c (g .pages * v + (g .pages - suc j)) (nextPage (g .pages) n (c .er)))) (sweep g n v j c)
+    (sweep g n v j (moveTo (g .pages * n) c (g .pages * v + (g .pages - suc j)) (nextPage (g .pages) n (ahead g n c)))) (sweep g n v j c)
 
 -- block v is full, has no more live pages than there are erased ones, and its first (g .pages) - j pages are dead
 pub record Sweeping (g : Geometry) (n : ℕ) (v j : ℕ) (c : Chip) : Type 0 where
@@ -43,20 +43,20 @@ pub record Swept (g : Geometry) (n : ℕ) (v : ℕ) (c c′ : Chip) : Type 0 whe
 module _ (g : Geometry) (shape : Shape g) (n : ℕ) (v : ℕ) where
   -- one move within the sweep
   pub moved-on : (j : ℕ) (c : Chip) → suc j ≤ g .pages → Sweeping g n v (suc j) c → live (placesOf c) (g .pages * v + (g .pages - suc j)) ≡ true
-      → Sweeping g n v j (moveTo c (g .pages * v + (g .pages - suc j)) (nextPage (g .pages) n (c .er))) × MoveStep g n c
-      (moveTo c (g .pages * v + (g .pages - suc j)) (nextPage (g .pages) n (c .er))) (g .pages * v + (g .pages - suc j))
-      (nextPage (g .pages) n (c .er))
-      × (suc (livesIn (g .pages) v (moveTo c (g .pages * v + (g .pages - suc j)) (nextPage (g .pages) n (c .er)))) ≤ livesIn (g .pages) v c)
+      → Sweeping g n v j (moveTo (g .pages * n) c (g .pages * v + (g .pages - suc j)) (nextPage (g .pages) n (ahead g n c))) × MoveStep g n c
+      (moveTo (g .pages * n) c (g .pages * v + (g .pages - suc j)) (nextPage (g .pages) n (ahead g n c))) (g .pages * v + (g .pages - suc j))
+      (nextPage (g .pages) n (ahead g n c))
+      × (suc (livesIn (g .pages) v (moveTo (g .pages * n) c (g .pages * v + (g .pages - suc j)) (nextPage (g .pages) n (ahead g n c)))) ≤ livesIn (g .pages) v c)
   moved-on j c q h a = (record { good = m .good; full = full′; few = omega (arith, m .frees, fewer, h .few); dead = dead′ }, m, fewer)
     where
       p : ℕ
       p = (g .pages) * v + (g .pages - suc j)
 
       new : ℕ
-      new = nextPage (g .pages) n (c .er)
+      new = nextPage (g .pages) n (ahead g n c)
 
       c′ : Chip
-      c′ = moveTo c p new
+      c′ = moveTo (g .pages * n) c p new
 
       one : 1 ≤ livesIn (g .pages) v c
       one = omega (
@@ -88,7 +88,7 @@ module _ (g : Geometry) (shape : Shape g) (n : ℕ) (v : ℕ) where
   swept (suc j) c q h = go (live (placesOf c) (g .pages * v + (g .pages - suc j))) refl (λ d. swept j d (omega arith))
     where
       c′ : Chip
-      c′ = moveTo c (g .pages * v + (g .pages - suc j)) (nextPage (g .pages) n (c .er))
+      c′ = moveTo (g .pages * n) c (g .pages * v + (g .pages - suc j)) (nextPage (g .pages) n (ahead g n c))
 
       go : (t : Bool) → live (placesOf c) (g .pages * v + (g .pages - suc j)) ≡ t
           → ((d : Chip) → Sweeping g n v j d → Swept g n v d (sweep g n v j d)) → Swept g n v c (pick t (sweep g n v j c′) (sweep g n v j c))

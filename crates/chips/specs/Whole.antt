@@ -45,13 +45,13 @@ same-self g c = record { needs-is = λ k q. refl; high-is = λ k q. refl }
 pub same-then : (g : Geometry) (c d e : Chip) → Same g c d → Same g d e → Same g c e
 same-then g c d e h i = record { needs-is = λ k q. i .needs-is k q ∙ h .needs-is k q; high-is = λ k q. i .high-is k q ∙ h .high-is k q }
 
-module _ (g : Geometry) (t : ℕ) (er er′ : ℕ → Bool) (r s : Nodes) (l p p′ : ℕ)
+module _ (g : Geometry) (t : ℕ) (er er′ : ℕ → Bool) (numbers numbers′ : ℕ → ℕ) (r s : Nodes) (l p p′ : ℕ)
     (root : Rooted (fitOf t er) (λ l. 2 * half g l) (rootMost g) 4294967296 r l p) (alike : Likes (Like r s l) (r p (suc l)) (s p′ (suc l))) where
   abbrev c : Chip
-  c = record { er = er; nodes = r; level = l; root = p }
+  c = record { er = er; seq = numbers; nodes = r; level = l; root = p }
 
   abbrev c′ : Chip
-  c′ = record { er = er′; nodes = s; level = l; root = p′ }
+  c′ = record { er = er′; seq = numbers′; nodes = s; level = l; root = p′ }
 
   root-gains : (k : ℕ) (absent : Bool) → k < 4294967296 → (m : ℕ) → l ≡ m
       → gains r k (half g) absent l (chosen k (r p (suc l))) ≡ gains s k (half g) absent l (chosen k (s p′ (suc l)))

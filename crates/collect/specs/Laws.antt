@@ -13,7 +13,8 @@ use Rattle.geometry.specs.declared.Geometry.{Geometry}
 use Rattle.geometry.specs.Tests.{pick}
 use Rattle.model.specs.Bytes.{erased}
 use Rattle.model.specs.Collect.{moveStore, sweepStores, clearStores, collectStores, theVictim}
-use Rattle.model.specs.Image.{chipOf, pagesOf}
+use Rattle.model.specs.Count.{arg}
+use Rattle.model.specs.Image.{chipOf, pagesOf, seqOf}
 use Rattle.model.specs.Stores.{Store, erase, applyStore, applyAll}
 use Rattle.model.specs.Tree.{placesOf, live, lowLevel, erasedPages}
 use Rattle.chip.specs.Chip.{chipWith}
@@ -31,10 +32,18 @@ use Rattle.moving.specs.Own.{moveBy}
 use Rattle.collect.specs.declared.Swept.{Swept}
 use Rattle.collect.specs.Collect.{pageStores, Sweeps}
 
+-- the page with the largest number, as the survey has it
+pub survey-last : (g : Geometry) (n : ℕ) (i : List ℕ) (s : Survey) → s ≡ surveyOf g n i → s .last ≡ arg (pagesOf g n) (seqOf g i)
+unfolding surveyOf
+survey-last g n i s e = ap (λ (x : Survey). x .last) e
+
 -- ---- one page
 module _ (g : Geometry) (n : ℕ) (i : List ℕ) (s : Survey) (tbl : List ℕ) (lk : Looked g n i s tbl) (q w : ℕ) (ew : w ≡ getD tbl q 0) (k : q < length tbl) where
   pub low-is : w ≡ lowLevel (placesOf (chipWith g i (s .level) (s .root))) q
   low-is = ew ∙ lk .marked .lows q k ∙ sym (ap (λ c. lowLevel (placesOf c) q) (chip-is g n i s (lk .survey)))
+
+  pub newest-is : s .last ≡ arg (pagesOf g n) (seqOf g i)
+  newest-is = survey-last g n i s (lk .survey)
 
   dead : w ≡ 0 → live (placesOf (chipOf g n i)) q ≡ false
   unfolding liveIn
@@ -156,3 +165,6 @@ module _ (g : Geometry) (n k : ℕ) (i : List ℕ) (s : Survey) (tbl : List ℕ)
       rw (collect-suc g n k m i true (few-is l), ← made) (ran-then g _ _ b r u i h o run two)
 
 pub ruleset collect-laws = (low-is, page-dead, page-moved, page-in, sweep-none, sweep-halt, sweep-on, room-is, clear-none, clear-halt, clear-done, collect-none, collect-enough, collect-halt, collect-on)
+
+-- for the page that moves alone
+pub ruleset newest-laws = (newest-is)

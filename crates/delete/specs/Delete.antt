@@ -26,6 +26,7 @@ use Rattle.stores.specs.declared.Budget.{Budget}
 use Rattle.stores.specs.Run.{Ran}
 use Rattle.survey.specs.declared.Survey.{Survey}
 use Rattle.survey.specs.Survey.{surveyOf}
+use Rattle.collect.specs.Laws.{survey-last}
 use Rattle.walk.specs.Table.{liveIn}
 use Rattle.victim.specs.Victim.{Looked}
 use Rattle.victim.specs.Laws.{chip-is}
@@ -98,4 +99,4 @@ module _ (g : Geometry) (img : List ℕ) (k x n : ℕ) (en : n ≡ goodBlocks g 
       let f : o ≡ judgedIn g n img (deleteRest g (blocksOf g img) img k x) = e ∙ ap (λ (m : ℕ). judgedIn g n img (deleteRest g m img k x)) (some-blocks g img n en h) in
       judged-blocks g img _ n en o h f
 
-pub ruleset delete-laws = (absent-no, absent-is, delete-halt, delete-on, rest-worn, rest-absent, rest-room, rest-made, judged-damaged, judged-rest, judged-looked, judged-room, delete-length, delete-blocks)
+pub ruleset delete-laws = (survey-last, absent-no, absent-is, delete-halt, delete-on, rest-worn, rest-absent, rest-room, rest-made, judged-damaged, judged-rest, judged-looked, judged-room, delete-length, delete-blocks)

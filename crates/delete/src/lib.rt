@@ -37,7 +37,7 @@ fn make_stores(
         return r;
     }
     let s = survey::take_survey(g, &*img, n);
-    deletion::delete_own(g, &mut *img, n, r, s.most, s.level, s.root, key)
+    deletion::delete_own(g, &mut *img, n, r, s.most, s.last, s.level, s.root, key)
 }
 
 // ABSENT: nothing stands under the key.

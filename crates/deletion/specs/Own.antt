@@ -6,7 +6,7 @@ use lib.Dec.{eqb}
 use Rattle.geometry.specs.declared.Geometry.{Geometry}
 use Rattle.geometry.specs.declared.Entry.{Entry}
 use Rattle.geometry.specs.Tests.{pick}
-use Rattle.model.specs.Bytes.{erased, nodeAt}
+use Rattle.model.specs.Bytes.{nodeAt}
 use Rattle.model.specs.Edit.{collapse}
 use Rattle.model.specs.Image.{Nodes}
 use Rattle.model.specs.Next.{nextPage}
@@ -18,6 +18,7 @@ use Rattle.step.specs.declared.Change.the-variants.{Remove}
 use Rattle.step.specs.declared.Job.{Job}
 use Rattle.edit.specs.Edit.{changed, partsOf}
 use Rattle.crown.specs.Crown.{pathStore}
+use Rattle.next.specs.Coming.{onImage}
 use Rattle.deletion.specs.declared.Top.{Top}
 
 -- the entry that names the root
@@ -53,4 +54,4 @@ pub record Removes (g : Geometry) (n : ℕ) (i : List ℕ) (seq k : ℕ) (j : Jo
   pub change : j .change ≡ Remove
   pub number : j .seq ≡ seq
   pub small : j .seq < 4294967296
-  pub page : j .page ≡ nextPage (g .pages) n (erased g i)
+  pub page : j .page ≡ nextPage (g .pages) n (onImage g n i)

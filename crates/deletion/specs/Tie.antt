@@ -11,7 +11,7 @@ use Rattle.geometry.specs.declared.Geometry.{Geometry}
 use Rattle.geometry.specs.declared.Entry.{Entry}
 use Rattle.geometry.specs.Geometry.{pageBytes}
 use Rattle.geometry.specs.Tests.{pick, _&_, and-true, and-false}
-use Rattle.model.specs.Bytes.{erased, nodeAt}
+use Rattle.model.specs.Bytes.{nodeAt}
 use Rattle.model.specs.Image.{Chip, Nodes}
 use Rattle.model.specs.Next.{nth, nextPage, taken}
 use Rattle.model.specs.Page.{built, sealed, only}

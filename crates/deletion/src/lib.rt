@@ -4,6 +4,8 @@ ghost use mathlib.Core.List.{[], _∷_};
 ghost use Prim.Native.Nat.{ℕ, suc, _+_, _*_, _-_, _≤_, _<_};
 ghost use Rattle.geometry.specs.Geometry.{pageBytes};
 ghost use Rattle.model.specs.Bytes.{nodeAt};
+ghost use Rattle.model.specs.Count.{arg};
+ghost use Rattle.model.specs.Image.{pagesOf, seqOf};
 ghost use Rattle.model.specs.Update.{deleteStore};
 ghost use Rattle.node.specs.Node.{entries};
 ghost use Rattle.chip.specs.Chip.{chipWith};
@@ -117,10 +119,12 @@ fn long(x: u32) -> u64
     x as u64
 }
 
-fn delete_job(g: Geometry, img: &[u8], n: u16, seq: u32, key: u32) -> Job
+// The job of removing a key; `newest` is the page with the largest number.
+fn delete_job(g: Geometry, img: &[u8], n: u16, seq: u32, newest: u32, key: u32) -> Job
+    requires { ⌜ newest ≡ arg (pagesOf g n) (seqOf g (now img)) ⌝ }
     ensures { λ r. ⌜ Removes g n (now (img .entry)) seq key r ⌝ }
 {
-    let page = next::next_page(g, img, n);
+    let page = next::next_page(g, img, n, newest);
     let none = next::no_pages();
     let last = long(seq);
     Job {
@@ -132,20 +136,21 @@ fn delete_job(g: Geometry, img: &[u8], n: u16, seq: u32, key: u32) -> Job
     }
 }
 
-// The store of a delete on an image of n blocks, its largest number, root and levels given.
+// The store of a delete on an image of n blocks, its largest number and that number's page, root and levels given.
 pub fn delete_own(
     g: Geometry,
     img: &mut [u8],
     n: u16,
     b: Budget,
     seq: u32,
+    newest: u32,
     level: u32,
     root: u32,
     key: u32,
 ) -> Budget
-    requires { ⌜ (level < 255) × (pageBytes g ≤ 2112) × (b .left + b .programmed + b .erased < 4294967296) ⌝ }
+    requires { ⌜ (level < 255) × (newest ≡ arg (pagesOf g n) (seqOf g (now img))) × (pageBytes g ≤ 2112) × (b .left + b .programmed + b .erased < 4294967296) ⌝ }
     ensures { λ r. ⌜ Ran g (deleteStore g n seq (chipWith g (now (img .entry)) level root) key ∷ []) b r (now (img .entry)) (now (img .exit)) ⌝ }
 {
-    let job = delete_job(g, &*img, n, seq, key);
+    let job = delete_job(g, &*img, n, seq, newest, key);
     delete_with(g, &mut *img, b, job, level, root)
 }

@@ -1,4 +1,4 @@
--- Demands 1, 2 and 3 of the definitions: read Words, then Demands. The other files are their proofs.
+-- Demands 1, 2 and 3 of the definitions: read Words, then Demands; and Round for request 2. The other files are their proofs.
 pub mod Words
 pub mod Maps
 pub mod Bridges
@@ -6,3 +6,4 @@ pub mod Calls
 pub mod Proofs
 pub mod Demands
 pub mod Builds
+pub mod Round

@@ -61,7 +61,7 @@ arg-unique n f i j a b = by-lt i j
     (λ e. by-lt j i (λ d. absurd (omega (arith, a .before j d, b .all i (a .inside)))) (λ d. omega arith))
 
 -- a strictly largest one is found
-arg-new : (n : ℕ) (f : ℕ → ℕ) (i : ℕ) → i < n → ((j : ℕ) → j < n → (j ≡ i → ⊥) → f j < f i) → arg n f ≡ i
+pub arg-new : (n : ℕ) (f : ℕ → ℕ) (i : ℕ) → i < n → ((j : ℕ) → j < n → (j ≡ i → ⊥) → f j < f i) → arg n f ≡ i
 arg-new n f i h s = arg-unique n f (arg n f) i (arg-at n f (omega arith)) (record {
   before = λ j q. s j (omega arith) (λ e. omega (arith, e));
   all = λ j q. by-eq j i (λ e. let y = ap f e in omega (arith, y)) (λ e. let z = s j q e in omega (arith, z));
@@ -90,7 +90,7 @@ unfoldable pub rootAt : ℕ → Views → ℕ
 rootAt t v = arg t (λ q. score (v q))
 
 abbrev pub chip : ℕ → Views → Chip
-chip t v = record { er = λ q. v q .er; nodes = λ q l. v q .node l; level = v (rootAt t v) .height - 1; root = rootAt t v }
+chip t v = record { er = λ q. v q .er; seq = λ q. v q .seq; nodes = λ q l. v q .node l; level = v (rootAt t v) .height - 1; root = rootAt t v }
 
 -- the two stores
 abbrev pub laid : Views → ℕ → View → Views
@@ -101,10 +101,10 @@ wipe g b v q = pick (inB (g .pages) b q) (noView g) (v q)
 
 -- a page with a root and the number max + 1, or a page without: what the abstract chip becomes
 unfoldable pub rooted : Chip → ℕ → View → Chip
-rooted c p w = record { er = after p (c .er); nodes = λ q j. pick (eqb q p) (w .node j) (c .nodes q j); level = w .height - 1; root = p }
+rooted c p w = record { er = after p (c .er); seq = λ q. pick (eqb q p) (w .seq) (c .seq q); nodes = λ q j. pick (eqb q p) (w .node j) (c .nodes q j); level = w .height - 1; root = p }
 
 unfoldable pub beside : Chip → ℕ → View → Chip
-beside c p w = record { er = after p (c .er); nodes = λ q j. pick (eqb q p) (w .node j) (c .nodes q j); level = c .level; root = c .root }
+beside c p w = record { er = after p (c .er); seq = λ q. pick (eqb q p) (w .seq) (c .seq q); nodes = λ q j. pick (eqb q p) (w .node j) (c .nodes q j); level = c .level; root = c .root }
 
 -- a field of a picked view
 pub picked : {A : Type 0} (f : View → A) (t : Bool) (x y : View) → f (pick t x y) ≡ pick t (f x) (f y)
@@ -131,6 +131,9 @@ module _ (g : Geometry) (t : ℕ) (v : Views) (p : ℕ) (w : View) (written : w 
   put-node : (q l : ℕ) → laid v p w q .node l ≡ pick (eqb q p) (w .node l) (v q .node l)
   put-node q l = picked (λ (x : View). x .node l) (eqb q p) w (v q)
 
+  put-seq : (q : ℕ) → laid v p w q .seq ≡ pick (eqb q p) (w .seq) (v q .seq)
+  put-seq q = picked (λ (x : View). x .seq) (eqb q p) w (v q)
+
   put-here : laid v p w p ≡ w
   put-here = rw (eq-eqb p p refl) refl
 
@@ -154,7 +157,7 @@ module _ (g : Geometry) (t : ℕ) (v : Views) (p : ℕ) (w : View) (written : w 
       let r = root-new h k s in
       let e : laid v p w (rootAt t (laid v p w)) .height - 1 ≡ w .height - 1 = ap (λ q. laid v p w q .height - 1) r
       ∙ ap (λ (x : View). x .height - 1) put-here in
-      λ i. record { er = λ q. put-er q i; nodes = λ q l. put-node q l i; level = e i; root = r i }
+      λ i. record { er = λ q. put-er q i; seq = λ q. put-seq q i; nodes = λ q l. put-node q l i; level = e i; root = r i }
 
   -- a page without a root where nothing was
   pub root-beside : v p ≡ noView g → w .height ≡ 0 → rootAt t (laid v p w) ≡ rootAt t v
@@ -174,7 +177,7 @@ module _ (g : Geometry) (t : ℕ) (v : Views) (p : ℕ) (w : View) (written : w 
       ∙ sym (ap (λ q. v q .height) e ∙ ap (λ (x : View). x .height) n)) (λ e. ap (λ (x : View). x .height) (put-there q e)) in
       let e : laid v p w (rootAt t (laid v p w)) .height - 1 ≡ v (rootAt t v) .height - 1 = ap (λ n. n - 1)
       (high (rootAt t (laid v p w)) ∙ ap (λ q. v q .height) r) in
-      λ i. record { er = λ q. put-er q i; nodes = λ q l. put-node q l i; level = e i; root = r i }
+      λ i. record { er = λ q. put-er q i; seq = λ q. put-seq q i; nodes = λ q l. put-node q l i; level = e i; root = r i }
 
 -- the erase of a block that the root is not in
 pub root-wipe : (t : ℕ) (g : Geometry) (b : ℕ) (v : Views) → 1 ≤ t → inB (g .pages) b (rootAt t v) ≡ false → rootAt t (wipe g b v) ≡ rootAt t v
@@ -195,6 +198,7 @@ chip-wipe t g b v h k =
     ∙ ap (λ s. pick s (noView g) (v (rootAt t v)) .height - 1) k in
     λ i. record {
       er = λ q. picked (λ (x : View). x .er) (inB (g .pages) b q) (noView g) (v q) i;
+      seq = λ q. picked (λ (x : View). x .seq) (inB (g .pages) b q) (noView g) (v q) i;
       nodes = λ q l. picked (λ (x : View). x .node l)
           (inB (g .pages) b q) (noView g) (v q) i;
       level = e i;

@@ -6,16 +6,18 @@ use mathlib.Core.Bool.{true, false}
 use Prim.Native.Nat.{ℕ, suc, _+_, _-_, _*_, _<_, _≤_}
 use native.Mathlib.Omega.{arith}
 use lib.ListN.{length}
+use lib.Dec.{eqb}
 use borrow.Author.Tests.{eq-eqb, ne-eqb}
 use Rattle.geometry.specs.declared.Geometry.{Geometry}
 use Rattle.geometry.specs.declared.Entry.{Entry}
+use Rattle.geometry.specs.Tests.{pick}
 use Rattle.geometry.specs.Geometry.{pageBytes, half, rootMost}
 use Rattle.geometry.specs.Shape.{Shape}
 use Rattle.model.specs.Bytes.{u32At, erased}
-use Rattle.model.specs.Count.{count}
+use Rattle.model.specs.Count.{count, peak, arg}
 use Rattle.model.specs.Image.{pagesOf, maxSeq, Chip, chipOf}
 use Rattle.model.specs.Tree.{mapOf, places, placesOf, live}
-use Rattle.model.specs.Next.{firstIn, nextBlock, nextPage, after}
+use Rattle.model.specs.Next.{firstIn, Ahead, ahead, nextBlock, nextPage, after, onward}
 use Rattle.model.specs.Page.{built}
 use Rattle.model.specs.Stores.{Store, program, erase, applyStore}
 use Rattle.trees.specs.Tests.{by-test, true-false}
@@ -26,7 +28,7 @@ use Rattle.chips.specs.Next.{next-found, next-in, r2-next}
 use Rattle.chips.specs.Whole.{some-page, Whole}
 use Rattle.chips.specs.Pages.{fit-after}
 use Rattle.chips.specs.Erase.{inB, range, eraseBlock}
-use Rattle.images.specs.Views.{View, peak-le, Views, topOf, rootAt, laid, rooted, beside, R3, AllR1, max-put}
+use Rattle.images.specs.Views.{View, peak-le, arg-new, Views, topOf, rootAt, laid, rooted, beside, R3, AllR1, max-put}
 use Rattle.images.specs.Page.{views, view-chip, view-max, Parts, builtView, length-built, built-seq}
 use Rattle.images.specs.Stores.{Image, length-store, views-built, program-root, program-beside, program-r1, program-r3, program-r4, beside-r4, erase-chip, erase-r1, erase-r3, erase-r4, erase-max}
 use Rattle.images.specs.Small.{Small, built-small, store-small}
@@ -34,13 +36,13 @@ use Rattle.images.specs.Held.{Held, er-at}
 
 -- the store at the next page, with the next number
 unfoldable pub nextStore : Geometry → ℕ → ℕ → (ℕ → List Entry) → List ℕ → Store
-nextStore g n h parts img = program (nextPage (g .pages) n (chipOf g n img .er)) (built g (suc (maxSeq g n img)) h parts)
+nextStore g n h parts img = program (nextPage (g .pages) n (ahead g n (chipOf g n img))) (built g (suc (maxSeq g n img)) h parts)
 
 -- a legal store. A program: the whole of the next page, which is erased, with the largest number plus 1.
 -- An erase: a block without live pages
 unfoldable pub Legal : Geometry → ℕ → List ℕ → Store → Type 0
 Legal g n img (program p bs) =
-    (p ≡ nextPage (g .pages) n (erased g img)) × (p < pagesOf g n) × (erased g img p ≡ true) × (length bs ≡ pageBytes g) ×
+    (p ≡ nextPage (g .pages) n (ahead g n (chipOf g n img))) × (p < pagesOf g n) × (erased g img p ≡ true) × (length bs ≡ pageBytes g) ×
     (u32At bs (g .main) ≡ suc (maxSeq g n img))
 Legal g n img (erase b) = (b < n) × ((j : ℕ) → j < g .pages → live (placesOf (chipOf g n img)) (g .pages * b + j) ≡ false)
 
@@ -53,6 +55,17 @@ max-new t v p w h s =
     let e : laid v p w p .seq ≡ w .seq = rw (eq-eqb p p refl) refl in
     omega (arith, up, here, e, s)
 
+-- a page with the next number has the largest one from then on
+pub ahead-beside : (g : Geometry) (n : ℕ) (c : Chip) (p : ℕ) (w : View) → p < pagesOf g n → w .seq ≡ suc (peak (pagesOf g n) (c .seq))
+    → ahead g n (beside c p w) ≡ onward p (ahead g n c)
+unfolding beside
+ahead-beside g n c p w h s = λ i. record { er = after p (c .er); last = last-is i }
+  where
+    last-is : arg (pagesOf g n) (λ q. pick (eqb q p) (w .seq) (c .seq q)) ≡ p
+    last-is = arg-new (pagesOf g n) (λ q. pick (eqb q p) (w .seq) (c .seq q)) p h (λ j q d.
+        let y = peak-le (pagesOf g n) (c .seq) j q in
+        rw (ne-eqb j p d, eq-eqb p p refl) (omega (arith, y, s)))
+
 module _ (g : Geometry) (shape : Shape g) (n : ℕ) (img : List ℕ) (held : Held g n img) where
   abbrev t : ℕ
   t = pagesOf g n
@@ -62,13 +75,13 @@ module _ (g : Geometry) (shape : Shape g) (n : ℕ) (img : List ℕ) (held : Hel
 
   module _ (free : 1 ≤ count t (c .er)) where
     abbrev N : ℕ
-    N = nextPage (g .pages) n (c .er)
+    N = nextPage (g .pages) n (ahead g n c)
 
-    found : (nextBlock (g .pages) n (c .er) < n) × (firstIn (g .pages) (c .er) (nextBlock (g .pages) n (c .er)) < g .pages) × (c .er N ≡ true)
-    found = next-found (g .pages) n (c .er) (some-page g shape) (held .whole .r2) free
+    found : (nextBlock (g .pages) n (ahead g n c) < n) × (firstIn (g .pages) (c .er) (nextBlock (g .pages) n (ahead g n c)) < g .pages) × (c .er N ≡ true)
+    found = next-found (g .pages) n (ahead g n c) (some-page g shape) (held .whole .r2) free
 
     N-in : N < t
-    N-in = next-in (g .pages) n (c .er) (some-page g shape) (held .whole .r2) free
+    N-in = next-in (g .pages) n (ahead g n c) (some-page g shape) (held .whole .r2) free
 
     pub next-free : c .er N ≡ true
     next-free = found .2
@@ -154,7 +167,7 @@ module _ (g : Geometry) (shape : Shape g) (n : ℕ) (img : List ℕ) (held : Hel
         side-whole : Whole g n (beside c N w)
         unfolding beside
         side-whole = record {
-          r2 = r2-next (g .pages) n (c .er) (some-page g shape) (held .whole .r2) (found .0) (found .1);
+          r2 = r2-next (g .pages) n (ahead g n c) (some-page g shape) (held .whole .r2) (found .0) (found .1);
           sound = sound-same 4294967296 (λ l. 2 * half g l) (rootMost g) (c .nodes) (beside c N w .nodes) (fitOf t (c .er))
               (fitOf t (after N (c .er))) (fit-after t N (c .er)) stays (c .level) (c .root) (held .whole .sound);
         }

@@ -37,7 +37,19 @@ fn make_stores(
         return r;
     }
     let s = survey::take_survey(g, &*img, n);
-    insertion::insert_own(g, &mut *img, n, r, s.most, s.level, s.root, m, key, addr)
+    insertion::insert_own(
+        g,
+        &mut *img,
+        n,
+        r,
+        s.most,
+        s.last,
+        s.level,
+        s.root,
+        m,
+        key,
+        addr,
+    )
 }
 
 // The rest on a judged image of n blocks.

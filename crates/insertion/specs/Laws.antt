@@ -14,6 +14,8 @@ use Rattle.geometry.specs.declared.Entry.{Entry}
 use Rattle.geometry.specs.Geometry.{pageBytes}
 use Rattle.geometry.specs.Tests.{pick}
 use Rattle.model.specs.Bytes.{erased}
+use Rattle.model.specs.Count.{arg}
+use Rattle.model.specs.Image.{pagesOf, seqOf}
 use Rattle.model.specs.Next.{nth}
 use Rattle.model.specs.Page.{sealed, built}
 use Rattle.model.specs.Stores.{Store, program}
@@ -32,7 +34,7 @@ use Rattle.edit.specs.declared.Changed.{Changed}
 use Rattle.edit.specs.Edit.{changed, pathOf, partsOf, sidesUp, Changes}
 use Rattle.crown.specs.declared.Summit.{Summit}
 use Rattle.crown.specs.Crown.{topPart, Crowned}
-use Rattle.next.specs.Coming.{Coming}
+use Rattle.next.specs.Coming.{seen, Coming}
 use Rattle.insertion.specs.Own.{crownParts, ownBy, Climbs, Puts}
 
 append-two : (xs ys zs : List Store) → (xs ++ ys) ++ zs ≡ xs ++ (ys ++ zs)
@@ -92,15 +94,15 @@ larger-right a b h = omega arith
 pub larger-left : (a b : ℕ) → b ≤ a → a ≡ max a b
 larger-left a b h = omega arith
 
-pub puts : (g : Geometry) (n : ℕ) (i : List ℕ) (seq l m k a : ℕ) (ps : List ℕ) (c x y s : ℕ) → Coming (g .pages) n (erased g i) c ps → c ≡ max x (y + 1) → x ≡ m → y ≡ l → s ≡ seq + 0 → 1 ≤ m
+pub puts : (g : Geometry) (n : ℕ) (i : List ℕ) (seq l m k a : ℕ) (ps : List ℕ) (c x y s z : ℕ) → Coming (g .pages) n (seen (erased g i) z) c ps → z ≡ arg (pagesOf g n) (seqOf g i) → c ≡ max x (y + 1) → x ≡ m → y ≡ l → s ≡ seq + 0 → 1 ≤ m
     → Puts g n i seq l m k a (record { key = k; page = getD ps (x - 1) 0; seq = s; sides = ps; change = Put a })
 unfolding sideOf
-puts g n i seq l m k a ps c x y s cm ec ex ey es h = record {
+puts g n i seq l m k a ps c x y s z cm ez ec ex ey es h = record {
   key = refl;
   change = refl;
   number = es ∙ omega arith;
-  page = cm .at (x - 1) (omega arith) ∙ rw ex;
-  sides = λ z lo hi. cm .at (z - 1) (omega arith);
+  page = cm .at (x - 1) (omega arith) ∙ rw (ex, ez);
+  sides = λ v lo hi. cm .at (v - 1) (omega arith) ∙ rw ez;
 }
 
 pub ruleset insertion-laws = (climbs, inserts, larger-right, larger-left, puts)

@@ -6,7 +6,6 @@ use lib.Dec.{leb}
 use Rattle.geometry.specs.declared.Geometry.{Geometry}
 use Rattle.geometry.specs.declared.Entry.{Entry}
 use Rattle.geometry.specs.Tests.{pick}
-use Rattle.model.specs.Bytes.{erased}
 use Rattle.model.specs.Next.{nth}
 use Rattle.model.specs.Page.{built}
 use Rattle.model.specs.Stores.{Store, program}
@@ -20,6 +19,7 @@ use Rattle.step.specs.Step.{sideOf}
 use Rattle.edit.specs.Edit.{changed, pathOf, partsOf, sidesUp}
 use Rattle.crown.specs.declared.Summit.{Summit}
 use Rattle.crown.specs.Crown.{topPart}
+use Rattle.next.specs.Coming.{onImage}
 
 -- the entry that names the root
 abbrev pub rootAt : ℕ → Entry
@@ -46,5 +46,5 @@ pub record Puts (g : Geometry) (n : ℕ) (i : List ℕ) (seq l m k a : ℕ) (j :
   pub key : j .key ≡ k
   pub change : j .change ≡ Put a
   pub number : j .seq ≡ seq
-  pub page : j .page ≡ nth (g .pages) n (erased g i) (m - 1)
-  pub sides : (x : ℕ) → 1 ≤ x → x ≤ suc l → sideOf j x ≡ nth (g .pages) n (erased g i) (x - 1)
+  pub page : j .page ≡ nth (g .pages) n (onImage g n i) (m - 1)
+  pub sides : (x : ℕ) → 1 ≤ x → x ≤ suc l → sideOf j x ≡ nth (g .pages) n (onImage g n i) (x - 1)

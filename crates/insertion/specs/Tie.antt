@@ -11,7 +11,7 @@ use Rattle.geometry.specs.declared.Geometry.{Geometry}
 use Rattle.geometry.specs.declared.Entry.{Entry}
 use Rattle.geometry.specs.Geometry.{half}
 use Rattle.geometry.specs.Tests.{pick}
-use Rattle.model.specs.Bytes.{erased, nodeAt}
+use Rattle.model.specs.Bytes.{nodeAt}
 use Rattle.model.specs.Image.{Chip}
 use Rattle.model.specs.Next.{nth}
 use Rattle.model.specs.Page.{built}
@@ -28,6 +28,7 @@ use Rattle.edit.specs.Edit.{changed, pathOf, partsOf, sidesUp}
 use Rattle.edit.specs.Paths.{path-top, path-agree}
 use Rattle.crown.specs.Crown.{topPart}
 use Rattle.chip.specs.Chip.{chipWith}
+use Rattle.next.specs.Coming.{onImage}
 use Rattle.insertion.specs.Own.{rootAt, crownParts, ownBy, Puts}
 
 -- what is made of a level depends on the page of that level's other half alone
@@ -51,7 +52,7 @@ part-agree g k₁ k₂ n₁ n₂ l f h xs ys m ek en ex ef = rw (ek, en, ex, ef)
 side : Geometry → ℕ → List ℕ → ℕ → ℕ → ℕ → ℕ
 side g n i l p x = sidePage g n (chipWith g i l p) x
 
-side-is : (g : Geometry) (n : ℕ) (i : List ℕ) (l p x : ℕ) → 1 ≤ x → nth (g .pages) n (erased g i) (x - 1) ≡ side g n i l p x
+side-is : (g : Geometry) (n : ℕ) (i : List ℕ) (l p x : ℕ) → 1 ≤ x → nth (g .pages) n (onImage g n i) (x - 1) ≡ side g n i l p x
 unfolding side
 side-is g n i l p zero h = absurd (omega arith)
 side-is g n i l p (suc x) h = rw sub-one

@@ -2,6 +2,8 @@
 ghost use mathlib.Core.Path.{_≡_};
 ghost use Prim.Native.Nat.{ℕ, _+_, _*_, _-_, _≤_, _<_, max};
 ghost use Rattle.geometry.specs.Geometry.{pageBytes};
+ghost use Rattle.model.specs.Count.{arg};
+ghost use Rattle.model.specs.Image.{pagesOf, seqOf};
 ghost use Rattle.model.specs.Update.{ownStores};
 ghost use Rattle.chip.specs.Chip.{chipWith};
 ghost use Rattle.stores.specs.Run.{Ran};
@@ -83,23 +85,24 @@ fn number(seq: u32, more: u32) -> u64
     (seq as u64) + (more as u64)
 }
 
-// The job of putting a key at an address, with m pages of the image to come.
+// The job of putting a key at an address, with m pages of the image to come; `newest` is the page with the largest number.
 fn insert_job(
     g: Geometry,
     img: &[u8],
     n: u16,
     seq: u32,
+    newest: u32,
     level: u32,
     m: u32,
     key: u32,
     addr: u32,
 ) -> Job
-    requires { ⌜ (level < 255) × (1 ≤ m) × (m ≤ 256) ⌝ }
+    requires { ⌜ (level < 255) × (1 ≤ m) × (m ≤ 256) × (newest ≡ arg (pagesOf g n) (seqOf g (now img))) ⌝ }
     ensures { λ r. ⌜ Puts g n (now (img .entry)) seq level m key addr r ⌝ }
 {
     let k = geometry::index(m);
     let count = larger(k, geometry::index(level) + 1);
-    let sides = next::coming(g, img, n, count);
+    let sides = next::coming(g, img, n, newest, count);
     let page = sides[k - 1];
     let seq = number(seq, 0);
     Job {
@@ -111,22 +114,23 @@ fn insert_job(
     }
 }
 
-// The stores of an insert of m pages on an image of n blocks, its largest number, root and levels given.
+// The stores of an insert of m pages on an image of n blocks, its largest number and that number's page, root and levels given.
 pub fn insert_own(
     g: Geometry,
     img: &mut [u8],
     n: u16,
     b: Budget,
     seq: u32,
+    newest: u32,
     level: u32,
     root: u32,
     m: u32,
     key: u32,
     addr: u32,
 ) -> Budget
-    requires { ⌜ (level < 255) × (1 ≤ m) × (m ≤ 256) × (pageBytes g ≤ 2112) × (b .left + b .programmed + b .erased < 4294967296) ⌝ }
+    requires { ⌜ (level < 255) × (1 ≤ m) × (m ≤ 256) × (newest ≡ arg (pagesOf g n) (seqOf g (now img))) × (pageBytes g ≤ 2112) × (b .left + b .programmed + b .erased < 4294967296) ⌝ }
     ensures { λ r. ⌜ Ran g (ownStores g n seq (chipWith g (now (img .entry)) level root) m key addr) b r (now (img .entry)) (now (img .exit)) ⌝ }
 {
-    let job = insert_job(g, &*img, n, seq, level, m, key, addr);
+    let job = insert_job(g, &*img, n, seq, newest, level, m, key, addr);
     insert_with(g, &mut *img, b, job, number(seq, m), level, root)
 }

@@ -21,7 +21,7 @@ run b (suc n) = record { key = b; addr = 0 } ∷ run (b + 10) n
 
 -- a tree of height 5 on page 0 with every node of the path full: 32, 16, 8, 4 entries and 4 in the root
 abbrev pub highest : Chip
-highest = record { er = λ p. false; nodes = λ p l. run 10 (slotsFor l); level = 4; root = 0 }
+highest = record { er = λ p. false; seq = λ p. 1; nodes = λ p l. run 10 (slotsFor l); level = 4; root = 0 }
   where
     slotsFor : ℕ → ℕ
     slotsFor zero = 0

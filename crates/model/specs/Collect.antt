@@ -10,7 +10,7 @@ use Rattle.geometry.specs.Tests.{pick}
 use Rattle.model.specs.Count.{count}
 use Rattle.model.specs.Image.{Chip, chipOf, theRoot, pagesOf, maxSeq}
 use Rattle.model.specs.Tree.{next, placesOf, live, lowLevel, erasedPages}
-use Rattle.model.specs.Next.{full, inBlock, nextPage}
+use Rattle.model.specs.Next.{full, inBlock, ahead, nextPage}
 use Rattle.model.specs.Page.{built}
 use Rattle.model.specs.Stores.{Store, program, erase, applyStore, applyAll}
 use Rattle.model.specs.Edit.{onPath, renamed, same}
@@ -42,8 +42,8 @@ movePart c q m j = pick (leb (lowLevel (placesOf c) q) j)
 
 -- the store that moves page q
 unfoldable pub moveStore : Geometry → ℕ → ℕ → List ℕ → Store
-moveStore g n q img = program (nextPage (g .pages) n (chipOf g n img .er))
-    (built g (suc (maxSeq g n img)) (suc (chipOf g n img .level)) (movePart (chipOf g n img) q (nextPage (g .pages) n (chipOf g n img .er))))
+moveStore g n q img = program (nextPage (g .pages) n (ahead g n (chipOf g n img)))
+    (built g (suc (maxSeq g n img)) (suc (chipOf g n img .level)) (movePart (chipOf g n img) q (nextPage (g .pages) n (ahead g n (chipOf g n img)))))
 
 -- "While the victim has a live page, take the lowest-numbered": its last j pages in rising order, each that is then live
 unfoldable pub sweepStores : Geometry → ℕ → ℕ → ℕ → List ℕ → List Store

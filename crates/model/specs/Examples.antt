@@ -11,7 +11,7 @@ use Rattle.model.specs.Bytes.{u32At, blank, erased, seqAt, heightAt, cou
 use Rattle.model.specs.Count.{count, least}
 use Rattle.model.specs.Image.{Nodes, Chip, theRoot}
 use Rattle.model.specs.Tree.{gather, under, places, lowLevel, live, halve, place, chosen}
-use Rattle.model.specs.Next.{nextBlock, nextPage, taken, nth}
+use Rattle.model.specs.Next.{Ahead, round, nextBlock, nextPage, taken, nth}
 use Rattle.model.specs.Page.{putU32, putEntry, putEntries, putLevel, putLevels, sealed, built, only}
 use Rattle.model.specs.Edit.{splice, edited, onPath, put, putIn, pathHalf, sideHalf, two, named, pathPart, removeIn, kept, collapse, renamed, same}
 
@@ -82,9 +82,18 @@ lives = refl
 abbrev half-full : ℕ → Bool
 half-full p = lib.Dec.leb 64 p
 
-pages-to-come : (nth 32 3 half-full 0 ≡ 64) × (nth 32 3 half-full 1 ≡ 65)
-unfolding taken nextBlock least
+pages-to-come : (nth 32 3 (record { er = half-full; last = 63 }) 0 ≡ 64) × (nth 32 3 (record { er = half-full; last = 63 }) 1 ≡ 65)
+unfolding taken nextBlock round least _&_
 pages-to-come = (refl, refl)
+
+-- key 64: block 0 was erased, page 63 has the largest number, so pages 64 and 65 follow; after page 95 it goes round to page 0
+abbrev first-and-last : ℕ → Bool
+first-and-last p = Rattle.geometry.specs.Tests.pick (lib.Dec.leb 64 p) true (lib.Dec.leb (p + 1) 32)
+
+key-64-pages : (nth 32 3 (record { er = first-and-last; last = 63 }) 0 ≡ 64) × (nth 32 3 (record { er = first-and-last; last = 63 }) 1 ≡ 65)
+    × (nth 32 3 (record { er = λ p. lib.Dec.leb (p + 1) 32; last = 95 }) 0 ≡ 0)
+unfolding taken nextBlock round least _&_
+key-64-pages = (refl, refl, refl)
 
 -- one page built and read back: a leaf of two pairs under a root of one
 abbrev sample : List ℕ

@@ -49,9 +49,10 @@ rootOf g n img = arg (pagesOf g n) (rootScore g img)
 abbrev pub Nodes : Type 0
 Nodes = ℕ → ℕ → List Entry
 
--- what the rules see: which pages are erased, the nodes, the root's page, and the levels below the root
+-- what the rules see: which pages are erased, their numbers, the nodes, the root's page, and the levels below the root
 pub record Chip : Type 0 where
   pub er : ℕ → Bool
+  pub seq : ℕ → ℕ
   pub nodes : Nodes
   pub level : ℕ
   pub root : ℕ
@@ -59,6 +60,7 @@ pub record Chip : Type 0 where
 abbrev pub chipOf : Geometry → ℕ → List ℕ → Chip
 chipOf g n img = record {
   er = erased g img;
+  seq = seqOf g img;
   nodes = nodeAt g img;
   level = heightOf g img (rootOf g n img) - 1;
   root = rootOf g n img;

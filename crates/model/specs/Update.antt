@@ -11,7 +11,7 @@ use Rattle.geometry.specs.Geometry.{half, rootSlots}
 use Rattle.geometry.specs.Tests.{pick, bit, _&_}
 use Rattle.model.specs.Image.{Chip, chipOf, theRoot, maxSeq}
 use Rattle.model.specs.Tree.{next, chosen, sought}
-use Rattle.model.specs.Next.{nth}
+use Rattle.model.specs.Next.{ahead, nth}
 use Rattle.model.specs.Page.{built, only}
 use Rattle.model.specs.Stores.{Store, program, erase, applyAll}
 use Rattle.model.specs.Edit.{onPath, putIn, pathHalf, sideHalf, two, named, pathPart, gains, splits, removeIn, kept, Top, collapse}
@@ -83,8 +83,8 @@ crownHeight g l es = pick (fills g l (length es)) (suc l) l
 
 -- the pages to come: the other half of level l on the (l-1)-th, N on the last of m
 abbrev pub sidePage : Geometry → ℕ → Chip → ℕ → ℕ
-sidePage g n c zero = nth (g .pages) n (c .er) 0
-sidePage g n c (suc l) = nth (g .pages) n (c .er) l
+sidePage g n c zero = nth (g .pages) n (ahead g n c) 0
+sidePage g n c (suc l) = nth (g .pages) n (ahead g n c) l
 
 -- "Other halves are programmed lower level first, then N": an insert's own m stores, seq the largest number
 unfoldable pub ownStores : Geometry → ℕ → ℕ → Chip → ℕ → ℕ → ℕ → List Store

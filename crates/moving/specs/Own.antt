@@ -6,10 +6,10 @@ use lib.Dec.{leb}
 use Rattle.geometry.specs.declared.Geometry.{Geometry}
 use Rattle.geometry.specs.declared.Entry.{Entry}
 use Rattle.geometry.specs.Tests.{pick}
-use Rattle.model.specs.Bytes.{erased, nodeAt}
+use Rattle.model.specs.Bytes.{nodeAt}
 use Rattle.model.specs.Collect.{movePart}
 use Rattle.model.specs.Image.{Chip}
-use Rattle.model.specs.Next.{nextPage}
+use Rattle.model.specs.Next.{ahead, nextPage}
 use Rattle.model.specs.Page.{built}
 use Rattle.model.specs.Stores.{Store, program}
 use Rattle.model.specs.Tree.{next}
@@ -18,6 +18,7 @@ use Rattle.step.specs.declared.Change.the-variants.{Rename}
 use Rattle.step.specs.declared.Job.{Job}
 use Rattle.edit.specs.Edit.{changed, partsOf}
 use Rattle.crown.specs.Crown.{pathStore}
+use Rattle.next.specs.Coming.{onImage}
 
 -- the entry that names the root
 abbrev pub rootAt : ℕ → Entry
@@ -30,8 +31,8 @@ storeBy g j low l e i =
 
 -- the store that moves page q, the largest number given
 unfoldable pub moveBy : Geometry → ℕ → ℕ → ℕ → Chip → Store
-moveBy g n q seq c = program (nextPage (g .pages) n (c .er))
-    (built g (suc seq) (suc (c .level)) (movePart c q (nextPage (g .pages) n (c .er))))
+moveBy g n q seq c = program (nextPage (g .pages) n (ahead g n c))
+    (built g (suc seq) (suc (c .level)) (movePart c q (nextPage (g .pages) n (ahead g n c))))
 
 -- the job of moving page q from level low up
 pub record Moves (g : Geometry) (n : ℕ) (i : List ℕ) (seq low q : ℕ) (j : Job) : Type 0 where
@@ -39,4 +40,4 @@ pub record Moves (g : Geometry) (n : ℕ) (i : List ℕ) (seq low q : ℕ) (j : 
   pub change : j .change ≡ Rename low
   pub number : j .seq ≡ seq
   pub small : j .seq < 4294967296
-  pub page : j .page ≡ nextPage (g .pages) n (erased g i)
+  pub page : j .page ≡ nextPage (g .pages) n (onImage g n i)

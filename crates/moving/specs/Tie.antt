@@ -9,7 +9,7 @@ use Rattle.geometry.specs.declared.Geometry.{Geometry}
 use Rattle.geometry.specs.declared.Entry.{Entry}
 use Rattle.geometry.specs.Geometry.{pageBytes}
 use Rattle.geometry.specs.Tests.{pick}
-use Rattle.model.specs.Bytes.{erased, nodeAt}
+use Rattle.model.specs.Bytes.{nodeAt}
 use Rattle.model.specs.Collect.{moveKey, movePart}
 use Rattle.model.specs.Image.{Chip}
 use Rattle.model.specs.Next.{nextPage}
@@ -29,6 +29,7 @@ use Rattle.step.specs.Step.{leafOf, nameOf, partOf}
 use Rattle.edit.specs.Edit.{changed, pathOf, partsOf}
 use Rattle.edit.specs.Paths.{path-top, path-above}
 use Rattle.crown.specs.Crown.{pathStore}
+use Rattle.next.specs.Coming.{onImage}
 use Rattle.moving.specs.Own.{rootAt, storeBy, moveBy, Moves}
 
 -- the path of a move from level low up to page m
@@ -76,7 +77,7 @@ module _ (g : Geometry) (n : ℕ) (i : List ℕ) (seq l p low q : ℕ) (j : Job)
     key-of : j .key ≡ moveKey (chipWith g i l p) q
     key-of = pj .key ∙ (λ z. next (nodeAt g i q (el z)) 0)
 
-    parts-is : (x : ℕ) → parts x ≡ movePart (chipWith g i l p) q (nextPage (g .pages) n (erased g i)) x
+    parts-is : (x : ℕ) → parts x ≡ movePart (chipWith g i l p) q (nextPage (g .pages) n (onImage g n i)) x
     unfolding parts moved movePart
     parts-is x = λ z. pick (leb (el z) x) (onPath (nodeAt g i) (key-of z) same (renamed (el z) (pj .page z)) l (rootAt p) x) []
 

@@ -6,6 +6,8 @@ ghost use lib.Dec.{leb};
 ghost use Rattle.geometry.specs.Geometry.{pageBytes};
 ghost use Rattle.geometry.specs.Tests.{pick};
 ghost use Rattle.model.specs.Bytes.{nodeAt};
+ghost use Rattle.model.specs.Count.{arg};
+ghost use Rattle.model.specs.Image.{pagesOf, seqOf};
 ghost use Rattle.model.specs.Tree.{next, placesOf, lowLevel};
 ghost use Rattle.chip.specs.Chip.{chipWith};
 ghost use Rattle.node.specs.Node.{entries};
@@ -33,11 +35,13 @@ fn long(x: u32) -> u64
     x as u64
 }
 
-fn move_job(g: Geometry, img: &[u8], n: u16, seq: u32, low: u32, page: u32) -> Job
+// The job of moving a page from level `low` up; `newest` is the page with the largest number.
+fn move_job(g: Geometry, img: &[u8], n: u16, seq: u32, newest: u32, low: u32, page: u32) -> Job
+    requires { ⌜ newest ≡ arg (pagesOf g n) (seqOf g (now img)) ⌝ }
     ensures { λ r. ⌜ Moves g n (now (img .entry)) seq low page r ⌝ }
 {
     let key = first_key(g, img, page, low);
-    let to = next::next_page(g, img, n);
+    let to = next::next_page(g, img, n, newest);
     let none = next::no_pages();
     let last = long(seq);
     Job {
@@ -98,22 +102,24 @@ fn move_with(
     )
 }
 
-// Moves a page of an image of n blocks; its lowest live level and the image's largest number, root and levels given.
+// Moves a page of an image of n blocks; its lowest live level and the image's largest number, that number's page, root and
+// levels given.
 pub fn move_page(
     g: Geometry,
     img: &mut [u8],
     n: u16,
     b: Budget,
     seq: u32,
+    newest: u32,
     level: u32,
     root: u32,
     low: u32,
     page: u32,
 ) -> Budget
-    requires { ⌜ (level < 255) × (pageBytes g ≤ 2112) × (b .left + b .programmed + b .erased < 4294967296) ⌝ }
+    requires { ⌜ (level < 255) × (newest ≡ arg (pagesOf g n) (seqOf g (now img))) × (pageBytes g ≤ 2112) × (b .left + b .programmed + b .erased < 4294967296) ⌝ }
     requires { ⌜ low ≡ lowLevel (placesOf (chipWith g (now img) level root)) page ⌝ }
     ensures { λ r. ⌜ Ran g (moveBy g n page seq (chipWith g (now (img .entry)) level root) ∷ []) b r (now (img .entry)) (now (img .exit)) ⌝ }
 {
-    let job = move_job(g, &*img, n, seq, low, page);
+    let job = move_job(g, &*img, n, seq, newest, low, page);
     move_with(g, &mut *img, b, job, low, level, root)
 }

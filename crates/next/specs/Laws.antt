@@ -1,19 +1,20 @@
 -- Laws of the pages to come, in the form in which the code has the premises. Assumes nothing.
-use Prim.Native.Nat.{ℕ, zero, suc, _+_, _-_, _*_, _<_, _≤_}
+use Prim.Native.Nat.{ℕ, zero, suc, _+_, _-_, _*_, _/_, _<_, _≤_}
 use mathlib.Core.Bool.{Bool, true, false}
 use mathlib.Core.Path.{_≡_, refl, sym, ap, _∙_}
-use mathlib.Core.List.{List, [], _∷_}
-use lib.Dec.{eqb, ltb}
+use mathlib.Core.List.{List}
+use lib.Dec.{ltb}
 use lib.ListN.{getD, set, length, length-set}
 use lib.Seq.{getD-set-same, getD-set-other}
 use native.Mathlib.Omega.{arith}
-use native.Mathlib.Numerals.{sub-one}
-use borrow.Author.Tests.{eq-eqb, ne-eqb, lt-ltb, le-ltb}
-use Rattle.geometry.specs.Tests.{pick}
+use native.Mathlib.Nat.{div-zero, div-le-self}
+use native.Mathlib.Numerals.{sub-one, add-one}
+use borrow.Author.Tests.{eq-eqb, ne-eqb, lt-ltb, le-ltb, le-leb, lt-leb}
+use Rattle.geometry.specs.Tests.{_&_, and-true, and-false}
 use Rattle.model.specs.Count.{least}
-use Rattle.model.specs.Next.{mixed, firstIn, nextBlock, nextPage, after, taken, nth}
+use Rattle.model.specs.Next.{mixed, firstIn, Ahead, round, nextBlock, nextPage, taken}
 use Rattle.counts.specs.Least.{by-lt, least-zero, least-go, least-hit, least-end}
-use Rattle.next.specs.Coming.{free, head, Coming}
+use Rattle.next.specs.Coming.{free, whole, seen, Coming, lastAt}
 
 -- ---- is_free
 module _ (er : ℕ → Bool) (ps : List ℕ) (q : ℕ) where
@@ -35,60 +36,110 @@ module _ (er : ℕ → Bool) (ps : List ℕ) (q : ℕ) where
   free-end i zero r e h er′ = er′ ∙ sym e
   free-end i (suc k) r e h er′ = absurd (omega arith)
 
-pub free-none : (er : ℕ → Bool) (ps : List ℕ) (p n r : ℕ) → r ≡ nextPage p n (free er ps 0) → r ≡ nextPage p n er
+pub free-none : (er : ℕ → Bool) (ps : List ℕ) (p n last r : ℕ) → r ≡ nextPage p n (seen (free er ps 0) last) → r ≡ nextPage p n (seen er last)
 unfolding free
-free-none er ps p n r e = e
+free-none er ps p n last r e = e
+
+-- ---- the block of a page
+pub quotient : (a b x y : ℕ) → x ≡ a → y ≡ b → x / y ≡ a / b
+quotient a b x y e f = rw (e, f)
+
+pub quotient-low : (x y : ℕ) → x < 4294967296 → x / y < 4294967296
+quotient-low x y h = omega (arith, div-le-self x y, h)
+
+pub quotient-none : (a b y : ℕ) → y ≡ b → y ≡ 0 → 0 ≡ a / b
+quotient-none a b y e z = sym (ap (λ x. a / x) (sym e ∙ z) ∙ div-zero a)
 
 -- ---- blocks
 module _ (p : ℕ) (er : ℕ → Bool) where
-  pub head-start : least 0 (head p er) ≡ 0
-  head-start = sym (least-zero (head p er))
+  pub whole-no : (a b v : ℕ) → v ≡ b → v < a → false ≡ whole p er a b
+  unfolding whole
+  whole-no a b v e h = sym (rw (lt-leb a b (omega arith)) (and-false (er (p * b + 0))))
 
-  pub head-go : (i q : ℕ) (r : Bool) → least i (head p er) ≡ i → q ≡ p * i + 0 → r ≡ er q → r ≡ false → least (i + 1) (head p er) ≡ i + 1
-  unfolding head
-  head-go i q r e eq er′ f = least-go (head p er) i e (rw (← eq, ← er′) f)
+  pub whole-is : (a b v q : ℕ) (r : Bool) → v ≡ b → a ≤ v → q ≡ p * b + 0 → r ≡ er q → r ≡ whole p er a b
+  unfolding whole
+  whole-is a b v q r e h eq er′ = er′ ∙ sym (rw (le-leb a b (omega arith), ← eq) (and-true (er q)))
 
-  pub head-hit : (n i q : ℕ) (r : Bool) → least i (head p er) ≡ i → q ≡ p * i + 0 → r ≡ er q → r ≡ true → i < n → i ≡ least n (head p er)
-  unfolding head
-  head-hit n i q r e eq er′ f h = sym (least-hit (head p er) n i e (rw (← eq, ← er′) f) h)
+  pub whole-start : (a : ℕ) → least 0 (whole p er a) ≡ 0
+  whole-start a = sym (least-zero (whole p er a))
 
-  pub head-end : (n i : ℕ) → least i (head p er) ≡ i → i ≤ n → n ≤ i → i ≡ least n (head p er)
-  head-end n i e h k = sym (least-end (head p er) n i e h k)
+  pub whole-go : (a b : ℕ) (r : Bool) → least b (whole p er a) ≡ b → r ≡ whole p er a b → r ≡ false → least (b + 1) (whole p er a) ≡ b + 1
+  whole-go a b r e er′ q = least-go (whole p er a) b e (sym er′ ∙ q)
 
-  pub next-mixed : (n b : ℕ) → b ≡ least n (mixed p er) → b < n → b ≡ nextBlock p n er
+  pub whole-hit : (n a b : ℕ) (r : Bool) → least b (whole p er a) ≡ b → r ≡ whole p er a b → r ≡ true → b < n → b ≡ least n (whole p er a)
+  whole-hit n a b r e er′ q h = sym (least-hit (whole p er a) n b e (sym er′ ∙ q) h)
+
+  pub whole-end : (n a b : ℕ) → least b (whole p er a) ≡ b → b ≤ n → n ≤ b → b ≡ least n (whole p er a)
+  whole-end n a b e h k = sym (least-end (whole p er a) n b e h k)
+
+  -- from block 0 on is all of them
+  whole-each : (b : ℕ) → whole p er 0 b ≡ er (p * b + 0)
+  unfolding whole
+  whole-each b = rw (le-leb 0 b (omega arith)) (and-true (er (p * b + 0)))
+
+  whole-all : whole p er 0 ≡ (λ b. er (p * b + 0))
+  whole-all = λ z b. whole-each b z
+
+  pub next-mixed : (n b last : ℕ) → b ≡ least n (mixed p er) → b < n → b ≡ nextBlock p n (seen er last)
   unfolding nextBlock
-  next-mixed n b e h = sym (simp (← e, lt-ltb b n h))
+  next-mixed n b last e h = sym (simp (← e, lt-ltb b n h))
 
-  pub next-whole : (n b w : ℕ) → b ≡ least n (mixed p er) → w ≡ least n (head p er) → n ≤ b → w ≡ nextBlock p n er
-  unfolding nextBlock head
-  next-whole n b w e f h = f ∙ sym (simp (← e, le-ltb b n h))
+  module _ (n m b j last : ℕ) (em : m ≡ least n (mixed p er)) (none : n ≤ m) (eb : b ≡ last / p) (ej : j ≡ least n (whole p er (b + 1))) where
+    later-is : j ≡ least n (λ i. ltb (last / p) i & er (p * i + 0))
+    unfolding whole
+    later-is = ej ∙ rw (add-one b, eb) refl
 
-  pub after-is : (n b j r : ℕ) → r ≡ p * b + j → b ≡ nextBlock p n er → j ≡ firstIn p er b → r ≡ nextPage p n er
-  after-is n b j r e eb ej = e ∙ rw (ej, eb)
+    pub next-later : j < n → j ≡ nextBlock p n (seen er last)
+    unfolding nextBlock round
+    next-later h = sym (rw (← em, le-ltb m n none, ← later-is, lt-ltb j n h) refl)
+
+    pub next-round : (v : ℕ) → n ≤ j → v ≡ least n (whole p er 0) → v ≡ nextBlock p n (seen er last)
+    unfolding nextBlock round
+    next-round v h ev = ev ∙ rw whole-all (sym (rw (← em, le-ltb m n none, ← later-is, le-ltb j n h) refl))
+
+  pub after-is : (n b j last r : ℕ) → r ≡ p * b + j → b ≡ nextBlock p n (seen er last) → j ≡ firstIn p er b → r ≡ nextPage p n (seen er last)
+  after-is n b j last r e eb ej = e ∙ rw (ej, eb)
 
 -- ---- the pages to come
-module _ (p n : ℕ) (er : ℕ → Bool) where
-  free-taken : (k : ℕ) (ps : List ℕ) → Coming p n er k ps → (q : ℕ) → free er ps k q ≡ taken p n er k q
+pub last-start : (p n : ℕ) (er : ℕ → Bool) (last : ℕ) → last ≡ lastAt p n (seen er last) 0
+unfolding lastAt taken
+last-start p n er last = refl
+
+module _ (p n : ℕ) (w : Ahead) where
+  free-taken : (k : ℕ) (ps : List ℕ) → Coming p n w k ps → (q : ℕ) → free (w .er) ps k q ≡ taken p n w k .er q
   unfolding free taken
   free-taken zero ps c q = refl
   free-taken (suc k) ps c q =
       rw (c .at k (omega arith), free-taken k ps (record { at = λ i h. c .at i (omega arith) }) q)
 
-  pub coming-none : (ps : List ℕ) → Coming p n er 0 ps
+  seen-taken : (k before : ℕ) (ps : List ℕ) → Coming p n w k ps → before ≡ lastAt p n w k → seen (free (w .er) ps k) before ≡ taken p n w k
+  unfolding lastAt
+  seen-taken k before ps c e = λ z. record { er = λ y. free-taken k ps c y z; last = e z }
+
+  last-suc : (k : ℕ) → lastAt p n w (suc k) ≡ nextPage p n (taken p n w k)
+  unfolding lastAt taken
+  last-suc k = refl
+
+  pub last-more : (k x before : ℕ) (ps : List ℕ) → Coming p n w k ps → before ≡ lastAt p n w k → x ≡ nextPage p n (seen (free (w .er) ps k) before)
+      → x ≡ lastAt p n w (k + 1)
+  last-more k x before ps c e h = h ∙ ap (nextPage p n) (seen-taken k before ps c e) ∙ sym (ap (lastAt p n w) (add-one k) ∙ last-suc k)
+
+  pub coming-none : (ps : List ℕ) → Coming p n w 0 ps
   coming-none ps = record { at = λ i h. absurd (omega arith) }
 
-  pub coming-more : (k m x : ℕ) (ps : List ℕ) → Coming p n er k ps → x ≡ nextPage p n (free er ps k) → length ps ≡ 256 → k < m → m ≤ 256 → Coming p n er (k + 1) (set ps k x)
-  coming-more k m x ps c e len h most = record {
+  pub coming-more : (k m x before : ℕ) (ps : List ℕ) → Coming p n w k ps → before ≡ lastAt p n w k → x ≡ nextPage p n (seen (free (w .er) ps k) before)
+      → length ps ≡ 256 → k < m → m ≤ 256 → Coming p n w (k + 1) (set ps k x)
+  coming-more k m x before ps c eb e len h most = record {
     at = λ i j. by-lt i k
         (λ b. getD-set-other ps k i x 0 (omega arith) ∙ c .at i b)
-        (λ b. let q : i ≡ k = omega arith in rw q (getD-set-same ps k x 0 (omega arith) ∙ e ∙ ap (λ (f : ℕ → Bool). nextPage p n f) (λ z y. free-taken k ps c y z)));
+        (λ b. let q : i ≡ k = omega arith in rw q (getD-set-same ps k x 0 (omega arith) ∙ e ∙ ap (nextPage p n) (seen-taken k before ps c eb)));
   }
 
-  pub coming-done : (k m : ℕ) (ps : List ℕ) → Coming p n er k ps → k ≤ m → m ≤ k → Coming p n er m ps
+  pub coming-done : (k m : ℕ) (ps : List ℕ) → Coming p n w k ps → k ≤ m → m ≤ k → Coming p n w m ps
   coming-done k m ps c h g = let q : k ≡ m = omega arith in rw (← q) c
 
 -- the array keeps its length
 pub set-length : (ps : List ℕ) (k x m : ℕ) → length ps ≡ m → length (set ps k x) ≡ m
 set-length ps k x m e = length-set ps k x ∙ e
 
-pub ruleset next-laws = (free-start, free-stop, free-go, free-end, free-none, head-start, head-go, head-hit, head-end, next-mixed, next-whole, after-is, coming-none, coming-more, coming-done)
+pub ruleset next-laws = (quotient, quotient-low, quotient-none, free-start, free-stop, free-go, free-end, free-none, whole-no, whole-is, whole-start, whole-go, whole-hit, whole-end, next-mixed, next-later, next-round, after-is, last-start, last-more, coming-none, coming-more, coming-done)

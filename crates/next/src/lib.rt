@@ -1,12 +1,12 @@
 // Which page next, and the pages to come. A page counts as erased if it is so on the image and is not among the pages
 // already chosen, the first i of `taken`.
 ghost use mathlib.Core.Path.{_≡_};
-ghost use Prim.Native.Nat.{ℕ, _+_, _*_, _-_, _≤_, _<_};
+ghost use Prim.Native.Nat.{ℕ, _+_, _*_, _-_, _/_, _≤_, _<_};
 ghost use lib.ListN.{length};
 ghost use Rattle.model.specs.Bytes.{erased};
 ghost use Rattle.model.specs.Count.{least};
 ghost use Rattle.model.specs.Next.{mixed, firstIn, nextBlock, nextPage};
-ghost use Rattle.next.specs.Coming.{free, head, Coming};
+ghost use Rattle.next.specs.Coming.{free, whole, seen, Coming};
 use geometry::Geometry;
 
 // Whether a page is erased and not yet chosen.
@@ -65,14 +65,36 @@ fn first_mixed(g: Geometry, img: &[u8], taken: [u32; 256], i: usize, n: u16) -> 
     block
 }
 
-// The lowest block whose first page is free, or n.
-fn first_whole(g: Geometry, img: &[u8], taken: [u32; 256], i: usize, n: u16) -> u16
+// The block that holds a page.
+fn block_of(g: Geometry, page: u32) -> usize
+    ensures { λ r. ⌜ (r ≡ page / g .pages) × (r < 4294967296) ⌝ }
+{
+    let pages = geometry::wide(g.pages);
+    if pages == 0 {
+        return 0;
+    }
+    geometry::index(page) / pages
+}
+
+// Whether a block is block `from` or a later one, and its first page is free.
+fn is_whole(g: Geometry, img: &[u8], taken: [u32; 256], i: usize, from: usize, block: u16) -> bool
     requires { ⌜ i ≤ 256 ⌝ }
-    ensures { λ r. ⌜ r ≡ least n (head (g .pages) (free (erased g (now (img .entry))) taken i)) ⌝ }
+    ensures { λ r. ⌜ r ≡ whole (g .pages) (free (erased g (now (img .entry))) taken i) from block ⌝ }
+{
+    if geometry::wide(block) < from {
+        return false;
+    }
+    is_free(g, img, taken, i, chip::page_of(g, block, 0))
+}
+
+// The lowest such block, or n.
+fn first_whole(g: Geometry, img: &[u8], taken: [u32; 256], i: usize, from: usize, n: u16) -> u16
+    requires { ⌜ i ≤ 256 ⌝ }
+    ensures { λ r. ⌜ r ≡ least n (whole (g .pages) (free (erased g (now (img .entry))) taken i) from) ⌝ }
 {
     let mut block: u16 = 0;
     while block < n {
-        if is_free(g, img, taken, i, chip::page_of(g, block, 0)) {
+        if is_whole(g, img, taken, i, from, block) {
             return block;
         }
         block += 1;
@@ -80,23 +102,29 @@ fn first_whole(g: Geometry, img: &[u8], taken: [u32; 256], i: usize, n: u16) -> 
     block
 }
 
-fn next_block(g: Geometry, img: &[u8], taken: [u32; 256], i: usize, n: u16) -> u16
+// The mixed block, else the first whole one after the block of the page `last`, round past the end to the start.
+fn next_block(g: Geometry, img: &[u8], taken: [u32; 256], i: usize, n: u16, last: u32) -> u16
     requires { ⌜ i ≤ 256 ⌝ }
-    ensures { λ r. ⌜ r ≡ nextBlock (g .pages) n (free (erased g (now (img .entry))) taken i) ⌝ }
+    ensures { λ r. ⌜ r ≡ nextBlock (g .pages) n (seen (free (erased g (now (img .entry))) taken i) last) ⌝ }
 {
-    let block = first_mixed(g, img, taken, i, n);
-    if block < n {
-        return block;
+    let mixed = first_mixed(g, img, taken, i, n);
+    if mixed < n {
+        return mixed;
     }
-    first_whole(g, img, taken, i, n)
+    let after = block_of(g, last) + 1;
+    let later = first_whole(g, img, taken, i, after, n);
+    if later < n {
+        return later;
+    }
+    first_whole(g, img, taken, i, 0, n)
 }
 
-// The page that follows the chosen ones.
-fn page_after(g: Geometry, img: &[u8], taken: [u32; 256], i: usize, n: u16) -> u32
+// The page that follows the chosen ones; `last` is the last of them, or the page with the largest number.
+fn page_after(g: Geometry, img: &[u8], taken: [u32; 256], i: usize, n: u16, last: u32) -> u32
     requires { ⌜ i ≤ 256 ⌝ }
-    ensures { λ r. ⌜ r ≡ nextPage (g .pages) n (free (erased g (now (img .entry))) taken i) ⌝ }
+    ensures { λ r. ⌜ r ≡ nextPage (g .pages) n (seen (free (erased g (now (img .entry))) taken i) last) ⌝ }
 {
-    let block = next_block(g, img, taken, i, n);
+    let block = next_block(g, img, taken, i, n, last);
     chip::page_of(g, block, first_in(g, img, taken, i, block))
 }
 
@@ -106,24 +134,26 @@ pub fn no_pages() -> [u32; 256]
     [0u32; 256]
 }
 
-// The next page of an image of n blocks.
-pub fn next_page(g: Geometry, img: &[u8], n: u16) -> u32
-    ensures { λ r. ⌜ r ≡ nextPage (g .pages) n (erased g (now (img .entry))) ⌝ }
+// The next page of an image of n blocks whose page with the largest number is `last`.
+pub fn next_page(g: Geometry, img: &[u8], n: u16, last: u32) -> u32
+    ensures { λ r. ⌜ r ≡ nextPage (g .pages) n (seen (erased g (now (img .entry))) last) ⌝ }
 {
     let none = no_pages();
-    page_after(g, img, none, 0, n)
+    page_after(g, img, none, 0, n, last)
 }
 
 // The first pages to come, as many as `count`.
-pub fn coming(g: Geometry, img: &[u8], n: u16, count: usize) -> [u32; 256]
+pub fn coming(g: Geometry, img: &[u8], n: u16, last: u32, count: usize) -> [u32; 256]
     requires { ⌜ count ≤ 256 ⌝ }
-    ensures { λ r. ⌜ Coming (g .pages) n (erased g (now (img .entry))) count r ⌝ }
+    ensures { λ r. ⌜ Coming (g .pages) n (seen (erased g (now (img .entry))) last) count r ⌝ }
 {
     let mut taken = no_pages();
+    let mut before = last;
     let mut i: usize = 0;
     while i < count {
-        let page = page_after(g, img, taken, i, n);
+        let page = page_after(g, img, taken, i, n, before);
         taken[i] = page;
+        before = page;
         i += 1;
     }
     taken

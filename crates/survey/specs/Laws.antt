@@ -3,10 +3,10 @@ use Prim.Native.Nat.{ℕ, zero, suc, _+_, _-_, _*_, _<_, _≤_, max}
 use mathlib.Core.Bool.{Bool, true, false}
 use mathlib.Core.Path.{_≡_, refl, sym, ap, _∙_}
 use mathlib.Core.List.{List}
-use lib.Dec.{leb}
+use lib.Dec.{leb, ltb}
 use native.Mathlib.Omega.{arith}
 use native.Mathlib.Nat.{max-eq-left, max-eq-right}
-use borrow.Author.Tests.{le-leb, lt-leb}
+use borrow.Author.Tests.{le-leb, lt-leb, lt-ltb, le-ltb, ltb-true, ltb-false}
 use Rattle.geometry.specs.declared.Geometry.{Geometry}
 use Rattle.geometry.specs.declared.Finding.{Finding}
 use Rattle.geometry.specs.declared.Finding.the-variants.{Good, Bad}
@@ -28,7 +28,13 @@ larger-right a b h = sym (max-eq-right {n = a} {m = b} (omega arith))
 pub larger-left : (a b : ℕ) → b ≤ a → a ≡ max a b
 larger-left a b h = sym (max-eq-left {n = a} {m = b} h)
 
-pub seen-start : (g : Geometry) (img : List ℕ) → record { root = 0; score = 0; most = 0; erased = 0 } ≡ seenTo g img 0
+pub holder-new : (n m p q : ℕ) → m < n → p ≡ pick (ltb m n) p q
+holder-new n m p q h = sym (rw (lt-ltb m n h) refl)
+
+pub holder-old : (n m p q : ℕ) → n ≤ m → q ≡ pick (ltb m n) p q
+holder-old n m p q h = sym (rw (le-ltb m n h) refl)
+
+pub seen-start : (g : Geometry) (img : List ℕ) → record { root = 0; score = 0; most = 0; last = 0; erased = 0 } ≡ seenTo g img 0
 unfolding seenTo arg peak count
 seen-start g img = refl
 
@@ -54,14 +60,18 @@ module _ (g : Geometry) (img : List ℕ) (p : ℕ) (s : Seen) (es : s ≡ seenTo
   unfolding seenTo
   most-is = ap (λ (x : Seen). x .most) es
 
+  last-is : s .last ≡ arg p (seqOf g img)
+  unfolding seenTo
+  last-is = ap (λ (x : Seen). x .last) es
+
   erased-is : s .erased ≡ count p (erased g img)
   unfolding seenTo
   erased-is = ap (λ (x : Seen). x .erased) es
 
-  next : (a b c d : ℕ) → a ≡ arg (p + 1) score → b ≡ peak (p + 1) score → c ≡ peak (p + 1) (seqOf g img) → d ≡ count (p + 1) (erased g img)
-      → record { root = a; score = b; most = c; erased = d } ≡ seenTo g img (p + 1)
+  next : (a b c l d : ℕ) → a ≡ arg (p + 1) score → b ≡ peak (p + 1) score → c ≡ peak (p + 1) (seqOf g img) → l ≡ arg (p + 1) (seqOf g img)
+      → d ≡ count (p + 1) (erased g img) → record { root = a; score = b; most = c; last = l; erased = d } ≡ seenTo g img (p + 1)
   unfolding seenTo score
-  next a b c d ea eb ec ed = λ i. record { root = ea i; score = eb i; most = ec i; erased = ed i }
+  next a b c l d ea eb ec el ed = λ i. record { root = ea i; score = eb i; most = ec i; last = el i; erased = ed i }
 
   -- a page that can not be the root
   stays-root : score p ≤ s .score → s .root ≡ arg (p + 1) score
@@ -70,24 +80,32 @@ module _ (g : Geometry) (img : List ℕ) (p : ℕ) (s : Seen) (es : s ≡ seenTo
   stays-score : score p ≤ s .score → s .score ≡ peak (p + 1) score
   stays-score h = score-is ∙ peak-stays score p (rw (← score-is) h)
 
-  pub see-erased : e ≡ true → record { root = s .root; score = s .score; most = s .most; erased = s .erased + 1 } ≡ seenTo g img (p + 1)
+  pub see-erased : e ≡ true → record { root = s .root; score = s .score; most = s .most; last = s .last; erased = s .erased + 1 } ≡ seenTo g img (p + 1)
   unfolding rootScore heightOf seqOf score
   see-erased q =
       let none : rootScore g img p ≡ 0 = simp (← ee, q) in
       let seq : seqOf g img p ≡ 0 = simp (← ee, q) in
-      next (s .root) (s .score) (s .most) (s .erased + 1)
+      next (s .root) (s .score) (s .most) (s .last) (s .erased + 1)
       (stays-root (rw none (omega arith)))
       (stays-score (rw none (omega arith)))
       (most-is ∙ peak-stays (seqOf g img) p (rw seq (omega arith)))
+      (last-is ∙ arg-stays (seqOf g img) p (rw seq (omega arith)))
       (sym (count-more (erased g img) p ∙ rw (← ee, q, ← erased-is) (omega arith)))
 
-  module _ (q : e ≡ false) (n m : ℕ) (en : n ≡ seqAt g img p) (em : m ≡ max n (s .most)) (h : ℕ) (eh : h ≡ heightAt g img p) where
+  module _ (q : e ≡ false) (n m : ℕ) (en : n ≡ seqAt g img p) (em : m ≡ max n (s .most)) (l : ℕ) (el : l ≡ pick (ltb (s .most) n) p (s .last)) (h : ℕ) (eh : h ≡ heightAt g img p) where
     seq-is : seqOf g img p ≡ n
     unfolding seqOf
     seq-is = simp (← ee, q, ← en)
 
     most-next : m ≡ peak (p + 1) (seqOf g img)
     most-next = em ∙ sym (peak-more (seqOf g img) p ∙ rw (seq-is, ← most-is))
+
+    last-next : l ≡ arg (p + 1) (seqOf g img)
+    last-next = el ∙ go (ltb (s .most) n) refl
+      where
+        go : (t : Bool) → ltb (s .most) n ≡ t → pick t p (s .last) ≡ arg (p + 1) (seqOf g img)
+        go true x = arg-higher (seqOf g img) p (rw (← most-is, seq-is) (ltb-true (s .most) n x))
+        go false x = last-is ∙ arg-stays (seqOf g img) p (rw (← most-is, seq-is) (ltb-false (s .most) n x))
 
     erased-next : s .erased ≡ count (p + 1) (erased g img)
     erased-next = sym (count-more (erased g img) p ∙ rw (← ee, q, ← erased-is) (omega arith))
@@ -100,19 +118,19 @@ module _ (g : Geometry) (img : List ℕ) (p : ℕ) (s : Seen) (es : s ≡ seenTo
     unfolding rootScore heightOf score
     score-some z = simp (seq-is, ← ee, q, ← eh, le-leb 1 h (omega arith))
 
-    stays : score p ≤ s .score → record { root = s .root; score = s .score; most = m; erased = s .erased } ≡ seenTo g img (p + 1)
-    stays k = next (s .root) (s .score) m (s .erased) (stays-root k) (stays-score k) most-next erased-next
+    stays : score p ≤ s .score → record { root = s .root; score = s .score; most = m; last = l; erased = s .erased } ≡ seenTo g img (p + 1)
+    stays k = next (s .root) (s .score) m l (s .erased) (stays-root k) (stays-score k) most-next last-next erased-next
 
-    pub see-flat : h ≡ 0 → record { root = s .root; score = s .score; most = m; erased = s .erased } ≡ seenTo g img (p + 1)
+    pub see-flat : h ≡ 0 → record { root = s .root; score = s .score; most = m; last = l; erased = s .erased } ≡ seenTo g img (p + 1)
     see-flat z = stays (rw (score-none z) (omega arith))
 
-    pub see-older : (h ≡ 0 → ⊥) → n ≤ s .score → record { root = s .root; score = s .score; most = m; erased = s .erased } ≡ seenTo g img (p + 1)
+    pub see-older : (h ≡ 0 → ⊥) → n ≤ s .score → record { root = s .root; score = s .score; most = m; last = l; erased = s .erased } ≡ seenTo g img (p + 1)
     see-older z k = stays (rw (score-some z) k)
 
-    pub see-newer : (h ≡ 0 → ⊥) → s .score < n → record { root = p; score = n; most = m; erased = s .erased } ≡ seenTo g img (p + 1)
+    pub see-newer : (h ≡ 0 → ⊥) → s .score < n → record { root = p; score = n; most = m; last = l; erased = s .erased } ≡ seenTo g img (p + 1)
     see-newer z k =
         let up : peak p score < score p = rw (← score-is, score-some z) k in
-        next p n m (s .erased) (arg-higher score p up) (sym (score-some z) ∙ peak-higher score p up) most-next erased-next
+        next p n m l (s .erased) (arg-higher score p up) (sym (score-some z) ∙ peak-higher score p up) most-next last-next erased-next
 
 pub height-none : (g : Geometry) (img : List ℕ) (p : ℕ) (e : Bool) → e ≡ erased g img p → e ≡ true → 0 ≡ heightOf g img p
 unfolding heightOf
@@ -123,7 +141,7 @@ unfolding heightOf
 height-some g img p h e ee q eh = eh ∙ simp (← ee, q)
 
 pub survey-is : (g : Geometry) (img : List ℕ) (n t h l : ℕ) (s : Seen) → t ≡ g .pages * n → s ≡ seenTo g img t → h ≡ heightOf g img (s .root) → l ≡ h - 1
-    → record { root = s .root; height = h; level = l; most = s .most; erased = s .erased } ≡ surveyOf g n img
+    → record { root = s .root; height = h; level = l; most = s .most; last = s .last; erased = s .erased } ≡ surveyOf g n img
 unfolding surveyOf seenTo rootOf maxSeq
 survey-is g img n t h l s et es eh el =
     let f : s ≡ seenTo g img (g .pages * n) = es ∙ rw et in
@@ -135,6 +153,7 @@ survey-is g img n t h l s et es eh el =
       height = k i;
       level = m i;
       most = ap (λ (x : Seen). x .most) f i;
+      last = ap (λ (x : Seen). x .last) f i;
       erased = ap (λ (x : Seen). x .erased) f i;
     }
 
@@ -151,4 +170,4 @@ pub root-there : (g : Geometry) (img : List ℕ) (n : ℕ) (s : Survey) → s �
 unfolding r4
 root-there g img n s e z = sym (rw (← (height-field g img n s e), le-leb 1 (s .height) (omega arith)) (unless-true 0 Good))
 
-pub ruleset survey-laws = (larger-right, larger-left, seen-start, seen-end, see-erased, see-flat, see-older, see-newer, height-none, height-some, survey-is, root-missing, root-there)
+pub ruleset survey-laws = (larger-right, larger-left, holder-new, holder-old, seen-start, seen-end, see-erased, see-flat, see-older, see-newer, height-none, height-some, survey-is, root-missing, root-there)

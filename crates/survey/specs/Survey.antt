@@ -14,6 +14,7 @@ seenTo g img p = record {
   root = arg p (rootScore g img);
   score = peak p (rootScore g img);
   most = peak p (seqOf g img);
+  last = arg p (seqOf g img);
   erased = count p (erased g img);
 }
 
@@ -24,5 +25,6 @@ surveyOf g n img = record {
   height = heightOf g img (rootOf g n img);
   level = heightOf g img (rootOf g n img) - 1;
   most = maxSeq g n img;
+  last = arg (pagesOf g n) (seqOf g img);
   erased = count (pagesOf g n) (erased g img);
 }

@@ -1,26 +1,31 @@
 // One pass over the pages of an image: the root, the largest number, the erased pages. And R4.
 ghost use mathlib.Core.Path.{_≡_};
 ghost use Prim.Native.Nat.{ℕ, _+_, _*_, _-_, _≤_, _<_, max};
+ghost use lib.Dec.{ltb};
+ghost use Rattle.geometry.specs.Tests.{pick};
 ghost use Rattle.model.specs.Image.{heightOf};
 ghost use Rattle.model.specs.Rules.{r4};
 ghost use Rattle.survey.specs.Survey.{seenTo, surveyOf};
 use geometry::Finding;
 use geometry::Geometry;
 
-// What the pages below some page say: the root's page and number, the largest number, the erased pages.
+// What the pages below some page say: the root's page and number, the largest number and its page, the erased pages.
 struct Seen {
     root: u32,
     score: u32,
     most: u32,
+    last: u32,
     erased: u32,
 }
 
-// An image in numbers: the root's page, its height byte and the levels below it, the largest number, the erased pages.
+// An image in numbers: the root's page, its height byte and the levels below it, the largest number and
+// its page, the erased pages.
 pub struct Survey {
     pub root: u32,
     pub height: u32,
     pub level: u32,
     pub most: u32,
+    pub last: u32,
     pub erased: u32,
 }
 
@@ -33,6 +38,16 @@ fn larger(a: u32, b: u32) -> u32
     a
 }
 
+// The page of the larger of two numbers, the former one's unless the new one is larger.
+fn holder(seq: u32, most: u32, page: u32, last: u32) -> u32
+    ensures { λ r. ⌜ r ≡ pick (ltb most seq) page last ⌝ }
+{
+    if most < seq {
+        return page;
+    }
+    last
+}
+
 // What is seen with one page more.
 fn see(g: Geometry, img: &[u8], page: u32, seen: Seen) -> Seen
     requires { ⌜ (seen ≡ seenTo g (now img) page) × (seen .erased ≤ page) × (page < 4294967295) ⌝ }
@@ -43,16 +58,19 @@ fn see(g: Geometry, img: &[u8], page: u32, seen: Seen) -> Seen
             root: seen.root,
             score: seen.score,
             most: seen.most,
+            last: seen.last,
             erased: seen.erased + 1,
         };
     }
     let seq = chip::seq_at(g, img, page);
     let most = larger(seq, seen.most);
+    let last = holder(seq, seen.most, page, seen.last);
     if chip::height_at(g, img, page) == 0 {
         return Seen {
             root: seen.root,
             score: seen.score,
             most: most,
+            last: last,
             erased: seen.erased,
         };
     }
@@ -61,6 +79,7 @@ fn see(g: Geometry, img: &[u8], page: u32, seen: Seen) -> Seen
             root: seen.root,
             score: seen.score,
             most: most,
+            last: last,
             erased: seen.erased,
         };
     }
@@ -68,6 +87,7 @@ fn see(g: Geometry, img: &[u8], page: u32, seen: Seen) -> Seen
         root: page,
         score: seq,
         most: most,
+        last: last,
         erased: seen.erased,
     }
 }
@@ -80,6 +100,7 @@ fn see_all(g: Geometry, img: &[u8], pages: u32) -> Seen
         root: 0,
         score: 0,
         most: 0,
+        last: 0,
         erased: 0,
     };
     let mut page: u32 = 0;
@@ -121,6 +142,7 @@ pub fn take_survey(g: Geometry, img: &[u8], n: u16) -> Survey
         height: height,
         level: level,
         most: seen.most,
+        last: seen.last,
         erased: seen.erased,
     }
 }

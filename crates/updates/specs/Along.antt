@@ -11,7 +11,7 @@ use Rattle.geometry.specs.Shape.{Shape}
 use Rattle.model.specs.Count.{count}
 use Rattle.model.specs.Image.{pagesOf, maxSeq, Chip, chipOf}
 use Rattle.model.specs.Tree.{mapOf}
-use Rattle.model.specs.Next.{nextPage}
+use Rattle.model.specs.Next.{ahead, nextPage}
 use Rattle.model.specs.Stores.{Store, applyStore, applyAll, programs, erases}
 use Rattle.stores.specs.Runs.{all-append, programs-append, erases-append}
 use Rattle.chips.specs.Collect.{R7}
@@ -92,7 +92,7 @@ module _ (g : Geometry) (n : ℕ) (base : List Entry) where
   pub side-runs : Shape g → (img : List ℕ) → Keeps g n base img → (parts : ℕ → List Entry) → Parts g parts
       → g .pages + 1 ≤ count (pagesOf g n) (chipOf g n img .er) → suc (maxSeq g n img) < 4294967295
       → Runs g n base img (nextStore g n 0 parts img ∷ [])
-      (beside (chipOf g n img) (nextPage (g .pages) n (chipOf g n img .er)) (builtView g (suc (maxSeq g n img)) 0 parts)) 1 0
+      (beside (chipOf g n img) (nextPage (g .pages) n (ahead g n (chipOf g n img))) (builtView g (suc (maxSeq g n img)) 0 parts)) 1 0
   unfolding Along applyAll programs erases nextStore
   side-runs shape img h parts ok f low =
       let free : 1 ≤ count (pagesOf g n) (chipOf g n img .er) = omega (arith, f) in

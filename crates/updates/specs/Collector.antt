@@ -17,7 +17,7 @@ use Rattle.geometry.specs.Shape.{Shape}
 use Rattle.model.specs.Count.{count}
 use Rattle.model.specs.Image.{pagesOf, maxSeq, Chip, chipOf}
 use Rattle.model.specs.Tree.{mapOf, placesOf, live}
-use Rattle.model.specs.Next.{full, nextPage}
+use Rattle.model.specs.Next.{full, ahead, nextPage}
 use Rattle.model.specs.Stores.{Store, erase, applyStore, applyAll, programs, erases}
 use Rattle.model.specs.Collect.{livesIn, theVictim, moveStore, sweepStores, clearStores, collectStores}
 use Rattle.trees.specs.Tests.{by-eq}
@@ -60,7 +60,7 @@ module _ (g : Geometry) (shape : Shape g) (n : ℕ) (few : pagesOf g n + g .page
       c = chipOf g n img
 
       N : ℕ
-      N = nextPage (g .pages) n (chipOf g n img .er)
+      N = nextPage (g .pages) n (ahead g n (chipOf g n img))
 
       st : Store
       st = moveStore g n (g .pages * v + (g .pages - suc j)) img
@@ -71,7 +71,7 @@ module _ (g : Geometry) (shape : Shape g) (n : ℕ) (few : pagesOf g n + g .page
           → Runs g n base img
           (pick u (moveStore g n (g .pages * v + (g .pages - suc j)) img ∷ sweepStores g n v j
           (applyStore g (moveStore g n (g .pages * v + (g .pages - suc j)) img) img)) (sweepStores g n v j img))
-          (pick u (sweep g n v j (moveTo (chipOf g n img) (g .pages * v + (g .pages - suc j)) (nextPage (g .pages) n (chipOf g n img .er))))
+          (pick u (sweep g n v j (moveTo (g .pages * n) (chipOf g n img) (g .pages * v + (g .pages - suc j)) (nextPage (g .pages) n (ahead g n (chipOf g n img)))))
           (sweep g n v j (chipOf g n img))) (livesIn (g .pages) v (chipOf g n img)) 0
       go true e ih =
           let o = moved-on g shape n v j c b s e in

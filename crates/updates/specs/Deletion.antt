@@ -15,7 +15,7 @@ use Rattle.geometry.specs.Shape.{Shape}
 use Rattle.model.specs.Count.{count}
 use Rattle.model.specs.Image.{pagesOf, maxSeq, Nodes, Chip, chipOf, theRoot}
 use Rattle.model.specs.Tree.{mapOf, sought}
-use Rattle.model.specs.Next.{nextPage, after, taken}
+use Rattle.model.specs.Next.{ahead, nextPage, after, taken}
 use Rattle.model.specs.Stores.{applyAll}
 use Rattle.model.specs.Edit.{remove, removeIn, kept, Top, collapse}
 use Rattle.model.specs.Update.{isNone, sidePage, deleteList, deleteTop, deletePart, deleteStore}
@@ -155,13 +155,13 @@ module _ (g : Geometry) (shape : Shape g) (n : ℕ) (few : pagesOf g n + g .page
 
   module _ (q : ℕ) where
     abbrev e′ : Chip
-    e′ = rooted c (nextPage (g .pages) n (c .er)) (builtView g q height (leftList g n c k))
+    e′ = rooted c (nextPage (g .pages) n (ahead g n c)) (builtView g q height (leftList g n c k))
 
-    page-is : nextPage (g .pages) n (c .er) ≡ N
+    page-is : nextPage (g .pages) n (ahead g n c) ≡ N
     unfolding taken
     page-is = refl
 
-    er-is : after N (c .er) ≡ taken (g .pages) n (c .er) 1
+    er-is : after N (c .er) ≡ taken (g .pages) n (ahead g n c) 1 .er
     unfolding taken
     er-is = refl
 
@@ -174,13 +174,13 @@ module _ (g : Geometry) (shape : Shape g) (n : ℕ) (few : pagesOf g n + g .page
     stays p l h = rw (ne-eqb p N (λ z. new-side g shape n c (whole .r2) 1 free 1 l (omega arith) (omega arith)
         (subst (fitOf t (c .er) (suc l)) z h))) refl
 
-    final-is : e′ ≡ record { er = taken (g .pages) n (c .er) 1; nodes = e′ .nodes; level = top .level; root = N }
+    final-is : e′ ≡ record { er = taken (g .pages) n (ahead g n c) 1 .er; seq = e′ .seq; nodes = e′ .nodes; level = top .level; root = N }
     unfolding rooted taken
-    final-is = let z : height - 1 ≡ top .level = omega arith in λ i. record { er = after N (c .er); nodes = e′ .nodes; level = z i; root = N }
+    final-is = let z : height - 1 ≡ top .level = omega arith in λ i. record { er = after N (c .er); seq = e′ .seq; nodes = e′ .nodes; level = z i; root = N }
 
     final-done : Whole g n e′ × (mapOf e′ ≡ remove k (mapOf c))
     final-done =
-        let w = delete-done g shape n k k-low c whole present free (e′ .nodes) at-N stays high in
+        let w = delete-done g shape n k k-low c whole present free (e′ .nodes) (e′ .seq) at-N stays high in
         (subst (Whole g n) (sym final-is) (w .0), ap mapOf final-is ∙ w .1)
 
   store-is : deleteStore g n (maxSeq g n img) c k ≡ nextStore g n height (leftList g n c k) img

@@ -12,10 +12,10 @@ use Rattle.geometry.specs.declared.Entry.{Entry}
 use Rattle.geometry.specs.Tests.{pick, bit}
 use Rattle.geometry.specs.Geometry.{half}
 use Rattle.geometry.specs.Shape.{Shape}
-use Rattle.model.specs.Count.{count}
+use Rattle.model.specs.Count.{count, peak}
 use Rattle.model.specs.Image.{pagesOf, maxSeq, Chip, chipOf}
 use Rattle.model.specs.Tree.{mapOf, chosen, sought}
-use Rattle.model.specs.Next.{nextPage, after, taken}
+use Rattle.model.specs.Next.{Ahead, ahead, nextPage, after, onward, taken}
 use Rattle.model.specs.Page.{built, only}
 use Rattle.model.specs.Stores.{Store, program, applyStore, applyAll, programs}
 use Rattle.model.specs.Edit.{put, sideHalf, splits}
@@ -34,14 +34,14 @@ use Rattle.images.specs.Views.{rooted, beside}
 use Rattle.images.specs.Page.{in-table, builtView}
 use Rattle.images.specs.Small.{node-fits}
 use Rattle.images.specs.Held.{height-most}
-use Rattle.images.specs.Writes.{nextStore, put-max}
+use Rattle.images.specs.Writes.{nextStore, ahead-beside, put-max}
 use Rattle.updates.specs.Along.{Keeps, Runs, runs-end, runs-none, runs-then, runs-as, side-runs}
 use Rattle.updates.specs.Contents.{side-parts, main-parts}
 use Rattle.updates.specs.Updated.{Updated, updated}
 
 -- the chip d after the other halves of levels 1 to i, from the chip c
 pub record Laid (g : Geometry) (n : ℕ) (c : Chip) (k a i : ℕ) (d : Chip) : Type 0 where
-  pub er-is : d .er ≡ taken (g .pages) n (c .er) i
+  pub ahead-is : ahead g n d ≡ taken (g .pages) n (ahead g n c) i
   pub sides : (j : ℕ) → 1 ≤ j → j ≤ i → d .nodes (sidePage g n c j) j ≡ sideList g n c k a j
   pub stays : (q l : ℕ) → fitOf (g .pages * n) (c .er) (suc l) q → d .nodes q (suc l) ≡ c .nodes q (suc l)
 
@@ -109,10 +109,10 @@ module _ (g : Geometry) (shape : Shape g) (n : ℕ) (few : pagesOf g n + g .page
     parts = only (suc i) (sideList g n c k a (suc i))
 
     abbrev d′ : Chip
-    d′ = beside d (nextPage (g .pages) n (d .er)) (builtView g s 0 parts)
+    d′ = beside d (nextPage (g .pages) n (ahead g n d)) (builtView g s 0 parts)
 
-    pub next-side : nextPage (g .pages) n (d .er) ≡ side (suc i)
-    next-side = ap (nextPage (g .pages) n) (laid .er-is)
+    pub next-side : nextPage (g .pages) n (ahead g n d) ≡ side (suc i)
+    next-side = ap (nextPage (g .pages) n) (laid .ahead-is)
 
     top : suc i ≤ g .top
     top = by-test grows (λ e. let u = grow-all g shape n k a k-low c whole e in omega (arith, lt, m-is, cut-le, u .0, bit-most grows))
@@ -121,7 +121,7 @@ module _ (g : Geometry) (shape : Shape g) (n : ℕ) (few : pagesOf g n + g .page
     here : (q : ℕ) → q ≡ side (suc i) → d′ .nodes q (suc i) ≡ sideList g n c k a (suc i)
     unfolding beside
     here q e = rw (
-      eq-eqb q (nextPage (g .pages) n (d .er)) (e ∙ sym next-side),
+      eq-eqb q (nextPage (g .pages) n (ahead g n d)) (e ∙ sym next-side),
       in-table g (suc i) (omega arith) top,
       eq-eqb (suc i)
           (suc i) refl,
@@ -129,12 +129,16 @@ module _ (g : Geometry) (shape : Shape g) (n : ℕ) (few : pagesOf g n + g .page
 
     there : (q j : ℕ) → (q ≡ side (suc i) → ⊥) → d′ .nodes q j ≡ d .nodes q j
     unfolding beside
-    there q j e = rw (ne-eqb q (nextPage (g .pages) n (d .er)) (λ z. e (z ∙ next-side))) refl
+    there q j e = rw (ne-eqb q (nextPage (g .pages) n (ahead g n d)) (λ z. e (z ∙ next-side))) refl
 
-    pub laid-more : Laid g n c k a (suc i) d′
-    unfolding beside taken
-    laid-more = record {
-      er-is = ap (λ (x : ℕ → Bool). after (nextPage (g .pages) n x) x) (laid .er-is);
+    next-in : nextPage (g .pages) n (ahead g n d) < t
+    next-in = let z = side-erased g shape n c (whole .r2) m free (suc i) (omega arith) (omega (arith, lt)) .1 in omega (arith, z, next-side)
+
+    pub laid-more : s ≡ suc (peak t (d .seq)) → Laid g n c k a (suc i) d′
+    unfolding taken
+    laid-more num = record {
+      ahead-is = ahead-beside g n d (nextPage (g .pages) n (ahead g n d)) (builtView g s 0 parts) next-in num
+          ∙ ap (λ (x : Ahead). onward (nextPage (g .pages) n x) x) (laid .ahead-is);
       sides = λ j b q. by-eq j (suc i) (λ e. rw e (here (side (suc i)) refl))
           (λ e. there (side j) j (λ z. e (side-inj g shape n c (whole .r2) m free j (suc i) b (omega (arith, q, lt)) (omega arith)
           (omega (arith, lt)) z)) ∙ laid .sides j b (omega (arith, q, e)));
@@ -143,14 +147,18 @@ module _ (g : Geometry) (shape : Shape g) (n : ℕ) (few : pagesOf g n + g .page
     }
 
   -- the pages left after i are taken
-  left : (i : ℕ) → i ≤ m → count t (taken (g .pages) n (c .er) i) + i ≡ count t (c .er)
-  left i q = let z = step (g .pages) n (c .er) (some-page g shape) (whole .r2) i (omega (arith, q, free)) .left in omega (arith, z)
+  left : (i : ℕ) → i ≤ m → count t (taken (g .pages) n (ahead g n c) i .er) + i ≡ count t (c .er)
+  left i q = let z = step (g .pages) n (ahead g n c) (some-page g shape) (whole .r2) i (omega (arith, q, free)) .left in omega (arith, z)
 
-  next-is : (h l : ℕ) (parts : ℕ → List Entry) (x : List ℕ) → nextPage (g .pages) n (chipOf g n x .er) ≡ side l → suc (maxSeq g n x) ≡ seq + l
+  next-is : (h l : ℕ) (parts : ℕ → List Entry) (x : List ℕ) → nextPage (g .pages) n (ahead g n (chipOf g n x)) ≡ side l → suc (maxSeq g n x) ≡ seq + l
       → program (side l) (built g (seq + l) h parts) ≡ nextStore g n h parts x
   unfolding nextStore
   next-is h l parts x e f = ap (λ p. program p (built g (seq + l) h parts)) (sym e)
-      ∙ ap (λ q. program (nextPage (g .pages) n (chipOf g n x .er)) (built g q h parts)) (sym f)
+      ∙ ap (λ q. program (nextPage (g .pages) n (ahead g n (chipOf g n x))) (built g q h parts)) (sym f)
+
+  number : (x : List ℕ) → suc (maxSeq g n x) ≡ suc (peak t (chipOf g n x .seq))
+  unfolding maxSeq
+  number x = refl
 
   side-step : (i : ℕ) (ss : List Store) → suc i < m → Sided g n base img k a i ss
       → Sided g n base img k a (suc i) (ss ++ (sideStore g seq side (suc i) (sideList g n c k a (suc i)) ∷ []))
@@ -161,28 +169,28 @@ module _ (g : Geometry) (shape : Shape g) (n : ℕ) (few : pagesOf g n + g .page
       let z = runs-end g n base img ss (s .chip) i 0 (s .runs) in
       let ci = s .runs .chip-is in
       let ok = side-parts g shape n few k a k-low a-low c whole all-fit high not-high (suc i) (omega arith) lt in
-      let cnt : count t (chipOf g n x .er) ≡ count t (taken (g .pages) n (c .er) i) = ap (λ (y : Chip). count t (y .er)) ci ∙ ap (count t)
-      (s .laid .er-is) in
+      let cnt : count t (chipOf g n x .er) ≡ count t (taken (g .pages) n (ahead g n c) i .er) = ap (λ (y : Chip). count t (y .er)) ci ∙ ap (λ (y : Ahead). count t (y .er))
+      (s .laid .ahead-is) in
       let l = left i (omega (arith, lt)) in
       let few′ : g .pages + 1 ≤ count t (chipOf g n x .er) = omega (arith, cnt, l, room, lt) in
       let low′ : suc (maxSeq g n x) < 4294967295 = omega (arith, s .max-is, low, lt) in
-      let page : nextPage (g .pages) n (chipOf g n x .er) ≡ side (suc i) = ap (λ (y : Chip). nextPage (g .pages) n (y .er)) ci ∙ next-side i lt
+      let page : nextPage (g .pages) n (ahead g n (chipOf g n x)) ≡ side (suc i) = ap (λ (y : Chip). nextPage (g .pages) n (ahead g n y)) ci ∙ next-side i lt
       (s .chip) (s .laid) 0 in
       let e = next-is 0 (suc i) p x page (omega (arith, s .max-is)) in
       let r = side-runs g n base shape x z p ok few′ low′ in
       let mx = put-max g shape n x (z .held) (omega (arith, few′)) p ok low′ 0 (omega arith) in
       let q = suc (maxSeq g n x) in
       let st = program (side (suc i)) (built g (seq + suc i) 0 p) in
-      let r′ = subst (λ (u : Store). Runs g n base x (u ∷ []) (beside (chipOf g n x) (nextPage (g .pages) n (chipOf g n x .er)) (builtView g q 0 p)) 1
+      let r′ = subst (λ (u : Store). Runs g n base x (u ∷ []) (beside (chipOf g n x) (nextPage (g .pages) n (ahead g n (chipOf g n x))) (builtView g q 0 p)) 1
       0) (sym e) r in
-      let all = runs-then g n base img ss (st ∷ []) (s .chip) (beside (chipOf g n x) (nextPage (g .pages) n (chipOf g n x .er))
+      let all = runs-then g n base img ss (st ∷ []) (s .chip) (beside (chipOf g n x) (nextPage (g .pages) n (ahead g n (chipOf g n x)))
       (builtView g q 0 p)) i 1 0 0 (s .runs) r′ in
       record {
-        chip = beside (s .chip) (nextPage (g .pages) n (s .chip .er)) (builtView g q 0 p);
-        runs = runs-as g n base img (ss ++ (st ∷ [])) (beside (chipOf g n x) (nextPage (g .pages) n (chipOf g n x .er)) (builtView g q 0 p))
-            (beside (s .chip) (nextPage (g .pages) n (s .chip .er)) (builtView g q 0 p)) (i + 1) (suc i) (0 + 0) 0
-            (ap (λ (y : Chip). beside y (nextPage (g .pages) n (y .er)) (builtView g q 0 p)) ci) (omega arith) (omega arith) all;
-        laid = laid-more i lt (s .chip) (s .laid) q;
+        chip = beside (s .chip) (nextPage (g .pages) n (ahead g n (s .chip))) (builtView g q 0 p);
+        runs = runs-as g n base img (ss ++ (st ∷ [])) (beside (chipOf g n x) (nextPage (g .pages) n (ahead g n (chipOf g n x))) (builtView g q 0 p))
+            (beside (s .chip) (nextPage (g .pages) n (ahead g n (s .chip))) (builtView g q 0 p)) (i + 1) (suc i) (0 + 0) 0
+            (ap (λ (y : Chip). beside y (nextPage (g .pages) n (ahead g n y)) (builtView g q 0 p)) ci) (omega arith) (omega arith) all;
+        laid = laid-more i lt (s .chip) (s .laid) q (number x ∙ ap (λ (y : Chip). suc (peak t (y .seq))) ci);
         max-is = ap (maxSeq g n) (all-append g ss (st ∷ []) img) ∙ ap (λ (u : Store). maxSeq g n (applyStore g u x)) e ∙ mx ∙
             (let w : suc (maxSeq g n x) ≡ seq + suc i = omega (arith, s .max-is) in w);
       }
@@ -193,7 +201,7 @@ module _ (g : Geometry) (shape : Shape g) (n : ℕ) (few : pagesOf g n + g .page
   none-sided = record {
     chip = c;
     runs = runs-none g n base img 0 0 keeps;
-    laid = record { er-is = refl; sides = λ j b q. absurd (omega (arith, b, q)); stays = λ q l h. refl };
+    laid = record { ahead-is = refl; sides = λ j b q. absurd (omega (arith, b, q)); stays = λ q l h. refl };
     max-is = omega arith;
   }
 
@@ -274,17 +282,17 @@ module _ (g : Geometry) (shape : Shape g) (n : ℕ) (few : pagesOf g n + g .page
 
   module _ (d : Chip) (laid : Laid g n c k a (cuts + bit grows) d) (q : ℕ) where
     abbrev P : ℕ
-    P = nextPage (g .pages) n (d .er)
+    P = nextPage (g .pages) n (ahead g n d)
 
     abbrev e′ : Chip
     e′ = rooted d P (builtView g q height (mainList g n c k a))
 
     page-is : P ≡ N
-    page-is = ap (nextPage (g .pages) n) (laid .er-is) ∙ sym (ap side m-is)
+    page-is = ap (nextPage (g .pages) n) (laid .ahead-is) ∙ sym (ap side m-is)
 
-    er-is : after P (d .er) ≡ taken (g .pages) n (c .er) m
+    er-is : after P (d .er) ≡ taken (g .pages) n (ahead g n c) m .er
     unfolding taken
-    er-is = ap (λ (x : ℕ → Bool). after (nextPage (g .pages) n x) x) (laid .er-is) ∙ sym (ap (taken (g .pages) n (c .er)) m-is)
+    er-is = ap (λ (x : Ahead). after (nextPage (g .pages) n x) (x .er)) (laid .ahead-is) ∙ sym (ap (λ j. taken (g .pages) n (ahead g n c) j .er) m-is)
 
     at-N : (j : ℕ) → 1 ≤ j → j ≤ g .top → e′ .nodes N j ≡ mainList g n c k a j
     unfolding rooted
@@ -302,13 +310,13 @@ module _ (g : Geometry) (shape : Shape g) (n : ℕ) (few : pagesOf g n + g .page
     stays p l h = elsewhere p (suc l) (λ z. new-side g shape n c (whole .r2) m free m l (omega (arith, m-is)) (omega arith)
         (subst (fitOf t (c .er) (suc l)) z h)) ∙ laid .stays p l h
 
-    final-is : e′ ≡ record { er = taken (g .pages) n (c .er) m; nodes = e′ .nodes; level = height - 1; root = N }
+    final-is : e′ ≡ record { er = taken (g .pages) n (ahead g n c) m .er; seq = e′ .seq; nodes = e′ .nodes; level = height - 1; root = N }
     unfolding rooted
-    final-is = λ i. record { er = er-is i; nodes = e′ .nodes; level = height - 1; root = page-is i }
+    final-is = λ i. record { er = er-is i; seq = e′ .seq; nodes = e′ .nodes; level = height - 1; root = page-is i }
 
     pub final-done : Whole g n e′ × (mapOf e′ ≡ put k a (mapOf c))
     final-done =
-        let w = insert-done g shape n k a k-low c whole free (e′ .nodes) at-N at-side stays high not-high in
+        let w = insert-done g shape n k a k-low c whole free (e′ .nodes) (e′ .seq) at-N at-side stays high not-high in
         (subst (Whole g n) (sym final-is) (w .0), ap mapOf final-is ∙ w .1)
 
   -- the insertion's own stores: m programs
@@ -321,8 +329,8 @@ module _ (g : Geometry) (shape : Shape g) (n : ℕ) (few : pagesOf g n + g .page
       let x = applyAll g ss img in
       let ci = s .runs .chip-is in
       let lf = left i (omega (arith, m-is)) in
-      let cnt : count t (s .chip .er) ≡ count t (taken (g .pages) n (c .er) i) = ap (count t) (s .laid .er-is) in
-      let page : nextPage (g .pages) n (chipOf g n x .er) ≡ N = ap (λ (y : Chip). nextPage (g .pages) n (y .er)) ci ∙ page-is (s .chip) (s .laid) 0 in
+      let cnt : count t (s .chip .er) ≡ count t (taken (g .pages) n (ahead g n c) i .er) = ap (λ (y : Ahead). count t (y .er)) (s .laid .ahead-is) in
+      let page : nextPage (g .pages) n (ahead g n (chipOf g n x)) ≡ N = ap (λ (y : Chip). nextPage (g .pages) n (ahead g n y)) ci ∙ page-is (s .chip) (s .laid) 0 in
       let st = program N (built g (seq + m) height (mainList g n c k a)) in
       let e = next-is height m (mainList g n c k a) x page (omega (arith, s .max-is, m-is)) in
       let u = updated g shape n base (put k a base) img ss (s .chip) i 0 height (mainList g n c k a) st (s .runs) (omega (arith, cnt, lf, room, m-is))

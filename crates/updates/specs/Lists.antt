@@ -64,7 +64,7 @@ module _ (g : Geometry) (shape : Shape g) (n : ℕ) (few : pagesOf g n + g .page
     m-some : 1 ≤ m
     m-some = let z = needs-is g shape n k a k-low c (keeps .held .whole) in omega (arith, z)
 
-    pub after-collect : Collected g shape n few base m img
+    after-collect : Collected g shape n few base m img
     after-collect = collect-done g shape n few base m img keeps (roomy m m-some not-room) (numbers m m-top .0)
 
     abbrev then : List ℕ
@@ -111,7 +111,7 @@ module _ (g : Geometry) (shape : Shape g) (n : ℕ) (few : pagesOf g n + g .page
     one-top : 1 ≤ g .top
     one-top = let z = shape .top-low in omega (arith, z)
 
-    pub collected-one : Collected g shape n few base 1 img
+    collected-one : Collected g shape n few base 1 img
     collected-one = collect-done g shape n few base 1 img keeps (roomy 1 (omega arith) not-room) (numbers 1 one-top .0)
 
     abbrev left : List ℕ

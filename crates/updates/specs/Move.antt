@@ -11,10 +11,10 @@ use Rattle.geometry.specs.declared.Entry.{Entry}
 use Rattle.geometry.specs.Tests.{pick}
 use Rattle.geometry.specs.Geometry.{slotsOf, half, rootMost, inTable}
 use Rattle.geometry.specs.Shape.{Shape}
-use Rattle.model.specs.Count.{count}
+use Rattle.model.specs.Count.{count, peak}
 use Rattle.model.specs.Image.{pagesOf, maxSeq, Chip, chipOf, theRoot}
 use Rattle.model.specs.Tree.{mapOf, placesOf, live, lowLevel}
-use Rattle.model.specs.Next.{nextPage, after}
+use Rattle.model.specs.Next.{ahead, nextPage, after}
 use Rattle.model.specs.Stores.{Store, applyStore}
 use Rattle.model.specs.Edit.{onPath, renamed, same}
 use Rattle.model.specs.Collect.{moveKey, movePart, moveStore}
@@ -41,10 +41,10 @@ module _ (g : Geometry) (shape : Shape g) (n : ℕ) (few : pagesOf g n + g .page
   c = chipOf g n img
 
   abbrev N : ℕ
-  N = nextPage (g .pages) n (c .er)
+  N = nextPage (g .pages) n (ahead g n c)
 
   N-in : N < t
-  N-in = next-in (g .pages) n (c .er) (some-page g shape) (held .whole .r2) free
+  N-in = next-in (g .pages) n (ahead g n c) (some-page g shape) (held .whole .r2) free
 
   high : suc (c .level) ≤ g .top
   high = height-most g shape n img (omega (arith, N-in)) held
@@ -103,10 +103,16 @@ module _ (g : Geometry) (shape : Shape g) (n : ℕ) (few : pagesOf g n + g .page
       go true e = refl
       go false e = sym (none l (off-table g shape l (suc (c .level)) high e))
 
-  moved-chip : (seq : ℕ) → rooted c N (builtView g seq (suc (c .level)) (movePart c p N)) ≡ moveTo c p N
-  unfolding rooted moveTo
-  moved-chip seq = let d : suc (c .level) - 1 ≡ c .level = omega arith in
-      λ i. record { er = after N (c .er); nodes = λ q j. pick (eqb q N) (move-table j i) (c .nodes q j); level = d i; root = N }
+  moved-chip : rooted c N (builtView g (suc (maxSeq g n img)) (suc (c .level)) (movePart c p N)) ≡ moveTo t c p N
+  unfolding rooted moveTo maxSeq
+  moved-chip = let d : suc (c .level) - 1 ≡ c .level = omega arith in
+      λ i. record {
+        er = after N (c .er);
+        seq = λ q. pick (eqb q N) (suc (peak t (c .seq))) (c .seq q);
+        nodes = λ q j. pick (eqb q N) (move-table j i) (c .nodes q j);
+        level = d i;
+        root = N;
+      }
 
   abbrev st : Store
   st = moveStore g n p img
@@ -116,16 +122,15 @@ module _ (g : Geometry) (shape : Shape g) (n : ℕ) (few : pagesOf g n + g .page
   store-is = refl
 
   module _ (alive : live (placesOf c) p ≡ true) (low : suc (maxSeq g n img) < 4294967295) where
-    pub move-chip : chipOf g n (applyStore g st img) ≡ moveTo c p N
-    move-chip = rw store-is (root-chip g shape n img held free (movePart c p N) move-parts low (suc (c .level)) high (omega arith) ∙ moved-chip
-        (suc (maxSeq g n img)))
+    pub move-chip : chipOf g n (applyStore g st img) ≡ moveTo t c p N
+    move-chip = rw store-is (root-chip g shape n img held free (movePart c p N) move-parts low (suc (c .level)) high (omega arith) ∙ moved-chip)
 
-    step : MoveStep g n c (moveTo c p N) p N
+    step : MoveStep g n c (moveTo t c p N) p N
     step = move-step g shape n c (held .whole) p alive free
 
     pub move-held : Held g n (applyStore g st img)
     move-held = rw store-is (root-held g shape n img held free (movePart c p N) move-parts low (suc (c .level)) high (omega arith)
-        (subst (Whole g n) (sym (moved-chip (suc (maxSeq g n img)))) (step .good)))
+        (subst (Whole g n) (sym moved-chip) (step .good)))
 
     pub move-map : mapOf (chipOf g n (applyStore g st img)) ≡ mapOf c
     move-map = ap mapOf move-chip ∙ step .pairs-are

@@ -10,7 +10,7 @@ use Rattle.geometry.specs.Shape.{Shape}
 use Rattle.model.specs.Count.{count}
 use Rattle.model.specs.Image.{pagesOf, maxSeq, Chip, chipOf}
 use Rattle.model.specs.Tree.{mapOf}
-use Rattle.model.specs.Next.{nextPage}
+use Rattle.model.specs.Next.{ahead, nextPage}
 use Rattle.model.specs.Stores.{Store, applyStore, applyAll, programs, erases}
 use Rattle.stores.specs.Runs.{all-append, programs-append, erases-append}
 use Rattle.chips.specs.Whole.{Whole}
@@ -35,8 +35,8 @@ pub updated : (g : Geometry) → Shape g
     → Runs g n old img ss d b e
     → g .pages + 1 ≤ count (pagesOf g n) (d .er) → suc (maxSeq g n (applyAll g ss img)) < 4294967295 → Parts g parts → 1 ≤ h → h ≤ g .top
     → s ≡ nextStore g n h parts (applyAll g ss img)
-    → ((q : ℕ) → Whole g n (rooted d (nextPage (g .pages) n (d .er)) (builtView g q h parts)) ×
-    (mapOf (rooted d (nextPage (g .pages) n (d .er)) (builtView g q h parts)) ≡ new))
+    → ((q : ℕ) → Whole g n (rooted d (nextPage (g .pages) n (ahead g n d)) (builtView g q h parts)) ×
+    (mapOf (rooted d (nextPage (g .pages) n (ahead g n d)) (builtView g q h parts)) ≡ new))
     → Updated g n old new img (ss ++ (s ∷ [])) (b + 1) e
 unfolding applyAll programs erases nextStore
 updated g shape n old new img ss d b e h parts s r f low ok i k se good =
@@ -48,8 +48,8 @@ updated g shape n old new img ss d b e h parts s r f low ok i k se good =
     let free : 1 ≤ count t (chipOf g n x .er) = omega (arith, many) in
     let q = suc (maxSeq g n x) in
     let rc = root-chip g shape n x (z .held) free parts ok low h k i in
-    let ge = subst (λ (y : Chip). Whole g n (rooted y (nextPage (g .pages) n (y .er)) (builtView g q h parts)) ×
-    (mapOf (rooted y (nextPage (g .pages) n (y .er)) (builtView g q h parts)) ≡ new)) (sym ci) (good q) in
+    let ge = subst (λ (y : Chip). Whole g n (rooted y (nextPage (g .pages) n (ahead g n y)) (builtView g q h parts)) ×
+    (mapOf (rooted y (nextPage (g .pages) n (ahead g n y)) (builtView g q h parts)) ≡ new)) (sym ci) (good q) in
     let fr = root-frees g shape n x (z .held) free parts ok low h k i in
     let done : Keeps g n new (applyStore g (nextStore g n h parts x) x) = record {
       held = root-held g shape n x (z .held) free parts ok low h k i

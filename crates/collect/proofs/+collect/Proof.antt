@@ -1,5 +1,5 @@
 use native.Mathlib.Omega.{arith}
-use Rattle.collect.specs.Laws.{collect-on}
+use Rattle.collect.specs.Laws.{collect-halt, collect-on}
 use borrow.Author.Needs.{needs}
 use Rattle.collect.specs.Laws.{collect-laws}
 use Prim.Native.Nat.{ℕ, _<_}
@@ -47,7 +47,7 @@ pub +collect-spec : {M : Type 1} → statement M
     (λ c κs. (let p = c .before .before .before .before .before .before .before .before .before .before .before .before .before .pre .1 in let l = c .before .before .before .before .before .before .before .look .ensures in ((omega (arith, l .0, p .0), p .2, p .3, p .4), l .1)))
     (λ c. search all)
     (λ c. search all)
-    (λ c. search all)
+    (λ c. collect-halt _ _ _ _ _ _ (c .before .before .before .before .before .before .before .before .before .before .before .before .before .look .ensures .1) _ (c .before .before .before .before .before .before .before .before .before .before .enough .ensures) _ _ _ _ (c .before .before .before .before .before .clear .ensures .1) (c .before .before .before .before .before .before .before .before .if2 .left) (c .before .before .before .before .before .before .before .before .before .before .before .before .before .before .before .before .if1 .left) (c .before .before .before .before .before .before .before .before .before .before .before .before .before .before .before .before .before .before .before .pre .1 .4) (c .if3 .taken))
     (λ c. search all)
     (λ c κs. (let p = c .before .before .before .before .before .before .before .before .before .before .before .before .before .before .before .before .before .before .before .before .before .pre .1 in let w = c .before .before .before .before .before .before .before .clear .ensures in let l = c .before .before .before .before .before .before .before .before .before .before .before .before .before .before .before .look .ensures in (search all, (omega (arith, w .0, l .0, p .0), p .1, p .2, omega (arith, w .1 .total, p .3), c .before .before .if3 .left))))
     (λ c. search all)

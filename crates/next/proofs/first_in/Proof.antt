@@ -2,13 +2,11 @@ use Rattle.page_rules.specs.Blocks.{block-laws}
 use borrow.Author.Needs.{needs}
 use Rattle.next.specs.Laws.{next-laws}
 use mathlib.Core.Path.{_≡_}
-use Prim.Native.Nat.{_+_, _*_, _-_, _≤_, _<_}
-use lib.ListN.{length}
+use Prim.Native.Nat.{_-_, _≤_}
 use Rattle.model.specs.Bytes.{erased}
 use Rattle.model.specs.Count.{least}
-use Rattle.model.specs.Next.{mixed}
 use Rattle.counts.specs.Blocks.{within}
-use Rattle.next.specs.Coming.{free, head, Coming}
+use Rattle.next.specs.Coming.{free}
 use Rattle.next.proofs.first_in.Statement.{statement}
 use Rattle.next.proofs.first_in.Tie as tie
 use Rattle.next.proofs.first_in.Reads as reads

@@ -1,27 +1,23 @@
-use Rattle.page_rules.specs.Blocks.{block-laws}
 use borrow.Author.Needs.{needs}
 use Rattle.next.specs.Laws.{next-laws}
 use mathlib.Core.Path.{_≡_}
-use Prim.Native.Nat.{_+_, _*_, _-_, _≤_, _<_}
-use lib.ListN.{length}
+use Prim.Native.Nat.{_-_, _≤_}
 use Rattle.model.specs.Bytes.{erased}
 use Rattle.model.specs.Count.{least}
-use Rattle.model.specs.Next.{mixed}
-use Rattle.next.specs.Coming.{free, head, Coming}
+use Rattle.next.specs.Coming.{free, whole}
 use Rattle.next.proofs.first_whole.Statement.{statement}
 use Rattle.next.proofs.first_whole.Tie as tie
 use Rattle.next.proofs.first_whole.Reads as reads
 use Rattle.next.proofs.first_whole.Lts as lts
-use Rattle.chip.proofs.page_of.Reads as page-of-reads
-use Rattle.next.proofs.is_free.Reads as is-free-reads
+use Rattle.next.proofs.is_whole.Reads as is-whole-reads
 
-ruleset all = (needs, next-laws, block-laws)
+ruleset all = (needs, next-laws)
 
 abbrev Inv-loop : tie.InvT-loop
-Inv-loop g img taken i n block₀ block = (block ≤ n) × (least block (head (g .pages) (free (erased g img) taken i)) ≡ block)
+Inv-loop g img taken i from n block₀ block = (block ≤ n) × (least block (whole (g .pages) (free (erased g img) taken i) from) ≡ block)
 
 abbrev μ-loop : tie.MeasureT-loop
-μ-loop g img taken i n block₀ block = n - block
+μ-loop g img taken i from n block₀ block = n - block
 
 pub first-whole-spec : {M : Type 1} → statement M
 first-whole-spec =
@@ -30,7 +26,6 @@ first-whole-spec =
     Inv-loop
     μ-loop
     (λ c. search all)
-    (λ c κs. search all)
     (λ c κs. search all)
     (λ c. search all)
     (λ c. search all)

@@ -1,14 +1,24 @@
-use Rattle.page_rules.specs.Blocks.{block-laws}
 use borrow.Author.Needs.{needs}
 use Rattle.next.specs.Laws.{next-laws}
 use Rattle.next.proofs.next_block.Statement.{statement}
 use Rattle.next.proofs.next_block.Tie as tie
 use Rattle.next.proofs.next_block.Reads as reads
 use Rattle.next.proofs.next_block.Lts as lts
+use Rattle.next.proofs.block_of.Reads as block-of-reads
 use Rattle.next.proofs.first_mixed.Reads as first-mixed-reads
 use Rattle.next.proofs.first_whole.Reads as first-whole-reads
 
-ruleset all = (needs, next-laws, block-laws)
+ruleset all = (needs, next-laws)
 
 pub next-block-spec : {M : Type 1} → statement M
-next-block-spec = tie.close (tie.spec (λ c κs. search all) (λ c. search all) (λ c κs. search all) (λ c. search all))
+next-block-spec =
+    tie.close
+    (tie.spec
+    (λ c κs. search all)
+    (λ c. search all)
+    (λ c κs. search all)
+    (λ c. search all)
+    (λ c κs. search all)
+    (λ c. search all)
+    (λ c κs. search all)
+    (λ c. search all))

@@ -1,4 +1,3 @@
-use Rattle.page_rules.specs.Blocks.{block-laws}
 use borrow.Author.Needs.{needs}
 use Rattle.next.specs.Laws.{next-laws}
 use Rattle.next.proofs.page_after.Statement.{statement}
@@ -9,7 +8,7 @@ use Rattle.chip.proofs.page_of.Reads as page-of-reads
 use Rattle.next.proofs.first_in.Reads as first-in-reads
 use Rattle.next.proofs.next_block.Reads as next-block-reads
 
-ruleset all = (needs, next-laws, block-laws)
+ruleset all = (needs, next-laws)
 
 pub page-after-spec : {M : Type 1} → statement M
 page-after-spec =

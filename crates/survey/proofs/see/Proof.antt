@@ -8,6 +8,7 @@ use Rattle.survey.proofs.see.Lts as lts
 use Rattle.chip.proofs.height_at.Reads as height-at-reads
 use Rattle.chip.proofs.page_erased.Reads as page-erased-reads
 use Rattle.chip.proofs.seq_at.Reads as seq-at-reads
+use Rattle.survey.proofs.holder.Reads as holder-reads
 use Rattle.survey.proofs.larger.Reads as larger-reads
 
 ruleset all = (needs, survey-laws)
@@ -19,6 +20,7 @@ see-spec =
     (λ c κs. search all)
     (λ c. search all)
     (λ c. search all)
+    (λ c κs. search all)
     (λ c κs. search all)
     (λ c κs. search all)
     (λ c κs. search all)
