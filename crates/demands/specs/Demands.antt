@@ -22,7 +22,7 @@ use Rattle.demands.specs.Words.{Ready, mapAt, Holds, Kept, Began, OneOf,
 use Rattle.demands.specs.Maps.{find-put, find-put-other, find-remove, find-remove-other}
 use Rattle.demands.specs.Bridges.{ready-keeps}
 use Rattle.demands.specs.Calls.{insert-untouched, delete-untouched, insert-passed, delete-passed}
-use Rattle.demands.specs.Proofs.{lookup-image, insert-one, delete-one, room-needs, absent-answer, answer-absent, height-absent, insert-kept, own-pages, delete-kept, insert-ends, delete-ends, insert-stops, delete-stops, lookup-is}
+use Rattle.demands.specs.Proofs.{lookup-image, insert-one, delete-one, room-needs, absent-answer, answer-absent, height-absent, insert-kept, insert-pages, delete-pages, delete-kept, insert-ends, delete-ends, insert-stops, delete-stops, lookup-is}
 
 -- ---- Demand 1: answers 1 to 6 leave the image as it was, for every image and geometry; a lookup always does
 pub insert-refused : (g : Geometry) (img : List ℕ) (k a al : ℕ)
@@ -111,9 +111,13 @@ module _ (g : Geometry) (shape : Shape g) (img : List ℕ) (ready : Ready g img)
   pub delete-stopped : (al : ℕ) → delete g img k al .answer ≡ 7 → Holds g (mapAt g img) (delete g img k al .image)
   delete-stopped al h = delete-stops g shape img ready k k-low al h
 
-  -- own pages: 1 + splits + 1 if the tree grows, by `Own`
-  pub insert-own : (a al : ℕ) → a < 4294967296 → Began (insert g img k a al) → Own g (blocksOf g img) img k a
-  insert-own a al a-low b = own-pages g shape img ready k k-low a al a-low b
+  -- own pages: 1 + splits + 1 if the tree grows, of a delete 1; the rest of the list is collection, which ends because it is done
+  pub insert-own : (a al : ℕ) → a < 4294967296 → Began (insert g img k a al)
+      → Own g (blocksOf g img) img (needs g (chipOf g (blocksOf g img) img) k) (insertStores g (blocksOf g img) img k a)
+  insert-own a al a-low b = insert-pages g shape img ready k k-low a al a-low b
+
+  pub delete-own : (al : ℕ) → Began (delete g img k al) → Own g (blocksOf g img) img 1 (deleteStores g (blocksOf g img) img k)
+  delete-own al b = delete-pages g shape img ready k k-low al b
 
 -- the small chip: at most 5 own pages, 191 pages programmed and 6 blocks erased
 pub small-bounds : (img : List ℕ) → Ready small img → (k a al : ℕ) → k < 4294967296 → a < 4294967296 → Began (insert small img k a al)
@@ -124,3 +128,9 @@ small-bounds img ready k a al k-low a-low b =
     let o = insert-own small small-shape img ready k k-low a al a-low b in
     let h = insert-stores small small-shape img ready k k-low a al a-low b in
     (o .atmost, h .programmed, h .wiped)
+
+pub small-delete-bounds : (img : List ℕ) → Ready small img → (k al : ℕ) → k < 4294967296 → Began (delete small img k al)
+    → (programs (deleteStores small (blocksOf small img) img k) ≤ 191) × (erases (deleteStores small (blocksOf small img) img k) ≤ 6)
+small-delete-bounds img ready k al k-low b =
+    let h = delete-stores small small-shape img ready k k-low al b in
+    (h .programmed, h .wiped)

@@ -9,12 +9,11 @@ use Rattle.geometry.specs.declared.Geometry.{Geometry}
 use Rattle.geometry.specs.declared.Entry.{Entry}
 use Rattle.geometry.specs.declared.Verdict.the-variants.{Sound}
 use Rattle.model.specs.Bytes.{byteAt}
-use Rattle.model.specs.Image.{blocksOf, goodLength, chipOf}
-use Rattle.model.specs.Tree.{mapOf}
+use Rattle.model.specs.Image.{blocksOf, pagesOf, goodLength, chipOf}
+use Rattle.model.specs.Tree.{mapOf, erasedPages}
 use Rattle.model.specs.Rules.{verdict}
 use Rattle.model.specs.Stores.{Store, applyStore, applyAll, programs, erases}
 use Rattle.model.specs.Collect.{collectStores}
-use Rattle.model.specs.Update.{needs, insertStores}
 use Rattle.model.specs.Calls.{Outcome}
 use Rattle.images.specs.Writes.{Legal}
 
@@ -59,11 +58,12 @@ abbrev pub OneOf : ℕ → List ℕ → Type 0
 OneOf x [] = ⊥
 OneOf x (y ∷ ys) = (x ≡ y) ⊎ OneOf x ys
 
--- own pages: the list is the collection's stores, then stores with as many programs as `needs` counts, 1 + splits + grow,
--- at most `top`
-pub record Own (g : Geometry) (n : ℕ) (img : List ℕ) (k a : ℕ) : Type 0 where
+-- own pages: the list is the collection's stores, then stores with m programs and no erase, m at most `top`. The collection ends because
+-- it is done: a block's pages and m more are then erased
+pub record Own (g : Geometry) (n : ℕ) (img : List ℕ) (m : ℕ) (ss : List Store) : Type 0 where
   pub own : List Store
-  pub list-is : insertStores g n img k a ≡ collectStores g n (needs g (chipOf g n img) k) (suc (needs g (chipOf g n img) k)) img ++ own
-  pub programs-are : programs own ≡ needs g (chipOf g n img) k
+  pub list-is : ss ≡ collectStores g n m (suc m) img ++ own
+  pub programs-are : programs own ≡ m
   pub no-erase : erases own ≡ 0
-  pub atmost : needs g (chipOf g n img) k ≤ g .top
+  pub atmost : m ≤ g .top
+  pub collected : g .pages + m ≤ erasedPages (pagesOf g n) (chipOf g n (applyAll g (collectStores g n m (suc m) img) img))
