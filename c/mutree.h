@@ -18,7 +18,7 @@
  *               will do where the processor takes unaligned reads (on ARM64: normal memory, not device memory).
  *   stack       measured, in bytes; it does not grow with the image:
  *                              format   lookup    insert    delete
- *                     ARM64     2,192   92,640   151,420   141,772
+ *                     ARM64     2,192   92,656   151,532   141,916
  *                     x86-64    2,192   90,592   151,628   141,388
  *               160 KiB serve every call. Large frames are touched page by page as they are made, so a guard page
  *               below the stack catches a stack that is too small.
@@ -68,11 +68,12 @@ extern "C" {
 enum mutree_answer {
     MUTREE_DONE = 0,    /* it is done */
     MUTREE_LENGTH = 1,  /* the image's length is not 16,896 times 3 to 1,024, or the result buffer is too short */
-    MUTREE_DAMAGED = 2, /* the image is not a sound index */
+    MUTREE_DAMAGED = 2, /* the image is not a sound index; a sound one has at least 64 pages without a live node (R8), as
+                           calls from format on always leave it */
     MUTREE_WORN = 3,    /* insert, delete: the sequence numbers are used up */
     MUTREE_ABSENT = 4,  /* lookup, delete: there is no such key */
     MUTREE_HEIGHT = 5,  /* insert: the tree can grow no higher */
-    MUTREE_ROOM = 6,    /* insert, delete: too few pages are free of live nodes */
+    MUTREE_ROOM = 6,    /* insert, where it needs two pages or more: too few pages are free of live nodes */
     MUTREE_STOPPED = 7  /* insert, delete: the allowance was smaller than the stores needed; exactly that many of
                            its first stores are made, and the index holds the old map */
 };
@@ -108,7 +109,7 @@ uint32_t mutree_lookup(const uint8_t *image, size_t image_len, uint32_t key, uin
 
 /* Gives a key an address, a new one if the key is there. `allowance` is how many stores (pages programmed and blocks
  * erased together) the call may make; UINT32_MAX sets no limit. A battery loss after any store leaves a sound index
- * with the old map, and with the new one after the last store. Answers all but ABSENT.
+ * with the old map, and with the new one after the last store. Answers all but ABSENT; ROOM never for a present key.
  *
  * A stopped update is not gone on with: the next call begins it again on the image as it then is. Called again and
  * again with less than the stores that it needs it may never end, and it wears the chip (measured: an insert that needs
@@ -117,7 +118,8 @@ uint32_t mutree_lookup(const uint8_t *image, size_t image_len, uint32_t key, uin
 uint32_t mutree_insert(uint8_t *image, size_t image_len, uint32_t key, uint32_t address, uint32_t allowance,
                        uint8_t *result, size_t result_len);
 
-/* Takes a key out; allowance as for insert. Answers all but HEIGHT. */
+/* Takes a key out; allowance as for insert. It is never short of room: answers DONE, LENGTH, DAMAGED, WORN, ABSENT or
+ * STOPPED. */
 uint32_t mutree_delete(uint8_t *image, size_t image_len, uint32_t key, uint32_t allowance, uint8_t *result,
                        size_t result_len);
 

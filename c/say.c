@@ -24,7 +24,7 @@ const char *answer_meaning(uint32_t answer)
         "the sequence numbers are used up",
         "there is no such key",
         "the tree can grow no higher",
-        "too few pages are free of live nodes",
+        "the insert needs two pages or more, and too few are free of live nodes",
         "the allowance was smaller than the stores needed; the old map is whole"
     };
     return meanings[answer];

@@ -8,6 +8,7 @@ import os
 import random
 import sys
 
+BREAKS_R8 = 8, 0  # the model's finding: the first broken rule, and its page
 ROOT = os.path.dirname(os.path.dirname(os.path.abspath(__file__)))
 
 
@@ -21,7 +22,7 @@ def load():
 
 def rules(fuzz):
     """The requests that have landed and that the model tells apart."""
-    return fuzz.Rules(wish2=True)
+    return fuzz.Rules(wish2=True, wish11=True)
 
 
 def mu(fuzz):
@@ -61,13 +62,27 @@ def damaged(rng, m, img):
 
 
 def loose(rng, fuzz, blocks=None):
-    """An image that breaks R6 or R7, or nothing."""
+    """An image that breaks R6, R7 or R8, or nothing."""
     class WithoutR7(fuzz.Mu):
         def R7(self, img):
             return None
     if rng.random() < .5:
         return fuzz.hand_image(rng, mu(fuzz), blocks, wild=True)
     return fuzz.hand_image(rng, WithoutR7(fuzz.SMALL, rules(fuzz)), blocks)
+
+
+def with_free(rng, fuzz, free, blocks=3):
+    """An image that keeps R1 to R7, with T - L as given: one with 64 is sound, one with less breaks R8 alone."""
+    m = mu(fuzz)
+    live = m.G.pages_per_block * blocks - free
+    while True:
+        root = fuzz.build(rng, m, rng.randint(2, m.G.max_height), rng.randint(live // 2, 2 * live), True, 1)
+        pages = fuzz.place(rng, root, rng.choice([.5, .9, 1]))
+        if len(pages) != live or not fuzz.assign_keys(rng, root):
+            continue
+        img = fuzz.lay_out(rng, m, blocks, pages, root, rng.randrange(free + 1), rng.random() < .1)
+        if img is not None and m.first_damage(img) in (None, BREAKS_R8):
+            return img
 
 
 def allowances(rng, stores):

@@ -3,7 +3,8 @@
  * 1 an insert that says DONE and writes nothing   2 one page more reported than programmed
  * 3 an insert that also flips a bit of a dead page   4 a delete that pretends   5 a lookup one address off
  * 6 an insert that makes one store more than its allowance
- * 7 a lookup that reads one byte past the image   8 an insert that reads one byte past the result buffer */
+ * 7 a lookup that reads one byte past the image   8 an insert that reads one byte past the result buffer
+ * 9 a delete that is ROOM where an insert of the next key is */
 #include "../../c/mutree.h"
 
 #include <stdlib.h>
@@ -63,11 +64,23 @@ uint32_t mutree_insert(uint8_t *image, size_t image_len, uint32_t key, uint32_t 
     return answer;
 }
 
+static int insert_lacks_room(const uint8_t *image, size_t length, uint32_t key)
+{
+    uint8_t *copy = copy_of(image, length), result[MUTREE_RESULT_BYTES];
+    uint32_t answer = real_insert(copy, length, key + 1, 0, 0, result, sizeof result);
+    free(copy);
+    return answer == MUTREE_ROOM;
+}
+
 uint32_t mutree_delete(uint8_t *image, size_t image_len, uint32_t key, uint32_t allowance, uint8_t *result, size_t result_len)
 {
-    uint8_t *before = FAULT == 4 ? copy_of(image, image_len) : NULL;
+    uint8_t *before = FAULT == 4 || (FAULT == 9 && insert_lacks_room(image, image_len, key)) ? copy_of(image, image_len) : NULL;
     uint32_t answer = real_delete(image, image_len, key, allowance, result, result_len);
     undo(image, before, image_len);
+    if (FAULT == 9 && before != NULL && (answer == MUTREE_DONE || answer == MUTREE_STOPPED)) {
+        memset(result, 0, MUTREE_RESULT_BYTES);
+        answer = result[0] = MUTREE_ROOM;
+    }
     free(before);
     return answer;
 }

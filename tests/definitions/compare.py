@@ -32,17 +32,22 @@ def compare(seconds, seed):
     d, m, rng = Definitions(reference.ROOT), reference.mu(fuzz), random.Random(seed)
     small, calls, met = force(d["small"]), 0, {}
     rest = lambda r: (r.answer, r.address, r.programmed, r.erased, r.img)
+    edges = [63, 64]  # both sides of R8 come first
     end = time.time() + seconds
-    while time.time() < end:
+    while time.time() < end or edges:
         img = fuzz.hand_image(rng, m, rng.choice([3, 3, 3, 4, 5]))
         u = rng.random()
-        if u < .4:
+        if edges or u > .9:
+            img = reference.with_free(rng, fuzz, edges.pop() if edges else rng.choice([63, 64]))
+        elif u < .4:
             img = reference.damaged(rng, m, img) if u < .3 else reference.loose(rng, fuzz, 3)
         verdict = tuple(force(x) for x in d["verdict"](small, m.B(img), img))
         damage = m.first_damage(img)
         same("verdict", verdict, ("Broken",) + damage if damage else ("Sound",), img)
         key = "sound" if damage is None else "R%d" % damage[0]
         met[key] = met.get(key, 0) + 1
+        if damage is None and m.T(img) - m.L(img) == 64:
+            met["T - L = 64"] = met.get("T - L = 64", 0) + 1
         model = dict(m.map_of(img)) if damage is None else {}
         for _ in range(3 if damage is None else 1):
             call = fuzz.some_call(rng, m, img, model) if damage is None else ("insert", 5, 5)

@@ -22,6 +22,7 @@ class Library:
     def __init__(self, driver):
         self.process = subprocess.Popen([driver], stdin=subprocess.PIPE, stdout=subprocess.PIPE)
         self.calls, self.met = 0, {}
+        self.edges, self.beyond = 0, 0  # sound images with T - L = 64, and images that break R8 alone
 
     def call(self, name, img, buf, key=0, address=0, allowance=LARGEST):
         p = self.process
@@ -141,6 +142,22 @@ def full_path(library, m, fuzz, rng):
     every_update(library, m, rng, img, ("insert", gone, 5))
 
 
+def scarce(library, m, fuzz, rng):
+    """T - L of 64, where deletes end and some inserts are ROOM, and of 63, where all is DAMAGED (request 11)."""
+    blocks = rng.choice([3, 3, 4])
+    for free in (64, 63):
+        img = reference.with_free(rng, fuzz, free, blocks)
+        known = m.map_of(img)
+        library.edges += m.first_damage(img) is None
+        library.beyond += m.first_damage(img) == reference.BREAKS_R8
+        for key in rng.sample(known, 3):
+            lookups(library, m, rng, img, [key[0]])
+            every_update(library, m, rng, img, ("delete", key[0]))
+            every_update(library, m, rng, img, ("insert", key[0], 5))
+        for call in [fuzz.some_call(rng, m, img, dict(known)) for _ in range(3)]:
+            every_update(library, m, rng, img, call)
+
+
 def broken(library, m, fuzz, rng):
     """Damaged trees, random bytes, bad lengths."""
     img = fuzz.hand_image(rng, m, 3)
@@ -152,6 +169,7 @@ def broken(library, m, fuzz, rng):
     kinds.append(img[:-1])
     kinds.append(b"\xff" * len(img))
     for x in kinds:
+        library.beyond += m.good_length(x) and m.first_damage(x) == reference.BREAKS_R8
         lookups(library, m, rng, x, [rng.randrange(2 ** 32)])
         every_update(library, m, rng, x, ("insert", rng.randrange(2 ** 32), 5))
         every_update(library, m, rng, x, ("delete", rng.randrange(2 ** 32)))
@@ -164,8 +182,11 @@ def tell_met(library, wanted):
     counts = [sum(n for (_, answer), n in library.met.items() if answer == a) for a in range(8)]
     print("  answers: " + ", ".join("%s %d" % x for x in zip(ANSWERS, counts)))
     print("  by call: " + ", ".join("%s %s: %d" % (call, ANSWERS[a], n) for (call, a), n in sorted(library.met.items())))
+    print("  T - L = 64 on %d sound images; %d images refused by R8 alone" % (library.edges, library.beyond))
     if wanted >= 20000 and 0 in counts:
         sys.exit("differential: never met " + ", ".join(name for name, n in zip(ANSWERS, counts) if n == 0))
+    if wanted >= 20000 and 0 in (library.edges, library.beyond):
+        sys.exit("differential: one side of R8's edge was never met")
 
 
 def main():
@@ -176,7 +197,7 @@ def main():
     wanted = int(sys.argv[2]) if len(sys.argv) > 2 else 20000
     rng, library, m = random.Random(int(sys.argv[3]) if len(sys.argv) > 3 else 1), Library(sys.argv[1]), reference.mu(fuzz)
     while library.calls < wanted:
-        rng.choice([a_log, hand_made, hand_made, broken, full_path])(library, m, fuzz, rng)
+        rng.choice([a_log, hand_made, hand_made, broken, full_path, scarce])(library, m, fuzz, rng)
     print("differential: %d calls agree with the reference model" % library.calls)
     tell_met(library, wanted)
 

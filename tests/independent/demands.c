@@ -1,12 +1,13 @@
 /* demands.c: holds the library's own outputs against document 01's demands, with a plain sorted array for the map and
  * the judge of judge.c. After every allowance the image must be sound and hold the old map, or the new one after the
  * last store; only erased pages are programmed and only blocks without live pages erased; the counts are the stores made.
- * Where a page is programmed on a wholly erased block, that block is the one that request 2 names.
+ * Where a page is programmed on a wholly erased block, that block is the one that request 2 names. An insert is ROOM exactly
+ * where T - L < 63 + k, and a delete never (request 11).
  *
  * usage: demands [ROUNDS] [SEED]
  */
-#include "../../c/mutree.h"
-#include "judge.h"
+#include "built.h"
+#include "demands.h"
 
 #include <stdio.h>
 #include <stdlib.h>
@@ -18,8 +19,10 @@ static size_t entries;
 static unsigned long updates, prefixes;
 static uint32_t most_own, most_programmed, most_erased;
 static unsigned long choices, from_several, past_the_end;
+static unsigned long deletes, rooms;
+static size_t least_spare = MOST_PAGES;
 
-static void fail(const char *what)
+void fail(const char *what)
 {
     printf("independent: %s (update %lu)\n", what, updates);
     exit(1);
@@ -76,13 +79,15 @@ static int holds_oracle(const struct tree *t)
     return t->entries == entries && (entries == 0 || memcmp(t->map, oracle, entries * sizeof *oracle) == 0);
 }
 
-/* ---- one update */
-struct update {
-    int adds;
-    uint32_t key, address;
-};
+void take_map(const struct tree *t)
+{
+    entries = t->entries;
+    if (entries)
+        memcpy(oracle, t->map, entries * sizeof *oracle);
+}
 
-static struct mutree_result run(struct update u, uint8_t *image, size_t length, uint32_t allowance)
+/* ---- one update */
+struct mutree_result run(struct update u, uint8_t *image, size_t length, uint32_t allowance)
 {
     uint8_t result[24];
     uint32_t answer;
@@ -93,6 +98,9 @@ static struct mutree_result run(struct update u, uint8_t *image, size_t length, 
         fail("the result buffer differs from the answer");
     if (result[16] != 77 || result[23] != 77)
         fail("bytes after the 16 changed");
+    deletes += !u.adds;
+    if (!u.adds && answer == MUTREE_ROOM)
+        fail("a delete was refused for room");
     return mutree_read_result(result);
 }
 
@@ -182,13 +190,22 @@ static void note(uint32_t n, uint32_t most, uint32_t *seen, const char *what)
         *seen = n;
 }
 
-/* The update with every allowance from 0 on; leaves the image as the last one does. Returns the answer. */
-static uint32_t every_allowance(struct update u, uint8_t *image, size_t length)
+/* ROOM exactly where T - L < 63 + k, and with R8 not where k is 1. */
+static void room_is(uint32_t answer, size_t spare, unsigned k)
+{
+    if (answer == MUTREE_ROOM ? spare >= 63 + k : answer == MUTREE_DONE && spare < 63 + k)
+        fail("an insert is ROOM exactly where T - L < 63 + k");
+    if (answer == MUTREE_ROOM && k < 2)
+        fail("an insert that needs one page was refused for room");
+    rooms += answer == MUTREE_ROOM;
+}
+
+uint32_t every_allowance(struct update u, uint8_t *image, size_t length)
 {
     uint8_t *last = malloc(length), *now = malloc(length);
     uint32_t allowance, programmed = 0, erased = 0, own = 0;
-    size_t nodes;
-    unsigned height;
+    size_t nodes, spare;
+    unsigned height, k;
     struct mutree_result r;
     if (last == NULL || now == NULL)
         exit(71);
@@ -197,6 +214,8 @@ static uint32_t every_allowance(struct update u, uint8_t *image, size_t length)
         fail("the image to start from is not sound");
     nodes = before.nodes;
     height = before.height;
+    spare = before.pages - before.live;
+    k = pages_needed(&before, image, u.key);
     memcpy(last, image, length);
     for (allowance = 0;; allowance++) {
         memcpy(now, image, length);
@@ -219,12 +238,16 @@ static uint32_t every_allowance(struct update u, uint8_t *image, size_t length)
             fail("the counts are not the stores made");
         if (judge(&before, now, length))
             fail("not sound after a store");
+        if (before.pages - before.live < least_spare)
+            least_spare = before.pages - before.live;
         if (r.answer == 0)
             break;
         if (!holds_oracle(&before))
             fail("a stopped update changed the map");
         memcpy(last, now, length);
     }
+    if (u.adds)
+        room_is(r.answer, spare, k);
     if (r.answer == 0) {
         if (u.adds)
             put(u.key, u.address);
@@ -316,85 +339,20 @@ static void day(unsigned blocks, int way, unsigned steps)
 }
 
 /* ---- an image that reaches all three bounds: 37 blocks, 31 live pages and a dead one in each of the first 36, one dead
- * page and 31 erased ones in the last. One leaf a page; an inner node stands on the page of its first child. The path of
- * the smallest key is full below the root, so an insert there needs 5 pages, and each of 6 victims gives back one. */
-static uint8_t *bound_image;
-static uint32_t leaves, sequence, last_key;
-
-static uint8_t *leaf_page(uint32_t leaf)
-{
-    return bound_image + (size_t)(leaf / 31 * 32 + leaf % 31) * PAGE;
-}
-
-static void write_number(uint8_t *at, uint32_t n)
-{
-    int i;
-    for (i = 0; i < 4; i++)
-        at[i] = (uint8_t)(n >> (8 * i));
-}
-
-static void stamp(uint8_t *page, unsigned height)
-{
-    write_number(page + MAIN, ++sequence);
-    memset(page + MAIN + 4, 0, 6);
-    page[MAIN + 4] = (uint8_t)height;
-}
-
-static void add_entry(uint8_t *page, unsigned level, uint32_t key, uint32_t address)
-{
-    static const unsigned first[6] = { 0, 0, 32, 48, 56, 60 };
-    uint8_t *slot = page + 8 * (first[level] + page[MAIN + 4 + level]++);
-    write_number(slot, key);
-    write_number(slot + 4, address);
-}
-
-/* The node at a level with so many leaves below it; returns its first key. Its page is its first leaf's. */
-static uint32_t grow_node(unsigned level, uint32_t below, int full)
-{
-    static const uint32_t most[5] = { 0, 32, 16, 8, 4 };
-    uint32_t first_key = last_key + 2, first_leaf = leaves, i, n;
-    if (level == 1) {
-        uint8_t *page = leaf_page(leaves++);
-        stamp(page, 0);
-        for (i = 0; i < (full ? 32u : 1u); i++)
-            add_entry(page, 1, last_key += 2, 1);
-        return first_key;
-    }
-    n = level == 5 ? 3 : below < most[level] ? below : most[level];
-    for (i = 0; i < n; i++) {
-        uint32_t share = level == 5 ? (i == 0 ? 512 : 302) : (below + n - 1 - i) / n;
-        uint32_t child = leaves;
-        uint32_t key = grow_node(level - 1, share, full && i == 0);
-        add_entry(leaf_page(first_leaf), level, key, (uint32_t)((leaf_page(child) - bound_image) / PAGE));
-    }
-    return first_key;
-}
-
+ * page and 31 erased ones in the last. The path of the smallest key is full below the root, so an insert there needs 5
+ * pages, and each of 6 victims gives back one. */
 static void reach_bounds(void)
 {
-    size_t length = 37 * MUTREE_BLOCK_BYTES, i;
+    struct built plan = { 37, 5, 1116, 36 * 32 + 1 };
     struct update u = { 1, 3, 99 };
-    uint32_t b;
-    bound_image = malloc(length);
-    if (bound_image == NULL)
-        exit(71);
-    memset(bound_image, 255, length);
-    leaves = last_key = 0;
-    sequence = 10;
-    grow_node(5, 1116, 1);
-    for (b = 0; b < 37; b++)
-        stamp(bound_image + (size_t)(b < 36 ? 32 * b + 31 : 32 * 36) * PAGE, 0);
-    sequence = 4294966000u;
-    write_number(bound_image + MAIN, sequence);
-    bound_image[MAIN + 4] = 5;
-    if (judge(&state, bound_image, length) || state.live != 1116 || state.free_pages != 31)
+    size_t length = 37 * MUTREE_BLOCK_BYTES;
+    uint8_t *image = build(plan);
+    if (judge(&state, image, length) || state.live != 1116 || state.free_pages != 31)
         fail("the image for the bounds is not as planned");
-    entries = state.entries;
-    for (i = 0; i < entries; i++)
-        oracle[i] = state.map[i];
-    if (every_allowance(u, bound_image, length) != 0)
+    take_map(&state);
+    if (every_allowance(u, image, length) != 0)
         fail("the update for the bounds was refused");
-    free(bound_image);
+    free(image);
 }
 
 int main(int count, char **words)
@@ -404,6 +362,9 @@ int main(int count, char **words)
     reach_bounds();
     if (most_own != MUTREE_MOST_OWN_PAGES || most_programmed != MUTREE_MOST_PAGES || most_erased != MUTREE_MOST_ERASES)
         fail("a bound was not reached");
+    delete_is_never_short_of_room();
+    if (least_spare != 64 || rooms == 0)
+        fail("T - L of 64, or ROOM, was not met");
     for (i = 0; i < rounds; i++)
         day(3 + some(4), (int)(i % 4), 400);
     if (from_several == 0 || past_the_end == 0)
@@ -412,5 +373,7 @@ int main(int count, char **words)
            updates, prefixes, (unsigned)most_own, (unsigned)most_programmed, (unsigned)most_erased);
     printf("independent: %lu times a wholly erased block was taken, %lu times one of several, %lu times past the end\n", choices,
            from_several, past_the_end);
+    printf("independent: least T - L %lu; %lu inserts were ROOM, each with k of 2 or more; %lu calls of delete, none was ROOM\n",
+           (unsigned long)least_spare, rooms, deletes);
     return 0;
 }

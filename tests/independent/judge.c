@@ -177,6 +177,12 @@ static int rule_7(struct tree *t)
     return 7;
 }
 
+/* Request 11: "always has T - L of at least 64"; rule_7 has counted L. */
+static int rule_8(const struct tree *t)
+{
+    return t->pages - t->live < 64 ? 8 : 0;
+}
+
 int judge(struct tree *t, const uint8_t *image, size_t length)
 {
     int rule;
@@ -186,7 +192,31 @@ int judge(struct tree *t, const uint8_t *image, size_t length)
     t->nodes = t->entries = 0;
     memset(t->levels, 0, t->pages);
     if ((rule = rule_1(t, image)) || (rule = rule_2(t)) || (rule = rule_3(t, image)) || (rule = rule_4(t, image))
-        || (rule = node(t, image, t->root, t->height, 1, 0, (uint64_t)1 << 32)) || (rule = rule_6(t, image)))
+        || (rule = node(t, image, t->root, t->height, 1, 0, (uint64_t)1 << 32)) || (rule = rule_6(t, image))
+        || (rule = rule_7(t)))
         return rule;
-    return rule_7(t);
+    return rule_8(t);
+}
+
+/* Whether the node gains an entry for the one above; adds to k what it needs for itself. */
+static int gains(const uint8_t *image, uint32_t page, unsigned level, int is_root, uint32_t key, unsigned *k)
+{
+    const uint8_t *at = image + (size_t)page * PAGE, *slot = at + 8 * first_slot[level];
+    unsigned n = at[MAIN + 4 + level], i = n;
+    while (i > 1 && number_at(slot + 8 * (i - 1)) > key)
+        i--;
+    if (level == 1 ? n > 0 && number_at(slot + 8 * (i - 1)) == key
+                   : !gains(image, number_at(slot + 8 * (i - 1) + 4), level - 1, 0, key, k))
+        return 0;
+    if (n < (is_root ? most_root : most_below)[level])
+        return 0;
+    *k += 1;
+    return 1;
+}
+
+unsigned pages_needed(const struct tree *t, const uint8_t *image, uint32_t key)
+{
+    unsigned k = 1;
+    gains(image, t->root, t->height, 1, key, &k);
+    return k;
 }

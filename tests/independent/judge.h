@@ -1,4 +1,4 @@
-/* judge.h: document 01's rules R1 to R7 and the map of an image, written from the document alone. */
+/* judge.h: document 01's rules R1 to R7, request 11's R8 and the map of an image, written from the documents alone. */
 #ifndef JUDGE_H
 #define JUDGE_H
 
@@ -24,6 +24,9 @@ struct tree {
 
 /* The first broken rule, or 0 for a sound image of a good length. Fills the tree; `tree` may be used again and again. */
 int judge(struct tree *tree, const uint8_t *image, size_t length);
+
+/* k of an insert, "1 + splits + 1 if it grows", on a sound image where it is not HEIGHT. */
+unsigned pages_needed(const struct tree *tree, const uint8_t *image, uint32_t key);
 
 uint32_t number_at(const uint8_t *at);
 

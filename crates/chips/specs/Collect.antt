@@ -51,6 +51,10 @@ abbrev pub R7 : Geometry → ℕ → Chip → Type 0
 R7 g n c = (g .pages ≤ count (g .pages * n) (c .er)) ⊎ ((b : ℕ) × (b < n) × (full (g .pages) (c .er) b ≡ true) ×
     (livesIn (g .pages) b c ≤ count (g .pages * n) (c .er)))
 
+-- R8: T − L is at least twice a block's pages
+abbrev pub R8 : Geometry → ℕ → Chip → Type 0
+R8 g n c = count (g .pages * n) (live (placesOf c)) + 2 * g .pages ≤ g .pages * n
+
 -- what a round, and the collector, leave
 pub record Cleared (g : Geometry) (n : ℕ) (c c′ : Chip) : Type 0 where
   pub good : Whole g n c′

@@ -1,11 +1,12 @@
 -- Counting over the numbers below t. Assumes nothing.
 use mathlib.Core.Path.{_≡_, refl, ap, sym, _∙_}
-use mathlib.Core.List.{List}
+use mathlib.Core.List.{List, [], _∷_}
 use mathlib.Core.Bool.{Bool, true, false}
-use mathlib.Core.Logic.{_⊎_}
+use mathlib.Core.Logic.{_⊎_, inl, inr}
 use Prim.Native.Nat.{ℕ, zero, suc, _+_, _*_, _<_, _≤_}
 use native.Mathlib.Omega.{arith}
 use native.Mathlib.Nat.{add-zero, add-suc, mul-suc, mul-zero}
+use lib.ListN.{length}
 use lib.Dec.{eqb, ltb}
 use borrow.Author.Tests.{lt-ltb, le-ltb, ltb-true, ltb-false, eqb-true, eqb-false}
 use Rattle.geometry.specs.Tests.{pick, bit}
@@ -16,6 +17,7 @@ use Rattle.counts.specs.Tally.{bit-most}
 use Rattle.trees.specs.Tests.{by-eq}
 use Rattle.trees.specs.Lists.{All, Mem}
 use Rattle.trees.specs.Live.{mem-live, dead-live, within-live}
+use Rattle.trees.specs.Leaf.{hits, Shifted}
 
 below-suc : (n t : ℕ) → bit (ltb n (suc t)) ≡ bit (ltb n t) + bit (eqb t n)
 below-suc n t = go (ltb n t) (eqb t n) refl refl
@@ -131,3 +133,61 @@ count-moved t p n a old new pt nt d m dd w =
     let i = count-swap t p n (live old) (live new) d (mem-live (record { page = p; level = a }) old m) (dead-live p new dd)
     (λ q. within-live n q old new w) in
     omega (arith, i, ap bit (lt-ltb p t pt), ap bit (lt-ltb n t nt))
+
+-- ---- one page dies, some come
+sum-add : (t : ℕ) (f h : ℕ → ℕ) → sum t (λ q. f q + h q) ≡ sum t f + sum t h
+unfolding sum
+sum-add zero f h = omega arith
+sum-add (suc t) f h = omega (arith, sum-add t f h)
+
+sum-one : (t n : ℕ) → sum t (λ q. bit (eqb q n)) ≡ bit (ltb n t)
+unfolding sum
+sum-one zero n = rw (le-ltb n 0 (omega arith)) refl
+sum-one (suc t) n = omega (arith, sum-one t n, below-suc n t)
+
+sum-none : (t : ℕ) → sum t (λ q. 0) ≡ 0
+unfolding sum
+sum-none zero = refl
+sum-none (suc t) = omega (arith, sum-none t)
+
+sum-hits : (t : ℕ) (ns : List ℕ) → sum t (hits ns) ≤ length ns
+unfolding hits
+sum-hits t [] = omega (arith, sum-none t)
+sum-hits t (n ∷ ns) = omega (arith, sum-add t (λ q. bit (eqb q n)) (hits ns), sum-one t n, bit-most (ltb n t), sum-hits t ns)
+
+count-more : (t p : ℕ) (ns : List ℕ) (f h : ℕ → Bool) → f p ≡ true → h p ≡ false → ((q : ℕ) → bit (h q) ≤ bit (f q) + hits ns q)
+    → count t h + bit (ltb p t) ≤ count t f + sum t (hits ns)
+unfolding count sum
+count-more zero p ns f h fp hp le = rw (le-ltb p 0 (omega arith)) (omega arith)
+count-more (suc t) p ns f h fp hp le = let i = count-more t p ns f h fp hp le in let a = go (eqb t p) refl in omega (arith, below-suc p t, a, i)
+  where
+    go : (u : Bool) → eqb t p ≡ u → bit (h t) + bit u ≤ bit (f t) + hits ns t
+    go true e =
+        let a : bit (h t) ≡ 0 = rw (eqb-true t p e, hp) refl in
+        let b : bit (f t) ≡ 1 = rw (eqb-true t p e, fp) refl in
+        omega arith
+    go false e = omega (arith, le t)
+
+within-more : (ns : List ℕ) (q : ℕ) (old new : List Place) → All (λ x. (1 ≤ hits ns (x .page)) ⊎ Mem x old) new
+    → bit (live new q) ≤ bit (live old q) + hits ns q
+unfolding live
+within-more ns q old [] h = omega arith
+within-more ns q old (x ∷ new) h = go (eqb (x .page) q) refl (h .0) (within-more ns q old new (h .1))
+  where
+    go : (t : Bool) → eqb (x .page) q ≡ t → (1 ≤ hits ns (x .page)) ⊎ Mem x old → bit (live new q) ≤ bit (live old q) + hits ns q
+        → bit (pick t true (live new q)) ≤ bit (live old q) + hits ns q
+    go false e w i = i
+    go true e (inl w) i = let a : 1 ≤ hits ns q = rw (← eqb-true (x .page) q e) w in omega arith
+    go true e (inr w) i = let a : bit (live old q) ≡ 1 = rw (← eqb-true (x .page) q e, mem-live x old w) refl in omega arith
+
+pub lives-shifted : (t p : ℕ) (ns : List ℕ) (old new : List Place) → p < t → Shifted ns p old new
+    → suc (count t (live new)) ≤ count t (live old) + length ns
+lives-shifted t p ns old new q h =
+    let u : bit (ltb p t) ≡ 1 = rw (lt-ltb p t q) refl in
+    omega (
+      arith,
+      count-more t p ns (live old) (live new) (mem-live (record { page = p; level = 1 }) old (h .was)) (dead-live p new (h .dead))
+          (λ q. within-more ns q old new (h .within)),
+      sum-hits t ns,
+      u,
+    )

@@ -14,7 +14,7 @@ use Rattle.geometry.specs.Geometry.{half, rootMost}
 use Rattle.geometry.specs.Shape.{Shape}
 use Rattle.model.specs.Count.{count}
 use Rattle.model.specs.Image.{Nodes, Chip, theRoot}
-use Rattle.model.specs.Tree.{gather, under, mapOf, next, chosen, find, sought}
+use Rattle.model.specs.Tree.{gather, under, places, placesOf, live, mapOf, next, chosen, find, sought}
 use Rattle.model.specs.Next.{ahead, taken}
 use Rattle.model.specs.Edit.{remove, removeIn, kept, Top, collapse}
 use Rattle.model.specs.Update.{isNone, rootNode, sidePage, deleteList, deleteTop, deletePart}
@@ -25,6 +25,8 @@ use Rattle.trees.specs.Edit.{splice-length, atRoot}
 use Rattle.trees.specs.Delete.{deleted, DeleteMade, none-left, none-made}
 use Rattle.trees.specs.Proper.{Proper, delete-stay, delete-collapse}
 use Rattle.trees.specs.Path.{remove-as, root-is, onPath-top, made-from}
+use Rattle.trees.specs.Leaf.{bottom, bottom-fit, less-shifted, collapse-shifted}
+use Rattle.chips.specs.Count.{lives-shifted}
 use Rattle.chips.specs.Next.{R2, step}
 use Rattle.chips.specs.Whole.{some-page, Whole, sought-map}
 use Rattle.chips.specs.Pages.{keep, fit-side, new-side}
@@ -114,7 +116,16 @@ module _ (g : Geometry) (shape : Shape g) (n k : ℕ) (k-low : k < 4294967296) (
     new-N l = new-side g shape n c (good .r2) 1 free 1 l (omega arith) (omega arith)
 
     abbrev Done : ℕ → Type 0
-    Done l = Whole g n (record { er = taken (g .pages) n (ahead g n c) 1 .er; seq = numbers; nodes = s; level = l; root = N }) × (under s (suc l) (the N) ≡ remove k (mapOf c))
+    Done l = Whole g n (record { er = taken (g .pages) n (ahead g n c) 1 .er; seq = numbers; nodes = s; level = l; root = N }) ×
+        (under s (suc l) (the N) ≡ remove k (mapOf c)) ×
+        (count (g .pages * n) (live (places s (suc l) (the N))) ≤ count (g .pages * n) (live (placesOf c)))
+
+    -- the page of the leaf that K goes to
+    abbrev p : ℕ
+    p = bottom r k (c .level) (the (c .root))
+
+    p-in : p < g .pages * n
+    p-in = bottom-fit fit roomAt r k (rootMost g) 4294967296 (c .level) (c .root) k-low (good .sound .rooted) .0
 
     stay : Stays (c .level) (lists (suc (c .level))) → Done (c .level)
     unfolding deletePart deleteTop deleteList Stays
@@ -137,7 +148,16 @@ module _ (g : Geometry) (shape : Shape g) (n k : ℕ) (k-low : k < 4294967296) (
         let w = delete-stay N 4294967296 (half g) (rootMost g) r s fit fit′ fit-N (keep g shape n c (good .r2) 1 free) stays new-N k k-low (c .level)
         (c .root) (good .sound) some-root made here
         (λ i. rw (← root-list) (two (c .level) i h)) in
-        (record { r2 = after-r2; sound = w .0 }, w .1)
+        let z = less-shifted N 4294967296 (half g) (rootMost g) r s fit fit′ fit-N (keep g shape n c (good .r2) 1 free) stays new-N k k-low (c .level)
+        (c .root) (good .sound) made some-root here in (
+          record { r2 = after-r2; sound = w .0 },
+          w .1,
+          omega (
+            arith,
+            lives-shifted (g .pages * n) p (N ∷ []) (placesOf c)
+                (places s (suc (c .level)) (the N)) p-in z,
+          ),
+        )
       where
         two : (l : ℕ) → 1 ≤ l → Stays l (lists (suc (c .level))) → 2 ≤ length (lists (suc (c .level)))
         two zero i h = absurd (omega arith)
@@ -151,7 +171,8 @@ module _ (g : Geometry) (shape : Shape g) (n k : ℕ) (k-low : k < 4294967296) (
         → xs ≡ atRoot (removeIn k) (deleted r k N lv) k lv (r (c .root) (suc lv)) → 1 ≤ lv → length xs ≡ 1
         → s N (suc (collapse r lv xs .level)) ≡ collapse r lv xs .list
         → Proper fit′ roomAt (rootMost g) 4294967296 s (collapse r lv xs .level) N ×
-        (under s (suc (collapse r lv xs .level)) (the N) ≡ remove k (under r (suc lv) (the (c .root))))
+        (under s (suc (collapse r lv xs .level)) (the N) ≡ remove k (under r (suc lv) (the (c .root)))) ×
+        (count (g .pages * n) (live (places s (suc (collapse r lv xs .level)) (the N))) ≤ count (g .pages * n) (live (places r (suc lv) (the (c .root)))))
     unfolding atRoot
     drop zero xs h e i one at = absurd (omega arith)
     drop (suc l) xs h e i one at =
@@ -163,11 +184,24 @@ module _ (g : Geometry) (shape : Shape g) (n k : ℕ) (k-low : k < 4294967296) (
         let made : DeleteMade r s k N (suc l) (chosen k ls) = none-made k N 4294967296 (half g) (rootMost g) r s fit fit′ fit-N
         (keep g shape n c (good .r2) 1 free) stays k-low (suc l) (next (sp .post) 4294967296) (chosen k ls) (sp .under) (sp .here)
         (none-left (deleted r k N (suc l) (chosen k ls)) (omega (arith, w, z, one, b))) in
+        let one′ : length (atRoot (removeIn k) (deleted r k N (suc l)) k (suc l) ls) ≡ 1 = omega (arith, z, one) in
         subst (λ (x : List Entry). s N (suc (collapse r (suc l) x .level)) ≡ collapse r (suc l) x .list → Proper fit′ roomAt (rootMost g) 4294967296 s
         (collapse r (suc l) x .level) N × (under s (suc (collapse r (suc l) x .level)) (the N) ≡ remove k
-        (under r (suc (suc l)) (the (c .root))))) (sym e)
-        (λ at. delete-collapse N 4294967296 (half g) (rootMost g) r s fit fit′ fit-N (keep g shape n c (good .r2) 1 free) stays new-N k k-low wide l
-        (c .root) h made (omega (arith, z, one)) at) at
+        (under r (suc (suc l)) (the (c .root)))) × (count (g .pages * n) (live (places s (suc (collapse r (suc l) x .level)) (the N))) ≤
+        count (g .pages * n) (live (places r (suc (suc l)) (the (c .root)))))) (sym e)
+        (λ at. let w = delete-collapse N 4294967296 (half g) (rootMost g) r s fit fit′ fit-N (keep g shape n c (good .r2) 1 free) stays new-N k k-low wide l
+        (c .root) h made one′ at in
+        let v = collapse-shifted N 4294967296 (half g) (rootMost g) r s fit fit′ fit-N (keep g shape n c (good .r2) 1 free) stays new-N k k-low wide l
+        (c .root) h made one′ at in
+        let q = bottom-fit fit roomAt r k (rootMost g) 4294967296 (suc l) (c .root) k-low (h .rooted) .0 in (
+          w .0,
+          w .1,
+          omega (
+            arith,
+            lives-shifted (g .pages * n) (bottom r k (suc l) (the (c .root))) (N ∷ []) (places r (suc (suc l)) (the (c .root)))
+                (places s (suc (collapse r (suc l) (atRoot (removeIn k) (deleted r k N (suc l)) k (suc l) ls) .level)) (the N)) q v,
+          ),
+        )) at
 
     -- a root above level 1 keeps an entry
     some-left : (lv : ℕ) → Proper fit roomAt (rootMost g) 4294967296 r lv (c .root) → 1 ≤ lv
@@ -205,7 +239,7 @@ module _ (g : Geometry) (shape : Shape g) (n k : ℕ) (k-low : k < 4294967296) (
             let x = top-low in
             let w = drop (c .level) (lists (suc (c .level))) (good .sound) root-list i (omega (arith, q, z, y))
             (at-N (suc (t .level)) (omega arith) (omega (arith, x, high)) ∙ rw (eq-eqb (suc (t .level)) (suc (t .level)) refl) refl) in
-            (record { r2 = after-r2; sound = w .0 }, w .1)
+            (record { r2 = after-r2; sound = w .0 }, w .1, w .2)
 
   -- the root that is left is within the table: by the nodes that are the old ones but for N
   module _ (free : 1 ≤ count (g .pages * n) (c .er)) (high : suc (c .level) ≤ g .top) where

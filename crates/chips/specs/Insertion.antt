@@ -14,7 +14,7 @@ use Rattle.geometry.specs.Geometry.{half, rootSlots, rootMost}
 use Rattle.geometry.specs.Shape.{Shape}
 use Rattle.model.specs.Count.{count}
 use Rattle.model.specs.Image.{Nodes, Chip, theRoot}
-use Rattle.model.specs.Tree.{under, mapOf, next, chosen, find, sought}
+use Rattle.model.specs.Tree.{under, places, placesOf, live, mapOf, next, chosen, find, sought}
 use Rattle.model.specs.Next.{ahead, taken}
 use Rattle.model.specs.Edit.{put, putIn, pathHalf, sideHalf, two, named, pathPart, gains, splits}
 use Rattle.model.specs.Update.{isNone, rootNode, rootGains, fills, needs, tooHigh, insertList, crownPart, insertPart, crownHeight, sidePage}
@@ -26,6 +26,8 @@ use Rattle.trees.specs.Insert.{inserted, InsertMade}
 use Rattle.trees.specs.Proper.{insert-stay, insert-grow}
 use Rattle.trees.specs.Path.{put-as, root-is, onPath-top, made-from}
 use Rattle.trees.specs.Splits.{root-size, all-below, splits-le, splits-are}
+use Rattle.trees.specs.Leaf.{bottom, bottom-fit, sides, sides-length, stay-shifted, grow-shifted}
+use Rattle.chips.specs.Count.{lives-shifted}
 use Rattle.chips.specs.Next.{R2, step}
 use Rattle.chips.specs.Whole.{some-page, Whole, sought-map}
 use Rattle.chips.specs.Pages.{side-inj, keep, fit-side, new-side}
@@ -207,7 +209,22 @@ module _ (g : Geometry) (shape : Shape g) (n k a : ℕ) (k-low : k < 4294967296)
     after-r2 = step (g .pages) n (ahead g n c) (some-page g shape) (good .r2) m free .r2
 
     abbrev Done : ℕ → Type 0
-    Done l = Whole g n (record { er = taken (g .pages) n (ahead g n c) m .er; seq = numbers; nodes = s; level = l; root = N }) × (under s (suc l) (the N) ≡ put k a (mapOf c))
+    Done l = Whole g n (record { er = taken (g .pages) n (ahead g n c) m .er; seq = numbers; nodes = s; level = l; root = N }) ×
+        (under s (suc l) (the N) ≡ put k a (mapOf c)) ×
+        (suc (count (g .pages * n) (live (places s (suc l) (the N)))) ≤ count (g .pages * n) (live (placesOf c)) + m)
+
+    -- the page of the leaf that K goes to
+    abbrev p : ℕ
+    p = bottom r k (c .level) (the (c .root))
+
+    p-in : p < g .pages * n
+    p-in = bottom-fit fit roomAt r k (rootMost g) 4294967296 (c .level) (c .root) k-low (good .sound .rooted) .0
+
+    cut-in : (j : ℕ) → Cut j → (1 ≤ j) × (j ≤ m - 1)
+    cut-in j h = (h .0, omega (arith, h .1))
+
+    many : length (N ∷ sides side (m - 1)) ≡ m
+    many = omega (arith, sides-length side (m - 1), some-m)
 
     -- the root stays
     stay : tooHigh g c k ≡ false → grows ≡ false → Done (c .level)
@@ -219,7 +236,19 @@ module _ (g : Geometry) (shape : Shape g) (n k a : ℕ) (k-low : k < 4294967296)
         (omega arith)) (keep g shape n c (good .r2) m free) stays (λ l. new-side g shape n c (good .r2) m free m l some-m (omega arith))
         k a side Cut tt k-low apart inj (λ l j h. new-side g shape n c (good .r2) m free l j (h .0) (omega (arith, h .1)))
         (c .level) (c .root) (good .sound) made here (rw (← root-list) (stay-most high small e)) in
-        (record { r2 = after-r2; sound = w .0 }, w .1)
+        let z = stay-shifted N 4294967296 (half g) (rootMost g) r s fit fit′ (λ l. fit-side g shape n c (good .r2) m free m (suc l) some-m
+        (omega arith)) (keep g shape n c (good .r2) m free) stays (λ l. new-side g shape n c (good .r2) m free m l some-m (omega arith))
+        k k-low (c .level) (c .root) (good .sound) a (m - 1) side Cut cut-in tt
+        (λ l j h. new-side g shape n c (good .r2) m free l j (h .0) (omega (arith, h .1))) made here in (
+          record { r2 = after-r2; sound = w .0 },
+          w .1,
+          omega (
+            arith,
+            lives-shifted (g .pages * n) p (N ∷ sides side (m - 1)) (placesOf c)
+                (places s (suc (c .level)) (the N)) p-in z,
+            many,
+          ),
+        )
 
     -- the root grows
     grow : grows ≡ true → Done (suc (c .level))
@@ -244,7 +273,21 @@ module _ (g : Geometry) (shape : Shape g) (n k a : ℕ) (k-low : k < 4294967296)
         k a side Cut tt k-low apart inj (λ l j h. new-side g shape n c (good .r2) m free l j (h .0) (omega (arith, h .1)))
         l (c .root) (good .sound) made (path, other, fit-side g shape n c (good .r2) m free (suc l) (suc l) (omega arith) (omega (arith, lt)))
         (omega arith, lt) crown (sym (ap length root-list) ∙ u .1) (two-root (u .0)) in
-        (record { r2 = after-r2; sound = w .0 }, w .1)
+        let z = grow-shifted N 4294967296 (half g) (rootMost g) r s fit fit′ (λ l. fit-side g shape n c (good .r2) m free m (suc l) some-m
+        (omega arith)) (keep g shape n c (good .r2) m free) stays (λ l. new-side g shape n c (good .r2) m free m l some-m (omega arith))
+        k k-low l (c .root) (good .sound) a (m - 1) side Cut cut-in tt
+        (λ l j h. new-side g shape n c (good .r2) m free l j (h .0) (omega (arith, h .1))) made
+        (path, other, fit-side g shape n c (good .r2) m free (suc l) (suc l) (omega arith) (omega (arith, lt))) (omega arith, lt)
+        (sym (ap length root-list) ∙ u .1) crown in (
+          record { r2 = after-r2; sound = w .0 },
+          w .1,
+          omega (
+            arith,
+            lives-shifted (g .pages * n) p (N ∷ sides side (m - 1)) (placesOf c)
+                (places s (suc (suc l)) (the N)) p-in z,
+            many,
+          ),
+        )
 
     pub insert-done : tooHigh g c k ≡ false → Done (crownHeight g (suc (c .level)) (lists (suc (c .level))) - 1)
     unfolding crownHeight

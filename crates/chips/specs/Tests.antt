@@ -1,8 +1,8 @@
--- R2 and R7 as tests are R2 and R7 as statements, both ways. Assumes nothing.
+-- R2, R7 and R8 as tests are R2, R7 and R8 as statements, both ways. Assumes nothing.
 use mathlib.Core.Path.{_≡_, refl, ap, sym, _∙_}
 use mathlib.Core.Bool.{Bool, true, false, not}
 use mathlib.Core.Logic.{inl, inr}
-use Prim.Native.Nat.{ℕ, suc, _+_, _*_, _<_, _≤_}
+use Prim.Native.Nat.{ℕ, suc, _+_, _-_, _*_, _<_, _≤_}
 use native.Mathlib.Omega.{arith}
 use lib.Dec.{eqb, leb, ltb}
 use borrow.Author.Tests.{not-true, not-false, lt-ltb, le-leb, eq-eqb, ltb-true, leb-true, eqb-true}
@@ -11,15 +11,15 @@ use Rattle.geometry.specs.declared.Finding.the-variants.{Good}
 use Rattle.geometry.specs.Tests.{pick, _&_, and-true, and-false, and-left, and-right, and-both}
 use Rattle.model.specs.Count.{count, least, any}
 use Rattle.model.specs.Image.{Chip}
-use Rattle.model.specs.Tree.{placesOf, live}
-use Rattle.model.specs.Rules.{inOrder, secondMixed, r2, spareRoom, r7}
+use Rattle.model.specs.Tree.{placesOf, live, livePages}
+use Rattle.model.specs.Rules.{inOrder, secondMixed, r2, spareRoom, r7, ample, r8}
 use Rattle.model.specs.Next.{mixed, full, firstIn, inBlock}
 use Rattle.counts.specs.Least.{least-is, least-none, none-passes, any-clear}
 use Rattle.counts.specs.Lowest.{good-unless}
 use Rattle.trees.specs.Tests.{by-eq, by-le, by-test, true-false}
 use Rattle.trees.specs.Judge.{unless-both}
 use Rattle.chips.specs.Next.{R2}
-use Rattle.chips.specs.Collect.{R7}
+use Rattle.chips.specs.Collect.{R7, R8}
 
 pub any-one : (n i : ℕ) (f : ℕ → Bool) → i < n → f i ≡ true → any n f ≡ true
 any-one n i f q h = by-test (any n f) (λ z. z) (λ z. absurd (true-false (f i) h (none-passes f n z i q)))
@@ -107,3 +107,13 @@ module _ (g : Geometry) (n : ℕ) (c : Chip) where
       go : (t : Bool) → any n fits ≡ true → pick t true (any n fits) ≡ true
       go true i = refl
       go false i = i
+
+-- ---- R8
+module _ (g : Geometry) (pos : 1 ≤ g .pages) (n : ℕ) (c : Chip) where
+  pub r8-holds : r8 (g .pages) n c ≡ Good → R8 g n c
+  unfolding r8 ample
+  r8-holds h = let z = leb-true (2 * g .pages) (g .pages * n - livePages (g .pages * n) c) (good-unless _ _ _ h .0) in omega (arith, z, pos)
+
+  pub holds-r8 : R8 g n c → r8 (g .pages) n c ≡ Good
+  unfolding r8 ample
+  holds-r8 h = unless-both _ _ _ (le-leb (2 * g .pages) (g .pages * n - livePages (g .pages * n) c) (omega (arith, h))) refl

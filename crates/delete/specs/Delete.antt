@@ -9,13 +9,12 @@ use Rattle.geometry.specs.declared.Geometry.{Geometry}
 use Rattle.geometry.specs.declared.Verdict.the-variants.{Sound, Broken}
 use Rattle.model.specs.Image.{Chip, chipOf, blocksOf, maxSeq}
 use Rattle.model.specs.Tree.{sought}
-use Rattle.model.specs.Count.{count}
-use Rattle.model.specs.Calls.{Outcome, worn, roomless, freePages, deleteRest, delete}
+use Rattle.model.specs.Calls.{Outcome, worn, deleteRest, delete}
 use Rattle.model.specs.Collect.{collectStores}
 use Rattle.model.specs.Stores.{Store}
 use Rattle.model.specs.Update.{isNone, deleteStore, deleteStores}
 use Rattle.answers.specs.declared.Answer.{Answer}
-use Rattle.answers.specs.declared.Answer.the-variants.{Length, Worn, Absent, Room}
+use Rattle.answers.specs.declared.Answer.the-variants.{Length, Worn, Absent}
 use Rattle.answers.specs.Answers.{told}
 use Rattle.chip.specs.Chip.{goodBlocks, chipWith}
 use Rattle.chip.specs.Blocks.{some-blocks}
@@ -27,12 +26,11 @@ use Rattle.stores.specs.Run.{Ran}
 use Rattle.survey.specs.declared.Survey.{Survey}
 use Rattle.survey.specs.Survey.{surveyOf}
 use Rattle.collect.specs.Laws.{survey-last}
-use Rattle.walk.specs.Table.{liveIn}
 use Rattle.victim.specs.Victim.{Looked}
 use Rattle.victim.specs.Laws.{chip-is}
 use Rattle.account.specs.Account.{freshOf, answerBy}
 use Rattle.account.specs.Laws.{told-made}
-use Rattle.account.specs.Rest.{worn-is, fresh-is, roomless-is, first-halt, first-then}
+use Rattle.account.specs.Rest.{worn-is, fresh-is, first-halt, first-then}
 use Rattle.judging.specs.Judging.{judgedIn, judged-damaged, judged-rest, judged-looked, judged-room, judged-length, judged-blocks}
 
 -- ---- ABSENT
@@ -76,16 +74,11 @@ module _ (g : Geometry) (n k x : ℕ) (i : List ℕ) (s : Survey) (tbl : List �
     unfolding deleteRest
     rest-absent e = sym (rw (fresh-is g n i s tbl lk h, none-is true e))
 
-    module _ (b : Bool) (eb : b ≡ roomless g (g .pages * n - count (g .pages * n) (liveIn tbl)) 1) (e : a ≡ false) (q : g .pages * n ≤ length tbl) where
-      pub rest-room : b ≡ true → told Room i ≡ deleteRest g n i k x
-      unfolding deleteRest
-      rest-room y = sym (rw (fresh-is g n i s tbl lk h, none-is false e, roomless-is g n i s tbl lk 1 b true eb q y))
-
-      pub rest-made : (r : Budget) (c : Answer) (o : List ℕ) → c ≡ answerBy r → Ran g (deleteStores g n i k) (freshOf x) r i o → b ≡ false → told c o ≡ deleteRest g n i k x
-      unfolding deleteRest
-      rest-made r c o ec run y =
-          ap (λ (z : Answer). told z o) ec ∙ told-made g (deleteStores g n i k) x r i o run
-          ∙ sym (rw (fresh-is g n i s tbl lk h, none-is false e, roomless-is g n i s tbl lk 1 b false eb q y))
+    pub rest-made : (r : Budget) (c : Answer) (o : List ℕ) → c ≡ answerBy r → Ran g (deleteStores g n i k) (freshOf x) r i o → a ≡ false
+        → told c o ≡ deleteRest g n i k x
+    unfolding deleteRest
+    rest-made r c o ec run e =
+        ap (λ (z : Answer). told z o) ec ∙ told-made g (deleteStores g n i k) x r i o run ∙ sym (rw (fresh-is g n i s tbl lk h, none-is false e))
 
 -- ---- the call
 module _ (g : Geometry) (img : List ℕ) (k x n : ℕ) (en : n ≡ goodBlocks g img) where
@@ -99,4 +92,4 @@ module _ (g : Geometry) (img : List ℕ) (k x n : ℕ) (en : n ≡ goodBlocks g 
       let f : o ≡ judgedIn g n img (deleteRest g (blocksOf g img) img k x) = e ∙ ap (λ (m : ℕ). judgedIn g n img (deleteRest g m img k x)) (some-blocks g img n en h) in
       judged-blocks g img _ n en o h f
 
-pub ruleset delete-laws = (survey-last, absent-no, absent-is, delete-halt, delete-on, rest-worn, rest-absent, rest-room, rest-made, judged-damaged, judged-rest, judged-looked, judged-room, delete-length, delete-blocks)
+pub ruleset delete-laws = (survey-last, absent-no, absent-is, delete-halt, delete-on, rest-worn, rest-absent, rest-made, judged-damaged, judged-rest, judged-looked, judged-room, delete-length, delete-blocks)

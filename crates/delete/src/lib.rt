@@ -71,9 +71,6 @@ fn delete_rest(
     if is_absent(g, &*img, s.level, s.root, key) {
         return Answer::Absent;
     }
-    if account::is_roomless(g, &*table, n, 1) {
-        return Answer::Room;
-    }
     let b = make_stores(g, &mut *img, &mut *table, n, key, allowance);
     account::answer_of(b)
 }

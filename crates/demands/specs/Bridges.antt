@@ -38,7 +38,7 @@ module _ (g : Geometry) (shape : Shape g) (img : List ℕ) (ready : Ready g img)
 
   pub ready-keeps : Keeps g n (mapAt g img) img
   ready-keeps = let z = sound-held g shape n img (let w = blocks .least in omega (arith, w)) (blocks .image) (ready .bytes) (ready .is-sound) in
-      record { held = z .0; r7 = z .1; map-is = refl }
+      record { held = z .0; r7 = z .1; r8 = z .2; map-is = refl }
 
   -- an image of the same length
   keeps-holds : (map : List Entry) (x : List ℕ) → length x ≡ length img → Keeps g n map x → Holds g map x
@@ -47,7 +47,7 @@ module _ (g : Geometry) (shape : Shape g) (img : List ℕ) (ready : Ready g img)
       record {
         ready = record {
           length-good = length-same g img x e ∙ ready .length-good;
-          is-sound = ap (λ m. verdict g m x) b ∙ held-sound g shape n x (h .held) (h .r7);
+          is-sound = ap (λ m. verdict g m x) b ∙ held-sound g shape n x (h .held) (h .r7) (h .r8);
           bytes = h .held .bytes;
         };
         map-is = ap (λ m. mapOf (chipOf g m x)) b ∙ h .map-is;

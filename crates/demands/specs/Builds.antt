@@ -67,12 +67,13 @@ module _ (g : Geometry) (shape : Shape g) (img : List ℕ) (ready : Ready g img)
       let kept = insert-kept g shape img ready k k-low a al a-low (subst Began (sym e) (made-began g shape img ready k ss al)) in
       ap (λ (o : Outcome). o .answer) e ∙ enough ss al (kept .programmed) (kept .wiped) h
 
+  -- a deletion needs no room: by R8 it is DONE
   pub delete-finishes : (al : ℕ) → storesMost g ≤ al → worn g n img ≡ false → isNone (find k (mapAt g img)) ≡ false
-      → roomless g (freePages g n c) 1 ≡ false → delete g img k al .answer ≡ 0
-  delete-finishes al h x y z =
+      → delete g img k al .answer ≡ 0
+  delete-finishes al h x y =
       let ss = deleteStores g n img k in
       let y′ : isNone (sought c k) ≡ false = ap isNone (found g shape img ready k k-low) ∙ y in
-      let e : delete g img k al ≡ made g ss al img = delete-is g img k 0 al ready ∙ rw (x, y′, z) refl in
+      let e : delete g img k al ≡ made g ss al img = delete-is g img k 0 al ready ∙ rw (x, y′) refl in
       let kept = delete-kept g shape img ready k k-low al (subst Began (sym e) (made-began g shape img ready k ss al)) in
       ap (λ (o : Outcome). o .answer) e ∙ enough ss al (kept .programmed) (kept .wiped) h
 
@@ -110,7 +111,7 @@ module _ (g : Geometry) (shape : Shape g) (some-worn : 1 ≤ g .worn) (img : Lis
   new-ready : Ready g new
   new-ready = record {
     length-good = length-same g img new new-length ∙ length-good;
-    is-sound = ap (λ m. verdict g m new) new-blocks ∙ held-sound g shape b new (keeps-new .held) (keeps-new .r7);
+    is-sound = ap (λ m. verdict g m new) new-blocks ∙ held-sound g shape b new (keeps-new .held) (keeps-new .r7) (keeps-new .r8);
     bytes = keeps-new .held .bytes;
   }
 

@@ -1,8 +1,7 @@
 -- The calls opened: which tests an answer stands for. Assumes nothing.
 use mathlib.Core.Path.{_≡_, refl, ap, sym, subst, _∙_}
-use mathlib.Core.List.{List}
+use mathlib.Core.List.{List, [], _∷_}
 use mathlib.Core.Bool.{Bool, true, false}
-use mathlib.Core.Logic.{inl, inr}
 use Prim.Native.Nat.{ℕ, _<_, _≤_}
 use native.Mathlib.Omega.{arith}
 use lib.ListN.{length, take}
@@ -17,15 +16,13 @@ use Rattle.model.specs.Rules.{verdict, isSound}
 use Rattle.model.specs.Stores.{Store, applyAll}
 use Rattle.model.specs.Update.{isNone, needs, tooHigh, insertStores, deleteStores}
 use Rattle.model.specs.Calls.{Outcome, refused, made, judged, worn, roomless, freePages, insertRest, insert, deleteRest, delete}
+use Rattle.trees.specs.Lists.{All}
 use Rattle.demands.specs.Words.{Ready, Began}
+use Rattle.demands.specs.Tests.{Test, tested, Untouched, Unmet, tested-untouched, tested-passed}
 
 pub judged-ready : (g : Geometry) (img : List ℕ) (rest : Outcome) → Ready g img → judged g img rest ≡ rest
 unfolding judged
 judged-ready g img rest r = rw (r .length-good, r .is-sound) refl
-
--- an answer from 1 to 6 leaves the image
-abbrev Untouched : List ℕ → Outcome → Type 0
-Untouched img o = 1 ≤ o .answer → o .answer ≤ 6 → o .image ≡ img
 
 judged-untouched : (g : Geometry) (img : List ℕ) (rest : Outcome) → Untouched img rest → Untouched img (judged g img rest)
 unfolding judged
@@ -44,34 +41,6 @@ made-untouched g ss al img = go (leb (length ss) al)
     go true p q = absurd (omega arith)
     go false p q = absurd (omega arith)
 
--- three tests in a row, each with its answer, then the stores
-abbrev tested : List ℕ → Bool → ℕ → Bool → ℕ → Bool → ℕ → Outcome → Outcome
-tested img x i y j z l o = pick x (refused i img) (pick y (refused j img) (pick z (refused l img) o))
-
-tested-untouched : (img : List ℕ) (x : Bool) (i : ℕ) (y : Bool) (j : ℕ) (z : Bool) (l : ℕ) (o : Outcome) → Untouched img o
-    → Untouched img (tested img x i y j z l o)
-tested-untouched img true i y j z l o h = λ p q. refl
-tested-untouched img false i true j z l o h = λ p q. refl
-tested-untouched img false i false j true l o h = λ p q. refl
-tested-untouched img false i false j false l o h = h
-
--- a call that has begun has passed them
-pub record Passed (x y z : Bool) (o p : Outcome) : Type 0 where
-  pub first : x ≡ false
-  pub second : y ≡ false
-  pub third : z ≡ false
-  pub is : o ≡ p
-
-tested-passed : (img : List ℕ) (x : Bool) (i : ℕ) (y : Bool) (j : ℕ) (z : Bool) (l : ℕ) (o : Outcome) → 1 ≤ i → i ≤ 6 → 1 ≤ j → j ≤ 6 → 1 ≤ l → l ≤ 6
-    → Began (tested img x i y j z l o) → Passed x y z (tested img x i y j z l o) o
-tested-passed img true i y j z l o a a′ b b′ c c′ (inl h) = absurd (omega (arith, h))
-tested-passed img true i y j z l o a a′ b b′ c c′ (inr h) = absurd (omega (arith, h))
-tested-passed img false i true j z l o a a′ b b′ c c′ (inl h) = absurd (omega (arith, h))
-tested-passed img false i true j z l o a a′ b b′ c c′ (inr h) = absurd (omega (arith, h))
-tested-passed img false i false j true l o a a′ b b′ c c′ (inl h) = absurd (omega (arith, h))
-tested-passed img false i false j true l o a a′ b b′ c c′ (inr h) = absurd (omega (arith, h))
-tested-passed img false i false j false l o a a′ b b′ c c′ h = record { first = refl; second = refl; third = refl; is = refl }
-
 -- ---- insert and delete
 module _ (g : Geometry) (img : List ℕ) (k a al : ℕ) where
   abbrev n : ℕ
@@ -86,48 +55,55 @@ module _ (g : Geometry) (img : List ℕ) (k a al : ℕ) where
   abbrev del : Outcome
   del = made g (deleteStores g n img k) al img
 
-  insert-rest : insertRest g n img k a al ≡ tested img (worn g n img) 3 (tooHigh g c k) 5 (roomless g (freePages g n c) (needs g c k)) 6 ins
+  -- WORN, HEIGHT, ROOM
+  abbrev pub insertTests : List Test
+  insertTests =
+      record { met = worn g n img; number = 3 }
+      ∷ record { met = tooHigh g c k; number = 5 }
+      ∷ record { met = roomless g (freePages g n c) (needs g c k); number = 6 }
+      ∷ []
+
+  -- WORN, ABSENT
+  abbrev pub deleteTests : List Test
+  deleteTests = record { met = worn g n img; number = 3 } ∷ record { met = isNone (sought c k); number = 4 } ∷ []
+
+  insert-rest : insertRest g n img k a al ≡ tested img insertTests ins
   unfolding insertRest
   insert-rest = refl
 
-  delete-rest : deleteRest g n img k al ≡ tested img (worn g n img) 3 (isNone (sought c k)) 4 (roomless g (freePages g n c) 1) 6 del
+  delete-rest : deleteRest g n img k al ≡ tested img deleteTests del
   unfolding deleteRest
   delete-rest = refl
 
   pub insert-untouched : Untouched img (insert g img k a al)
   unfolding insert
   insert-untouched = judged-untouched g img (insertRest g n img k a al) (subst (Untouched img) (sym insert-rest)
-      (tested-untouched img (worn g n img) 3 (tooHigh g c k) 5 (roomless g (freePages g n c) (needs g c k)) 6 ins
-      (made-untouched g (insertStores g n img k a) al img)))
+      (tested-untouched img insertTests ins (made-untouched g (insertStores g n img k a) al img)))
 
   pub delete-untouched : Untouched img (delete g img k al)
   unfolding delete
   delete-untouched = judged-untouched g img (deleteRest g n img k al) (subst (Untouched img) (sym delete-rest)
-      (tested-untouched img (worn g n img) 3 (isNone (sought c k)) 4 (roomless g (freePages g n c) 1) 6 del
-      (made-untouched g (deleteStores g n img k) al img)))
+      (tested-untouched img deleteTests del (made-untouched g (deleteStores g n img k) al img)))
 
   module _ (ready : Ready g img) where
-    pub insert-is : insert g img k a al ≡ tested img (worn g n img) 3 (tooHigh g c k) 5 (roomless g (freePages g n c) (needs g c k)) 6 ins
+    pub insert-is : insert g img k a al ≡ tested img insertTests ins
     unfolding insert
     insert-is = judged-ready g img (insertRest g n img k a al) ready ∙ insert-rest
 
-    pub delete-is : delete g img k al ≡ tested img (worn g n img) 3 (isNone (sought c k)) 4 (roomless g (freePages g n c) 1) 6 del
+    pub delete-is : delete g img k al ≡ tested img deleteTests del
     unfolding delete
     delete-is = judged-ready g img (deleteRest g n img k al) ready ∙ delete-rest
 
-    pub insert-passed : Began (insert g img k a al)
-        → Passed (worn g n img) (tooHigh g c k) (roomless g (freePages g n c) (needs g c k)) (insert g img k a al) ins
+    -- a call that has begun has met none of its tests
+    pub insert-passed : Began (insert g img k a al) → All Unmet insertTests × (insert g img k a al ≡ ins)
     insert-passed b =
-        let p = tested-passed img (worn g n img) 3 (tooHigh g c k) 5 (roomless g (freePages g n c) (needs g c k)) 6 ins (omega arith) (omega arith)
-        (omega arith) (omega arith) (omega arith) (omega arith) (subst Began insert-is b) in
-        record { first = p .first; second = p .second; third = p .third; is = insert-is ∙ p .is }
+        let p = tested-passed img insertTests ins ((omega arith, omega arith), ((omega arith, omega arith), ((omega arith, omega arith), tt))) (subst Began insert-is b) in
+        (p .0, insert-is ∙ p .1)
 
-    pub delete-passed : Began (delete g img k al)
-        → Passed (worn g n img) (isNone (sought c k)) (roomless g (freePages g n c) 1) (delete g img k al) del
+    pub delete-passed : Began (delete g img k al) → All Unmet deleteTests × (delete g img k al ≡ del)
     delete-passed b =
-        let p = tested-passed img (worn g n img) 3 (isNone (sought c k)) 4 (roomless g (freePages g n c) 1) 6 del (omega arith) (omega arith)
-        (omega arith) (omega arith) (omega arith) (omega arith) (subst Began delete-is b) in
-        record { first = p .first; second = p .second; third = p .third; is = delete-is ∙ p .is }
+        let p = tested-passed img deleteTests del ((omega arith, omega arith), ((omega arith, omega arith), tt)) (subst Began delete-is b) in
+        (p .0, delete-is ∙ p .1)
 
 pub not-worn : (g : Geometry) (n : ℕ) (img : List ℕ) → worn g n img ≡ false → maxSeq g n img ≤ g .worn
 unfolding worn

@@ -22,7 +22,7 @@ use Rattle.demands.specs.Words.{Ready, mapAt, Holds, Kept, Began, OneOf,
 use Rattle.demands.specs.Maps.{find-put, find-put-other, find-remove, find-remove-other}
 use Rattle.demands.specs.Bridges.{ready-keeps}
 use Rattle.demands.specs.Calls.{insert-untouched, delete-untouched, insert-passed, delete-passed}
-use Rattle.demands.specs.Proofs.{lookup-image, insert-one, delete-one, absent-answer, answer-absent, height-absent, insert-kept, own-pages, delete-kept, insert-ends, delete-ends, insert-stops, delete-stops, lookup-is}
+use Rattle.demands.specs.Proofs.{lookup-image, insert-one, delete-one, room-needs, absent-answer, answer-absent, height-absent, insert-kept, own-pages, delete-kept, insert-ends, delete-ends, insert-stops, delete-stops, lookup-is}
 
 -- ---- Demand 1: answers 1 to 6 leave the image as it was, for every image and geometry; a lookup always does
 pub insert-refused : (g : Geometry) (img : List ℕ) (k a al : ℕ)
@@ -53,8 +53,12 @@ module _ (g : Geometry) (shape : Shape g) (img : List ℕ) (ready : Ready g img)
   pub insert-height : (a al : ℕ) → insert g img k a al .answer ≡ 5 → find k (mapAt g img) ≡ none
   insert-height a al h = height-absent g shape img ready k k-low a al h
 
-  -- delete answers 0, 3, 4, 6 or 7, and 4 exactly for an absent key, unless the chip is worn
-  pub delete-answers : (al : ℕ) → OneOf (delete g img k al .answer) (0 ∷ 3 ∷ 4 ∷ 6 ∷ 7 ∷ [])
+  -- and 6 only where it needs two pages or more: R8 leaves room for one
+  pub insert-room : (a al : ℕ) → insert g img k a al .answer ≡ 6 → 2 ≤ needs g (chipOf g (blocksOf g img) img) k
+  insert-room a al h = room-needs g shape img ready k a al h
+
+  -- delete answers 0, 3, 4 or 7, and 4 exactly for an absent key, unless the chip is worn
+  pub delete-answers : (al : ℕ) → OneOf (delete g img k al .answer) (0 ∷ 3 ∷ 4 ∷ 7 ∷ [])
   delete-answers al = delete-one g shape img ready k al
 
   pub delete-absent : (al : ℕ) → delete g img k al .answer ≡ 4 → find k (mapAt g img) ≡ none
@@ -95,10 +99,10 @@ module _ (g : Geometry) (shape : Shape g) (img : List ℕ) (ready : Ready g img)
 
   -- the call's image and counts are those of the list, cut at the allowance
   pub insert-made : (a al : ℕ) → Began (insert g img k a al) → insert g img k a al ≡ made g (insertStores g (blocksOf g img) img k a) al img
-  insert-made a al b = insert-passed g img k a al ready b .is
+  insert-made a al b = insert-passed g img k a al ready b .1
 
   pub delete-made : (al : ℕ) → Began (delete g img k al) → delete g img k al ≡ made g (deleteStores g (blocksOf g img) img k) al img
-  delete-made al b = delete-passed g img k 0 al ready b .is
+  delete-made al b = delete-passed g img k 0 al ready b .1
 
   -- so a stopped update leaves a sound image with the old map
   pub insert-stopped : (a al : ℕ) → a < 4294967296 → insert g img k a al .answer ≡ 7 → Holds g (mapAt g img) (insert g img k a al .image)

@@ -1,9 +1,12 @@
--- Demands 1, 2 and 3 of the definitions: read Words, then Demands; and Round for request 2. The other files are their proofs.
+-- Demands 1, 2 and 3 of the definitions: read Words, then Demands; Round for request 2, Reached for request 11. The other files are their
+-- proofs.
 pub mod Words
 pub mod Maps
 pub mod Bridges
+pub mod Tests
 pub mod Calls
 pub mod Proofs
 pub mod Demands
 pub mod Builds
 pub mod Round
+pub mod Reached

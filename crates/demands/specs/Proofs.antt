@@ -4,10 +4,11 @@ use mathlib.Core.List.{List, [], _∷_}
 use mathlib.Core.Bool.{Bool, true, false}
 use mathlib.Core.Logic.{_⊎_, inl, inr}
 use mathlib.Core.Option.{Option, none, some}
-use Prim.Native.Nat.{ℕ, zero, suc, _<_}
+use Prim.Native.Nat.{ℕ, zero, suc, _+_, _-_, _*_, _<_, _≤_}
 use native.Mathlib.Omega.{arith}
 use lib.ListN.{length}
 use lib.Dec.{leb}
+use borrow.Author.Tests.{ltb-true}
 use Rattle.geometry.specs.declared.Geometry.{Geometry}
 use Rattle.geometry.specs.declared.Entry.{Entry}
 use Rattle.geometry.specs.Tests.{pick, and-right}
@@ -26,7 +27,8 @@ use Rattle.updates.specs.Along.{Keeps}
 use Rattle.updates.specs.Lists.{m-top, insert-own, insert-programs-only, insert-updated, delete-updated}
 use Rattle.demands.specs.Words.{Ready, mapAt, Holds, Kept, Began, OneOf, Own}
 use Rattle.demands.specs.Bridges.{few, some-pages, ready-keeps, updated-kept}
-use Rattle.demands.specs.Calls.{judged-ready, insert-is, delete-is, insert-passed, delete-passed, not-worn, made-done, made-stopped, made-image}
+use Rattle.demands.specs.Tests.{Met, tested-one, tested-met}
+use Rattle.demands.specs.Calls.{judged-ready, insertTests, deleteTests, insert-is, delete-is, insert-passed, delete-passed, not-worn, made-done, made-stopped, made-image}
 
 pub lookup-image : (g : Geometry) (img : List ℕ) (k : ℕ) → lookup g img k .image ≡ img
 unfolding lookup judged answered
@@ -58,15 +60,6 @@ module _ (g : Geometry) (shape : Shape g) (img : List ℕ) (ready : Ready g img)
   abbrev keeps : Keeps g n (mapAt g img) img
   keeps = ready-keeps g shape img ready
 
-  -- the answer of three tests and the stores
-  three : (x y z : Bool) (i j l : ℕ) (o : Outcome) → (o .answer ≡ 0) ⊎ (o .answer ≡ 7)
-      → OneOf (pick x (refused i img) (pick y (refused j img) (pick z (refused l img) o)) .answer) (0 ∷ i ∷ j ∷ l ∷ 7 ∷ [])
-  three true y z i j l o h = inr (inl refl)
-  three false true z i j l o h = inr (inr (inl refl))
-  three false false true i j l o h = inr (inr (inr (inl refl)))
-  three false false false i j l o (inl h) = inl h
-  three false false false i j l o (inr h) = inr (inr (inr (inr (inl h))))
-
   pub made-began : (ss : List Store) (al : ℕ) → Began (made g ss al img)
   unfolding made
   made-began ss al = go (leb (length ss) al)
@@ -77,41 +70,53 @@ module _ (g : Geometry) (shape : Shape g) (img : List ℕ) (ready : Ready g img)
 
   pub insert-one : (a al : ℕ) → OneOf (insert g img k a al .answer) (0 ∷ 3 ∷ 5 ∷ 6 ∷ 7 ∷ [])
   insert-one a al = subst (λ (o : Outcome). OneOf (o .answer) (0 ∷ 3 ∷ 5 ∷ 6 ∷ 7 ∷ [])) (sym (insert-is g img k a al ready))
-      (three (worn g n img) (tooHigh g c k) (roomless g (freePages g n c) (needs g c k)) 3 5 6 (made g (insertStores g n img k a) al img)
-      (made-began (insertStores g n img k a) al))
+      (tested-one img (insertTests g img k a al) _ (made-began (insertStores g n img k a) al))
 
-  pub delete-one : (al : ℕ) → OneOf (delete g img k al .answer) (0 ∷ 3 ∷ 4 ∷ 6 ∷ 7 ∷ [])
-  delete-one al = subst (λ (o : Outcome). OneOf (o .answer) (0 ∷ 3 ∷ 4 ∷ 6 ∷ 7 ∷ [])) (sym (delete-is g img k 0 al ready))
-      (three (worn g n img) (isNone (sought c k)) (roomless g (freePages g n c) 1) 3 4 6 (made g (deleteStores g n img k) al img)
-      (made-began (deleteStores g n img k) al))
+  pub delete-one : (al : ℕ) → OneOf (delete g img k al .answer) (0 ∷ 3 ∷ 4 ∷ 7 ∷ [])
+  delete-one al = subst (λ (o : Outcome). OneOf (o .answer) (0 ∷ 3 ∷ 4 ∷ 7 ∷ [])) (sym (delete-is g img k 0 al ready))
+      (tested-one img (deleteTests g img k 0 al) _ (made-began (deleteStores g n img k) al))
+
+  -- a refusal is the number of a test that is met
+  insert-met : (a al j : ℕ) → 1 ≤ j → j ≤ 6 → insert g img k a al .answer ≡ j → Met j (insertTests g img k a al)
+  insert-met a al j p q h = tested-met img j (insertTests g img k a al) _ (made-began (insertStores g n img k a) al) p q
+      (sym (ap (λ (o : Outcome). o .answer) (insert-is g img k a al ready)) ∙ h)
+
+  delete-met : (al j : ℕ) → 1 ≤ j → j ≤ 6 → delete g img k al .answer ≡ j → Met j (deleteTests g img k 0 al)
+  delete-met al j p q h = tested-met img j (deleteTests g img k 0 al) _ (made-began (deleteStores g n img k) al) p q
+      (sym (ap (λ (o : Outcome). o .answer) (delete-is g img k 0 al ready)) ∙ h)
+
+  -- ROOM: R8 leaves room for one page, so more are needed
+  pub room-needs : (a al : ℕ) → insert g img k a al .answer ≡ 6 → 2 ≤ needs g c k
+  unfolding roomless
+  room-needs a al h = go (insert-met a al 6 (omega arith) (omega arith) h)
+    where
+      go : Met 6 (insertTests g img k a al) → 2 ≤ needs g c k
+      go (inl e) = absurd (omega (arith, e .0))
+      go (inr (inl e)) = absurd (omega (arith, e .0))
+      go (inr (inr (inl e))) =
+          let few-free = ltb-true (freePages g n c) (2 * g .pages - 1 + needs g c k) (e .1) in
+          omega (arith, few-free, keeps .r8)
+      go (inr (inr (inr e))) = absurd e
 
   module _ (k-low : k < 4294967296) where
     pub found : sought c k ≡ find k (mapAt g img)
     found = sought-map g n c (keeps .held .whole) k k-low
 
-    -- the second of the three tests is what its answer stands for
-    second : (x y z : Bool) (i j l : ℕ) (o : Outcome) → Began o → (i ≡ j → ⊥) → (l ≡ j → ⊥) → (j ≡ 0 → ⊥) → (j ≡ 7 → ⊥)
-        → pick x (refused i img) (pick y (refused j img) (pick z (refused l img) o)) .answer ≡ j → y ≡ true
-    second true y z i j l o b d e f h p = absurd (d p)
-    second false true z i j l o b d e f h p = refl
-    second false false true i j l o b d e f h p = absurd (e p)
-    second false false false i j l o (inl b) d e f h p = absurd (f (sym p ∙ b))
-    second false false false i j l o (inr b) d e f h p = absurd (h (sym p ∙ b))
-
     pub absent-answer : (al : ℕ) → delete g img k al .answer ≡ 4 → find k (mapAt g img) ≡ none
-    absent-answer al h = sym found ∙ none-is (sought c k)
-        (second (worn g n img) (isNone (sought c k)) (roomless g (freePages g n c) 1) 3 4 6 (made g (deleteStores g n img k) al img)
-        (made-began (deleteStores g n img k) al) (λ z. omega (arith, z)) (λ z. omega (arith, z)) (λ z. omega (arith, z)) (λ z. omega (arith, z))
-        (sym (ap (λ (o : Outcome). o .answer) (delete-is g img k 0 al ready)) ∙ h))
+    absent-answer al h = sym found ∙ none-is (sought c k) (go (delete-met al 4 (omega arith) (omega arith) h))
+      where
+        go : Met 4 (deleteTests g img k 0 al) → isNone (sought c k) ≡ true
+        go (inl e) = absurd (omega (arith, e .0))
+        go (inr (inl e)) = e .1
+        go (inr (inr e)) = absurd e
 
     pub answer-absent : (al : ℕ) → find k (mapAt g img) ≡ none → (delete g img k al .answer ≡ 3) ⊎ (delete g img k al .answer ≡ 4)
     answer-absent al h = subst (λ (o : Outcome). (o .answer ≡ 3) ⊎ (o .answer ≡ 4)) (sym (delete-is g img k 0 al ready))
         (go (worn g n img) (isNone (sought c k)) (ap isNone (found ∙ h)))
       where
         go : (x y : Bool) → y ≡ true
-            → (pick x (refused 3 img) (pick y (refused 4 img) (pick (roomless g (freePages g n c) 1) (refused 6 img)
-            (made g (deleteStores g n img k) al img))) .answer ≡ 3) ⊎ (pick x (refused 3 img) (pick y (refused 4 img) (pick
-            (roomless g (freePages g n c) 1) (refused 6 img) (made g (deleteStores g n img k) al img))) .answer ≡ 4)
+            → (pick x (refused 3 img) (pick y (refused 4 img) (made g (deleteStores g n img k) al img)) .answer ≡ 3) ⊎
+            (pick x (refused 3 img) (pick y (refused 4 img) (made g (deleteStores g n img k) al img)) .answer ≡ 4)
         go true y e = inl refl
         go false true e = inr refl
         go false false e = absurd (true-false false e refl)
@@ -119,10 +124,13 @@ module _ (g : Geometry) (shape : Shape g) (img : List ℕ) (ready : Ready g img)
     pub height-absent : (a al : ℕ) → insert g img k a al .answer ≡ 5 → find k (mapAt g img) ≡ none
     unfolding tooHigh rootGains
     height-absent a al h = sym found ∙ none-is (sought c k) (gains-absent (c .nodes) k (half g) (isNone (sought c k)) (c .level)
-        (chosen k (rootNode c)) (and-right _ _
-        (second (worn g n img) (tooHigh g c k) (roomless g (freePages g n c) (needs g c k)) 3 5 6 (made g (insertStores g n img k a) al img)
-        (made-began (insertStores g n img k a) al) (λ z. omega (arith, z)) (λ z. omega (arith, z)) (λ z. omega (arith, z)) (λ z. omega (arith, z))
-        (sym (ap (λ (o : Outcome). o .answer) (insert-is g img k a al ready)) ∙ h))))
+        (chosen k (rootNode c)) (and-right _ _ (go (insert-met a al 5 (omega arith) (omega arith) h))))
+      where
+        go : Met 5 (insertTests g img k a al) → tooHigh g c k ≡ true
+        go (inl e) = absurd (omega (arith, e .0))
+        go (inr (inl e)) = e .1
+        go (inr (inr (inl e))) = absurd (omega (arith, e .0))
+        go (inr (inr (inr e))) = absurd e
 
     pub insert-kept : (a al : ℕ) → a < 4294967296 → Began (insert g img k a al)
         → Kept g (mapAt g img) (put k a (mapAt g img)) img (insertStores g n img k a)
@@ -130,10 +138,10 @@ module _ (g : Geometry) (shape : Shape g) (img : List ℕ) (ready : Ready g img)
         let p = insert-passed g img k a al ready b in
         let f = few g shape img ready in
         let s = some-pages g shape img ready in
-        let w = not-worn g n img (p .first) in
+        let w = not-worn g n img (p .0 .0) in
         updated-kept g shape img ready (mapAt g img) (put k a (mapAt g img)) (insertStores g n img k a) (needs g c k)
-        (m-top g shape n f (mapAt g img) img keeps w s k a k-low a-low (p .second) (p .third))
-        (insert-updated g shape n f (mapAt g img) img keeps w s k a k-low a-low (p .second) (p .third))
+        (m-top g shape n f (mapAt g img) img keeps w s k a k-low a-low (p .0 .1 .0) (p .0 .1 .1 .0))
+        (insert-updated g shape n f (mapAt g img) img keeps w s k a k-low a-low (p .0 .1 .0) (p .0 .1 .1 .0))
 
     pub own-pages : (a al : ℕ) → a < 4294967296 → Began (insert g img k a al) → Own g n img k a
     unfolding insertStores
@@ -141,52 +149,52 @@ module _ (g : Geometry) (shape : Shape g) (img : List ℕ) (ready : Ready g img)
         let p = insert-passed g img k a al ready b in
         let f = few g shape img ready in
         let s = some-pages g shape img ready in
-        let w = not-worn g n img (p .first) in
+        let w = not-worn g n img (p .0 .0) in
         record {
           own = _;
           list-is = refl;
-          programs-are = insert-own g shape n f (mapAt g img) img keeps w s k a k-low a-low (p .second) (p .third);
-          no-erase = insert-programs-only g shape n f (mapAt g img) img keeps w s k a k-low a-low (p .second) (p .third);
-          atmost = m-top g shape n f (mapAt g img) img keeps w s k a k-low a-low (p .second) (p .third);
+          programs-are = insert-own g shape n f (mapAt g img) img keeps w s k a k-low a-low (p .0 .1 .0) (p .0 .1 .1 .0);
+          no-erase = insert-programs-only g shape n f (mapAt g img) img keeps w s k a k-low a-low (p .0 .1 .0) (p .0 .1 .1 .0);
+          atmost = m-top g shape n f (mapAt g img) img keeps w s k a k-low a-low (p .0 .1 .0) (p .0 .1 .1 .0);
         }
 
     pub delete-kept : (al : ℕ) → Began (delete g img k al) → Kept g (mapAt g img) (remove k (mapAt g img)) img (deleteStores g n img k)
     delete-kept al b =
         let p = delete-passed g img k 0 al ready b in
         updated-kept g shape img ready (mapAt g img) (remove k (mapAt g img)) (deleteStores g n img k) 1 (let z = shape .top-low in omega (arith, z))
-        (delete-updated g shape n (few g shape img ready) (mapAt g img) img keeps (not-worn g n img (p .first)) (some-pages g shape img ready) k k-low
-        (p .second) (p .third))
+        (delete-updated g shape n (few g shape img ready) (mapAt g img) img keeps (not-worn g n img (p .0 .0)) (some-pages g shape img ready) k k-low
+        (p .0 .1 .0))
 
     -- the image of a finished call, and of a stopped one
     pub insert-ends : (a al : ℕ) → a < 4294967296 → insert g img k a al .answer ≡ 0 → Holds g (put k a (mapAt g img)) (insert g img k a al .image)
     insert-ends a al a-low h =
         let p = insert-passed g img k a al ready (inl h) in
         let ss = insertStores g n img k a in
-        let e = ap (λ (o : Outcome). o .image) (p .is) ∙ made-done g ss al img (sym (ap (λ (o : Outcome). o .answer) (p .is)) ∙ h) in
+        let e = ap (λ (o : Outcome). o .image) (p .1) ∙ made-done g ss al img (sym (ap (λ (o : Outcome). o .answer) (p .1)) ∙ h) in
         subst (Holds g (put k a (mapAt g img))) (sym e) (insert-kept a al a-low (inl h) .end)
 
     pub delete-ends : (al : ℕ) → delete g img k al .answer ≡ 0 → Holds g (remove k (mapAt g img)) (delete g img k al .image)
     delete-ends al h =
         let p = delete-passed g img k 0 al ready (inl h) in
         let ss = deleteStores g n img k in
-        let e = ap (λ (o : Outcome). o .image) (p .is) ∙ made-done g ss al img (sym (ap (λ (o : Outcome). o .answer) (p .is)) ∙ h) in
+        let e = ap (λ (o : Outcome). o .image) (p .1) ∙ made-done g ss al img (sym (ap (λ (o : Outcome). o .answer) (p .1)) ∙ h) in
         subst (Holds g (remove k (mapAt g img))) (sym e) (delete-kept al (inl h) .end)
 
     pub insert-stops : (a al : ℕ) → a < 4294967296 → insert g img k a al .answer ≡ 7 → Holds g (mapAt g img) (insert g img k a al .image)
     insert-stops a al a-low h =
         let p = insert-passed g img k a al ready (inr h) in
         let ss = insertStores g n img k a in
-        let e = ap (λ (o : Outcome). o .image) (p .is) ∙ made-image g ss al img in
+        let e = ap (λ (o : Outcome). o .image) (p .1) ∙ made-image g ss al img in
         subst (Holds g (mapAt g img)) (sym e) (insert-kept a al a-low (inr h) .before al
-        (made-stopped g ss al img (sym (ap (λ (o : Outcome). o .answer) (p .is)) ∙ h)))
+        (made-stopped g ss al img (sym (ap (λ (o : Outcome). o .answer) (p .1)) ∙ h)))
 
     pub delete-stops : (al : ℕ) → delete g img k al .answer ≡ 7 → Holds g (mapAt g img) (delete g img k al .image)
     delete-stops al h =
         let p = delete-passed g img k 0 al ready (inr h) in
         let ss = deleteStores g n img k in
-        let e = ap (λ (o : Outcome). o .image) (p .is) ∙ made-image g ss al img in
+        let e = ap (λ (o : Outcome). o .image) (p .1) ∙ made-image g ss al img in
         subst (Holds g (mapAt g img)) (sym e) (delete-kept al (inr h) .before al
-        (made-stopped g ss al img (sym (ap (λ (o : Outcome). o .answer) (p .is)) ∙ h)))
+        (made-stopped g ss al img (sym (ap (λ (o : Outcome). o .answer) (p .1)) ∙ h)))
 
     pub lookup-is : lookup g img k ≡ answered (find k (mapAt g img)) img
     unfolding lookup

@@ -18,7 +18,7 @@ use Rattle.model.specs.Update.{needs, insertStores}
 use Rattle.model.specs.Calls.{Outcome}
 use Rattle.images.specs.Writes.{Legal}
 
--- a sound image: its length is good, no rule R1 to R7 is broken, and its bytes are below 256
+-- a sound image: its length is good, no rule R1 to R8 is broken, and its bytes are below 256
 pub record Ready (g : Geometry) (img : List ℕ) : Type 0 where
   pub length-good : goodLength g img ≡ true
   pub is-sound : verdict g (blocksOf g img) img ≡ Sound

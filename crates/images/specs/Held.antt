@@ -1,4 +1,4 @@
--- The rules R1 to R6 of an image as statements, and that the verdict is those and R7, both ways. Assumes nothing.
+-- The rules R1 to R6 of an image as statements, and that the verdict is those, R7 and R8, both ways. Assumes nothing.
 use mathlib.Core.Path.{_≡_, refl, ap, sym, subst, _∙_}
 use mathlib.Core.List.{List}
 use mathlib.Core.Bool.{Bool, true, false, not}
@@ -30,8 +30,8 @@ use Rattle.trees.specs.Proper.{root-fit}
 use Rattle.trees.specs.Judge.{unless-both, r5-rooted, rooted-r5, r6-tied, tied-r6}
 use Rattle.chips.specs.Whole.{some-page, Whole}
 use Rattle.chips.specs.Next.{block-in}
-use Rattle.chips.specs.Collect.{R7}
-use Rattle.chips.specs.Tests.{any-one, r2-holds, holds-r2, r7-holds, holds-r7}
+use Rattle.chips.specs.Collect.{R7, R8}
+use Rattle.chips.specs.Tests.{any-one, r2-holds, holds-r2, r7-holds, holds-r7, r8-holds, holds-r8}
 use Rattle.images.specs.Views.{Views, rootAt, R1, R3, AllR1, R4, root-in}
 use Rattle.images.specs.Page.{nodeFrom, viewFrom, views}
 use Rattle.images.specs.Stores.{Image}
@@ -168,8 +168,8 @@ unfolding orElse
 sound-or r f w h i = rw (h, i) refl
 
 module _ (g : Geometry) (shape : Shape g) (n : ℕ) (img : List ℕ) where
-  -- a sound image is held, and R7 holds
-  pub sound-held : 1 ≤ n → Image g n img → Small img → verdict g n img ≡ Sound → Held g n img × R7 g n (chipOf g n img)
+  -- a sound image is held, and R7 and R8 hold
+  pub sound-held : 1 ≤ n → Image g n img → Small img → verdict g n img ≡ Sound → Held g n img × R7 g n (chipOf g n img) × R8 g n (chipOf g n img)
   unfolding verdict r1 r3 r4
   sound-held pos image bytes h =
       let a = or-sound _ _ _ h in
@@ -179,6 +179,7 @@ module _ (g : Geometry) (shape : Shape g) (n : ℕ) (img : List ℕ) where
       let e = or-sound _ _ _ (d .1) in
       let f = or-sound _ _ _ (e .1) in
       let k = or-sound _ _ _ (f .1) in
+      let m = or-sound _ _ _ (k .1) in
       let t = pagesOf g n in
       let chip = chipOf g n img in
       let high = leb-true 1 (heightOf g img (rootOf g n img)) (good-unless _ _ _ (d .0) .0) in
@@ -196,11 +197,12 @@ module _ (g : Geometry) (shape : Shape g) (n : ℕ) (img : List ℕ) where
           whole = record { r2 = r2-holds (g .pages) n (erased g img) (b .0); sound = record { rooted = root; tied = tied } };
         },
         r7-holds g n chip (k .0),
+        r8-holds g (some-page g shape) n chip (m .0),
       )
 
-  pub held-sound : Held g n img → R7 g n (chipOf g n img) → verdict g n img ≡ Sound
+  pub held-sound : Held g n img → R7 g n (chipOf g n img) → R8 g n (chipOf g n img) → verdict g n img ≡ Sound
   unfolding verdict r1 r3 r4
-  held-sound h s =
+  held-sound h s u =
       let t = pagesOf g n in
       let high = subst (λ m. 1 ≤ m) (root-height g n img) (h .r4) in
       sound-or _ _ _ (none-lowest t (λ p. not (wellFormed g img p)) (λ p q. rw (r1-page g n img p (h .r1 p q)) refl))
@@ -209,7 +211,8 @@ module _ (g : Geometry) (shape : Shape g) (n : ℕ) (img : List ℕ) where
       (sound-or _ _ _ (unless-both _ _ _ (le-leb 1 (heightOf g img (rootOf g n img)) high) refl)
       (sound-or _ _ _ (rooted-r5 g shape t (chipOf g n img) (h .whole .sound .rooted))
       (sound-or _ _ _ (tied-r6 t (chipOf g n img) (h .whole .sound .tied))
-      (sound-or _ _ _ (holds-r7 g n (chipOf g n img) s) refl))))))
+      (sound-or _ _ _ (holds-r7 g n (chipOf g n img) s)
+      (sound-or _ _ _ (holds-r8 g (some-page g shape) n (chipOf g n img) u) refl)))))))
 
   pub height-most : 1 ≤ pagesOf g n → Held g n img → suc (chipOf g n img .level) ≤ g .top
   height-most i h =

@@ -22,7 +22,7 @@ use Rattle.model.specs.Page.{built}
 use Rattle.model.specs.Stores.{Store, program, erase, applyStore}
 use Rattle.trees.specs.Tests.{by-test, true-false}
 use Rattle.trees.specs.Nodes.{fitOf}
-use Rattle.trees.specs.Frame.{pairs-same, sound-same}
+use Rattle.trees.specs.Frame.{pairs-same, root-places-same, sound-same}
 use Rattle.chips.specs.Count.{count-gone}
 use Rattle.chips.specs.Next.{next-found, next-in, r2-next}
 use Rattle.chips.specs.Whole.{some-page, Whole}
@@ -187,6 +187,11 @@ module _ (g : Geometry) (shape : Shape g) (n : ℕ) (img : List ℕ) (held : Hel
         unfolding beside
         side-map = ap mapOf side-chip ∙ pairs-same 4294967296 (λ l. 2 * half g l) (rootMost g) (c .nodes) (beside c N w .nodes) (fitOf t (c .er))
             (fitOf t (after N (c .er))) (fit-after t N (c .er)) stays (c .level) (c .root) (held .whole .sound .rooted)
+
+        pub side-lives : placesOf (chipOf g n next) ≡ placesOf c
+        unfolding beside
+        side-lives = ap placesOf side-chip ∙ root-places-same 4294967296 (λ l. 2 * half g l) (rootMost g) (c .nodes) (beside c N w .nodes)
+            (fitOf t (c .er)) (fitOf t (after N (c .er))) (fit-after t N (c .er)) stays (c .level) (c .root) (held .whole .sound .rooted)
 
         pub side-frees : count t (c .er) ≡ suc (count t (chipOf g n next .er))
         unfolding beside

@@ -52,7 +52,7 @@ lookup g img k = judged g img (answered (sought (chipOf g (blocksOf g img) img) 
 unfoldable pub worn : Geometry → ℕ → List ℕ → Bool
 worn g n img = ltb (g .worn) (maxSeq g n img)
 
--- ROOM: "T − L < 63 + k"
+-- ROOM: "T − L < 63 + k", of insert; by R8 delete, whose k is 1, is never short of room
 unfoldable pub roomless : Geometry → ℕ → ℕ → Bool
 roomless g free k = ltb free (2 * g .pages - 1 + k)
 
@@ -74,9 +74,8 @@ insert g img k a allowance = judged g img (insertRest g (blocksOf g img) img k a
 unfoldable pub deleteRest : Geometry → ℕ → List ℕ → ℕ → ℕ → Outcome
 deleteRest g n img k allowance =
     pick (worn g n img) (refused 3 img) (
-    pick (isNone (sought (chipOf g n img) k)) (refused 4 img) (
-    pick (roomless g (freePages g n (chipOf g n img)) 1) (refused 6 img)
-    (made g (deleteStores g n img k) allowance img)))
+    pick (isNone (sought (chipOf g n img) k)) (refused 4 img)
+    (made g (deleteStores g n img k) allowance img))
 
 unfoldable pub delete : Geometry → List ℕ → ℕ → ℕ → Outcome
 delete g img k allowance = judged g img (deleteRest g (blocksOf g img) img k allowance)

@@ -13,6 +13,7 @@ use Rattle.model.specs.Tree.{halve, place, chosen, leaf, find, findIn, s
 use Rattle.model.specs.Edit.{put, pathHalf, sideHalf, gains}
 use Rattle.model.specs.Update.{rootGains, tooHigh}
 use Rattle.model.specs.Calls.{roomless}
+use Rattle.model.specs.Rules.{ample}
 
 -- n entries with the keys b, b + 10, b + 20, .. that all name page 0
 abbrev pub run : ℕ → ℕ → List Entry
@@ -54,11 +55,14 @@ cases =
     -- T = 96, k = 1: L = 32 has room, L = 33 is ROOM
     ∷ record { given = bit (roomless small (96 - 32) 1); wanted = 0 }
     ∷ record { given = bit (roomless small (96 - 33) 1); wanted = 1 }
+    -- by request 11, T = 96: L = 32 keeps R8, L = 33 breaks it
+    ∷ record { given = bit (ample 32 (96 - 32)); wanted = 1 }
+    ∷ record { given = bit (ample 32 (96 - 33)); wanted = 0 }
     -- at height 5 with all path nodes full a new key is HEIGHT, a present key is not
     ∷ record { given = bit (tooHigh small highest 15); wanted = 1 }
     ∷ record { given = bit (tooHigh small highest 10); wanted = 0 }
     ∷ []
 
 pub cases-hold : map (λ (c : Case). c .given) cases ≡ map (λ (c : Case). c .wanted) cases
-unfolding firstSlot slotsOf rootSlots roomless tooHigh rootGains gains leaf find findIn halve place chosen _&_
+unfolding firstSlot slotsOf rootSlots roomless ample tooHigh rootGains gains leaf find findIn halve place chosen _&_
 cases-hold = refl

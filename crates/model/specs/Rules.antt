@@ -1,4 +1,4 @@
--- "A sound image": R1 to R7 one by one, each with the page that request 5 of document 02 names, and the verdict: the first broken rule.
+-- "A sound image": R1 to R7 and, by request 11, R8, one by one, each with the page that request 5 of document 02 names, and the verdict: the first broken rule.
 -- Definitions alone; assumes nothing.
 use Prim.Native.Nat.{ℕ, zero, suc, _+_, _-_, _*_}
 use mathlib.Core.Bool.{Bool, true, false, not}
@@ -16,7 +16,7 @@ use Rattle.geometry.specs.Tests.{pick, _&_}
 use Rattle.model.specs.Bytes.{erased, seqAt, heightAt, tailAt}
 use Rattle.model.specs.Count.{count, least, any}
 use Rattle.model.specs.Image.{Nodes, Chip, chipOf, pagesOf, heightOf, rootOf}
-use Rattle.model.specs.Tree.{next, Place, placesOf, live, lowLevel}
+use Rattle.model.specs.Tree.{next, Place, placesOf, live, lowLevel, livePages}
 use Rattle.model.specs.Next.{mixed, full, firstIn, inBlock}
 
 -- the least page below t that a test finds bad
@@ -128,17 +128,24 @@ spareRoom p n c = pick (leb p (count (p * n) (c .er))) true
 unfoldable pub r7 : ℕ → ℕ → Chip → Finding
 r7 p n c = unless (spareRoom p n c) 0 Good
 
+-- R8: T − L is at least 64, twice a block's pages
+unfoldable pub ample : ℕ → ℕ → Bool
+ample p free = leb (2 * p) free
+
+unfoldable pub r8 : ℕ → ℕ → Chip → Finding
+r8 p n c = unless (ample p (p * n - livePages (p * n) c)) 0 Good
+
 -- the first broken rule and its page
 unfoldable pub orElse : ℕ → Finding → Verdict → Verdict
 orElse rule Good v = v
 orElse rule (Bad p) v = Broken rule p
 
--- R1 to R7 in their order
+-- R1 to R8 in their order
 unfoldable pub verdict : Geometry → ℕ → List ℕ → Verdict
 verdict g n img =
     orElse 1 (r1 g n img) (orElse 2 (r2 (g .pages) n (erased g img)) (orElse 3 (r3 g n img) (orElse 4 (r4 g n img)
     (orElse 5 (r5 g (pagesOf g n) (chipOf g n img)) (orElse 6 (r6 (pagesOf g n) (chipOf g n img))
-    (orElse 7 (r7 (g .pages) n (chipOf g n img)) Sound))))))
+    (orElse 7 (r7 (g .pages) n (chipOf g n img)) (orElse 8 (r8 (g .pages) n (chipOf g n img)) Sound)))))))
 
 abbrev pub isSound : Verdict → Bool
 isSound Sound = true

@@ -17,4 +17,5 @@ pub mod Lengths
 pub mod Splits
 pub mod Like
 pub mod Live
+pub mod Leaf
 pub mod Judge

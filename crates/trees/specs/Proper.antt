@@ -33,7 +33,7 @@ mem-at : (spots : List Place) (q j : ℕ) → Mem (record { page = q; level = j 
 mem-at spots q zero m = tt
 mem-at spots q (suc j) m = m
 
-at-mem : (spots : List Place) (q j : ℕ) → 1 ≤ j → LiveAt spots j q → Mem (record { page = q; level = j }) spots
+pub at-mem : (spots : List Place) (q j : ℕ) → 1 ≤ j → LiveAt spots j q → Mem (record { page = q; level = j }) spots
 at-mem spots q zero b m = absurd (omega arith)
 at-mem spots q (suc j) b m = m
 
@@ -111,7 +111,7 @@ module _ (n top : ℕ) (half most : ℕ → ℕ) (r s : Nodes) (fit fit′ : ℕ
     abbrev rootLess : ℕ → ℕ → List Entry
     rootLess l p = atRoot (removeIn k) (deleted r k n l) k l (r p (suc l))
 
-    less-is : (l : ℕ) (es : List Entry) → 0 < length es → Rises (Ok fit roomAt r l) top es
+    pub less-is : (l : ℕ) (es : List Entry) → 0 < length es → Rises (Ok fit roomAt r l) top es
         → atRoot (removeIn k) (deleted r k n l) k l es ≡ splice (deleted r k n l) k es
     unfolding atRoot edit removeIn
     less-is zero es c h = refl

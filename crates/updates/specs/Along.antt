@@ -1,8 +1,8 @@
 -- A list of stores, store by store: what holds before and after each. Assumes nothing.
-use mathlib.Core.Path.{_≡_, refl, _∙_}
+use mathlib.Core.Path.{_≡_, refl, ap, _∙_}
 use mathlib.Core.List.{List, [], _∷_, _++_}
 use mathlib.Core.Logic.{inl}
-use Prim.Native.Nat.{ℕ, zero, suc, _+_, _<_, _≤_}
+use Prim.Native.Nat.{ℕ, zero, suc, _+_, _*_, _<_, _≤_}
 use native.Mathlib.Omega.{arith}
 use lib.ListN.{take}
 use Rattle.geometry.specs.declared.Geometry.{Geometry}
@@ -10,15 +10,15 @@ use Rattle.geometry.specs.declared.Entry.{Entry}
 use Rattle.geometry.specs.Shape.{Shape}
 use Rattle.model.specs.Count.{count}
 use Rattle.model.specs.Image.{pagesOf, maxSeq, Chip, chipOf}
-use Rattle.model.specs.Tree.{mapOf}
+use Rattle.model.specs.Tree.{mapOf, Place, live}
 use Rattle.model.specs.Next.{ahead, nextPage}
 use Rattle.model.specs.Stores.{Store, applyStore, applyAll, programs, erases}
 use Rattle.stores.specs.Runs.{all-append, programs-append, erases-append}
-use Rattle.chips.specs.Collect.{R7}
+use Rattle.chips.specs.Collect.{R7, R8}
 use Rattle.images.specs.Views.{beside}
 use Rattle.images.specs.Page.{Parts, builtView}
 use Rattle.images.specs.Held.{Held}
-use Rattle.images.specs.Writes.{nextStore, Legal, put-legal, put-max, side-chip, side-held, side-map, side-frees}
+use Rattle.images.specs.Writes.{nextStore, Legal, put-legal, put-max, side-chip, side-held, side-map, side-lives, side-frees}
 
 -- P before and after each store, each store legal
 unfoldable pub Along : Geometry → ℕ → (List ℕ → Type 0) → List ℕ → List Store → Type 0
@@ -49,6 +49,7 @@ along-take g n P img (s ∷ ss) (suc m) h = along-take g n P (applyStore g s img
 pub record Keeps (g : Geometry) (n : ℕ) (base : List Entry) (img : List ℕ) : Type 0 where
   pub held : Held g n img
   pub r7 : R7 g n (chipOf g n img)
+  pub r8 : R8 g n (chipOf g n img)
   pub map-is : mapOf (chipOf g n img) ≡ base
 
 -- the stores ss lead from img to the chip d, with at most b programs and e erases
@@ -101,6 +102,8 @@ module _ (g : Geometry) (n : ℕ) (base : List Entry) where
       let end : Keeps g n base (applyStore g (nextStore g n 0 parts img) img) = record {
         held = side-held g shape n img (h .held) free parts ok low 0 (omega arith) refl;
         r7 = inl (omega (arith, f, sf));
+        r8 = (let z = ap (λ (x : List Place). count (pagesOf g n) (live x)) (side-lives g shape n img (h .held) free parts ok low 0 (omega arith) refl) in
+            omega (arith, z, h .r8));
         map-is = side-map g shape n img (h .held) free parts ok low 0 (omega arith) refl ∙ h .map-is;
       } in
       record {

@@ -16,7 +16,7 @@ use Rattle.geometry.specs.Tests.{pick}
 use Rattle.geometry.specs.Shape.{Shape}
 use Rattle.model.specs.Count.{count}
 use Rattle.model.specs.Image.{pagesOf, maxSeq, Chip, chipOf}
-use Rattle.model.specs.Tree.{mapOf, placesOf, live}
+use Rattle.model.specs.Tree.{mapOf, Place, placesOf, live}
 use Rattle.model.specs.Next.{full, ahead, nextPage}
 use Rattle.model.specs.Stores.{Store, erase, applyStore, applyAll, programs, erases}
 use Rattle.model.specs.Collect.{livesIn, theVictim, moveStore, sweepStores, clearStores, collectStores}
@@ -24,8 +24,8 @@ use Rattle.trees.specs.Tests.{by-eq}
 use Rattle.chips.specs.Whole.{some-page, Same}
 use Rattle.chips.specs.Moves.{moveTo}
 use Rattle.chips.specs.Sweep.{sweep, Sweeping, moved-on, emptied}
-use Rattle.chips.specs.Erase.{eraseBlock, erased-good, erased-pairs, erased-frees}
-use Rattle.chips.specs.Collect.{clear, collect, R7, full-none, round-victim, round, collected}
+use Rattle.chips.specs.Erase.{eraseBlock, erased-good, erased-pairs, erased-places, erased-frees}
+use Rattle.chips.specs.Collect.{clear, collect, R7, R8, full-none, round-victim, round, collected}
 use Rattle.images.specs.Held.{Held}
 use Rattle.images.specs.Writes.{Legal, wipe-chip, wipe-held, wipe-max}
 use Rattle.updates.specs.Along.{Along, Keeps, Runs, runs-end, runs-none, runs-then, runs-as}
@@ -46,11 +46,12 @@ module _ (g : Geometry) (shape : Shape g) (n : ℕ) (few : pagesOf g n + g .page
 
   -- the moves of a victim's pages
   sweep-runs : (v : ℕ) → v < n → (j : ℕ) (img : List ℕ) → j ≤ g .pages → Held g n img → Sweeping g n v j (chipOf g n img)
-      → mapOf (chipOf g n img) ≡ base → maxSeq g n img + j < 4294967295
+      → R8 g n (chipOf g n img) → mapOf (chipOf g n img) ≡ base → maxSeq g n img + j < 4294967295
       → Runs g n base img (sweepStores g n v j img) (sweep g n v j (chipOf g n img)) (livesIn (g .pages) v (chipOf g n img)) 0
   unfolding sweepStores sweep Along applyAll programs erases moveStore
-  sweep-runs v q zero img b h s m w = runs-none g n base img _ 0 (record { held = h; r7 = sweeping-r7 v 0 (chipOf g n img) q s; map-is = m })
-  sweep-runs v q (suc j) img b h s m w = go (live (placesOf (chipOf g n img)) (g .pages * v + (g .pages - suc j))) refl
+  sweep-runs v q zero img b h s u m w = runs-none g n base img _ 0
+      (record { held = h; r7 = sweeping-r7 v 0 (chipOf g n img) q s; r8 = u; map-is = m })
+  sweep-runs v q (suc j) img b h s r8 m w = go (live (placesOf (chipOf g n img)) (g .pages * v + (g .pages - suc j))) refl
       (λ i. sweep-runs v q j i (omega arith))
     where
       p : ℕ
@@ -66,7 +67,7 @@ module _ (g : Geometry) (shape : Shape g) (n : ℕ) (few : pagesOf g n + g .page
       st = moveStore g n (g .pages * v + (g .pages - suc j)) img
 
       go : (u : Bool) → live (placesOf (chipOf g n img)) (g .pages * v + (g .pages - suc j)) ≡ u
-          → ((i : List ℕ) → Held g n i → Sweeping g n v j (chipOf g n i) → mapOf (chipOf g n i) ≡ base → maxSeq g n i + j < 4294967295
+          → ((i : List ℕ) → Held g n i → Sweeping g n v j (chipOf g n i) → R8 g n (chipOf g n i) → mapOf (chipOf g n i) ≡ base → maxSeq g n i + j < 4294967295
           → Runs g n base i (sweepStores g n v j i) (sweep g n v j (chipOf g n i)) (livesIn (g .pages) v (chipOf g n i)) 0)
           → Runs g n base img
           (pick u (moveStore g n (g .pages * v + (g .pages - suc j)) img ∷ sweepStores g n v j
@@ -80,10 +81,11 @@ module _ (g : Geometry) (shape : Shape g) (n : ℕ) (few : pagesOf g n + g .page
           let mc = move-chip g shape n few img h p free e low in
           let mx = move-max g shape n few img h p free e low in
           let r = ih (applyStore g st img) (move-held g shape n few img h p free e low) (subst (Sweeping g n v j) (sym mc) (o .0))
+          (subst (R8 g n) (sym mc) (let z = o .1 .lives in omega (arith, z, r8)))
           (move-map g shape n few img h p free e low ∙ m) (omega (arith, mx, w)) in
           let lv = ap (livesIn (g .pages) v) mc in
           record {
-            along = (record { held = h; r7 = sweeping-r7 v (suc j) c q s; map-is = m }, move-legal g shape n few img h p free e low, r .along);
+            along = (record { held = h; r7 = sweeping-r7 v (suc j) c q s; r8 = r8; map-is = m }, move-legal g shape n few img h p free e low, r .along);
             chip-is = r .chip-is ∙ ap (sweep g n v j) mc;
             grows = omega (arith, r .grows, mx);
             programmed = omega (arith, r .programmed, lv, o .2);
@@ -96,13 +98,13 @@ module _ (g : Geometry) (shape : Shape g) (n : ℕ) (few : pagesOf g n + g .page
             few = s .few;
             dead = λ i z. by-eq i (g .pages - suc j) (λ y. rw y e)
                 (λ y. s .dead i (omega arith));
-          }) m (omega (arith, w))
+          }) r8 m (omega (arith, w))
 
   -- the erase of an emptied victim
-  erase-runs : (v : ℕ) → v < n → (img : List ℕ) → Held g n img → Sweeping g n v 0 (chipOf g n img) → mapOf (chipOf g n img) ≡ base
-      → Runs g n base img (erase v ∷ []) (eraseBlock g v (chipOf g n img)) 0 1
+  erase-runs : (v : ℕ) → v < n → (img : List ℕ) → Held g n img → Sweeping g n v 0 (chipOf g n img) → R8 g n (chipOf g n img)
+      → mapOf (chipOf g n img) ≡ base → Runs g n base img (erase v ∷ []) (eraseBlock g v (chipOf g n img)) 0 1
   unfolding Along applyAll Legal programs erases
-  erase-runs v q img h s m =
+  erase-runs v q img h s u m =
       let c = chipOf g n img in
       let dead : (j : ℕ) → j < g .pages → live (placesOf c) (g .pages * v + j) ≡ false = λ j z. s .dead j (omega (arith, z)) in
       let ec = wipe-chip g shape n img h v q dead in
@@ -111,11 +113,12 @@ module _ (g : Geometry) (shape : Shape g) (n : ℕ) (few : pagesOf g n + g .page
       let held = wipe-held g shape n img h v q dead (erased-good g shape n v q c s) in
       record {
         along = (
-          record { held = h; r7 = sweeping-r7 v 0 c q s; map-is = m },
+          record { held = h; r7 = sweeping-r7 v 0 c q s; r8 = u; map-is = m },
           (q, dead),
           record {
             held = held;
             r7 = subst (R7 g n) (sym ec) (inl (omega (arith, fr)));
+            r8 = subst (R8 g n) (sym ec) (let z = ap (λ (x : List Place). count t (live x)) (erased-places g shape n v q c s) in omega (arith, z, u));
             map-is = ap mapOf ec ∙ erased-pairs g shape n v q c s
                 ∙ m;
           },
@@ -155,10 +158,10 @@ module _ (g : Geometry) (shape : Shape g) (n : ℕ) (few : pagesOf g n + g .page
             few = le;
             dead =
                 λ i z. absurd (omega arith);
-          }) (h .map-is) w in
+          }) (h .r8) (h .map-is) w in
           let i = applyAll g ss img in
           let z = runs-end g n base img ss (sweep g n v (g .pages) c) (livesIn (g .pages) v c) 0 a in
-          let b = erase-runs v q i (z .held) (subst (Sweeping g n v 0) (sym (a .chip-is)) (sw .done)) (z .map-is) in
+          let b = erase-runs v q i (z .held) (subst (Sweeping g n v 0) (sym (a .chip-is)) (sw .done)) (z .r8) (z .map-is) in
           runs-as g n base img (ss ++ (erase v ∷ [])) (eraseBlock g v (chipOf g n i)) (eraseBlock g v (sweep g n v (g .pages) c))
           (livesIn (g .pages) v c + 0) (g .pages - 1) (0 + 1) 1 (ap (eraseBlock g v) (a .chip-is)) (omega (arith, less)) (omega arith)
           (runs-then g n base img ss (erase v ∷ []) (sweep g n v (g .pages) c) (eraseBlock g v (chipOf g n i)) (livesIn (g .pages) v c) 0 0 1 a b)
@@ -212,6 +215,7 @@ module _ (g : Geometry) (shape : Shape g) (n : ℕ) (few : pagesOf g n + g .page
     pub keeps : Keeps g n base (applyAll g (collectStores g n k (suc k) img) img)
     pub room : g .pages + k ≤ count t (chipOf g n (applyAll g (collectStores g n k (suc k) img) img) .er)
     pub alike : Same g (chipOf g n img) (chipOf g n (applyAll g (collectStores g n k (suc k) img) img))
+    pub lives : count t (live (placesOf (chipOf g n (applyAll g (collectStores g n k (suc k) img) img)))) ≤ count t (live (placesOf (chipOf g n img)))
 
   pub collect-done : (k : ℕ) (img : List ℕ) → Keeps g n base img → Roomy k (chipOf g n img) → maxSeq g n img + suc k * g .pages < 4294967295
       → Collected k img
@@ -223,4 +227,5 @@ module _ (g : Geometry) (shape : Shape g) (n : ℕ) (few : pagesOf g n + g .page
         keeps = runs-end g n base img (collectStores g n k (suc k) img) (collect g n k (suc k) (chipOf g n img)) (suc k * (g .pages - 1)) (suc k) r;
         room = subst (λ (x : Chip). g .pages + k ≤ count t (x .er)) (sym (r .chip-is)) (c .1);
         alike = subst (Same g (chipOf g n img)) (sym (r .chip-is)) (c .0 .alike);
+        lives = subst (λ (x : Chip). count t (live (placesOf x)) ≤ count t (live (placesOf (chipOf g n img)))) (sym (r .chip-is)) (c .0 .lives);
       }

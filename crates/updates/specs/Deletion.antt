@@ -24,6 +24,7 @@ use Rattle.trees.specs.Lists.{All}
 use Rattle.trees.specs.Nodes.{fitOf}
 use Rattle.trees.specs.Lengths.{splice-all, splice-most, path-all, path-most}
 use Rattle.chips.specs.Whole.{Whole}
+use Rattle.chips.specs.Collect.{R8}
 use Rattle.chips.specs.Pages.{side-erased, new-side}
 use Rattle.chips.specs.Deletion.{leftList, top-low, delete-done, top-most}
 use Rattle.images.specs.Bytes.{Fits}
@@ -178,10 +179,10 @@ module _ (g : Geometry) (shape : Shape g) (n : ℕ) (few : pagesOf g n + g .page
     unfolding rooted taken
     final-is = let z : height - 1 ≡ top .level = omega arith in λ i. record { er = after N (c .er); seq = e′ .seq; nodes = e′ .nodes; level = z i; root = N }
 
-    final-done : Whole g n e′ × (mapOf e′ ≡ remove k (mapOf c))
+    final-done : Whole g n e′ × (mapOf e′ ≡ remove k (mapOf c)) × R8 g n e′
     final-done =
         let w = delete-done g shape n k k-low c whole present free (e′ .nodes) (e′ .seq) at-N stays high in
-        (subst (Whole g n) (sym final-is) (w .0), ap mapOf final-is ∙ w .1)
+        (subst (Whole g n) (sym final-is) (w .0), ap mapOf final-is ∙ w .1, subst (R8 g n) (sym final-is) (omega (arith, w .2, keeps .r8)))
 
   store-is : deleteStore g n (maxSeq g n img) c k ≡ nextStore g n height (leftList g n c k) img
   unfolding deleteStore nextStore taken
@@ -193,4 +194,4 @@ module _ (g : Geometry) (shape : Shape g) (n : ℕ) (few : pagesOf g n + g .page
   delete-own =
       updated g shape n base (remove k base) img [] c 0 0 height (leftList g n c k) (deleteStore g n (maxSeq g n img) c k)
       (runs-none g n base img 0 0 keeps) room (omega (arith, low)) parts (omega arith) (omega (arith, lower, high)) store-is
-      (λ q. (final-done q .0, final-done q .1 ∙ ap (remove k) (keeps .map-is)))
+      (λ q. (final-done q .0, final-done q .1 ∙ ap (remove k) (keeps .map-is), final-done q .2))

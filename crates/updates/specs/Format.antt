@@ -200,6 +200,15 @@ module _ (g : Geometry) (shape : Shape g) (n : ℕ) (three : 3 ≤ n) (img : Lis
       let z = count-all t in
       omega (arith, e, x, y, z)
 
+  pub formatted-lives : livePages t (chipOf g n formatted) ≤ 1
+  unfolding rooted places gather live
+  formatted-lives =
+      let e = ap (λ (x : Chip). livePages t x) formatted-chip in
+      let z : placesOf d ≡ record { page = 0; level = 1 } ∷ [] = ap (λ (es : List Entry). record { page = 0; level = 1 } ∷ gather
+      (places (d .nodes) 0) es) (nodes-none 1) in
+      let l = ap (λ (spots : List Place). count t (live spots)) z in
+      omega (arith, e, l, count-one t)
+
   map-none : mapOf d ≡ []
   unfolding rooted under gather
   map-none = ap (gather (under (d .nodes) 0)) (nodes-none 1)
@@ -209,6 +218,7 @@ module _ (g : Geometry) (shape : Shape g) (n : ℕ) (three : 3 ≤ n) (img : Lis
   formatted-keeps = record {
     held = formatted-held;
     r7 = inl (let z = some-page g shape in omega (arith, formatted-frees, big, z));
+    r8 = (let z = some-page g shape in omega (arith, formatted-lives, big, z));
     map-is =
         ap mapOf formatted-chip ∙ map-none;
   }
@@ -228,12 +238,3 @@ module _ (g : Geometry) (shape : Shape g) (n : ℕ) (three : 3 ≤ n) (img : Lis
   pub formatted-root : rootNode (chipOf g n formatted) ≡ []
   unfolding rooted
   formatted-root = ap rootNode formatted-chip ∙ nodes-none 1
-
-  pub formatted-lives : livePages t (chipOf g n formatted) ≤ 1
-  unfolding rooted places gather live
-  formatted-lives =
-      let e = ap (λ (x : Chip). livePages t x) formatted-chip in
-      let z : placesOf d ≡ record { page = 0; level = 1 } ∷ [] = ap (λ (es : List Entry). record { page = 0; level = 1 } ∷ gather
-      (places (d .nodes) 0) es) (nodes-none 1) in
-      let l = ap (λ (spots : List Place). count t (live spots)) z in
-      omega (arith, e, l, count-one t)

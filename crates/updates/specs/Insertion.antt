@@ -14,7 +14,7 @@ use Rattle.geometry.specs.Geometry.{half}
 use Rattle.geometry.specs.Shape.{Shape}
 use Rattle.model.specs.Count.{count, peak}
 use Rattle.model.specs.Image.{pagesOf, maxSeq, Chip, chipOf}
-use Rattle.model.specs.Tree.{mapOf, chosen, sought}
+use Rattle.model.specs.Tree.{mapOf, placesOf, live, chosen, sought}
 use Rattle.model.specs.Next.{Ahead, ahead, nextPage, after, onward, taken}
 use Rattle.model.specs.Page.{built, only}
 use Rattle.model.specs.Stores.{Store, program, applyStore, applyAll, programs}
@@ -27,6 +27,7 @@ use Rattle.trees.specs.Lists.{All}
 use Rattle.trees.specs.Nodes.{fitOf}
 use Rattle.chips.specs.Next.{step}
 use Rattle.chips.specs.Whole.{some-page, Whole}
+use Rattle.chips.specs.Collect.{R8}
 use Rattle.chips.specs.Pages.{side-erased, side-inj, new-side}
 use Rattle.chips.specs.Insertion.{sideList, mainList, cut-levels, needs-is, cuts-le, grow-all, insert-done}
 use Rattle.images.specs.Bytes.{Fits}
@@ -56,7 +57,8 @@ module _ (g : Geometry) (shape : Shape g) (n : ℕ) (few : pagesOf g n + g .page
     (a-low : a < 4294967296)
     (base : List Entry) (img : List ℕ) (keeps : Keeps g n base img) (not-high : tooHigh g (chipOf g n img) k ≡ false)
     (room : g .pages + needs g (chipOf g n img) k ≤ count (pagesOf g n) (chipOf g n img .er))
-    (low : maxSeq g n img + needs g (chipOf g n img) k < 4294967295) where
+    (low : maxSeq g n img + needs g (chipOf g n img) k < 4294967295)
+    (space : count (pagesOf g n) (live (placesOf (chipOf g n img))) + (2 * g .pages + needs g (chipOf g n img) k) ≤ suc (pagesOf g n)) where
   abbrev c : Chip
   c = chipOf g n img
 
@@ -314,10 +316,10 @@ module _ (g : Geometry) (shape : Shape g) (n : ℕ) (few : pagesOf g n + g .page
     unfolding rooted
     final-is = λ i. record { er = er-is i; seq = e′ .seq; nodes = e′ .nodes; level = height - 1; root = page-is i }
 
-    pub final-done : Whole g n e′ × (mapOf e′ ≡ put k a (mapOf c))
+    pub final-done : Whole g n e′ × (mapOf e′ ≡ put k a (mapOf c)) × R8 g n e′
     final-done =
         let w = insert-done g shape n k a k-low c whole free (e′ .nodes) (e′ .seq) at-N at-side stays high not-high in
-        (subst (Whole g n) (sym final-is) (w .0), ap mapOf final-is ∙ w .1)
+        (subst (Whole g n) (sym final-is) (w .0), ap mapOf final-is ∙ w .1, subst (R8 g n) (sym final-is) (omega (arith, w .2, space)))
 
   -- the insertion's own stores: m programs
   pub own-updated : Updated g n base (put k a base) img (ownStores g n seq c m k a) m 0
@@ -336,7 +338,7 @@ module _ (g : Geometry) (shape : Shape g) (n : ℕ) (few : pagesOf g n + g .page
       let u = updated g shape n base (put k a base) img ss (s .chip) i 0 height (mainList g n c k a) st (s .runs) (omega (arith, cnt, lf, room, m-is))
       (omega (arith, s .max-is, low, m-is))
       (main-parts g shape n few k a k-low a-low c whole all-fit high not-high) (height-in .0) (height-in .1) e
-      (λ q. let w = final-done (s .chip) (s .laid) q in (w .0, w .1 ∙ ap (put k a) (keeps .map-is))) in
+      (λ q. let w = final-done (s .chip) (s .laid) q in (w .0, w .1 ∙ ap (put k a) (keeps .map-is), w .2)) in
       let z : i + 1 ≡ m = omega (arith, m-is) in
       subst (λ j. Updated g n base (put k a base) img (sideStores g seq k side lists (c .level) ++
       (crownStore g seq k side (suc (c .level)) (lists (suc (c .level))) ++ (st ∷ []))) j 0) z

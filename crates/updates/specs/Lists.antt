@@ -80,16 +80,19 @@ module _ (g : Geometry) (shape : Shape g) (n : ℕ) (few : pagesOf g n + g .page
         let z = numbers m m-top .1 in
         omega (arith, x, y, z, same-m)
 
+    then-space : count t (live (placesOf (chipOf g n then))) + (2 * g .pages + needs g (chipOf g n then) k) ≤ suc t
+    then-space = let z = after-collect .lives in omega (arith, z, roomy m m-some not-room, same-m)
+
     own : Updated g n base (put k a base) then (ownStores g n (maxSeq g n then) (chipOf g n then) (needs g (chipOf g n then) k) k a)
         (needs g (chipOf g n then) k) 0
     own = own-updated g shape n few k a k-low a-low base then (after-collect .keeps) (after-collect .alike .high-is k k-low ∙ not-high)
-        (let z = after-collect .room in omega (arith, z, same-m)) then-low
+        (let z = after-collect .room in omega (arith, z, same-m)) then-low then-space
 
     -- the own pages are 1 + splits + grow
     pub insert-own : programs (ownStores g n (maxSeq g n then) (chipOf g n then) m k a) ≡ m
     insert-own = subst (λ j. programs (ownStores g n (maxSeq g n then) (chipOf g n then) j k a) ≡ j) same-m
         (own-programs g shape n few k a k-low a-low base then (after-collect .keeps) (after-collect .alike .high-is k k-low ∙ not-high)
-        (let z = after-collect .room in omega (arith, z, same-m)) then-low)
+        (let z = after-collect .room in omega (arith, z, same-m)) then-low then-space)
 
     pub insert-programs-only : erases (ownStores g n (maxSeq g n then) (chipOf g n then) m k a) ≡ 0
     insert-programs-only = let z = subst (λ j. erases (ownStores g n (maxSeq g n then) (chipOf g n then) j k a) ≤ 0) same-m (own .wiped) in
@@ -106,13 +109,12 @@ module _ (g : Geometry) (shape : Shape g) (n : ℕ) (few : pagesOf g n + g .page
         (programMost g m) j) z w
 
   -- a deletion
-  module _ (some-pages : 1 ≤ t) (k : ℕ) (k-low : k < 4294967296) (present : isNone (sought c k) ≡ false)
-      (not-room : roomless g (freePages g n c) 1 ≡ false) where
+  module _ (some-pages : 1 ≤ t) (k : ℕ) (k-low : k < 4294967296) (present : isNone (sought c k) ≡ false) where
     one-top : 1 ≤ g .top
     one-top = let z = shape .top-low in omega (arith, z)
 
     collected-one : Collected g shape n few base 1 img
-    collected-one = collect-done g shape n few base 1 img keeps (roomy 1 (omega arith) not-room) (numbers 1 one-top .0)
+    collected-one = collect-done g shape n few base 1 img keeps (let z = keeps .r8 in omega (arith, z)) (numbers 1 one-top .0)
 
     abbrev left : List ℕ
     left = applyAll g (collectStores g n 1 2 img) img

@@ -14,6 +14,7 @@ use Rattle.model.specs.Next.{ahead, nextPage}
 use Rattle.model.specs.Stores.{Store, applyStore, applyAll, programs, erases}
 use Rattle.stores.specs.Runs.{all-append, programs-append, erases-append}
 use Rattle.chips.specs.Whole.{Whole}
+use Rattle.chips.specs.Collect.{R8}
 use Rattle.images.specs.Views.{rooted}
 use Rattle.images.specs.Page.{Parts, builtView}
 use Rattle.images.specs.Writes.{nextStore, Legal, put-legal, root-chip, root-held, root-frees}
@@ -36,7 +37,8 @@ pub updated : (g : Geometry) → Shape g
     → g .pages + 1 ≤ count (pagesOf g n) (d .er) → suc (maxSeq g n (applyAll g ss img)) < 4294967295 → Parts g parts → 1 ≤ h → h ≤ g .top
     → s ≡ nextStore g n h parts (applyAll g ss img)
     → ((q : ℕ) → Whole g n (rooted d (nextPage (g .pages) n (ahead g n d)) (builtView g q h parts)) ×
-    (mapOf (rooted d (nextPage (g .pages) n (ahead g n d)) (builtView g q h parts)) ≡ new))
+    (mapOf (rooted d (nextPage (g .pages) n (ahead g n d)) (builtView g q h parts)) ≡ new) ×
+    R8 g n (rooted d (nextPage (g .pages) n (ahead g n d)) (builtView g q h parts)))
     → Updated g n old new img (ss ++ (s ∷ [])) (b + 1) e
 unfolding applyAll programs erases nextStore
 updated g shape n old new img ss d b e h parts s r f low ok i k se good =
@@ -49,12 +51,14 @@ updated g shape n old new img ss d b e h parts s r f low ok i k se good =
     let q = suc (maxSeq g n x) in
     let rc = root-chip g shape n x (z .held) free parts ok low h k i in
     let ge = subst (λ (y : Chip). Whole g n (rooted y (nextPage (g .pages) n (ahead g n y)) (builtView g q h parts)) ×
-    (mapOf (rooted y (nextPage (g .pages) n (ahead g n y)) (builtView g q h parts)) ≡ new)) (sym ci) (good q) in
+    (mapOf (rooted y (nextPage (g .pages) n (ahead g n y)) (builtView g q h parts)) ≡ new) ×
+    R8 g n (rooted y (nextPage (g .pages) n (ahead g n y)) (builtView g q h parts))) (sym ci) (good q) in
     let fr = root-frees g shape n x (z .held) free parts ok low h k i in
     let done : Keeps g n new (applyStore g (nextStore g n h parts x) x) = record {
       held = root-held g shape n x (z .held) free parts ok low h k i
           (ge .0);
       r7 = inl (omega (arith, fr, many));
+      r8 = subst (R8 g n) (sym rc) (ge .2);
       map-is = ap mapOf rc ∙ ge .1;
     } in
     record {

@@ -19,7 +19,7 @@ use Rattle.model.specs.Count.{count, least, any, arg}
 use Rattle.model.specs.Image.{Chip, chipOf, pagesOf, heightOf, rootOf, rootScore}
 use Rattle.model.specs.Next.{full, inBlock}
 use Rattle.model.specs.Tree.{placesOf, live}
-use Rattle.model.specs.Rules.{unless, r1, r2, r3, r4, r5, r6, r7, spareRoom, orElse, verdict, isSound}
+use Rattle.model.specs.Rules.{unless, r1, r2, r3, r4, r5, r6, r7, spareRoom, ample, r8, orElse, verdict, isSound}
 use Rattle.chip.specs.Chip.{chipWith}
 use Rattle.counts.specs.Least.{least-zero, least-go, any-none, any-hit, any-same}
 use Rattle.counts.specs.Lowest.{unless-true, unless-false}
@@ -27,11 +27,11 @@ use Rattle.counts.specs.Peak.{arg-most, arg-less}
 use Rattle.survey.specs.declared.Survey.{Survey}
 use Rattle.survey.specs.Survey.{surveyOf}
 use Rattle.walk.specs.Table.{liveIn, Marked}
-use Rattle.walk.specs.Lows.{marked-block}
+use Rattle.walk.specs.Lows.{marked-block, marked-pages}
 use Rattle.loose.specs.Loose.{Inside}
 use Rattle.loose.specs.Judged.{r5-inside}
 use Rattle.verdict.specs.declared.Judgement.{Judgement}
-use Rattle.verdict.specs.Verdict.{clearable, from2, from3, from4, from5, from6, from7, Ready, Tells, Judged}
+use Rattle.verdict.specs.Verdict.{clearable, from2, from3, from4, from5, from6, from7, from8, Ready, Tells, Judged}
 
 -- the survey's chip is the image's
 pub chip-is : (g : Geometry) (n : ℕ) (img : List ℕ) (s : Survey) → s ≡ surveyOf g n img → chipWith g img (s .level) (s .root) ≡ chipOf g n img
@@ -94,6 +94,24 @@ module _ (g : Geometry) (n : ℕ) (img : List ℕ) (s : Survey) (tbl : List ℕ)
   room-none a b r ea eb h er q =
       sym (rw (← free-is, lt-leb (g .pages) (s .erased) (rw (← ea, ← eb) h), ← room-is, ← er, q) (unless-false 0 Good))
 
+  -- R8: t pages, v of them live, f not; w is a block's pages
+  module _ (t v f w : ℕ) (et : t ≡ g .pages * n) (ev : v ≡ count t (liveIn tbl)) (ef : f ≡ t - v) (ew : w ≡ g .pages) where
+    dead-is : f ≡ g .pages * n - count (g .pages * n) (live (placesOf (chipOf g n img)))
+    dead-is =
+        let a : v ≡ count (g .pages * n) (liveIn tbl) = ev ∙ ap (λ m. count m (liveIn tbl)) et in
+        let b = marked-pages (chipOf g n img) tbl m (g .pages * n) (x .room) in
+        omega (arith, a, b, ef, et)
+
+    pub ample-yes : 2 * w ≤ f → Good ≡ r8 (g .pages) n (chipOf g n img)
+    unfolding r8 ample
+    ample-yes h = sym (rw (le-leb (2 * g .pages) (g .pages * n - count (g .pages * n) (live (placesOf (chipOf g n img))))
+        (omega (arith, h, dead-is, ew))) (unless-true 0 Good))
+
+    pub ample-no : f < 2 * w → Bad 0 ≡ r8 (g .pages) n (chipOf g n img)
+    unfolding r8 ample
+    ample-no h = sym (rw (lt-leb (2 * g .pages) (g .pages * n - count (g .pages * n) (live (placesOf (chipOf g n img))))
+        (omega (arith, h, dead-is, ew))) (unless-false 0 Good))
+
 -- a rule and those after it
 or-bad : (k q : ℕ) (v : Finding) (w : Verdict) → v ≡ Bad q → Broken k q ≡ orElse k v w
 unfolding orElse
@@ -104,13 +122,21 @@ unfolding orElse
 or-good k v w e = sym (rw e refl)
 
 module _ (g : Geometry) (n : ℕ) (img : List ℕ) (v : Finding) where
+  pub bad-8 : (q : ℕ) → v ≡ r8 (g .pages) n (chipOf g n img) → v ≡ Bad q → Broken 8 q ≡ from8 g n img
+  unfolding from8
+  bad-8 q e f = or-bad 8 q _ _ (sym e ∙ f)
+
+  pub good-8 : v ≡ r8 (g .pages) n (chipOf g n img) → v ≡ Good → Sound ≡ from8 g n img
+  unfolding from8
+  good-8 e f = or-good 8 _ _ (sym e ∙ f)
+
   pub bad-7 : (q : ℕ) → v ≡ r7 (g .pages) n (chipOf g n img) → v ≡ Bad q → Broken 7 q ≡ from7 g n img
   unfolding from7
   bad-7 q e f = or-bad 7 q _ _ (sym e ∙ f)
 
-  pub good-7 : v ≡ r7 (g .pages) n (chipOf g n img) → v ≡ Good → Sound ≡ from7 g n img
+  pub good-7 : (w : Verdict) → v ≡ r7 (g .pages) n (chipOf g n img) → v ≡ Good → w ≡ from8 g n img → w ≡ from7 g n img
   unfolding from7
-  good-7 e f = or-good 7 _ _ (sym e ∙ f)
+  good-7 w e f ew = ew ∙ or-good 7 _ _ (sym e ∙ f)
 
   module _ (s : Survey) (es : s ≡ surveyOf g n img) (t : ℕ) (et : t ≡ g .pages * n) where
     pub bad-6 : (q : ℕ) → v ≡ r6 t (chipWith g img (s .level) (s .root)) → v ≡ Bad q → Broken 6 q ≡ from6 g n img
@@ -158,7 +184,7 @@ module _ (g : Geometry) (n : ℕ) (img : List ℕ) (v : Finding) where
   bad-1 q e f = or-bad 1 q _ _ (sym e ∙ f)
 
   pub good-1 : (w : Verdict) → v ≡ r1 g n img → v ≡ Good → w ≡ from2 g n img → w ≡ verdict g n img
-  unfolding verdict from2 from3 from4 from5 from6 from7
+  unfolding verdict from2 from3 from4 from5 from6 from7 from8
   good-1 w e f ew = ew ∙ or-good 1 _ _ (sym e ∙ f)
 
 -- the table
@@ -212,4 +238,4 @@ pub judged-is : (g : Geometry) (n : ℕ) (img t u : List ℕ) (v : Verdict) (s :
     → Tells (chipOf g n img) u v → length u ≡ length t → Judged g n img (record { verdict = v; survey = s }) t u
 judged-is g n img t u v s ev es h x e = record { verdict = ev; survey = es; level = h; table = x; same = e }
 
-pub ruleset verdict-laws = (clear-no, clear-is, clear-start, clear-go, clear-hit, clear-end, room-many, room-some, room-none, bad-7, good-7, bad-6, good-6, bad-5, good-5, bad-4, good-4, bad-3, good-3, bad-2, good-2, bad-1, good-1, tells-broken, tells-filled, ready-is, ready-same, marked-chip, marked-with, inside-with, inside-good, judged-is)
+pub ruleset verdict-laws = (clear-no, clear-is, clear-start, clear-go, clear-hit, clear-end, room-many, room-some, room-none, ample-yes, ample-no, bad-8, good-8, bad-7, good-7, bad-6, good-6, bad-5, good-5, bad-4, good-4, bad-3, good-3, bad-2, good-2, bad-1, good-1, tells-broken, tells-filled, ready-is, ready-same, marked-chip, marked-with, inside-with, inside-good, judged-is)

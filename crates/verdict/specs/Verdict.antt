@@ -12,7 +12,7 @@ use Rattle.geometry.specs.Tests.{_&_}
 use Rattle.model.specs.Bytes.{erased}
 use Rattle.model.specs.Image.{Chip, chipOf, pagesOf}
 use Rattle.model.specs.Next.{full, inBlock}
-use Rattle.model.specs.Rules.{r2, r3, r4, r5, r6, r7, orElse, verdict}
+use Rattle.model.specs.Rules.{r2, r3, r4, r5, r6, r7, r8, orElse, verdict}
 use Rattle.survey.specs.declared.Survey.{Survey}
 use Rattle.survey.specs.Survey.{surveyOf}
 use Rattle.walk.specs.Table.{liveIn, Marked}
@@ -22,8 +22,11 @@ use Rattle.verdict.specs.declared.Judgement.{Judgement}
 unfoldable pub clearable : ℕ → (ℕ → Bool) → List ℕ → ℕ → ℕ → Bool
 clearable p er tbl free b = full p er b & leb (inBlock p (liveIn tbl) b) free
 
+unfoldable pub from8 : Geometry → ℕ → List ℕ → Verdict
+from8 g n img = orElse 8 (r8 (g .pages) n (chipOf g n img)) Sound
+
 unfoldable pub from7 : Geometry → ℕ → List ℕ → Verdict
-from7 g n img = orElse 7 (r7 (g .pages) n (chipOf g n img)) Sound
+from7 g n img = orElse 7 (r7 (g .pages) n (chipOf g n img)) (from8 g n img)
 
 unfoldable pub from6 : Geometry → ℕ → List ℕ → Verdict
 from6 g n img = orElse 6 (r6 (pagesOf g n) (chipOf g n img)) (from7 g n img)

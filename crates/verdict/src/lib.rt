@@ -1,14 +1,14 @@
-// R7, and the verdict: R1 to R7 in their order.
+// R7, R8, and the verdict: R1 to R8 in their order.
 ghost use mathlib.Core.Path.{_≡_};
 ghost use Prim.Native.Nat.{ℕ, _+_, _*_, _-_, _≤_, _<_};
 ghost use lib.ListN.{length};
 ghost use Rattle.model.specs.Bytes.{erased};
 ghost use Rattle.model.specs.Count.{any};
 ghost use Rattle.model.specs.Image.{chipOf};
-ghost use Rattle.model.specs.Rules.{r7, verdict};
+ghost use Rattle.model.specs.Rules.{r7, r8, verdict};
 ghost use Rattle.walk.specs.Table.{Marked};
 ghost use Rattle.loose.specs.Loose.{Inside};
-ghost use Rattle.verdict.specs.Verdict.{clearable, from2, from3, from4, from5, from6, from7, Ready, Tells, Judged};
+ghost use Rattle.verdict.specs.Verdict.{clearable, from2, from3, from4, from5, from6, from7, from8, Ready, Tells, Judged};
 use geometry::Finding;
 use geometry::Geometry;
 use geometry::Verdict;
@@ -59,6 +59,32 @@ fn rule_7(g: Geometry, img: &[u8], table: &[u8], n: u16, survey: Survey) -> Find
     Finding::Bad(0)
 }
 
+// R8: the pages that are not live are two blocks' at least.
+fn rule_8(g: Geometry, img: &[u8], table: &[u8], n: u16, survey: Survey) -> Finding
+    requires { ⌜ Ready g n (now img) survey (length (now table)) ⌝ }
+    requires { ⌜ Marked (chipOf g n (now img)) (now table) ⌝ }
+    ensures { λ r. ⌜ r ≡ r8 (g .pages) n (chipOf g n (now (img .entry))) ⌝ }
+{
+    let pages = chip::first_page(g, n);
+    let lives = walk::live_pages(table, pages);
+    let dead = geometry::index(pages - lives);
+    if 2 * geometry::wide(g.pages) <= dead {
+        return Finding::Good;
+    }
+    Finding::Bad(0)
+}
+
+fn from_rule_8(g: Geometry, img: &[u8], table: &[u8], n: u16, survey: Survey) -> Verdict
+    requires { ⌜ Ready g n (now img) survey (length (now table)) ⌝ }
+    requires { ⌜ Marked (chipOf g n (now img)) (now table) ⌝ }
+    ensures { λ r. ⌜ r ≡ from8 g n (now (img .entry)) ⌝ }
+{
+    match rule_8(g, img, table, n, survey) {
+        Finding::Bad(page) => Verdict::Broken(8, page),
+        Finding::Good => Verdict::Sound,
+    }
+}
+
 fn from_rule_7(g: Geometry, img: &[u8], table: &[u8], n: u16, survey: Survey) -> Verdict
     requires { ⌜ Ready g n (now img) survey (length (now table)) ⌝ }
     requires { ⌜ Marked (chipOf g n (now img)) (now table) ⌝ }
@@ -66,7 +92,7 @@ fn from_rule_7(g: Geometry, img: &[u8], table: &[u8], n: u16, survey: Survey) ->
 {
     match rule_7(g, img, table, n, survey) {
         Finding::Bad(page) => Verdict::Broken(7, page),
-        Finding::Good => Verdict::Sound,
+        Finding::Good => from_rule_8(g, img, table, n, survey),
     }
 }
 

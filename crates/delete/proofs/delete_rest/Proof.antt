@@ -5,7 +5,6 @@ use Rattle.delete.proofs.delete_rest.Tie as tie
 use Rattle.delete.proofs.delete_rest.Reads as reads
 use Rattle.delete.proofs.delete_rest.Lts as lts
 use Rattle.account.proofs.answer_of.Reads as answer-of-reads
-use Rattle.account.proofs.is_roomless.Reads as is-roomless-reads
 use Rattle.delete.proofs.is_absent.Reads as is-absent-reads
 use Rattle.delete.proofs.make_stores.Reads as make-stores-reads
 
@@ -17,10 +16,6 @@ delete-rest-spec =
     (tie.spec
     (λ c. search all)
     (λ c κs. search all)
-    (λ c. search all)
-    (λ c. search all)
-    (λ c κs. search all)
-    (λ c. search all)
     (λ c. search all)
     (λ c. search all)
     (λ c κs. search all)
