@@ -1,7 +1,7 @@
 -- The demands, about the definitions `lookup`, `insert` and `delete` of crate model, whose outcome has an answer number, an
 -- address, two counts and the image afterwards. g is any geometry with `Shape g`, the small chip's among them; k, the key, and
--- a, the address, are below 2^32 = 4294967296; al is the store allowance. `Words` has the words: Ready, mapAt, Holds, Kept,
--- Began, OneOf, Own. Every proof here is one citation; assumes nothing.
+-- a, the address, are below 2^32 = 4294967296; al is the store allowance. `Words` has the words: Ready, mapAt, Rising, Holds,
+-- Kept, Began, OneOf, Own. Every proof here is one citation; assumes nothing.
 use mathlib.Core.Path.{_≡_}
 use mathlib.Core.List.{List, [], _∷_}
 use mathlib.Core.Logic.{_⊎_}
@@ -16,11 +16,9 @@ use Rattle.model.specs.Edit.{put, remove}
 use Rattle.model.specs.Stores.{programs, erases}
 use Rattle.model.specs.Update.{needs, insertStores, deleteStores}
 use Rattle.model.specs.Calls.{made, answered, lookup, insert, delete}
-use Rattle.trees.specs.Lists.{Rises}
-use Rattle.chips.specs.Whole.{map-rises}
-use Rattle.demands.specs.Words.{Ready, mapAt, Holds, Kept, Began, OneOf, Own}
-use Rattle.demands.specs.Maps.{find-put, find-put-other, find-remove, find-remove-other}
-use Rattle.demands.specs.Bridges.{ready-keeps}
+use Rattle.demands.specs.Words.{Ready, mapAt, Rising, Holds, Kept, Began, OneOf, Own}
+use Rattle.demands.specs.Maps.{rising, find-put, find-put-other, find-remove, find-remove-other}
+use Rattle.demands.specs.Bridges.{ready-rises}
 use Rattle.demands.specs.Calls.{insert-untouched, delete-untouched, insert-passed, delete-passed}
 use Rattle.demands.specs.Proofs.{lookup-image, insert-one, delete-one, room-needs, absent-answer, answer-absent, height-absent, insert-kept, insert-pages, delete-pages, delete-kept, insert-ends, delete-ends, insert-stops, delete-stops, lookup-is}
 
@@ -39,8 +37,8 @@ lookup-reads g img k = lookup-image g img k
 module _ (g : Geometry) (shape : Shape g) (img : List ℕ) (ready : Ready g img) (k : ℕ) (k-low : k < 4294967296) where
   -- ---- Demand 2: on a sound image the calls answer as the sorted map says
   -- the map's keys rise strictly and stay below 2^32
-  pub map-sorted : Rises (λ y x. Unit {0}) 4294967296 (mapAt g img)
-  map-sorted = map-rises g (blocksOf g img) (chipOf g (blocksOf g img) img) (ready-keeps g shape img ready .held .whole)
+  pub map-sorted : Rising 4294967296 (mapAt g img)
+  map-sorted = rising 4294967296 (mapAt g img) (ready-rises g shape img ready)
 
   -- lookup: answer 0 and the address that the map has for K, or answer 4 where it has none
   pub lookup-answers : lookup g img k ≡ answered (find k (mapAt g img)) img
@@ -82,7 +80,7 @@ module _ (g : Geometry) (shape : Shape g) (img : List ℕ) (ready : Ready g img)
   put-others a j d = find-put-other k a j (mapAt g img) d
 
   pub remove-finds : find k (remove k (mapAt g img)) ≡ none
-  remove-finds = find-remove k 4294967296 (mapAt g img) map-sorted
+  remove-finds = find-remove k 4294967296 (mapAt g img) (ready-rises g shape img ready)
 
   pub remove-others : (j : ℕ) → (j ≡ k → ⊥) → find j (remove k (mapAt g img)) ≡ find j (mapAt g img)
   remove-others j d = find-remove-other k j (mapAt g img) d

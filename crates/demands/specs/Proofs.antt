@@ -6,8 +6,6 @@ use mathlib.Core.Logic.{_⊎_, inl, inr}
 use mathlib.Core.Option.{Option, none, some}
 use Prim.Native.Nat.{ℕ, zero, suc, _+_, _-_, _*_, _<_, _≤_}
 use native.Mathlib.Omega.{arith}
-use lib.ListN.{length}
-use lib.Dec.{leb}
 use borrow.Author.Tests.{ltb-true}
 use Rattle.geometry.specs.declared.Geometry.{Geometry}
 use Rattle.geometry.specs.declared.Entry.{Entry}
@@ -17,7 +15,7 @@ use Rattle.geometry.specs.Shape.{Shape}
 use Rattle.model.specs.Image.{blocksOf, goodLength, Nodes, Chip, chipOf}
 use Rattle.model.specs.Tree.{chosen, find, sought}
 use Rattle.model.specs.Rules.{verdict, isSound}
-use Rattle.model.specs.Stores.{Store, applyAll, programs, erases}
+use Rattle.model.specs.Stores.{applyAll, programs, erases}
 use Rattle.model.specs.Edit.{put, gains, remove}
 use Rattle.model.specs.Update.{isNone, rootNode, rootGains, needs, tooHigh, insertStores, deleteStore, deleteStores}
 use Rattle.model.specs.Calls.{Outcome, refused, made, judged, answered, lookup, worn, roomless, freePages, insert, delete}

@@ -3,8 +3,8 @@
 use mathlib.Core.Path.{_≡_, refl, ap, sym, subst, _∙_}
 use mathlib.Core.List.{List, [], _∷_}
 use mathlib.Core.Bool.{Bool, true, false}
-use mathlib.Core.Logic.{_⊎_, inl, inr}
-use Prim.Native.Nat.{ℕ, zero, suc, _+_, _<_, _≤_}
+use mathlib.Core.Logic.{_⊎_}
+use Prim.Native.Nat.{ℕ, zero, suc, _<_, _≤_}
 use native.Mathlib.Omega.{arith}
 use lib.Dec.{ltb}
 use Rattle.geometry.specs.declared.Entry.{Entry}
@@ -22,7 +22,7 @@ use Rattle.model.specs.Calls.{Outcome, refused, made, answered, lookup, insert,
 use Rattle.demands.specs.Words.{Ready, mapAt, Holds, Began, OneOf}
 use Rattle.demands.specs.Refusals.{Refuses, lookup-refuses, insert-refuses, delete-refuses}
 use Rattle.demands.specs.Demands.{lookup-reads, insert-refused, delete-refused, lookup-answers, insert-answers, delete-answers, insert-done, delete-done, insert-stopped, delete-stopped, insert-made, delete-made, small-bounds, small-delete-bounds}
-use Rattle.camera.specs.Camera.{Left, fourNumbers, returned}
+use Rattle.camera.specs.Camera.{Left, returned}
 use Rattle.service.specs.Left.{looksUp, inserts, deletes, programmedIn, erasedIn, short, whole, told-whole, told-short, programmed-read, erased-read}
 
 -- ---- Demand 1: a result buffer that is too short gives 1, and nothing changes. Else a bad length gives 1, an image that is not sound
