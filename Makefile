@@ -4,6 +4,7 @@
 # make check      pass all tests: the gate and what runs beside it
 # make search     time the search in one node (bench/search.c)
 # make wear       play a year of a camera's life and draw how often each block is erased (bench/wear.c, docs/WEAR.md)
+# make bound      insert keys in several orders and print how many pages go beyond one a key (bench/bound.c, docs/BENCHMARKS.md)
 # make install    header, library, pkg-config file and tool, under PREFIX; make uninstall takes them away
 # make clean      remove all that was built and proved
 #
@@ -43,7 +44,7 @@ PROOFS = crates.txt $(shell find crates -type f)
 # What is asked for before ten minutes of proving, and not after: the archive alone needs no compiler.
 NEEDS = rt $(if $(filter library,$(MAKECMDGOALS)),,"$(COMPILER)")
 
-.PHONY: day build library check search wear install uninstall clean settings
+.PHONY: day build library check search wear bound install uninstall clean settings
 .DELETE_ON_ERROR:
 
 ifeq ($(TARGET),$(HOST))
@@ -93,6 +94,13 @@ build/$(TARGET)/wear: bench/wear.c c/mutree.h $(LIBRARY)
 
 wear: build/$(TARGET)/wear
 	$(RUN) $< --svg docs/wear.svg docs/wear-before.txt > docs/wear-after.txt
+
+# The tree is counted by the judge of the independent test.
+build/$(TARGET)/bound: bench/bound.c tests/independent/judge.c tests/independent/judge.h c/mutree.h $(LIBRARY)
+	$(COMPILER) $(STRICT) $(CFLAGS) $(LINK) bench/bound.c tests/independent/judge.c $(LIBRARY) -o $@
+
+bound: build/$(TARGET)/bound
+	$(RUN) $<
 
 install: build
 	install -d $(DESTDIR)$(PREFIX)/include $(DESTDIR)$(PREFIX)/lib/pkgconfig $(DESTDIR)$(PREFIX)/bin

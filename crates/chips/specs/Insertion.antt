@@ -1,5 +1,5 @@
 -- An insertion's m pages on an abstract chip: R2, R5, R6 hold again, and the map has K. Assumes nothing.
-use mathlib.Core.Path.{_≡_, refl, ap, sym, _∙_}
+use mathlib.Core.Path.{_≡_, refl, ap, sym, subst, _∙_}
 use mathlib.Core.List.{List, [], _∷_}
 use mathlib.Core.Bool.{Bool, true, false}
 use Prim.Native.Nat.{ℕ, suc, _+_, _-_, _*_, _<_, _≤_}
@@ -14,7 +14,7 @@ use Rattle.geometry.specs.Geometry.{half, rootSlots, rootMost}
 use Rattle.geometry.specs.Shape.{Shape}
 use Rattle.model.specs.Count.{count}
 use Rattle.model.specs.Image.{Nodes, Chip, theRoot}
-use Rattle.model.specs.Tree.{under, places, placesOf, live, mapOf, next, chosen, find, sought}
+use Rattle.model.specs.Tree.{gather, under, places, placesOf, live, mapOf, next, chosen, find, sought}
 use Rattle.model.specs.Next.{ahead, taken}
 use Rattle.model.specs.Edit.{put, putIn, pathHalf, sideHalf, two, named, pathPart, gains, splits}
 use Rattle.model.specs.Update.{isNone, rootNode, rootGains, fills, needs, tooHigh, insertList, crownPart, insertPart, crownHeight, sidePage}
@@ -26,10 +26,12 @@ use Rattle.trees.specs.Insert.{inserted, InsertMade}
 use Rattle.trees.specs.Proper.{insert-stay, insert-grow}
 use Rattle.trees.specs.Path.{put-as, root-is, onPath-top, made-from}
 use Rattle.trees.specs.Splits.{root-size, all-below, splits-le, splits-are}
+use Rattle.trees.specs.Lists.{All}
+use Rattle.trees.specs.Fill.{Filled, root-filled, grown-filled, two-nodes, root-nodes}
 use Rattle.trees.specs.Leaf.{bottom, bottom-fit, sides, sides-length, stay-shifted, grow-shifted}
 use Rattle.chips.specs.Count.{lives-shifted}
 use Rattle.chips.specs.Next.{R2, step}
-use Rattle.chips.specs.Whole.{some-page, Whole, sought-map}
+use Rattle.chips.specs.Whole.{some-page, Whole, sought-map, nodesBelow, HalfFull}
 use Rattle.chips.specs.Pages.{side-inj, keep, fit-side, new-side}
 
 -- the other half of level j
@@ -40,6 +42,11 @@ sideList g n c k a j = pick (leb j (c .level)) (sideHalf k (half g j) (insertLis
 -- what N holds at level j
 abbrev pub mainList : Geometry → ℕ → Chip → ℕ → ℕ → ℕ → List Entry
 mainList g n c k a j = insertPart g c k a (sidePage g n c (needs g c k)) (sidePage g n c) j
+
+-- the chip e after an insertion of m own pages into c: one node more for each page but N, and one for each level more; still half full
+pub record Fuller (g : Geometry) (m : ℕ) (c e : Chip) : Type 0 where
+  pub nodes-are : length (nodesBelow e) + c .level + 1 ≡ length (nodesBelow c) + e .level + m
+  pub filled : HalfFull g c → HalfFull g e
 
 module _ (g : Geometry) (shape : Shape g) (n k a : ℕ) (k-low : k < 4294967296) (c : Chip) (good : Whole g n c) where
   abbrev r : Nodes
@@ -211,7 +218,19 @@ module _ (g : Geometry) (shape : Shape g) (n k a : ℕ) (k-low : k < 4294967296)
     abbrev Done : ℕ → Type 0
     Done l = Whole g n (record { er = taken (g .pages) n (ahead g n c) m .er; seq = numbers; nodes = s; level = l; root = N }) ×
         (under s (suc l) (the N) ≡ put k a (mapOf c)) ×
-        (suc (count (g .pages * n) (live (places s (suc l) (the N)))) ≤ count (g .pages * n) (live (placesOf c)) + m)
+        (suc (count (g .pages * n) (live (places s (suc l) (the N)))) ≤ count (g .pages * n) (live (placesOf c)) + m) ×
+        Fuller g m c (record { er = taken (g .pages) n (ahead g n c) m .er; seq = numbers; nodes = s; level = l; root = N })
+
+    -- the nodes below the root's changed list
+    list-nodes : length (gather (places s (c .level)) rootList) ≡ length (nodesBelow c) + cuts
+    unfolding under
+    list-nodes = root-nodes k a N 4294967296 side (half g) (rootMost g) r s fit fit′ Cut (λ l. fit-side g shape n c (good .r2) m free m (suc l)
+        some-m (omega arith)) tt (keep g shape n c (good .r2) m free) stays k-low absent (c .level) es some-root (good .sound .rooted .rises)
+        absent-is made
+
+    list-filled : HalfFull g c → All (Filled (half g) s) (gather (places s (c .level)) rootList)
+    list-filled h = root-filled k a N 4294967296 side (half g) (rootMost g) r s fit fit′ Cut (λ l. fit-side g shape n c (good .r2) m free m (suc l)
+        some-m (omega arith)) tt (keep g shape n c (good .r2) m free) stays k-low (c .level) es some-root (good .sound .rooted .rises) h made
 
     -- the page of the leaf that K goes to
     abbrev p : ℕ
@@ -248,6 +267,10 @@ module _ (g : Geometry) (shape : Shape g) (n k a : ℕ) (k-low : k < 4294967296)
                 (places s (suc (c .level)) (the N)) p-in z,
             many,
           ),
+          record {
+            nodes-are = (let x = ap (λ (d : List Entry). length (gather (places s (c .level)) d)) here in omega (arith, x, list-nodes, needs-is, ap bit e));
+            filled = λ h. subst (λ (d : List Entry). All (Filled (half g) s) (gather (places s (c .level)) d)) (sym here) (list-filled h);
+          },
         )
 
     -- the root grows
@@ -287,6 +310,18 @@ module _ (g : Geometry) (shape : Shape g) (n k a : ℕ) (k-low : k < 4294967296)
                 (places s (suc (suc l)) (the N)) p-in z,
             many,
           ),
+          record {
+            nodes-are = (let x = ap (λ (d : List Entry). length (gather (places s (suc l)) d)) crown in
+                let y = two-nodes k a N 4294967296 side (half g) (rootMost g) r s fit fit′ Cut (λ l. fit-side g shape n c (good .r2) m free m (suc l)
+                some-m (omega arith)) tt (keep g shape n c (good .r2) m free) stays k-low l (2 * h) (next rootList 0) rootList
+                (path, other, fit-side g shape n c (good .r2) m free (suc l) (suc l) (omega arith) (omega (arith, lt))) in
+                omega (arith, x, y, list-nodes, needs-is, ap bit e));
+            filled = λ f. subst (λ (d : List Entry). All (Filled (half g) s) (gather (places s (suc l)) d)) (sym crown)
+                (grown-filled k a N 4294967296 side (half g) (rootMost g) r s fit fit′ Cut (λ l. fit-side g shape n c (good .r2) m free m (suc l)
+                some-m (omega arith)) tt (keep g shape n c (good .r2) m free) stays k-low l rootList
+                (path, other, fit-side g shape n c (good .r2) m free (suc l) (suc l) (omega arith) (omega (arith, lt)))
+                (sym (ap length root-list) ∙ u .1) (next rootList 0) (list-filled f));
+          },
         )
 
     pub insert-done : tooHigh g c k ≡ false → Done (crownHeight g (suc (c .level)) (lists (suc (c .level))) - 1)

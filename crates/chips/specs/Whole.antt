@@ -1,19 +1,22 @@
 -- R2, R5 and R6 of a chip; k and HEIGHT hang on the tree's counts alone. Assumes nothing.
 use mathlib.Core.Path.{_≡_, refl, sym, subst, _∙_}
+use mathlib.Core.List.{List}
 use mathlib.Core.Bool.{Bool}
 use Prim.Native.Nat.{ℕ, zero, suc, _*_, _<_, _≤_}
 use native.Mathlib.Omega.{arith}
+use lib.ListN.{length}
 use Rattle.geometry.specs.declared.Geometry.{Geometry}
 use Rattle.geometry.specs.Geometry.{half, rootMost}
 use Rattle.geometry.specs.Shape.{Shape}
 use Rattle.model.specs.Image.{Nodes, Chip}
-use Rattle.model.specs.Tree.{mapOf, next, chosen, find, sought}
+use Rattle.model.specs.Tree.{gather, Place, places, mapOf, next, chosen, find, sought}
 use Rattle.model.specs.Edit.{gains, splits}
-use Rattle.model.specs.Update.{isNone, rootGains, needs, tooHigh}
-use Rattle.trees.specs.Lists.{Rises, split}
+use Rattle.model.specs.Update.{isNone, rootNode, rootGains, needs, tooHigh}
+use Rattle.trees.specs.Lists.{All, Rises, split}
 use Rattle.trees.specs.Nodes.{Ok, Rooted, fitOf}
 use Rattle.trees.specs.Proper.{Proper}
 use Rattle.trees.specs.Seek.{find-root, root-rises}
+use Rattle.trees.specs.Fill.{Filled, list-nodes-like, list-filled-like}
 use Rattle.trees.specs.Like.{Likes, Like, like-key, likes-length, likes-chosen, gains-like, splits-like}
 use Rattle.chips.specs.Next.{R2}
 
@@ -34,16 +37,32 @@ pub map-rises : (g : Geometry) (n : ℕ) (c : Chip) → Whole g n c → Rises (�
 map-rises g n c h = root-rises (fitOf (g .pages * n) (c .er)) (λ l. 2 * half g l) (c .nodes) 0 (rootMost g) 4294967296 (c .level) (c .root)
     (h .sound .rooted)
 
--- c′ needs as many pages as c, and is too high where c is
+-- the nodes below the root, and that each is at least half full
+abbrev pub nodesBelow : Chip → List Place
+nodesBelow c = gather (places (c .nodes) (c .level)) (rootNode c)
+
+abbrev pub HalfFull : Geometry → Chip → Type 0
+HalfFull g c = All (Filled (half g) (c .nodes)) (nodesBelow c)
+
+-- c′ needs as many pages as c, and is too high where c is; it has as many nodes, as many levels, and is filled where c is
 pub record Same (g : Geometry) (c c′ : Chip) : Type 0 where
   pub needs-is : (k : ℕ) → k < 4294967296 → needs g c′ k ≡ needs g c k
   pub high-is : (k : ℕ) → k < 4294967296 → tooHigh g c′ k ≡ tooHigh g c k
+  pub level-is : c′ .level ≡ c .level
+  pub nodes-is : length (nodesBelow c′) ≡ length (nodesBelow c)
+  pub filled-is : HalfFull g c → HalfFull g c′
 
 pub same-self : (g : Geometry) (c : Chip) → Same g c c
-same-self g c = record { needs-is = λ k q. refl; high-is = λ k q. refl }
+same-self g c = record { needs-is = λ k q. refl; high-is = λ k q. refl; level-is = refl; nodes-is = refl; filled-is = λ h. h }
 
 pub same-then : (g : Geometry) (c d e : Chip) → Same g c d → Same g d e → Same g c e
-same-then g c d e h i = record { needs-is = λ k q. i .needs-is k q ∙ h .needs-is k q; high-is = λ k q. i .high-is k q ∙ h .high-is k q }
+same-then g c d e h i = record {
+  needs-is = λ k q. i .needs-is k q ∙ h .needs-is k q;
+  high-is = λ k q. i .high-is k q ∙ h .high-is k q;
+  level-is = i .level-is ∙ h .level-is;
+  nodes-is = i .nodes-is ∙ h .nodes-is;
+  filled-is = λ f. i .filled-is (h .filled-is f);
+}
 
 module _ (g : Geometry) (t : ℕ) (er er′ : ℕ → Bool) (numbers numbers′ : ℕ → ℕ) (r s : Nodes) (l p p′ : ℕ)
     (root : Rooted (fitOf t er) (λ l. 2 * half g l) (rootMost g) 4294967296 r l p) (alike : Likes (Like r s l) (r p (suc l)) (s p′ (suc l))) where
@@ -88,4 +107,7 @@ module _ (g : Geometry) (t : ℕ) (er er′ : ℕ → Bool) (numbers numbers′ 
     ) refl);
     high-is = λ k q. sym (rw (so k q, likes-length (Like r s l) (r p (suc l)) (s p′ (suc l)) alike, root-gains k (isNone (sought c k)) q l refl)
         refl);
+    level-is = refl;
+    nodes-is = sym (list-nodes-like (half g) r s l (r p (suc l)) (s p′ (suc l)) alike);
+    filled-is = list-filled-like (half g) r s l (r p (suc l)) (s p′ (suc l)) alike;
   }

@@ -9,7 +9,7 @@ use lib.Seq.{take-append-le}
 use Rattle.geometry.specs.declared.Geometry.{Geometry}
 use Rattle.geometry.specs.declared.Entry.{Entry}
 use Rattle.geometry.specs.Shape.{Shape}
-use Rattle.model.specs.Image.{blocksOf, pagesOf, chipOf}
+use Rattle.model.specs.Image.{blocksOf, pagesOf, Chip, chipOf}
 use Rattle.model.specs.Tree.{mapOf}
 use Rattle.model.specs.Rules.{verdict}
 use Rattle.model.specs.Stores.{Store, applyStore, applyAll}
@@ -60,9 +60,9 @@ along-lawful g n P img [] s h l = (l, tt)
 along-lawful g n P img (x ∷ ss) s h l = (h .1, along-lawful g n P (applyStore g x img) ss s (h .2) l)
 
 -- an update's list meets demand 3
-pub updated-kept : (g : Geometry) (shape : Shape g) (img : List ℕ) (ready : Ready g img) (old new : List Entry) (ss : List Store) (m : ℕ) → m ≤ g .top
-    → Updated g (blocksOf g img) old new img ss (programMost g m) (suc m) → Kept g old new img ss
-updated-kept g shape img ready old new ss m h u =
+pub updated-kept : (g : Geometry) (shape : Shape g) (img : List ℕ) (ready : Ready g img) (Z : Chip → Type 0) (old new : List Entry) (ss : List Store) (m : ℕ) → m ≤ g .top
+    → Updated g (blocksOf g img) Z old new img ss (programMost g m) (suc m) → Kept g old new img ss
+updated-kept g shape img ready Z old new ss m h u =
     let n = blocksOf g img in
     let e = u .list-is in
     let len = ap length e ∙ length-append (u .init) (u .last ∷ []) in

@@ -89,7 +89,7 @@ module _ (g : Geometry) (shape : Shape g) (some-worn : 1 ≤ g .worn) (img : Lis
   abbrev good : Blocks g img
   good = good-blocks g img length-good
 
-  new-is : format g img .image ≡ applyAll g (formatStores g b) img
+  pub new-is : format g img .image ≡ applyAll g (formatStores g b) img
   unfolding format
   new-is = ap (λ t. pick t (record {
     answer = 0;
@@ -102,7 +102,7 @@ module _ (g : Geometry) (shape : Shape g) (some-worn : 1 ≤ g .worn) (img : Lis
   new-length : length new ≡ length img
   new-length = ap length new-is ∙ length-all g (formatStores g b) img
 
-  new-blocks : blocksOf g new ≡ b
+  pub new-blocks : blocksOf g new ≡ b
   new-blocks = blocks-same g img new new-length
 
   keeps-new : Keeps g b [] new

@@ -13,7 +13,7 @@ use Rattle.geometry.specs.Tests.{pick}
 use Rattle.model.specs.Image.{blocksOf, goodLength, maxSeq, Chip, chipOf}
 use Rattle.model.specs.Tree.{sought}
 use Rattle.model.specs.Rules.{verdict, isSound}
-use Rattle.model.specs.Stores.{Store, applyAll}
+use Rattle.model.specs.Stores.{Store, applyAll, programs}
 use Rattle.model.specs.Update.{isNone, needs, tooHigh, insertStores, deleteStores}
 use Rattle.model.specs.Calls.{Outcome, refused, made, judged, worn, roomless, freePages, insertRest, insert, deleteRest, delete}
 use Rattle.trees.specs.Lists.{All}
@@ -118,6 +118,10 @@ module _ (g : Geometry) (ss : List Store) (al : ℕ) (img : List ℕ) where
   pub made-done : made g ss al img .answer ≡ 0 → made g ss al img .image ≡ applyAll g ss img
   unfolding made
   made-done h = ap (λ (x : List Store). applyAll g x img) (take-all al ss (leb-true (length ss) al (by-answer (leb (length ss) al) 0 h .0 refl)))
+
+  pub made-counts : made g ss al img .answer ≡ 0 → made g ss al img .programmed ≡ programs ss
+  unfolding made
+  made-counts h = ap programs (take-all al ss (leb-true (length ss) al (by-answer (leb (length ss) al) 0 h .0 refl)))
 
   pub made-stopped : made g ss al img .answer ≡ 7 → al < length ss
   unfolding made

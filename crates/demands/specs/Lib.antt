@@ -1,5 +1,5 @@
--- Demands 1, 2 and 3 of the definitions: read Words, then Demands; Round for request 2, Reached for request 11. The other files are their
--- proofs.
+-- Demands 1, 2 and 3 of the definitions: read Words, then Demands; Round for request 2, Reached for request 11, Inserts and Many for
+-- request 10. The other files are their proofs.
 pub mod Words
 pub mod Maps
 pub mod Bridges
@@ -10,3 +10,6 @@ pub mod Demands
 pub mod Builds
 pub mod Round
 pub mod Reached
+pub mod Inserts
+pub mod Filling
+pub mod Many

@@ -17,12 +17,14 @@ use Rattle.geometry.specs.Shape.{Shape}
 use Rattle.model.specs.Image.{blocksOf, goodLength, Nodes, Chip, chipOf}
 use Rattle.model.specs.Tree.{chosen, find, sought}
 use Rattle.model.specs.Rules.{verdict, isSound}
-use Rattle.model.specs.Stores.{Store}
+use Rattle.model.specs.Stores.{Store, applyAll}
 use Rattle.model.specs.Edit.{put, gains, remove}
 use Rattle.model.specs.Update.{isNone, rootNode, rootGains, needs, tooHigh, insertStores, deleteStores}
 use Rattle.model.specs.Calls.{Outcome, refused, made, judged, answered, lookup, worn, roomless, freePages, insert, delete}
 use Rattle.trees.specs.Tests.{true-false}
 use Rattle.chips.specs.Whole.{sought-map}
+use Rattle.chips.specs.Insertion.{Fuller}
+use Rattle.images.specs.Lengths.{blocks-same, length-all}
 use Rattle.updates.specs.Along.{Keeps}
 use Rattle.updates.specs.Lists.{m-top, insert-own, insert-programs-only, insert-updated, delete-updated}
 use Rattle.demands.specs.Words.{Ready, mapAt, Holds, Kept, Began, OneOf, Own}
@@ -139,9 +141,26 @@ module _ (g : Geometry) (shape : Shape g) (img : List ℕ) (ready : Ready g img)
         let f = few g shape img ready in
         let s = some-pages g shape img ready in
         let w = not-worn g n img (p .0 .0) in
-        updated-kept g shape img ready (mapAt g img) (put k a (mapAt g img)) (insertStores g n img k a) (needs g c k)
+        updated-kept g shape img ready (Fuller g (needs g c k) c) (mapAt g img) (put k a (mapAt g img)) (insertStores g n img k a) (needs g c k)
         (m-top g shape n f (mapAt g img) img keeps w s k a k-low a-low (p .0 .1 .0) (p .0 .1 .1 .0))
         (insert-updated g shape n f (mapAt g img) img keeps w s k a k-low a-low (p .0 .1 .0) (p .0 .1 .1 .0))
+
+    -- what an insertion that answers 0 adds to the tree
+    pub insert-fuller : (a al : ℕ) → a < 4294967296 → insert g img k a al .answer ≡ 0 → Fuller g (needs g c k) c (chipOf g n (insert g img k a al .image))
+    insert-fuller a al a-low h =
+        let p = insert-passed g img k a al ready (inl h) in
+        let ss = insertStores g n img k a in
+        let e = ap (λ (o : Outcome). o .image) (p .1) ∙ made-done g ss al img (sym (ap (λ (o : Outcome). o .answer) (p .1)) ∙ h) in
+        subst (λ (x : List ℕ). Fuller g (needs g c k) c (chipOf g n x)) (sym e)
+        (insert-updated g shape n (few g shape img ready) (mapAt g img) img keeps (not-worn g n img (p .0 .0)) (some-pages g shape img ready) k a k-low
+        a-low (p .0 .1 .0) (p .0 .1 .1 .0) .also)
+
+    pub insert-blocks : (a al : ℕ) → insert g img k a al .answer ≡ 0 → blocksOf g (insert g img k a al .image) ≡ n
+    insert-blocks a al h =
+        let p = insert-passed g img k a al ready (inl h) in
+        let ss = insertStores g n img k a in
+        let e = ap (λ (o : Outcome). o .image) (p .1) ∙ made-done g ss al img (sym (ap (λ (o : Outcome). o .answer) (p .1)) ∙ h) in
+        ap (blocksOf g) e ∙ blocks-same g img (applyAll g ss img) (length-all g ss img)
 
     pub own-pages : (a al : ℕ) → a < 4294967296 → Began (insert g img k a al) → Own g n img k a
     unfolding insertStores
@@ -161,7 +180,7 @@ module _ (g : Geometry) (shape : Shape g) (img : List ℕ) (ready : Ready g img)
     pub delete-kept : (al : ℕ) → Began (delete g img k al) → Kept g (mapAt g img) (remove k (mapAt g img)) img (deleteStores g n img k)
     delete-kept al b =
         let p = delete-passed g img k 0 al ready b in
-        updated-kept g shape img ready (mapAt g img) (remove k (mapAt g img)) (deleteStores g n img k) 1 (let z = shape .top-low in omega (arith, z))
+        updated-kept g shape img ready (λ _. Unit {0}) (mapAt g img) (remove k (mapAt g img)) (deleteStores g n img k) 1 (let z = shape .top-low in omega (arith, z))
         (delete-updated g shape n (few g shape img ready) (mapAt g img) img keeps (not-worn g n img (p .0 .0)) (some-pages g shape img ready) k k-low
         (p .0 .1 .0))
 

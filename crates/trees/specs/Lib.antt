@@ -19,3 +19,4 @@ pub mod Like
 pub mod Live
 pub mod Leaf
 pub mod Judge
+pub mod Fill

@@ -189,9 +189,9 @@ module _ (g : Geometry) (shape : Shape g) (n : ℕ) (few : pagesOf g n + g .page
   store-is = refl
 
   -- the deletion's own store
-  pub delete-own : Updated g n base (remove k base) img (deleteStore g n (maxSeq g n img) c k ∷ []) 1 0
+  pub delete-own : Updated g n (λ _. Unit {0}) base (remove k base) img (deleteStore g n (maxSeq g n img) c k ∷ []) 1 0
   unfolding applyAll
   delete-own =
-      updated g shape n base (remove k base) img [] c 0 0 height (leftList g n c k) (deleteStore g n (maxSeq g n img) c k)
+      updated g shape n (λ _. Unit {0}) base (remove k base) img [] c 0 0 height (leftList g n c k) (deleteStore g n (maxSeq g n img) c k)
       (runs-none g n base img 0 0 keeps) room (omega (arith, low)) parts (omega arith) (omega (arith, lower, high)) store-is
-      (λ q. (final-done q .0, final-done q .1 ∙ ap (remove k) (keeps .map-is), final-done q .2))
+      (λ q. (final-done q .0, final-done q .1 ∙ ap (remove k) (keeps .map-is), final-done q .2, tt))

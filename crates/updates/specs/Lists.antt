@@ -19,7 +19,7 @@ use Rattle.model.specs.Update.{isNone, needs, tooHigh, ownStores, deleteStore, 
 use Rattle.model.specs.Calls.{roomless, freePages}
 use Rattle.chips.specs.Whole.{some-page, sought-map}
 use Rattle.chips.specs.Collect.{collect}
-use Rattle.chips.specs.Insertion.{needs-is, needs-top}
+use Rattle.chips.specs.Insertion.{Fuller, needs-is, needs-top}
 use Rattle.images.specs.Held.{height-most}
 use Rattle.updates.specs.Along.{Keeps}
 use Rattle.updates.specs.Collector.{Collected, collect-done}
@@ -83,7 +83,7 @@ module _ (g : Geometry) (shape : Shape g) (n : ℕ) (few : pagesOf g n + g .page
     then-space : count t (live (placesOf (chipOf g n then))) + (2 * g .pages + needs g (chipOf g n then) k) ≤ suc t
     then-space = let z = after-collect .lives in omega (arith, z, roomy m m-some not-room, same-m)
 
-    own : Updated g n base (put k a base) then (ownStores g n (maxSeq g n then) (chipOf g n then) (needs g (chipOf g n then) k) k a)
+    own : Updated g n (Fuller g (needs g (chipOf g n then) k) (chipOf g n then)) base (put k a base) then (ownStores g n (maxSeq g n then) (chipOf g n then) (needs g (chipOf g n then) k) k a)
         (needs g (chipOf g n then) k) 0
     own = own-updated g shape n few k a k-low a-low base then (after-collect .keeps) (after-collect .alike .high-is k k-low ∙ not-high)
         (let z = after-collect .room in omega (arith, z, same-m)) then-low then-space
@@ -98,14 +98,22 @@ module _ (g : Geometry) (shape : Shape g) (n : ℕ) (few : pagesOf g n + g .page
     insert-programs-only = let z = subst (λ j. erases (ownStores g n (maxSeq g n then) (chipOf g n then) j k a) ≤ 0) same-m (own .wiped) in
         omega (arith, z)
 
-    pub insert-updated : Updated g n base (put k a base) img (insertStores g n img k a) (programMost g m) (suc m)
+    -- the collector leaves the number of nodes and levels as it was
+    fuller : (e : Chip) → Fuller g m (chipOf g n then) e → Fuller g m c e
+    fuller e f = record {
+      nodes-are = (let x = after-collect .alike .level-is in let y = after-collect .alike .nodes-is in omega (arith, f .nodes-are, x, y));
+      filled = λ h. f .filled (after-collect .alike .filled-is h);
+    }
+
+    pub insert-updated : Updated g n (Fuller g m c) base (put k a base) img (insertStores g n img k a) (programMost g m) (suc m)
     unfolding insertStores
     insert-updated =
-        let u = subst (λ j. Updated g n base (put k a base) then (ownStores g n (maxSeq g n then) (chipOf g n then) j k a) j 0) same-m own in
-        let w = updated-after g n base (put k a base) img (collectStores g n m (suc m) img) (ownStores g n (maxSeq g n then) (chipOf g n then) m k a)
+        let u = subst (λ j. Updated g n (Fuller g j (chipOf g n then)) base (put k a base) then
+        (ownStores g n (maxSeq g n then) (chipOf g n then) j k a) j 0) same-m own in
+        let w = updated-after g n (Fuller g m (chipOf g n then)) (Fuller g m c) fuller base (put k a base) img (collectStores g n m (suc m) img) (ownStores g n (maxSeq g n then) (chipOf g n then) m k a)
         (collect g n m (suc m) c) (suc m * (g .pages - 1)) m (suc m) 0 (after-collect .runs) u in
         let z : suc m + 0 ≡ suc m = omega arith in
-        subst (λ j. Updated g n base (put k a base) img (collectStores g n m (suc m) img ++ ownStores g n (maxSeq g n then) (chipOf g n then) m k a)
+        subst (λ j. Updated g n (Fuller g m c) base (put k a base) img (collectStores g n m (suc m) img ++ ownStores g n (maxSeq g n then) (chipOf g n then) m k a)
         (programMost g m) j) z w
 
   -- a deletion
@@ -130,9 +138,9 @@ module _ (g : Geometry) (shape : Shape g) (n : ℕ) (few : pagesOf g n + g .page
         let z = numbers 1 one-top .1 in
         omega (arith, x, y, z)
 
-    pub delete-updated : Updated g n base (remove k base) img (deleteStores g n img k) (programMost g 1) 2
+    pub delete-updated : Updated g n (λ _. Unit {0}) base (remove k base) img (deleteStores g n img k) (programMost g 1) 2
     unfolding deleteStores
     delete-updated =
-        updated-after g n base (remove k base) img (collectStores g n 1 2 img) (deleteStore g n (maxSeq g n left) (chipOf g n left) k ∷ [])
+        updated-after g n (λ _. Unit {0}) (λ _. Unit {0}) (λ x z. z) base (remove k base) img (collectStores g n 1 2 img) (deleteStore g n (maxSeq g n left) (chipOf g n left) k ∷ [])
         (collect g n 1 2 c) (2 * (g .pages - 1)) 1 2 0 (collected-one .runs)
         (delete-own g shape n few k k-low base left (collected-one .keeps) still (collected-one .room) left-low)

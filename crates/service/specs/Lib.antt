@@ -1,0 +1,3 @@
+-- From the C calls to what is proved of them, with nothing in between: read Left, then Many for request 10.
+pub mod Left
+pub mod Many
