@@ -52,7 +52,7 @@ cases =
     ∷ record { given = chosen 9 (run 10 3) .key; wanted = 10 }
     ∷ record { given = chosen 20 (run 10 3) .key; wanted = 20 }
     ∷ record { given = chosen 40 (run 10 3) .key; wanted = 30 }
-    -- T = 96, k = 1: L = 32 has room, L = 33 is ROOM
+    -- T = 96, k = 1: L = 32 has room, L = 33 is ROOM. True of the test; by R8 no call answers so any more
     ∷ record { given = bit (roomless small (96 - 32) 1); wanted = 0 }
     ∷ record { given = bit (roomless small (96 - 33) 1); wanted = 1 }
     -- by request 11, T = 96: L = 32 keeps R8, L = 33 breaks it
