@@ -2,15 +2,15 @@
 -- Assumes nothing.
 use mathlib.Core.Path.{_≡_, refl}
 use mathlib.Core.List.{List, [], _∷_, map}
-use mathlib.Core.Bool.{Bool, true, false}
-use Prim.Native.Nat.{ℕ, zero, suc, _+_, _-_, _*_}
+use mathlib.Core.Bool.{false}
+use Prim.Native.Nat.{ℕ, zero, suc, _+_, _-_}
 use lib.ListN.{length}
 use Rattle.geometry.specs.declared.Entry.{Entry}
 use Rattle.geometry.specs.Geometry.{small, firstSlot, slotsOf, half, rootSlots}
 use Rattle.geometry.specs.Tests.{_&_, bit}
-use Rattle.model.specs.Image.{Chip, theRoot}
-use Rattle.model.specs.Tree.{halve, place, chosen, leaf, find, findIn, sought}
-use Rattle.model.specs.Edit.{put, pathHalf, sideHalf, gains}
+use Rattle.model.specs.Image.{Chip}
+use Rattle.model.specs.Tree.{halve, place, chosen, leaf, find, findIn}
+use Rattle.model.specs.Edit.{pathHalf, sideHalf, gains}
 use Rattle.model.specs.Update.{rootGains, tooHigh}
 use Rattle.model.specs.Calls.{roomless}
 use Rattle.model.specs.Rules.{ample}
