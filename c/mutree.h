@@ -19,7 +19,7 @@
  *   stack       measured, in bytes; it does not grow with the image:
  *                              format   lookup    insert    delete
  *                     ARM64     2,192   92,656   151,532   141,916
- *                     x86-64    2,192   90,592   151,628   141,388
+ *                     x86-64    2,192   90,592   151,628   141,612
  *               160 KiB serve every call. Large frames are touched page by page as they are made, so a guard page
  *               below the stack catches a stack that is too small.
  *

@@ -1,8 +1,8 @@
 -- Laws of the account. Assumes nothing.
-use Prim.Native.Nat.{ℕ, zero, suc, _+_, _-_, _*_, _<_, _≤_}
+use Prim.Native.Nat.{ℕ, _+_, _-_, _*_}
 use mathlib.Core.Bool.{Bool, true, false}
-use mathlib.Core.Path.{_≡_, refl, sym, ap, _∙_}
-use mathlib.Core.List.{List, [], _∷_}
+use mathlib.Core.Path.{_≡_, refl, _∙_}
+use mathlib.Core.List.{List}
 use lib.Dec.{ltb, leb}
 use lib.ListN.{length, take}
 use native.Mathlib.Nat.{zero-add}
@@ -13,12 +13,10 @@ use Rattle.geometry.specs.Tests.{pick}
 use Rattle.model.specs.Calls.{made, roomless}
 use Rattle.model.specs.Count.{count}
 use Rattle.model.specs.Stores.{Store, programs, erases}
-use Rattle.answers.specs.declared.Answer.{Answer}
 use Rattle.answers.specs.declared.Answer.the-variants.{Done, Stopped}
 use Rattle.answers.specs.Answers.{told}
 use Rattle.stores.specs.declared.Budget.{Budget}
 use Rattle.stores.specs.Run.{Ran}
-use Rattle.walk.specs.Table.{liveIn}
 use Rattle.account.specs.Account.{freshOf, answerBy}
 
 pub answer-stopped : (b : Budget) → b .stopped ≡ true → Stopped (b .programmed) (b .erased) ≡ answerBy b

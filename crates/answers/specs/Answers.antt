@@ -1,8 +1,7 @@
 -- Document 01's numbers for each answer, and the outcome that an answer and an image tell. Assumes nothing.
 use mathlib.Core.Path.{_≡_, refl, ap, sym, _∙_}
 use mathlib.Core.List.{List}
-use Prim.Native.Nat.{ℕ, zero, suc, _<_}
-use native.Mathlib.Omega.{arith}
+use Prim.Native.Nat.{ℕ, zero, suc}
 use Rattle.model.specs.Calls.{Outcome}
 use Rattle.answers.specs.declared.Answer.{Answer}
 use Rattle.answers.specs.declared.Answer.the-variants.{Done, Length, Damaged, Worn, Absent, Height, Room, Stopped}

@@ -1,7 +1,7 @@
-// Document 01's bench cases of updates, on a chip of three blocks: format and keys 1 to 63, key 64 with an allowance of 1
-// and in full, key 65, and a key inserted and deleted. Each call gives a line: answer, address, programmed, erased. A page
-// gives a line for each level that it counts: page, sequence number, height, level, entries, then key and address of the
-// first and the last.
+// Document 01's bench cases, on a chip of three blocks: bad lengths and bytes of 255 through all four calls, format and keys
+// 1 to 63, key 64 with an allowance of 1 and in full, key 65, and a key inserted and deleted. Each call gives a line: answer,
+// address, programmed, erased. A page gives a line for each level that it counts: page, sequence number, height, level,
+// entries, then key and address, of a leaf's first and last entry and of each entry above.
 ghost use Prim.Native.Nat.{_<_, _≤_};
 use answers::Answer;
 use geometry::Entry;
@@ -53,19 +53,43 @@ fn show_ends(img: &[u8; 50688], at: usize, n: usize)
     line();
 }
 
-fn show_node(img: &[u8; 50688], page: u32, level: u32) {
-    let n = chip::node_count(Geometry::small(), img, page, level);
+// How many entries a node has, and each of them.
+fn show_entries(img: &[u8; 50688], at: usize, n: usize)
+    requires { ⌜ (n < 256) × (at < 1152921504606846976) ⌝ }
+{
+    io::write_all(1, b" ");
+    io::print_decimal(1, n as u64);
+    let mut i: usize = 0;
+    while i < n {
+        entry(chip::entry_at(img, at + 8 * i));
+        i += 1;
+    }
+    line();
+}
+
+fn show_leaf(img: &[u8; 50688], page: u32) {
+    let n = chip::node_count(Geometry::small(), img, page, 1);
     if n == 0 {
         return;
     }
-    show_head(img, page, level);
-    let at = chip::node_place(Geometry::small(), page, level);
+    show_head(img, page, 1);
+    let at = chip::node_place(Geometry::small(), page, 1);
     show_ends(img, at, n);
 }
 
+fn show_inner(img: &[u8; 50688], page: u32) {
+    let n = chip::node_count(Geometry::small(), img, page, 2);
+    if n == 0 {
+        return;
+    }
+    show_head(img, page, 2);
+    let at = chip::node_place(Geometry::small(), page, 2);
+    show_entries(img, at, n);
+}
+
 fn show_page(img: &[u8; 50688], page: u32) {
-    show_node(img, page, 1);
-    show_node(img, page, 2);
+    show_leaf(img, page);
+    show_inner(img, page);
 }
 
 fn holds(img: &[u8; 50688], key: u32) -> bool {
@@ -155,12 +179,22 @@ fn splits(img: &mut [u8; 50688]) {
     found(&*img, 70);
 }
 
+// The root at level 1, an empty one too.
+fn show_root_leaf(img: &[u8; 50688]) {
+    let page = root_page(img);
+    let n = chip::node_count(Geometry::small(), img, page, 1);
+    show_head(img, page, 1);
+    let at = chip::node_place(Geometry::small(), page, 1);
+    show_entries(img, at, n);
+}
+
 fn delete(img: &mut [u8; 50688], key: u32) {
     io::write_all(1, b"delete");
     number(key);
     io::write_all(1, b":");
     tell(index::delete(&mut *img, key, 4294967295));
     show_root(&*img);
+    show_root_leaf(&*img);
 }
 
 fn comes_and_goes(img: &mut [u8; 50688]) {
@@ -170,7 +204,35 @@ fn comes_and_goes(img: &mut [u8; 50688]) {
     delete(&mut *img, 7);
 }
 
+// All four calls on bytes that are no index.
+fn refused(img: &mut [u8]) {
+    io::write_all(1, b"length ");
+    io::print_decimal(1, img.len() as u64);
+    line();
+    io::write_all(1, b"  lookup:");
+    tell(index::lookup(&*img, 7));
+    io::write_all(1, b"  insert:");
+    tell(index::insert(&mut *img, 7, 7, 4294967295));
+    io::write_all(1, b"  delete:");
+    tell(index::delete(&mut *img, 7, 4294967295));
+    io::write_all(1, b"  format:");
+    tell(index::format(&mut *img));
+}
+
+// Lengths that are refused, and 50,688 bytes of 255.
+fn bad_images() {
+    let mut none: [u8; 0] = [255; 0];
+    refused(&mut none);
+    let mut two_blocks: [u8; 33792] = [255; 33792];
+    refused(&mut two_blocks);
+    let mut one_short: [u8; 50687] = [255; 50687];
+    refused(&mut one_short);
+    let mut blank: [u8; 50688] = [255; 50688];
+    refused(&mut blank);
+}
+
 fn main() {
+    bad_images();
     let mut image: [u8; 50688] = [0; 50688];
     stopped(&mut image);
     grows(&mut image);

@@ -1,15 +1,14 @@
 -- What the C calls leave, in the form in which the code has the premises. Assumes nothing.
-use mathlib.Core.Path.{_≡_, refl, sym, ap, _∙_}
+use mathlib.Core.Path.{_≡_, ap, _∙_}
 use mathlib.Core.List.{List}
-use Prim.Native.Nat.{ℕ, _+_, _≤_, _<_}
-use lib.Dec.{ltb}
+use Prim.Native.Nat.{ℕ, _≤_, _<_}
 use lib.ListN.{length}
 use borrow.Author.Tests.{lt-ltb, le-ltb}
 use Rattle.model.specs.Page.{putU32}
 use Rattle.model.specs.Calls.{Outcome}
 use Rattle.answers.specs.declared.Answer.{Answer}
 use Rattle.answers.specs.Answers.{numberOf, addressOf, programmedOf, erasedOf, told}
-use Rattle.camera.specs.Camera.{Left, fourNumbers, reportOf, returned}
+use Rattle.camera.specs.Camera.{fourNumbers, reportOf, returned}
 
 -- the puts of the four numbers
 pub number-is : (b c : List ℕ) (at v w : ℕ) → c ≡ putU32 b at w → w ≡ v → c ≡ putU32 b at v

@@ -1,8 +1,8 @@
 -- The length of an image. Assumes nothing.
-use Prim.Native.Nat.{ℕ, zero, suc, _+_, _-_, _*_, _/_, _%_, _<_, _≤_}
+use Prim.Native.Nat.{ℕ, _-_, _/_, _%_, _<_, _≤_}
 use mathlib.Core.Bool.{Bool, true, false, not}
 use mathlib.Core.Path.{_≡_, refl, sym, _∙_}
-use mathlib.Core.List.{List, [], _∷_}
+use mathlib.Core.List.{List}
 use lib.Dec.{eqb, leb}
 use lib.ListN.{length}
 use native.Mathlib.Omega.{arith}
@@ -10,7 +10,7 @@ use native.Mathlib.Nat.{div-zero}
 use borrow.Author.Tests.{not-true, not-false, eq-eqb, ne-eqb, le-leb, lt-leb, leb-true}
 use Rattle.geometry.specs.declared.Geometry.{Geometry}
 use Rattle.geometry.specs.Geometry.{pageBase}
-use Rattle.geometry.specs.Tests.{pick, _&_, and-true, and-false, and-left, and-right}
+use Rattle.geometry.specs.Tests.{_&_, and-true, and-false, and-left, and-right}
 use Rattle.model.specs.Image.{blockBytes, blocksOf, goodLength}
 use Rattle.chip.specs.Chip.{goodBlocks}
 

@@ -1,17 +1,15 @@
 -- A node as the entries that its bytes hold. Assumes nothing.
-use Prim.Native.Nat.{ℕ, zero, suc, _+_, _-_, _*_, _<_, _≤_, min}
+use Prim.Native.Nat.{ℕ, zero, suc, _+_, _-_, _*_, _<_, _≤_}
 use mathlib.Core.Bool.{Bool, true, false, not}
-use mathlib.Core.Path.{_≡_, refl, sym, ap, _∙_}
+use mathlib.Core.Path.{_≡_, refl, ap}
 use mathlib.Core.List.{List, [], _∷_}
-use lib.ListN.{length, getD, take, drop}
+use lib.ListN.{length, getD}
 use native.Mathlib.Omega.{arith}
-use native.Mathlib.Numerals.{sub-one, add-one}
-use native.Mathlib.Nat.{min-eq-left, min-eq-right, min-le-left}
+use native.Mathlib.Numerals.{sub-one}
+use native.Mathlib.Nat.{min-eq-left, min-eq-right}
 use borrow.Author.Tests.{not-true, not-false}
 use Rattle.geometry.specs.declared.Geometry.{Geometry}
-use Rattle.geometry.specs.declared.Entry.{Entry}
 use Rattle.geometry.specs.Geometry.{inTable, rootSlots}
-use Rattle.geometry.specs.Tests.{pick}
 use Rattle.model.specs.Bytes.{u32At, countAt, entriesAt, nodePlace, nodeCount, nodeAt}
 use Rattle.chip.specs.Chip.{entryAt}
 

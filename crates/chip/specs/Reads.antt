@@ -1,15 +1,14 @@
 -- Bytes, numbers and the fields of a page, in the form in which the code has the premises. Assumes nothing.
-use Prim.Native.Nat.{ℕ, zero, suc, _+_, _-_, _*_, _<_, _≤_}
-use mathlib.Core.Bool.{Bool, true, false}
-use mathlib.Core.Path.{_≡_, refl, sym, _∙_}
-use mathlib.Core.List.{List, [], _∷_}
+use Prim.Native.Nat.{ℕ, _+_, _-_, _*_, _<_, _≤_}
+use mathlib.Core.Bool.{Bool, true}
+use mathlib.Core.Path.{_≡_, sym, _∙_}
+use mathlib.Core.List.{List}
 use mir.Syntax.{w32}
 use mir.Val.{Fits}
-use lib.ListN.{getD, length, List·getD-eq-default}
+use lib.ListN.{length, List·getD-eq-default}
 use native.Mathlib.Omega.{arith}
 use native.Mathlib.Nat.{mul-le-mul, lt-of-le-of-lt}
 use Rattle.geometry.specs.declared.Geometry.{Geometry}
-use Rattle.geometry.specs.declared.Entry.{Entry}
 use Rattle.geometry.specs.Geometry.{pageBytes, pageBase, firstSlot}
 use Rattle.model.specs.Bytes.{byteAt, u32At, blank, erased, seqAt, heightAt, countAt, tailAt, nodePlace}
 use Rattle.chip.specs.Chip.{entryAt}

@@ -2,9 +2,9 @@
 use Prim.Native.Nat.{ℕ, zero, suc, _+_, _-_, _*_, _<_, _≤_}
 use mathlib.Core.Bool.{Bool, true, false, not}
 use mathlib.Core.Path.{_≡_, refl, sym, ap, _∙_}
-use mathlib.Core.List.{List, [], _∷_, _++_, append-nil}
-use mathlib.Core.Option.{Option, none, some}
-use lib.Dec.{eqb, ltb}
+use mathlib.Core.List.{List, [], _∷_, _++_}
+use mathlib.Core.Option.{none, some}
+use lib.Dec.{ltb}
 use lib.ListN.{length, getD}
 use native.Mathlib.Omega.{arith}
 use native.Mathlib.Numerals.{sub-one}
@@ -15,16 +15,16 @@ use Rattle.model.specs.Bytes.{erased}
 use Rattle.model.specs.Collect.{moveStore, sweepStores, clearStores, collectStores, theVictim}
 use Rattle.model.specs.Count.{arg}
 use Rattle.model.specs.Image.{chipOf, pagesOf, seqOf}
-use Rattle.model.specs.Stores.{Store, erase, applyStore, applyAll}
+use Rattle.model.specs.Stores.{erase, applyStore, applyAll}
 use Rattle.model.specs.Tree.{placesOf, live, lowLevel, erasedPages}
 use Rattle.chip.specs.Chip.{chipWith}
 use Rattle.survey.specs.declared.Survey.{Survey}
 use Rattle.survey.specs.Survey.{surveyOf}
-use Rattle.walk.specs.Table.{Marked, liveIn}
+use Rattle.walk.specs.Table.{liveIn}
 use Rattle.walk.specs.Lows.{marked-live}
 use Rattle.stores.specs.declared.Budget.{Budget}
 use Rattle.stores.specs.Run.{Ran}
-use Rattle.stores.specs.Runs.{ran-none, ran-then, ran-halted, ran-full, ran-made}
+use Rattle.stores.specs.Runs.{ran-none, ran-then, ran-halted, ran-full}
 use Rattle.victim.specs.declared.Best.{Best}
 use Rattle.victim.specs.Victim.{fullIn, livesBy, bestOf, Bests, Looked}
 use Rattle.victim.specs.Laws.{chip-is, inside, victim-is}

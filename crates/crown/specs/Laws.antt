@@ -1,7 +1,7 @@
 -- Laws of the top of an update, in the form in which the code has the premises. Assumes nothing.
-use Prim.Native.Nat.{ℕ, zero, suc, _+_, _-_, _*_, _<_, _≤_}
+use Prim.Native.Nat.{ℕ, suc, _+_, _-_, _*_, _≤_}
 use mathlib.Core.Bool.{Bool, true, false, not}
-use mathlib.Core.Path.{_≡_, refl, sym, ap, _∙_}
+use mathlib.Core.Path.{_≡_, refl, sym, _∙_}
 use mathlib.Core.List.{List, [], _∷_}
 use lib.Dec.{eqb}
 use lib.ListN.{take, length, set}
@@ -13,9 +13,8 @@ use Rattle.geometry.specs.declared.Entry.{Entry}
 use Rattle.geometry.specs.Geometry.{half, pageBytes}
 use Rattle.geometry.specs.Tests.{pick}
 use Rattle.model.specs.Page.{sealed}
-use Rattle.model.specs.Stores.{Store, program}
+use Rattle.model.specs.Stores.{program}
 use Rattle.model.specs.Tree.{next}
-use Rattle.model.specs.Edit.{pathHalf, sideHalf, two}
 use Rattle.model.specs.Update.{fills, crownPart, crownStore, crownHeight}
 use Rattle.lists.specs.Places.{length-mapped}
 use Rattle.node.specs.declared.Node.{Node}
@@ -29,7 +28,6 @@ use Rattle.step.specs.declared.Job.{Job}
 use Rattle.step.specs.declared.Cut.{Cut}
 use Rattle.step.specs.Step.{sideOf, cutStores, Halved}
 use Rattle.crown.specs.declared.Crown.{Crown}
-use Rattle.crown.specs.declared.Summit.{Summit}
 use Rattle.crown.specs.Crown.{Grows, topPart, Crowns, Crowned, pathStore}
 
 -- ---- a carry's node

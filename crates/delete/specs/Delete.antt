@@ -1,12 +1,10 @@
 -- Delete, in the form in which the code has the premises. Assumes nothing.
-use Prim.Native.Nat.{ℕ, _+_, _-_, _*_, _<_, _≤_}
+use Prim.Native.Nat.{ℕ, _-_, _<_, _≤_}
 use mathlib.Core.Bool.{Bool, true, false}
-use mathlib.Core.Path.{_≡_, refl, sym, ap, _∙_}
-use mathlib.Core.List.{List, [], _∷_, _++_}
-use mathlib.Core.Option.{Option, none, some}
-use lib.ListN.{length}
+use mathlib.Core.Path.{_≡_, sym, ap, _∙_}
+use mathlib.Core.List.{List, [], _∷_}
+use mathlib.Core.Option.{Option}
 use Rattle.geometry.specs.declared.Geometry.{Geometry}
-use Rattle.geometry.specs.declared.Verdict.the-variants.{Sound, Broken}
 use Rattle.model.specs.Image.{Chip, chipOf, blocksOf, maxSeq}
 use Rattle.model.specs.Tree.{sought}
 use Rattle.model.specs.Calls.{Outcome, worn, deleteRest, delete}

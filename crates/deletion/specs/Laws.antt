@@ -1,9 +1,7 @@
 -- Laws of delete's own store, in the form in which the code has the premises. Assumes nothing.
-use Prim.Native.Nat.{ℕ, zero, suc, _+_, _-_, _*_, _<_, _≤_}
-use mathlib.Core.Bool.{Bool, true, false}
+use Prim.Native.Nat.{ℕ, zero, suc, _+_, _-_, _<_, _≤_}
 use mathlib.Core.Path.{_≡_, refl, sym, ap, _∙_}
-use mathlib.Core.List.{List, [], _∷_, _++_}
-use lib.Dec.{eqb}
+use mathlib.Core.List.{List, [], _∷_}
 use lib.ListN.{take, getD, length}
 use native.Mathlib.Omega.{arith}
 use native.Mathlib.Numerals.{add-one, sub-one}
@@ -11,14 +9,13 @@ use borrow.Author.Tests.{eq-eqb, ne-eqb}
 use Rattle.geometry.specs.declared.Geometry.{Geometry}
 use Rattle.geometry.specs.declared.Entry.{Entry}
 use Rattle.geometry.specs.Geometry.{pageBytes}
-use Rattle.geometry.specs.Tests.{pick}
 use Rattle.model.specs.Bytes.{erased, nodeAt}
 use Rattle.model.specs.Edit.{collapse}
 use Rattle.model.specs.Image.{Nodes, pagesOf, seqOf}
 use Rattle.model.specs.Count.{arg}
 use Rattle.model.specs.Next.{nextPage}
 use Rattle.model.specs.Page.{built, only}
-use Rattle.model.specs.Stores.{Store, program}
+use Rattle.model.specs.Stores.{program}
 use Rattle.lists.specs.Places.{length-mapped}
 use Rattle.node.specs.declared.Node.{Node}
 use Rattle.node.specs.Node.{entries}

@@ -1,33 +1,32 @@
 -- The store of the job of removing a key is the definition's. Assumes nothing.
-use Prim.Native.Nat.{ℕ, zero, suc, _+_, _-_, _*_, _<_, _≤_}
+use Prim.Native.Nat.{ℕ, zero, suc, _-_, _<_, _≤_}
 use mathlib.Core.Bool.{Bool, true, false}
 use mathlib.Core.Path.{_≡_, refl, sym, ap, _∙_}
-use mathlib.Core.List.{List, [], _∷_, _++_}
-use lib.Dec.{leb, eqb}
+use mathlib.Core.List.{List, [], _∷_}
+use lib.Dec.{eqb}
 use lib.ListN.{take}
 use native.Mathlib.Omega.{arith}
 use borrow.Author.Tests.{eq-eqb, ne-eqb, le-leb, lt-leb, eqb-true, eqb-false}
 use Rattle.geometry.specs.declared.Geometry.{Geometry}
 use Rattle.geometry.specs.declared.Entry.{Entry}
 use Rattle.geometry.specs.Geometry.{pageBytes}
-use Rattle.geometry.specs.Tests.{pick, _&_, and-true, and-false}
+use Rattle.geometry.specs.Tests.{pick, and-true, and-false}
 use Rattle.model.specs.Bytes.{nodeAt}
 use Rattle.model.specs.Image.{Chip, Nodes}
-use Rattle.model.specs.Next.{nth, nextPage, taken}
+use Rattle.model.specs.Next.{taken}
 use Rattle.model.specs.Page.{built, sealed, only}
-use Rattle.model.specs.Stores.{Store, program}
-use Rattle.model.specs.Edit.{removeIn, kept, edited, onPath, collapse}
+use Rattle.model.specs.Stores.{program}
+use Rattle.model.specs.Edit.{onPath, collapse}
 use Rattle.model.specs.Update.{deleteList, deleteTop, deletePart, deleteStore, sidePage}
 use Rattle.page.specs.Page.{blanks, laidLevel, laid, bare}
 use Rattle.page.specs.Levels.{laid-more, laid-agree, page-is}
 use Rattle.stores.specs.declared.Budget.{Budget}
 use Rattle.stores.specs.Run.{Ran}
 use Rattle.step.specs.declared.Change.{Change}
-use Rattle.step.specs.declared.Change.the-variants.{Remove}
 use Rattle.step.specs.declared.Job.{Job}
 use Rattle.step.specs.Step.{leafOf, nameOf, partOf}
 use Rattle.edit.specs.Edit.{changed, pathOf, partsOf}
-use Rattle.edit.specs.Paths.{path-top, path-above}
+use Rattle.edit.specs.Paths.{path-top}
 use Rattle.chip.specs.Chip.{chipWith}
 use Rattle.crown.specs.Crown.{pathStore}
 use Rattle.deletion.specs.Own.{rootAt, topStore, rootStore, storeBy, Removes}

@@ -16,11 +16,13 @@ use Rattle.model.specs.Stores.{Store, applyStore, applyAll}
 use Rattle.chips.specs.Next.{block-in}
 use Rattle.chips.specs.Whole.{some-page}
 use Rattle.images.specs.Held.{sound-held, held-sound}
-use Rattle.images.specs.Writes.{Legal}
+use Rattle.model.specs.Legal.{Legal}
 use Rattle.images.specs.Lengths.{Blocks, good-blocks, blocks-same, length-same, length-all, few-pages}
 use Rattle.updates.specs.Along.{Along, along-take, Keeps}
 use Rattle.updates.specs.Updated.{Updated}
 use Rattle.updates.specs.Lists.{programMost}
+use Rattle.trees.specs.Lists.{Rises}
+use Rattle.chips.specs.Whole.{map-rises}
 use Rattle.demands.specs.Words.{Ready, mapAt, Holds, Lawful, Kept}
 
 module _ (g : Geometry) (shape : Shape g) (img : List ℕ) (ready : Ready g img) where
@@ -39,6 +41,10 @@ module _ (g : Geometry) (shape : Shape g) (img : List ℕ) (ready : Ready g img)
   pub ready-keeps : Keeps g n (mapAt g img) img
   ready-keeps = let z = sound-held g shape n img (let w = blocks .least in omega (arith, w)) (blocks .image) (ready .bytes) (ready .is-sound) in
       record { held = z .0; r7 = z .1; r8 = z .2; map-is = refl }
+
+  -- the map's keys rise
+  pub ready-rises : Rises (λ y x. Unit {0}) 4294967296 (mapAt g img)
+  ready-rises = map-rises g n (chipOf g n img) (ready-keeps .held .whole)
 
   -- an image of the same length
   keeps-holds : (map : List Entry) (x : List ℕ) → length x ≡ length img → Keeps g n map x → Holds g map x

@@ -31,8 +31,8 @@ use Rattle.updates.specs.Along.{Keeps}
 use Rattle.updates.specs.Format.{formatted-keeps, formatted-max, formatted-level, formatted-root, formatted-lives}
 use Rattle.demands.specs.Words.{Ready, mapAt, Holds, Began}
 use Rattle.demands.specs.Maps.{find-put}
-use Rattle.demands.specs.Calls.{insert-is, delete-is}
-use Rattle.demands.specs.Proofs.{made-began, found, insert-kept, delete-kept}
+use Rattle.demands.specs.Calls.{insert-is, delete-is, made-began}
+use Rattle.demands.specs.Proofs.{found, insert-kept, delete-kept}
 use Rattle.demands.specs.Demands.{lookup-answers, insert-done}
 
 -- ---- every store is a program or an erase
@@ -64,7 +64,7 @@ module _ (g : Geometry) (shape : Shape g) (img : List ℕ) (ready : Ready g img)
   insert-finishes a al a-low h x y z =
       let ss = insertStores g n img k a in
       let e : insert g img k a al ≡ made g ss al img = insert-is g img k a al ready ∙ rw (x, y, z) refl in
-      let kept = insert-kept g shape img ready k k-low a al a-low (subst Began (sym e) (made-began g shape img ready k ss al)) in
+      let kept = insert-kept g shape img ready k k-low a al a-low (subst Began (sym e) (made-began g ss al img)) in
       ap (λ (o : Outcome). o .answer) e ∙ enough ss al (kept .programmed) (kept .wiped) h
 
   -- a deletion needs no room: by R8 it is DONE
@@ -74,7 +74,7 @@ module _ (g : Geometry) (shape : Shape g) (img : List ℕ) (ready : Ready g img)
       let ss = deleteStores g n img k in
       let y′ : isNone (sought c k) ≡ false = ap isNone (found g shape img ready k k-low) ∙ y in
       let e : delete g img k al ≡ made g ss al img = delete-is g img k 0 al ready ∙ rw (x, y′) refl in
-      let kept = delete-kept g shape img ready k k-low al (subst Began (sym e) (made-began g shape img ready k ss al)) in
+      let kept = delete-kept g shape img ready k k-low al (subst Began (sym e) (made-began g ss al img)) in
       ap (λ (o : Outcome). o .answer) e ∙ enough ss al (kept .programmed) (kept .wiped) h
 
 -- ---- a formatted image

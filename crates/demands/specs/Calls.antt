@@ -1,6 +1,7 @@
 -- The calls opened: which tests an answer stands for. Assumes nothing.
 use mathlib.Core.Path.{_≡_, refl, ap, sym, subst, _∙_}
 use mathlib.Core.List.{List, [], _∷_}
+use mathlib.Core.Logic.{_⊎_, inl, inr}
 use mathlib.Core.Bool.{Bool, true, false}
 use Prim.Native.Nat.{ℕ, _<_, _≤_}
 use native.Mathlib.Omega.{arith}
@@ -67,11 +68,11 @@ module _ (g : Geometry) (img : List ℕ) (k a al : ℕ) where
   abbrev pub deleteTests : List Test
   deleteTests = record { met = worn g n img; number = 3 } ∷ record { met = isNone (sought c k); number = 4 } ∷ []
 
-  insert-rest : insertRest g n img k a al ≡ tested img insertTests ins
+  pub insert-rest : insertRest g n img k a al ≡ tested img insertTests ins
   unfolding insertRest
   insert-rest = refl
 
-  delete-rest : deleteRest g n img k al ≡ tested img deleteTests del
+  pub delete-rest : deleteRest g n img k al ≡ tested img deleteTests del
   unfolding deleteRest
   delete-rest = refl
 
@@ -114,6 +115,14 @@ module _ (g : Geometry) (ss : List Store) (al : ℕ) (img : List ℕ) where
   by-answer : (x : Bool) (r : ℕ) → pick x 0 7 ≡ r → (r ≡ 0 → x ≡ true) × (r ≡ 7 → x ≡ false)
   by-answer true r e = ((λ _. refl), λ h. absurd (omega (arith, e, h)))
   by-answer false r e = ((λ h. absurd (omega (arith, e, h))), λ _. refl)
+
+  pub made-began : Began (made g ss al img)
+  unfolding made
+  made-began = go (leb (length ss) al)
+    where
+      go : (x : Bool) → (pick {A = ℕ} x 0 7 ≡ 0) ⊎ (pick {A = ℕ} x 0 7 ≡ 7)
+      go true = inl refl
+      go false = inr refl
 
   pub made-done : made g ss al img .answer ≡ 0 → made g ss al img .image ≡ applyAll g ss img
   unfolding made

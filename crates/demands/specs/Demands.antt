@@ -1,7 +1,7 @@
 -- The demands, about the definitions `lookup`, `insert` and `delete` of crate model, whose outcome has an answer number, an
 -- address, two counts and the image afterwards. g is any geometry with `Shape g`, the small chip's among them; k, the key, and
--- a, the address, are below 2^32 = 4294967296; al is the store allowance. `Words` has the words: Ready, mapAt, Holds, Kept,
--- Began, OneOf, Own. Every proof here is one citation; assumes nothing.
+-- a, the address, are below 2^32 = 4294967296; al is the store allowance. `Words` has the words: Ready, mapAt, Rising, Holds,
+-- Kept, Began, OneOf, Own. Every proof here is one citation; assumes nothing.
 use mathlib.Core.Path.{_≡_}
 use mathlib.Core.List.{List, [], _∷_}
 use mathlib.Core.Logic.{_⊎_}
@@ -16,13 +16,11 @@ use Rattle.model.specs.Edit.{put, remove}
 use Rattle.model.specs.Stores.{programs, erases}
 use Rattle.model.specs.Update.{needs, insertStores, deleteStores}
 use Rattle.model.specs.Calls.{made, answered, lookup, insert, delete}
-use Rattle.trees.specs.Lists.{Rises}
-use Rattle.chips.specs.Whole.{map-rises}
-use Rattle.demands.specs.Words.{Ready, mapAt, Holds, Kept, Began, OneOf, Own}
-use Rattle.demands.specs.Maps.{find-put, find-put-other, find-remove, find-remove-other}
-use Rattle.demands.specs.Bridges.{ready-keeps}
+use Rattle.demands.specs.Words.{Ready, mapAt, Rising, Holds, Kept, Began, OneOf, Own}
+use Rattle.demands.specs.Maps.{rising, find-put, find-put-other, find-remove, find-remove-other}
+use Rattle.demands.specs.Bridges.{ready-rises}
 use Rattle.demands.specs.Calls.{insert-untouched, delete-untouched, insert-passed, delete-passed}
-use Rattle.demands.specs.Proofs.{lookup-image, insert-one, delete-one, room-needs, absent-answer, answer-absent, height-absent, insert-kept, own-pages, delete-kept, insert-ends, delete-ends, insert-stops, delete-stops, lookup-is}
+use Rattle.demands.specs.Proofs.{lookup-image, insert-one, delete-one, room-needs, absent-answer, answer-absent, height-absent, insert-kept, insert-pages, delete-pages, delete-kept, insert-ends, delete-ends, insert-stops, delete-stops, lookup-is}
 
 -- ---- Demand 1: answers 1 to 6 leave the image as it was, for every image and geometry; a lookup always does
 pub insert-refused : (g : Geometry) (img : List ℕ) (k a al : ℕ)
@@ -39,8 +37,8 @@ lookup-reads g img k = lookup-image g img k
 module _ (g : Geometry) (shape : Shape g) (img : List ℕ) (ready : Ready g img) (k : ℕ) (k-low : k < 4294967296) where
   -- ---- Demand 2: on a sound image the calls answer as the sorted map says
   -- the map's keys rise strictly and stay below 2^32
-  pub map-sorted : Rises (λ y x. Unit {0}) 4294967296 (mapAt g img)
-  map-sorted = map-rises g (blocksOf g img) (chipOf g (blocksOf g img) img) (ready-keeps g shape img ready .held .whole)
+  pub map-sorted : Rising 4294967296 (mapAt g img)
+  map-sorted = rising 4294967296 (mapAt g img) (ready-rises g shape img ready)
 
   -- lookup: answer 0 and the address that the map has for K, or answer 4 where it has none
   pub lookup-answers : lookup g img k ≡ answered (find k (mapAt g img)) img
@@ -82,7 +80,7 @@ module _ (g : Geometry) (shape : Shape g) (img : List ℕ) (ready : Ready g img)
   put-others a j d = find-put-other k a j (mapAt g img) d
 
   pub remove-finds : find k (remove k (mapAt g img)) ≡ none
-  remove-finds = find-remove k 4294967296 (mapAt g img) map-sorted
+  remove-finds = find-remove k 4294967296 (mapAt g img) (ready-rises g shape img ready)
 
   pub remove-others : (j : ℕ) → (j ≡ k → ⊥) → find j (remove k (mapAt g img)) ≡ find j (mapAt g img)
   remove-others j d = find-remove-other k j (mapAt g img) d
@@ -111,9 +109,13 @@ module _ (g : Geometry) (shape : Shape g) (img : List ℕ) (ready : Ready g img)
   pub delete-stopped : (al : ℕ) → delete g img k al .answer ≡ 7 → Holds g (mapAt g img) (delete g img k al .image)
   delete-stopped al h = delete-stops g shape img ready k k-low al h
 
-  -- own pages: 1 + splits + 1 if the tree grows, by `Own`
-  pub insert-own : (a al : ℕ) → a < 4294967296 → Began (insert g img k a al) → Own g (blocksOf g img) img k a
-  insert-own a al a-low b = own-pages g shape img ready k k-low a al a-low b
+  -- own pages: 1 + splits + 1 if the tree grows, of a delete 1; the rest of the list is collection, which ends because it is done
+  pub insert-own : (a al : ℕ) → a < 4294967296 → Began (insert g img k a al)
+      → Own g (blocksOf g img) img (needs g (chipOf g (blocksOf g img) img) k) (insertStores g (blocksOf g img) img k a)
+  insert-own a al a-low b = insert-pages g shape img ready k k-low a al a-low b
+
+  pub delete-own : (al : ℕ) → Began (delete g img k al) → Own g (blocksOf g img) img 1 (deleteStores g (blocksOf g img) img k)
+  delete-own al b = delete-pages g shape img ready k k-low al b
 
 -- the small chip: at most 5 own pages, 191 pages programmed and 6 blocks erased
 pub small-bounds : (img : List ℕ) → Ready small img → (k a al : ℕ) → k < 4294967296 → a < 4294967296 → Began (insert small img k a al)
@@ -124,3 +126,9 @@ small-bounds img ready k a al k-low a-low b =
     let o = insert-own small small-shape img ready k k-low a al a-low b in
     let h = insert-stores small small-shape img ready k k-low a al a-low b in
     (o .atmost, h .programmed, h .wiped)
+
+pub small-delete-bounds : (img : List ℕ) → Ready small img → (k al : ℕ) → k < 4294967296 → Began (delete small img k al)
+    → (programs (deleteStores small (blocksOf small img) img k) ≤ 191) × (erases (deleteStores small (blocksOf small img) img k) ≤ 6)
+small-delete-bounds img ready k al k-low b =
+    let h = delete-stores small small-shape img ready k k-low al b in
+    (h .programmed, h .wiped)

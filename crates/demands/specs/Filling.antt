@@ -28,9 +28,9 @@ use Rattle.images.specs.Lengths.{good-blocks}
 use Rattle.updates.specs.Format.{formatted-level}
 use Rattle.demands.specs.Inserts.{Item, done, chipAt, ownPages, splitsAt, growsAt, Finished, filledBy, beyond, splitsAndGrowths}
 use Rattle.demands.specs.Words.{Ready, mapAt}
-use Rattle.demands.specs.Bridges.{some-pages, ready-keeps}
+use Rattle.demands.specs.Bridges.{some-pages, ready-keeps, ready-rises}
 use Rattle.demands.specs.Proofs.{insert-fuller, insert-blocks}
-use Rattle.demands.specs.Demands.{map-sorted, insert-done, insert-own}
+use Rattle.demands.specs.Demands.{insert-done, insert-own}
 use Rattle.demands.specs.Builds.{format-holds, new-is, new-blocks}
 use mathlib.Core.Logic.{inl}
 
@@ -72,7 +72,7 @@ module _ (g : Geometry) (shape : Shape g) where
       let f = subst (λ m. Fuller g (needs g (chipAt g img) (x .key)) (chipAt g img) (chipOf g m (done g img x .image)))
       (sym (insert-blocks g shape img (h .ready) (x .key) k (x .addr) (x .allowance) e))
       (insert-fuller g shape img (h .ready) (x .key) k (x .addr) (x .allowance) a e) in
-      let s = put-size (x .key) (x .addr) 4294967296 (mapAt g img) (map-sorted g shape img (h .ready) (x .key) k) in
+      let s = put-size (x .key) (x .addr) 4294967296 (mapAt g img) (ready-rises g shape img (h .ready)) in
       let b = ap (λ o. bit (isNone o)) none′ in
       let l = ap length (next .map-is) in
       let o = own-is img x (h .ready) k a e in

@@ -13,6 +13,11 @@ use Rattle.model.specs.Tree.{find}
 use Rattle.model.specs.Edit.{put, remove}
 use Rattle.trees.specs.Lists.{Rises}
 use Rattle.trees.specs.Splits.{above-none}
+use Rattle.demands.specs.Words.{Rising}
+
+pub rising : (hi : ℕ) (es : List Entry) → Rises (λ y x. Unit {0}) hi es → Rising hi es
+rising hi [] h = tt
+rising hi (e ∷ es) h = (h .0, rising hi es (h .2))
 
 pub find-put : (k a : ℕ) (es : List Entry) → find k (put k a es) ≡ some a
 unfolding find

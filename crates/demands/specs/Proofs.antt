@@ -6,8 +6,6 @@ use mathlib.Core.Logic.{_⊎_, inl, inr}
 use mathlib.Core.Option.{Option, none, some}
 use Prim.Native.Nat.{ℕ, zero, suc, _+_, _-_, _*_, _<_, _≤_}
 use native.Mathlib.Omega.{arith}
-use lib.ListN.{length}
-use lib.Dec.{leb}
 use borrow.Author.Tests.{ltb-true}
 use Rattle.geometry.specs.declared.Geometry.{Geometry}
 use Rattle.geometry.specs.declared.Entry.{Entry}
@@ -17,20 +15,20 @@ use Rattle.geometry.specs.Shape.{Shape}
 use Rattle.model.specs.Image.{blocksOf, goodLength, Nodes, Chip, chipOf}
 use Rattle.model.specs.Tree.{chosen, find, sought}
 use Rattle.model.specs.Rules.{verdict, isSound}
-use Rattle.model.specs.Stores.{Store, applyAll}
+use Rattle.model.specs.Stores.{applyAll, programs, erases}
 use Rattle.model.specs.Edit.{put, gains, remove}
-use Rattle.model.specs.Update.{isNone, rootNode, rootGains, needs, tooHigh, insertStores, deleteStores}
+use Rattle.model.specs.Update.{isNone, rootNode, rootGains, needs, tooHigh, insertStores, deleteStore, deleteStores}
 use Rattle.model.specs.Calls.{Outcome, refused, made, judged, answered, lookup, worn, roomless, freePages, insert, delete}
 use Rattle.trees.specs.Tests.{true-false}
 use Rattle.chips.specs.Whole.{sought-map}
 use Rattle.chips.specs.Insertion.{Fuller}
 use Rattle.images.specs.Lengths.{blocks-same, length-all}
 use Rattle.updates.specs.Along.{Keeps}
-use Rattle.updates.specs.Lists.{m-top, insert-own, insert-programs-only, insert-updated, delete-updated}
+use Rattle.updates.specs.Lists.{m-top, insert-collected, insert-own, insert-programs-only, insert-updated, delete-collected, delete-updated}
 use Rattle.demands.specs.Words.{Ready, mapAt, Holds, Kept, Began, OneOf, Own}
 use Rattle.demands.specs.Bridges.{few, some-pages, ready-keeps, updated-kept}
 use Rattle.demands.specs.Tests.{Met, tested-one, tested-met}
-use Rattle.demands.specs.Calls.{judged-ready, insertTests, deleteTests, insert-is, delete-is, insert-passed, delete-passed, not-worn, made-done, made-stopped, made-image}
+use Rattle.demands.specs.Calls.{judged-ready, insertTests, deleteTests, insert-is, delete-is, insert-passed, delete-passed, not-worn, made-began, made-done, made-stopped, made-image}
 
 pub lookup-image : (g : Geometry) (img : List ℕ) (k : ℕ) → lookup g img k .image ≡ img
 unfolding lookup judged answered
@@ -62,29 +60,21 @@ module _ (g : Geometry) (shape : Shape g) (img : List ℕ) (ready : Ready g img)
   abbrev keeps : Keeps g n (mapAt g img) img
   keeps = ready-keeps g shape img ready
 
-  pub made-began : (ss : List Store) (al : ℕ) → Began (made g ss al img)
-  unfolding made
-  made-began ss al = go (leb (length ss) al)
-    where
-      go : (x : Bool) → (pick {A = ℕ} x 0 7 ≡ 0) ⊎ (pick {A = ℕ} x 0 7 ≡ 7)
-      go true = inl refl
-      go false = inr refl
-
   pub insert-one : (a al : ℕ) → OneOf (insert g img k a al .answer) (0 ∷ 3 ∷ 5 ∷ 6 ∷ 7 ∷ [])
   insert-one a al = subst (λ (o : Outcome). OneOf (o .answer) (0 ∷ 3 ∷ 5 ∷ 6 ∷ 7 ∷ [])) (sym (insert-is g img k a al ready))
-      (tested-one img (insertTests g img k a al) _ (made-began (insertStores g n img k a) al))
+      (tested-one img (insertTests g img k a al) _ (made-began g (insertStores g n img k a) al img))
 
   pub delete-one : (al : ℕ) → OneOf (delete g img k al .answer) (0 ∷ 3 ∷ 4 ∷ 7 ∷ [])
   delete-one al = subst (λ (o : Outcome). OneOf (o .answer) (0 ∷ 3 ∷ 4 ∷ 7 ∷ [])) (sym (delete-is g img k 0 al ready))
-      (tested-one img (deleteTests g img k 0 al) _ (made-began (deleteStores g n img k) al))
+      (tested-one img (deleteTests g img k 0 al) _ (made-began g (deleteStores g n img k) al img))
 
   -- a refusal is the number of a test that is met
   insert-met : (a al j : ℕ) → 1 ≤ j → j ≤ 6 → insert g img k a al .answer ≡ j → Met j (insertTests g img k a al)
-  insert-met a al j p q h = tested-met img j (insertTests g img k a al) _ (made-began (insertStores g n img k a) al) p q
+  insert-met a al j p q h = tested-met img j (insertTests g img k a al) _ (made-began g (insertStores g n img k a) al img) p q
       (sym (ap (λ (o : Outcome). o .answer) (insert-is g img k a al ready)) ∙ h)
 
   delete-met : (al j : ℕ) → 1 ≤ j → j ≤ 6 → delete g img k al .answer ≡ j → Met j (deleteTests g img k 0 al)
-  delete-met al j p q h = tested-met img j (deleteTests g img k 0 al) _ (made-began (deleteStores g n img k) al) p q
+  delete-met al j p q h = tested-met img j (deleteTests g img k 0 al) _ (made-began g (deleteStores g n img k) al img) p q
       (sym (ap (λ (o : Outcome). o .answer) (delete-is g img k 0 al ready)) ∙ h)
 
   -- ROOM: R8 leaves room for one page, so more are needed
@@ -162,9 +152,9 @@ module _ (g : Geometry) (shape : Shape g) (img : List ℕ) (ready : Ready g img)
         let e = ap (λ (o : Outcome). o .image) (p .1) ∙ made-done g ss al img (sym (ap (λ (o : Outcome). o .answer) (p .1)) ∙ h) in
         ap (blocksOf g) e ∙ blocks-same g img (applyAll g ss img) (length-all g ss img)
 
-    pub own-pages : (a al : ℕ) → a < 4294967296 → Began (insert g img k a al) → Own g n img k a
+    pub insert-pages : (a al : ℕ) → a < 4294967296 → Began (insert g img k a al) → Own g n img (needs g c k) (insertStores g n img k a)
     unfolding insertStores
-    own-pages a al a-low b =
+    insert-pages a al a-low b =
         let p = insert-passed g img k a al ready b in
         let f = few g shape img ready in
         let s = some-pages g shape img ready in
@@ -175,6 +165,21 @@ module _ (g : Geometry) (shape : Shape g) (img : List ℕ) (ready : Ready g img)
           programs-are = insert-own g shape n f (mapAt g img) img keeps w s k a k-low a-low (p .0 .1 .0) (p .0 .1 .1 .0);
           no-erase = insert-programs-only g shape n f (mapAt g img) img keeps w s k a k-low a-low (p .0 .1 .0) (p .0 .1 .1 .0);
           atmost = m-top g shape n f (mapAt g img) img keeps w s k a k-low a-low (p .0 .1 .0) (p .0 .1 .1 .0);
+          collected = insert-collected g shape n f (mapAt g img) img keeps w s k a k-low a-low (p .0 .1 .0) (p .0 .1 .1 .0);
+        }
+
+    pub delete-pages : (al : ℕ) → Began (delete g img k al) → Own g n img 1 (deleteStores g n img k)
+    unfolding deleteStores deleteStore programs erases
+    delete-pages al b =
+        let p = delete-passed g img k 0 al ready b in
+        record {
+          own = _;
+          list-is = refl;
+          programs-are = refl;
+          no-erase = refl;
+          atmost = (let z = shape .top-low in omega (arith, z));
+          collected = delete-collected g shape n (few g shape img ready) (mapAt g img) img keeps (not-worn g n img (p .0 .0)) (some-pages g shape img ready) k
+              k-low (p .0 .1 .0);
         }
 
     pub delete-kept : (al : ℕ) → Began (delete g img k al) → Kept g (mapAt g img) (remove k (mapAt g img)) img (deleteStores g n img k)

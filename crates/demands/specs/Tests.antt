@@ -81,3 +81,14 @@ module _ (img : List ℕ) where
       go : (x : Bool) → t .met ≡ x → pick x (refused (t .number) img) (tested img ts o) .answer ≡ j → (tested img ts o .answer ≡ j → Met j ts) → Met j (t ∷ ts)
       go true d h f = inl (h, d)
       go false d h f = inr (f h)
+
+  -- where every number is 3 or more, so is a refusal
+  pub tested-later : (ts : List Test) (o : Outcome) → All (λ t. 3 ≤ t .number) ts → Began o → 1 ≤ tested img ts o .answer → 3 ≤ tested img ts o .answer
+  tested-later [] o h (inl b) p = absurd (omega (arith, b, p))
+  tested-later [] o h (inr b) p = omega (arith, b)
+  tested-later (t ∷ ts) o h b p = go (t .met) p (tested-later ts o (h .1) b)
+    where
+      go : (x : Bool) → 1 ≤ pick x (refused (t .number) img) (tested img ts o) .answer → (1 ≤ tested img ts o .answer → 3 ≤ tested img ts o .answer)
+          → 3 ≤ pick x (refused (t .number) img) (tested img ts o) .answer
+      go true q f = h .0
+      go false q f = f q

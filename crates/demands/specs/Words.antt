@@ -9,14 +9,13 @@ use Rattle.geometry.specs.declared.Geometry.{Geometry}
 use Rattle.geometry.specs.declared.Entry.{Entry}
 use Rattle.geometry.specs.declared.Verdict.the-variants.{Sound}
 use Rattle.model.specs.Bytes.{byteAt}
-use Rattle.model.specs.Image.{blocksOf, goodLength, chipOf}
-use Rattle.model.specs.Tree.{mapOf}
+use Rattle.model.specs.Image.{blocksOf, pagesOf, goodLength, chipOf}
+use Rattle.model.specs.Tree.{next, mapOf, erasedPages}
 use Rattle.model.specs.Rules.{verdict}
 use Rattle.model.specs.Stores.{Store, applyStore, applyAll, programs, erases}
 use Rattle.model.specs.Collect.{collectStores}
-use Rattle.model.specs.Update.{needs, insertStores}
 use Rattle.model.specs.Calls.{Outcome}
-use Rattle.images.specs.Writes.{Legal}
+use Rattle.model.specs.Legal.{Legal}
 
 -- a sound image: its length is good, no rule R1 to R8 is broken, and its bytes are below 256
 pub record Ready (g : Geometry) (img : List ℕ) : Type 0 where
@@ -28,13 +27,17 @@ pub record Ready (g : Geometry) (img : List ℕ) : Type 0 where
 abbrev pub mapAt : Geometry → List ℕ → List Entry
 mapAt g img = mapOf (chipOf g (blocksOf g img) img)
 
+-- keys rise strictly and stay below hi
+abbrev pub Rising : ℕ → List Entry → Type 0
+Rising hi [] = Unit {0}
+Rising hi (e ∷ es) = (e .key < next es hi) × Rising hi es
+
 -- a sound image that holds this map
 pub record Holds (g : Geometry) (map : List Entry) (img : List ℕ) : Type 0 where
   pub ready : Ready g img
   pub map-is : mapAt g img ≡ map
 
--- every store of the list is legal on the image as it then stands. `Legal`: a program fills the next page, which is erased,
--- and carries the largest number plus 1; an erase takes a block without live pages
+-- every store of the list is legal on the image as it then stands
 unfoldable pub Lawful : Geometry → ℕ → List ℕ → List Store → Type 0
 Lawful g n img [] = Unit {0}
 Lawful g n img (s ∷ ss) = Legal g n img s × Lawful g n (applyStore g s img) ss
@@ -59,11 +62,12 @@ abbrev pub OneOf : ℕ → List ℕ → Type 0
 OneOf x [] = ⊥
 OneOf x (y ∷ ys) = (x ≡ y) ⊎ OneOf x ys
 
--- own pages: the list is the collection's stores, then stores with as many programs as `needs` counts, 1 + splits + grow,
--- at most `top`
-pub record Own (g : Geometry) (n : ℕ) (img : List ℕ) (k a : ℕ) : Type 0 where
+-- own pages: the list is the collection's stores, then stores with m programs and no erase, m at most `top`. The collection ends because
+-- it is done: a block's pages and m more are then erased
+pub record Own (g : Geometry) (n : ℕ) (img : List ℕ) (m : ℕ) (ss : List Store) : Type 0 where
   pub own : List Store
-  pub list-is : insertStores g n img k a ≡ collectStores g n (needs g (chipOf g n img) k) (suc (needs g (chipOf g n img) k)) img ++ own
-  pub programs-are : programs own ≡ needs g (chipOf g n img) k
+  pub list-is : ss ≡ collectStores g n m (suc m) img ++ own
+  pub programs-are : programs own ≡ m
   pub no-erase : erases own ≡ 0
-  pub atmost : needs g (chipOf g n img) k ≤ g .top
+  pub atmost : m ≤ g .top
+  pub collected : g .pages + m ≤ erasedPages (pagesOf g n) (chipOf g n (applyAll g (collectStores g n m (suc m) img) img))

@@ -1,7 +1,7 @@
 -- Laws of the way up, in the form in which the code has the premises. Assumes nothing.
-use Prim.Native.Nat.{ℕ, zero, suc, _+_, _-_, _*_, _<_, _≤_}
-use mathlib.Core.Path.{_≡_, refl, sym, ap, _∙_}
-use mathlib.Core.List.{List, [], _∷_, _++_}
+use Prim.Native.Nat.{ℕ, zero, suc, _+_, _-_, _<_, _≤_}
+use mathlib.Core.Path.{_≡_, refl, sym, _∙_}
+use mathlib.Core.List.{List, [], _++_}
 use lib.ListN.{take}
 use native.Mathlib.Omega.{arith}
 use native.Mathlib.Numerals.{add-one, sub-one}
@@ -9,7 +9,7 @@ use Rattle.geometry.specs.declared.Geometry.{Geometry}
 use Rattle.geometry.specs.declared.Entry.{Entry}
 use Rattle.model.specs.Bytes.{nodeAt}
 use Rattle.model.specs.Tree.{chosen}
-use Rattle.model.specs.Edit.{putIn, removeIn, edited, onPath}
+use Rattle.model.specs.Edit.{putIn, removeIn, edited}
 use Rattle.model.specs.Stores.{Store, applyAll}
 use Rattle.node.specs.declared.Node.{Node}
 use Rattle.node.specs.Node.{entries, carried, replaceBy}

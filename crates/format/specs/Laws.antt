@@ -2,28 +2,27 @@
 use mathlib.Core.Path.{_≡_, refl, sym, ap, _∙_}
 use mathlib.Core.Bool.{Bool, true, false}
 use mathlib.Core.List.{List, [], _∷_, _++_}
-use Prim.Native.Nat.{ℕ, zero, suc, _+_, _-_, _*_, _<_, _≤_}
+use Prim.Native.Nat.{ℕ, _+_, _-_, _*_, _≤_}
 use native.Mathlib.Omega.{arith}
 use native.Mathlib.Numerals.{add-one}
-use lib.Dec.{eqb, leb}
 use lib.ListN.{length, take}
 use borrow.Author.Tests.{leb-true}
 use Rattle.geometry.specs.declared.Geometry.{Geometry}
 use Rattle.geometry.specs.Geometry.{pageBytes, pageBase}
-use Rattle.geometry.specs.Tests.{pick, _&_, and-left, and-right}
+use Rattle.geometry.specs.Tests.{pick, and-left, and-right}
 use Rattle.model.specs.Bytes.{byteAt}
 use Rattle.model.specs.Image.{blocksOf, goodLength}
 use Rattle.model.specs.Page.{built, sealed}
 use Rattle.model.specs.Stores.{Store, program, erase, applyStore, applyAll}
 use Rattle.model.specs.Update.{erasures, formatStores}
-use Rattle.model.specs.Calls.{Outcome, refused, format}
+use Rattle.model.specs.Calls.{format}
 use Rattle.answers.specs.Answers.{told}
 use Rattle.answers.specs.declared.Answer.the-variants.{Done, Length}
 use Rattle.chip.specs.Chip.{goodBlocks}
 use Rattle.lists.specs.Written.{length-written}
 use Rattle.stores.specs.Laws.{program-cut}
 use Rattle.stores.specs.Runs.{all-append}
-use Rattle.page.specs.Page.{blanks, bare, laid}
+use Rattle.page.specs.Page.{blanks, bare}
 use Rattle.page.specs.Levels.{page-is, laid-none}
 
 -- ---- the loop of erases

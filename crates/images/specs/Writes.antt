@@ -5,21 +5,20 @@ use mathlib.Core.List.{List}
 use mathlib.Core.Bool.{true, false}
 use Prim.Native.Nat.{ℕ, suc, _+_, _-_, _*_, _<_, _≤_}
 use native.Mathlib.Omega.{arith}
-use lib.ListN.{length}
 use lib.Dec.{eqb}
 use borrow.Author.Tests.{eq-eqb, ne-eqb}
 use Rattle.geometry.specs.declared.Geometry.{Geometry}
 use Rattle.geometry.specs.declared.Entry.{Entry}
 use Rattle.geometry.specs.Tests.{pick}
-use Rattle.geometry.specs.Geometry.{pageBytes, half, rootMost}
+use Rattle.geometry.specs.Geometry.{half, rootMost}
 use Rattle.geometry.specs.Shape.{Shape}
-use Rattle.model.specs.Bytes.{u32At, erased}
 use Rattle.model.specs.Count.{count, peak, arg}
 use Rattle.model.specs.Image.{pagesOf, maxSeq, Chip, chipOf}
 use Rattle.model.specs.Tree.{mapOf, places, placesOf, live}
-use Rattle.model.specs.Next.{firstIn, Ahead, ahead, nextBlock, nextPage, after, onward}
+use Rattle.model.specs.Next.{firstIn, ahead, nextBlock, nextPage, after, onward}
 use Rattle.model.specs.Page.{built}
 use Rattle.model.specs.Stores.{Store, program, erase, applyStore}
+use Rattle.model.specs.Legal.{Legal}
 use Rattle.trees.specs.Tests.{by-test, true-false}
 use Rattle.trees.specs.Nodes.{fitOf}
 use Rattle.trees.specs.Frame.{pairs-same, root-places-same, sound-same}
@@ -37,14 +36,6 @@ use Rattle.images.specs.Held.{Held, er-at}
 -- the store at the next page, with the next number
 unfoldable pub nextStore : Geometry → ℕ → ℕ → (ℕ → List Entry) → List ℕ → Store
 nextStore g n h parts img = program (nextPage (g .pages) n (ahead g n (chipOf g n img))) (built g (suc (maxSeq g n img)) h parts)
-
--- a legal store. A program: the whole of the next page, which is erased, with the largest number plus 1.
--- An erase: a block without live pages
-unfoldable pub Legal : Geometry → ℕ → List ℕ → Store → Type 0
-Legal g n img (program p bs) =
-    (p ≡ nextPage (g .pages) n (ahead g n (chipOf g n img))) × (p < pagesOf g n) × (erased g img p ≡ true) × (length bs ≡ pageBytes g) ×
-    (u32At bs (g .main) ≡ suc (maxSeq g n img))
-Legal g n img (erase b) = (b < n) × ((j : ℕ) → j < g .pages → live (placesOf (chipOf g n img)) (g .pages * b + j) ≡ false)
 
 -- the largest number after a page with the next one
 pub max-new : (t : ℕ) (v : Views) (p : ℕ) (w : View) → p < t → w .seq ≡ suc (topOf t v) → topOf t (laid v p w) ≡ suc (topOf t v)

@@ -1,20 +1,17 @@
 -- Insert, in the form in which the code has the premises. Assumes nothing.
-use Prim.Native.Nat.{ℕ, zero, suc, _+_, _-_, _*_, _<_, _≤_}
+use Prim.Native.Nat.{ℕ, _+_, _-_, _*_, _<_, _≤_}
 use mathlib.Core.Bool.{Bool, true, false}
-use mathlib.Core.Path.{_≡_, refl, sym, ap, _∙_}
-use mathlib.Core.List.{List, [], _∷_, _++_}
+use mathlib.Core.Path.{_≡_, sym, ap, _∙_}
+use mathlib.Core.List.{List, _++_}
 use lib.ListN.{length}
-use native.Mathlib.Omega.{arith}
 use native.Mathlib.Numerals.{add-one}
 use Rattle.geometry.specs.declared.Geometry.{Geometry}
-use Rattle.geometry.specs.Tests.{pick}
-use Rattle.model.specs.Image.{Chip, chipOf, pagesOf, blocksOf, maxSeq}
-use Rattle.model.specs.Tree.{livePages}
+use Rattle.model.specs.Image.{chipOf, blocksOf, maxSeq}
 use Rattle.model.specs.Count.{count}
-use Rattle.model.specs.Calls.{Outcome, refused, made, worn, roomless, freePages, insertRest, judged, insert}
+use Rattle.model.specs.Calls.{worn, roomless, freePages, insertRest, insert}
 use Rattle.model.specs.Collect.{collectStores}
 use Rattle.model.specs.Stores.{Store, applyAll}
-use Rattle.model.specs.Update.{needs, tooHigh, ownStores, insertStores}
+use Rattle.model.specs.Update.{needs, ownStores, insertStores}
 use Rattle.answers.specs.declared.Answer.{Answer}
 use Rattle.answers.specs.declared.Answer.the-variants.{Worn, Height, Room, Length}
 use Rattle.answers.specs.Answers.{told}

@@ -1,14 +1,13 @@
 -- Laws of insert's own stores, in the form in which the code has the premises. Assumes nothing.
-use Prim.Native.Nat.{ℕ, zero, suc, _+_, _-_, _*_, _<_, _≤_, max}
+use Prim.Native.Nat.{ℕ, suc, _+_, _-_, _<_, _≤_, max}
 use mathlib.Core.Bool.{Bool, true, false}
 use mathlib.Core.Path.{_≡_, refl, sym, ap, _∙_}
 use mathlib.Core.List.{List, [], _∷_, _++_}
-use lib.Dec.{leb, eqb}
+use lib.Dec.{eqb}
 use lib.ListN.{take, getD, length}
 use native.Mathlib.Omega.{arith}
 use native.Mathlib.Numerals.{add-one}
-use native.Mathlib.Nat.{max-eq-left, max-eq-right}
-use borrow.Author.Tests.{le-leb, lt-leb, eq-eqb, ne-eqb}
+use borrow.Author.Tests.{le-leb, lt-leb, ne-eqb}
 use Rattle.geometry.specs.declared.Geometry.{Geometry}
 use Rattle.geometry.specs.declared.Entry.{Entry}
 use Rattle.geometry.specs.Geometry.{pageBytes}
@@ -16,11 +15,9 @@ use Rattle.geometry.specs.Tests.{pick}
 use Rattle.model.specs.Bytes.{erased}
 use Rattle.model.specs.Count.{arg}
 use Rattle.model.specs.Image.{pagesOf, seqOf}
-use Rattle.model.specs.Next.{nth}
 use Rattle.model.specs.Page.{sealed, built}
 use Rattle.model.specs.Stores.{Store, program}
-use Rattle.model.specs.Update.{fills, crownPart, crownStore, crownHeight}
-use Rattle.node.specs.declared.Node.{Node}
+use Rattle.model.specs.Update.{fills, crownPart, crownHeight}
 use Rattle.node.specs.Node.{entries}
 use Rattle.page.specs.Page.{blanks, laidLevel, laid, bare}
 use Rattle.page.specs.Levels.{laid-more, laid-agree, page-is}
@@ -31,7 +28,7 @@ use Rattle.step.specs.declared.Change.the-variants.{Put}
 use Rattle.step.specs.declared.Job.{Job}
 use Rattle.step.specs.Step.{sideOf}
 use Rattle.edit.specs.declared.Changed.{Changed}
-use Rattle.edit.specs.Edit.{changed, pathOf, partsOf, sidesUp, Changes}
+use Rattle.edit.specs.Edit.{changed, partsOf, Changes}
 use Rattle.crown.specs.declared.Summit.{Summit}
 use Rattle.crown.specs.Crown.{topPart, Crowned}
 use Rattle.next.specs.Coming.{seen, Coming}

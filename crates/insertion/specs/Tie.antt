@@ -1,10 +1,8 @@
 -- The stores of the job of putting a key are the definition's. Assumes nothing.
-use Prim.Native.Nat.{ℕ, zero, suc, _+_, _-_, _*_, _<_, _≤_, min}
-use mathlib.Core.Bool.{Bool, true, false}
+use Prim.Native.Nat.{ℕ, zero, suc, _+_, _-_, _≤_}
 use mathlib.Core.Path.{_≡_, refl, sym, ap, _∙_}
 use mathlib.Core.List.{List, [], _∷_, _++_}
 use lib.Dec.{leb}
-use lib.ListN.{length}
 use native.Mathlib.Omega.{arith}
 use native.Mathlib.Numerals.{sub-one}
 use Rattle.geometry.specs.declared.Geometry.{Geometry}
@@ -12,16 +10,14 @@ use Rattle.geometry.specs.declared.Entry.{Entry}
 use Rattle.geometry.specs.Geometry.{half}
 use Rattle.geometry.specs.Tests.{pick}
 use Rattle.model.specs.Bytes.{nodeAt}
-use Rattle.model.specs.Image.{Chip}
 use Rattle.model.specs.Next.{nth}
 use Rattle.model.specs.Page.{built}
-use Rattle.model.specs.Stores.{Store, program}
-use Rattle.model.specs.Edit.{putIn, named, pathPart, edited, onPath}
+use Rattle.model.specs.Stores.{program}
+use Rattle.model.specs.Edit.{putIn, named, pathPart, onPath}
 use Rattle.model.specs.Update.{insertList, crownPart, crownStore, crownHeight, insertPart, sideStore, splitStore, sideStores, sidePage, ownStores}
 use Rattle.stores.specs.declared.Budget.{Budget}
 use Rattle.stores.specs.Run.{Ran}
 use Rattle.step.specs.declared.Change.{Change}
-use Rattle.step.specs.declared.Change.the-variants.{Put}
 use Rattle.step.specs.declared.Job.{Job}
 use Rattle.step.specs.Step.{sideOf, leafOf, nameOf, partOf, storesOf}
 use Rattle.edit.specs.Edit.{changed, pathOf, partsOf, sidesUp}

@@ -1,8 +1,7 @@
 -- A call that is judged first, in the form in which the code has the premises: `rest` is what a sound image gives.
 -- Assumes nothing.
-use Prim.Native.Nat.{ℕ, _+_, _*_, _<_, _≤_}
-use mathlib.Core.Bool.{Bool, true, false}
-use mathlib.Core.Path.{_≡_, refl, sym, ap, subst, _∙_}
+use Prim.Native.Nat.{ℕ, _*_, _≤_}
+use mathlib.Core.Path.{_≡_, sym, subst, _∙_}
 use mathlib.Core.List.{List}
 use native.Mathlib.Omega.{arith}
 use native.Mathlib.Nat.{mul-le-mul-left, mul-le-mul-right}
@@ -11,10 +10,8 @@ use Rattle.geometry.specs.declared.Geometry.{Geometry}
 use Rattle.geometry.specs.declared.Verdict.the-variants.{Sound, Broken}
 use Rattle.geometry.specs.Geometry.{small, pageBytes}
 use Rattle.geometry.specs.Tests.{pick}
-use Rattle.model.specs.Image.{blocksOf, goodLength}
 use Rattle.model.specs.Rules.{verdict, isSound}
 use Rattle.model.specs.Calls.{Outcome, refused, judged}
-use Rattle.answers.specs.declared.Answer.{Answer}
 use Rattle.answers.specs.declared.Answer.the-variants.{Length, Damaged}
 use Rattle.answers.specs.Answers.{told}
 use Rattle.chip.specs.Chip.{goodBlocks}

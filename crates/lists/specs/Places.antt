@@ -1,16 +1,15 @@
 -- A list with an entry put in, taken out or cut at a place, and the arrays that loops leave of it. Assumes nothing.
 use mathlib.Core.Path.{_≡_, refl, sym, ap, _∙_}
-use mathlib.Core.Logic.{_⊎_, inl, inr, ⊎-elim}
+use mathlib.Core.Logic.{_⊎_, ⊎-elim}
 use mathlib.Core.List.{List, [], _∷_, _++_, map}
-use Prim.Native.Nat.{ℕ, zero, suc, _+_, _*_, _-_, _≤_, _<_}
+use Prim.Native.Nat.{ℕ, zero, suc, _+_, _-_, _≤_, _<_}
 use native.Mathlib.Nat.{zero-add, eq-or-lt-of-le}
 use native.Mathlib.Decide.{decLt}
 use native.Mathlib.Omega.{arith}
-use native.Mathlib.Numerals.{add-one}
 use lib.ListN.{length, set, getD, take, drop, length-set, length-append, length-drop, length-map, List·getD-append}
-use lib.Seq.{take-all, length-take-le, getD-take, getD-drop, getD-append-add, getD-set-same, getD-set-other, take-suc-set, ext-getD}
+use lib.Seq.{length-take-le, getD-take, getD-drop, getD-append-add, getD-set-same, getD-set-other, take-suc-set, ext-getD}
 use Rattle.model.specs.Stores.{written}
-use Rattle.lists.specs.Written.{length-written, written-before, written-after, written-inside}
+use Rattle.lists.specs.Written.{length-written, written-before, written-inside}
 
 -- f 0, f 1, .. f (n - 1)
 unfoldable pub tab : {A : Type 0} → (ℕ → A) → ℕ → List A

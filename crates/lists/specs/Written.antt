@@ -1,13 +1,13 @@
 -- A loop that writes. Assumes nothing.
-use mathlib.Core.Path.{_≡_, refl, sym, ap, _∙_}
-use mathlib.Core.Logic.{_⊎_, inl, inr, ⊎-elim}
-use mathlib.Core.List.{List, [], _∷_, _++_}
-use Prim.Native.Nat.{ℕ, zero, suc, _+_, _*_, _-_, _≤_, _<_}
+use mathlib.Core.Path.{_≡_, refl, _∙_}
+use mathlib.Core.Logic.{_⊎_, ⊎-elim}
+use mathlib.Core.List.{List}
+use Prim.Native.Nat.{ℕ, zero, suc, _+_, _-_, _≤_, _<_}
 use native.Mathlib.Nat.{eq-or-lt-of-le, zero-add}
 use native.Mathlib.Omega.{arith}
 use native.Mathlib.Numerals.{add-one}
-use lib.ListN.{length, set, getD, take, length-set}
-use lib.Seq.{getD-set-same, getD-set-other, getD-take}
+use lib.ListN.{length, set, getD, length-set}
+use lib.Seq.{getD-set-same, getD-set-other}
 use Rattle.model.specs.Stores.{written}
 
 module _ {A : Type 0} (l : List A) (at : ℕ) (f : ℕ → A) where

@@ -1,15 +1,13 @@
 -- Lookup, in the form in which the code has the premises. Assumes nothing.
-use Prim.Native.Nat.{ℕ, zero, suc, _+_, _-_, _*_, _<_, _≤_}
-use mathlib.Core.Bool.{Bool, true, false}
+use Prim.Native.Nat.{ℕ, _-_, _≤_}
 use mathlib.Core.Path.{_≡_, refl, sym, ap, _∙_}
 use mathlib.Core.List.{List}
-use mathlib.Core.Option.{Option, none, some}
 use native.Mathlib.Omega.{arith}
 use Rattle.geometry.specs.declared.Geometry.{Geometry}
 use Rattle.geometry.specs.declared.Verdict.the-variants.{Sound, Broken}
 use Rattle.geometry.specs.Geometry.{small}
 use Rattle.geometry.specs.Tests.{pick}
-use Rattle.model.specs.Image.{Chip, chipOf, blocksOf, goodLength}
+use Rattle.model.specs.Image.{Chip, chipOf}
 use Rattle.model.specs.Tree.{sought}
 use Rattle.model.specs.Rules.{verdict, isSound}
 use Rattle.model.specs.Calls.{Outcome, refused, judged, answered, lookup}

@@ -1,20 +1,19 @@
 -- R5 leaves no live page outside the image. Assumes nothing.
-use Prim.Native.Nat.{ℕ, zero, suc, _+_, _*_, _<_, _≤_}
-use mathlib.Core.Bool.{Bool, true, false, not}
+use Prim.Native.Nat.{ℕ, zero, suc, _+_, _<_, _≤_}
+use mathlib.Core.Bool.{Bool, true, not}
 use mathlib.Core.Path.{_≡_, refl, sym, _∙_}
 use mathlib.Core.List.{List, [], _∷_}
-use lib.Dec.{eqb, leb, ltb}
-use lib.ListN.{length}
+use lib.Dec.{leb, ltb}
 use native.Mathlib.Omega.{arith}
 use borrow.Author.Tests.{ne-eqb, ltb-true}
 use Rattle.geometry.specs.declared.Geometry.{Geometry}
 use Rattle.geometry.specs.declared.Entry.{Entry}
 use Rattle.geometry.specs.declared.Finding.{Finding}
 use Rattle.geometry.specs.declared.Finding.the-variants.{Good, Bad}
-use Rattle.geometry.specs.Tests.{pick, _&_, and-left, and-right}
-use Rattle.model.specs.Image.{Nodes, Chip, theRoot}
-use Rattle.model.specs.Tree.{next, gather, Place, places, placesOf}
-use Rattle.model.specs.Rules.{first, unless, names, rising, own, ownRoot, judgeEntries, judgeNode, r5}
+use Rattle.geometry.specs.Tests.{_&_, and-left, and-right}
+use Rattle.model.specs.Image.{Nodes, Chip}
+use Rattle.model.specs.Tree.{next, gather, Place, places}
+use Rattle.model.specs.Rules.{first, names, rising, own, ownRoot, judgeEntries, judgeNode, r5}
 use Rattle.counts.specs.Lowest.{bad-good, good-unless}
 use Rattle.trees.specs.Lists.{All, all-append}
 use Rattle.loose.specs.Loose.{Inside}

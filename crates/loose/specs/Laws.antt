@@ -1,23 +1,20 @@
 -- R6, in the form in which the code has the premises. Assumes nothing.
-use Prim.Native.Nat.{ℕ, zero, suc, _+_, _-_, _*_, _<_, _≤_}
+use Prim.Native.Nat.{ℕ, _+_, _-_, _*_, _<_, _≤_}
 use mathlib.Core.Bool.{Bool, true, false, not}
 use mathlib.Core.Path.{_≡_, refl, sym, ap, _∙_}
 use mathlib.Core.List.{List, [], _∷_, _++_}
-use lib.Dec.{eqb, leb, ltb}
+use lib.Dec.{eqb, ltb}
 use lib.ListN.{length, getD}
-use native.Mathlib.Omega.{arith}
 use native.Mathlib.Numerals.{add-one}
 use borrow.Author.Tests.{not-true, not-false, eq-eqb, ne-eqb, lt-ltb, le-ltb, le-leb, lt-leb}
 use Rattle.geometry.specs.declared.Geometry.{Geometry}
-use Rattle.geometry.specs.declared.Entry.{Entry}
-use Rattle.geometry.specs.declared.Finding.{Finding}
 use Rattle.geometry.specs.declared.Finding.the-variants.{Good, Bad}
 use Rattle.geometry.specs.Tests.{pick, _&_, and-true, and-false}
 use Rattle.model.specs.Bytes.{u32At, entriesAt, nodePlace, nodeCount, nodeAt}
-use Rattle.model.specs.Image.{Nodes, Chip}
-use Rattle.model.specs.Tree.{Place, places, placesOf, lowLevel}
-use Rattle.model.specs.Rules.{unless, namesPage, loose, lowestPage, r6}
-use Rattle.chip.specs.Chip.{entryAt, named, chipWith}
+use Rattle.model.specs.Image.{Nodes}
+use Rattle.model.specs.Tree.{Place, places, placesOf}
+use Rattle.model.specs.Rules.{namesPage, loose, lowestPage, r6}
+use Rattle.chip.specs.Chip.{named, chipWith}
 use Rattle.chip.specs.Node.{node-read, entries-start, entries-turn, entries-past, addr-is}
 use Rattle.counts.specs.Lowest.{unless-true, unless-false}
 use Rattle.trees.specs.Lists.{All, all-map}

@@ -1,13 +1,12 @@
 -- Collection: the victim, the moves, the erase, each on the image as it then stands. Definitions alone; assumes nothing.
 use Prim.Native.Nat.{ℕ, zero, suc, _+_, _-_, _*_}
-use mathlib.Core.Bool.{Bool, true, false}
+use mathlib.Core.Bool.{Bool}
 use mathlib.Core.List.{List, [], _∷_, _++_}
 use mathlib.Core.Option.{Option, none, some}
-use lib.Dec.{eqb, leb, ltb}
+use lib.Dec.{leb, ltb}
 use Rattle.geometry.specs.declared.Geometry.{Geometry}
 use Rattle.geometry.specs.declared.Entry.{Entry}
 use Rattle.geometry.specs.Tests.{pick}
-use Rattle.model.specs.Count.{count}
 use Rattle.model.specs.Image.{Chip, chipOf, theRoot, pagesOf, maxSeq}
 use Rattle.model.specs.Tree.{next, placesOf, live, lowLevel, erasedPages}
 use Rattle.model.specs.Next.{full, inBlock, ahead, nextPage}

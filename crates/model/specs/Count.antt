@@ -1,6 +1,6 @@
 -- Counting and searching over the numbers below n. Definitions alone; assumes nothing.
 use Prim.Native.Nat.{ℕ, zero, suc, _+_, max}
-use mathlib.Core.Bool.{Bool, true, false}
+use mathlib.Core.Bool.{Bool}
 use lib.Dec.{ltb}
 use Rattle.geometry.specs.Tests.{pick, bit}
 

@@ -2,16 +2,15 @@
 use mathlib.Core.Path.{_≡_, refl}
 use mathlib.Core.List.{List, [], _∷_}
 use mathlib.Core.Bool.{Bool, true, false}
-use Prim.Native.Nat.{ℕ, zero, suc, _+_, _-_, _*_, min}
-use lib.ListN.{length, replicate}
+use Prim.Native.Nat.{ℕ, zero, suc, _+_, _-_, _*_}
 use Rattle.geometry.specs.declared.Entry.{Entry}
 use Rattle.geometry.specs.Geometry.{small, pageBase, firstSlot, slotsOf, half, rootSlots, inTable}
 use Rattle.geometry.specs.Tests.{_&_}
 use Rattle.model.specs.Bytes.{u32At, blank, erased, seqAt, heightAt, countAt, tailAt, entriesAt, nodePlace, nodeCount, nodeAt}
-use Rattle.model.specs.Count.{count, least}
-use Rattle.model.specs.Image.{Nodes, Chip, theRoot}
-use Rattle.model.specs.Tree.{gather, under, places, lowLevel, live, halve, place, chosen}
-use Rattle.model.specs.Next.{Ahead, round, nextBlock, nextPage, taken, nth}
+use Rattle.model.specs.Count.{least}
+use Rattle.model.specs.Image.{Nodes}
+use Rattle.model.specs.Tree.{gather, places, halve, place, chosen}
+use Rattle.model.specs.Next.{round, nextBlock, taken, nth}
 use Rattle.model.specs.Page.{putU32, putEntry, putEntries, putLevel, putLevels, sealed, built, only}
 use Rattle.model.specs.Edit.{splice, edited, onPath, put, putIn, pathHalf, sideHalf, two, named, pathPart, removeIn, kept, collapse, renamed, same}
 

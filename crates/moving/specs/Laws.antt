@@ -1,7 +1,6 @@
 -- Laws of the store that moves a page, in the form in which the code has the premises. Assumes nothing.
-use Prim.Native.Nat.{ℕ, zero, suc, _+_, _-_, _*_, _<_, _≤_}
-use mathlib.Core.Bool.{Bool, true, false}
-use mathlib.Core.Path.{_≡_, refl, sym, ap, _∙_}
+use Prim.Native.Nat.{ℕ, suc, _+_, _-_, _<_, _≤_}
+use mathlib.Core.Path.{_≡_, refl, ap, _∙_}
 use mathlib.Core.List.{List, [], _∷_}
 use lib.Dec.{leb}
 use native.Mathlib.Numerals.{add-one}
@@ -13,7 +12,6 @@ use Rattle.model.specs.Bytes.{erased, nodeAt}
 use Rattle.model.specs.Count.{arg}
 use Rattle.model.specs.Image.{pagesOf, seqOf}
 use Rattle.model.specs.Next.{nextPage}
-use Rattle.model.specs.Stores.{Store}
 use Rattle.model.specs.Tree.{next}
 use Rattle.node.specs.declared.Node.{Node}
 use Rattle.node.specs.Node.{entries}

@@ -1,5 +1,5 @@
 -- The store of the job of moving a page is the definition's. Assumes nothing.
-use Prim.Native.Nat.{ℕ, zero, suc, _+_, _-_, _*_, _<_, _≤_}
+use Prim.Native.Nat.{ℕ, suc, _-_, _<_, _≤_}
 use mathlib.Core.Bool.{Bool, true, false}
 use mathlib.Core.Path.{_≡_, refl, sym, ap, _∙_}
 use mathlib.Core.List.{List, [], _∷_}
@@ -11,10 +11,9 @@ use Rattle.geometry.specs.Geometry.{pageBytes}
 use Rattle.geometry.specs.Tests.{pick}
 use Rattle.model.specs.Bytes.{nodeAt}
 use Rattle.model.specs.Collect.{moveKey, movePart}
-use Rattle.model.specs.Image.{Chip}
 use Rattle.model.specs.Next.{nextPage}
 use Rattle.model.specs.Page.{built, sealed}
-use Rattle.model.specs.Stores.{Store, program}
+use Rattle.model.specs.Stores.{program}
 use Rattle.model.specs.Tree.{next, placesOf, lowLevel}
 use Rattle.model.specs.Edit.{same, renamed, onPath}
 use Rattle.chip.specs.Chip.{chipWith}
@@ -23,7 +22,6 @@ use Rattle.page.specs.Levels.{laid-more, laid-agree, page-is}
 use Rattle.stores.specs.declared.Budget.{Budget}
 use Rattle.stores.specs.Run.{Ran}
 use Rattle.step.specs.declared.Change.{Change}
-use Rattle.step.specs.declared.Change.the-variants.{Rename}
 use Rattle.step.specs.declared.Job.{Job}
 use Rattle.step.specs.Step.{leafOf, nameOf, partOf}
 use Rattle.edit.specs.Edit.{changed, pathOf, partsOf}

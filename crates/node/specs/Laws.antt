@@ -1,9 +1,9 @@
 -- Laws of nodes by value, in the form in which the code has the premises. Assumes nothing.
-use Prim.Native.Nat.{ℕ, zero, suc, _+_, _-_, _*_, _<_, _≤_}
+use Prim.Native.Nat.{ℕ, zero, suc, _+_, _-_, _<_, _≤_}
 use mathlib.Core.Path.{_≡_, refl, sym, ap, _∙_}
 use mathlib.Core.List.{List, [], _∷_, _++_}
-use lib.ListN.{take, drop, length, getD, set, drop-of-length-le}
-use lib.Seq.{length-take-le, take-take, take-all, set-split}
+use lib.ListN.{take, drop, length, getD, set}
+use lib.Seq.{length-take-le, take-take, set-split}
 use native.Mathlib.Omega.{arith}
 use native.Mathlib.Numerals.{add-one}
 use Rattle.geometry.specs.declared.Entry.{Entry}

@@ -9,7 +9,7 @@ use native.Mathlib.Numerals.{add-one}
 use Rattle.geometry.specs.declared.Geometry.{Geometry}
 use Rattle.geometry.specs.declared.Entry.{Entry}
 use Rattle.geometry.specs.Geometry.{pageBytes, firstSlot}
-use Rattle.model.specs.Page.{putU32, putEntry, putEntries, putLevel, putLevels, sealed, built, only}
+use Rattle.model.specs.Page.{putU32, putEntry, putEntries, putLevel, putLevels, sealed, built}
 use Rattle.lists.specs.Places.{length-mapped, take-set}
 use Rattle.node.specs.declared.Node.{Node}
 use Rattle.node.specs.Node.{entries}

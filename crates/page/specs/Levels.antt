@@ -1,10 +1,10 @@
 -- Laws of the levels of a page. Assumes nothing.
-use Prim.Native.Nat.{ℕ, zero, suc, _+_, _-_, _*_, _/_, _%_, _<_, _≤_, min}
+use Prim.Native.Nat.{ℕ, zero, suc, _+_, _-_, _<_, _≤_, min}
 use mathlib.Core.Bool.{Bool, true, false}
-use mathlib.Core.Path.{_≡_, refl, sym, ap, _∙_}
-use mathlib.Core.List.{List, [], _∷_, _++_}
-use lib.Dec.{eqb, leb}
-use lib.ListN.{take, length, replicate}
+use mathlib.Core.Path.{_≡_, refl, sym, _∙_}
+use mathlib.Core.List.{List, []}
+use lib.Dec.{leb}
+use lib.ListN.{take, length}
 use native.Mathlib.Omega.{arith}
 use native.Mathlib.Numerals.{add-one}
 use borrow.Author.Tests.{le-leb, lt-leb, eq-eqb, ne-eqb, leb-true, leb-false}
@@ -13,8 +13,6 @@ use Rattle.geometry.specs.declared.Entry.{Entry}
 use Rattle.geometry.specs.Geometry.{pageBytes}
 use Rattle.geometry.specs.Tests.{pick}
 use Rattle.model.specs.Page.{putLevel, putLevels, sealed, built, only}
-use Rattle.node.specs.declared.Node.{Node}
-use Rattle.node.specs.Node.{entries}
 use Rattle.page.specs.Page.{blanks, laidLevel, laid, bare}
 use Rattle.page.specs.Laws.{length-level, page-cut}
 

@@ -1,6 +1,6 @@
 -- A page as the code lays it, level by level from below. Definitions alone; assumes nothing.
-use Prim.Native.Nat.{ℕ, zero, suc, _+_, _-_, min}
-use mathlib.Core.List.{List, [], _∷_}
+use Prim.Native.Nat.{ℕ, zero, suc, _+_, min}
+use mathlib.Core.List.{List, []}
 use lib.Dec.{leb}
 use lib.ListN.{replicate}
 use Rattle.geometry.specs.declared.Geometry.{Geometry}

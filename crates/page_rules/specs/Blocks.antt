@@ -1,18 +1,16 @@
 -- R2. Assumes nothing.
-use Prim.Native.Nat.{ℕ, zero, suc, _+_, _-_, _*_, _<_, _≤_}
+use Prim.Native.Nat.{ℕ, _+_, _-_, _*_, _<_, _≤_}
 use mathlib.Core.Bool.{Bool, true, false, not}
-use mathlib.Core.Path.{_≡_, refl, sym, _∙_}
-use lib.Dec.{eqb, leb, ltb}
+use mathlib.Core.Path.{_≡_, sym, _∙_}
+use lib.Dec.{eqb, ltb}
 use native.Mathlib.Omega.{arith}
-use native.Mathlib.Nat.{add-zero}
 use borrow.Author.Tests.{not-true, not-false, le-leb, lt-leb, lt-ltb, le-ltb}
-use Rattle.geometry.specs.declared.Finding.{Finding}
 use Rattle.geometry.specs.declared.Finding.the-variants.{Good, Bad}
-use Rattle.geometry.specs.Tests.{pick, _&_, and-true, and-false}
+use Rattle.geometry.specs.Tests.{_&_, and-true, and-false}
 use Rattle.model.specs.Count.{least, any}
 use Rattle.model.specs.Next.{mixed, firstIn}
 use Rattle.model.specs.Rules.{unless, inOrder, secondMixed, r2}
-use Rattle.counts.specs.Least.{by-lt, least-zero, least-none, least-go, least-hit, least-end, any-none, any-hit}
+use Rattle.counts.specs.Least.{least-zero, least-none, least-go, least-hit, least-end, any-none, any-hit}
 use Rattle.counts.specs.Blocks.{within}
 use Rattle.counts.specs.Lowest.{unless-true, unless-false}
 

@@ -1,19 +1,18 @@
 -- R1. Assumes nothing.
-use Prim.Native.Nat.{ℕ, zero, suc, _+_, _-_, _*_, _<_, _≤_}
+use Prim.Native.Nat.{ℕ, _+_, _-_, _*_, _<_, _≤_}
 use mathlib.Core.Bool.{Bool, true, false, not}
-use mathlib.Core.Path.{_≡_, refl, sym, _∙_}
+use mathlib.Core.Path.{_≡_, sym}
 use mathlib.Core.List.{List}
 use lib.Dec.{leb}
 use native.Mathlib.Omega.{arith}
 use borrow.Author.Tests.{not-true, not-false, le-leb, lt-leb}
 use Rattle.geometry.specs.declared.Geometry.{Geometry}
-use Rattle.geometry.specs.declared.Finding.{Finding}
 use Rattle.geometry.specs.declared.Finding.the-variants.{Good, Bad}
-use Rattle.geometry.specs.Tests.{pick, _&_, and-true, and-false}
+use Rattle.geometry.specs.Tests.{and-true, and-false}
 use Rattle.model.specs.Bytes.{erased, seqAt, heightAt, tailAt}
 use Rattle.model.specs.Count.{least}
 use Rattle.model.specs.Rules.{wellFormed, r1}
-use Rattle.counts.specs.Least.{least-zero, least-go, least-end}
+use Rattle.counts.specs.Least.{least-zero, least-go}
 use Rattle.counts.specs.Lowest.{lowest-bad, lowest-good}
 
 module _ (g : Geometry) (img : List ℕ) (p : ℕ) (e : Bool) (ee : e ≡ erased g img p) where

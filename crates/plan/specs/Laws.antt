@@ -1,10 +1,10 @@
 -- Laws of plans, in the form in which the code has the premises. Assumes nothing.
 use Prim.Native.Nat.{ℕ, zero, suc, _+_, _-_, _*_, _<_, _≤_}
 use mathlib.Core.Bool.{Bool, true, false, not}
-use mathlib.Core.Path.{_≡_, refl, sym, ap, _∙_}
-use mathlib.Core.List.{List, [], _∷_}
-use mathlib.Core.Option.{Option, none, some}
-use lib.Dec.{eqb, ltb, leb}
+use mathlib.Core.Path.{_≡_, refl, sym, _∙_}
+use mathlib.Core.List.{List}
+use mathlib.Core.Option.{Option, some}
+use lib.Dec.{eqb}
 use lib.ListN.{length}
 use native.Mathlib.Omega.{arith}
 use native.Mathlib.Numerals.{add-one, sub-one}
@@ -12,9 +12,9 @@ use borrow.Author.Tests.{not-true, not-false, lt-ltb, le-ltb, eq-eqb, ne-eqb}
 use Rattle.geometry.specs.declared.Geometry.{Geometry}
 use Rattle.geometry.specs.declared.Entry.{Entry}
 use Rattle.geometry.specs.Geometry.{half, rootSlots}
-use Rattle.geometry.specs.Tests.{pick, bit, _&_, and-true, and-false}
+use Rattle.geometry.specs.Tests.{bit, _&_, and-true, and-false}
 use Rattle.model.specs.Bytes.{nodeAt, nodeCount}
-use Rattle.model.specs.Tree.{chosen, leaf, findIn, sought}
+use Rattle.model.specs.Tree.{chosen, leaf, findIn}
 use Rattle.model.specs.Edit.{gains, splits}
 use Rattle.model.specs.Update.{isNone, fills, needs, tooHigh, rootGains}
 use Rattle.chip.specs.Chip.{chipWith}
@@ -23,7 +23,6 @@ use Rattle.search.specs.declared.Found.{Found}
 use Rattle.search.specs.declared.Found.the-variants.{At, Nothing}
 use Rattle.search.specs.Search.{found}
 use Rattle.plan.specs.declared.Run.{Run}
-use Rattle.plan.specs.declared.Plan.{Plan}
 use Rattle.plan.specs.Plan.{high, Counts, Plans}
 
 -- ---- seek

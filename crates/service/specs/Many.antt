@@ -24,7 +24,7 @@ use Rattle.demands.specs.Builds.{format-holds}
 use Rattle.demands.specs.Inserts.{Item, moves, Finished, beyond, splitsAndGrowths}
 use Rattle.demands.specs.Many.{many-inserts, many-inserts-are}
 use Rattle.camera.specs.Camera.{Left}
-use Rattle.service.specs.Left.{formats, looksUp, inserts, programmedIn, Told, told, third-number}
+use Rattle.service.specs.Left.{formats, looksUp, inserts, programmedIn, Told, told, programmed-read}
 
 -- a call of mutree_insert, with the result buffer that it is lent
 pub record Call : Type 0 where
@@ -86,9 +86,7 @@ module _ (image : List ℕ) (ready : Ready small image) (x : Call) (k-low : x .k
     reported : programmedIn (leaves image x .result) ≡ programs stores
     reported =
         let b = small-bounds image ready (x .key) (x .address) (x .allowance) k-low a-low (inl done) in
-        ap programmedIn (tells .result-is)
-        ∙ third-number (outcome .answer) (outcome .address) (outcome .programmed) (outcome .erased) (x .result) (tells .room) (omega (arith, counted, b .1))
-        ∙ counted
+        ap programmedIn (tells .result-is) ∙ programmed-read (outcome .answer) (outcome .address) (outcome .programmed) (outcome .erased) (x .result) (tells .room) (omega (arith, counted, b .1)) ∙ counted
 
 -- the calls as insertions
 finished : (xs : List Call) (image : List ℕ) → Ready small image → Done xs image → Finished small (map item xs) image

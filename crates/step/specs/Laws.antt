@@ -1,19 +1,18 @@
 -- Laws of a step up, in the form in which the code has the premises. Assumes nothing.
-use Prim.Native.Nat.{ℕ, zero, suc, _+_, _-_, _*_, _<_, _≤_, min}
+use Prim.Native.Nat.{ℕ, _+_, _-_, _*_, _<_, _≤_, min}
 use mathlib.Core.Bool.{Bool, true, false}
-use mathlib.Core.Path.{_≡_, refl, sym, ap, _∙_}
+use mathlib.Core.Path.{_≡_, refl, sym, _∙_}
 use mathlib.Core.List.{List, [], _∷_}
-use lib.Dec.{eqb, ltb, leb}
+use lib.Dec.{leb}
 use lib.ListN.{take, drop, length, getD, List·getD-eq-default}
 use native.Mathlib.Omega.{arith}
 use borrow.Author.Tests.{le-leb, lt-leb}
 use Rattle.geometry.specs.declared.Geometry.{Geometry}
 use Rattle.geometry.specs.declared.Entry.{Entry}
 use Rattle.geometry.specs.Geometry.{half, pageBytes}
-use Rattle.geometry.specs.Tests.{pick}
-use Rattle.model.specs.Edit.{turn, named, kept, renamed, pathPart, pathHalf, sideHalf, two}
+use Rattle.model.specs.Edit.{turn, kept}
 use Rattle.model.specs.Page.{built, only}
-use Rattle.model.specs.Stores.{Store, program}
+use Rattle.model.specs.Stores.{program}
 use Rattle.model.specs.Tree.{next}
 use Rattle.model.specs.Update.{sideStore, splitStore}
 use Rattle.node.specs.declared.Node.{Node}
@@ -28,7 +27,6 @@ use Rattle.step.specs.declared.Change.{Change}
 use Rattle.step.specs.declared.Change.the-variants.{Put, Remove, Rename}
 use Rattle.step.specs.declared.Job.{Job}
 use Rattle.step.specs.declared.Cut.{Cut}
-use Rattle.step.specs.declared.Climbed.{Climbed}
 use Rattle.step.specs.Step.{sideOf, nameOf, partOf, storesOf, cutStores, Halved, Stepped, Finished}
 
 pub side-zero : (j : Job) (l k : ℕ) → k ≡ l → k ≡ 0 → getD (j .sides) 0 0 ≡ sideOf j l

@@ -1,19 +1,18 @@
 -- The pass over the pages, in the form in which the code has the premises. Assumes nothing.
-use Prim.Native.Nat.{ℕ, zero, suc, _+_, _-_, _*_, _<_, _≤_, max}
+use Prim.Native.Nat.{ℕ, _+_, _-_, _*_, _<_, _≤_, max}
 use mathlib.Core.Bool.{Bool, true, false}
 use mathlib.Core.Path.{_≡_, refl, sym, ap, _∙_}
 use mathlib.Core.List.{List}
-use lib.Dec.{leb, ltb}
+use lib.Dec.{ltb}
 use native.Mathlib.Omega.{arith}
 use native.Mathlib.Nat.{max-eq-left, max-eq-right}
-use borrow.Author.Tests.{le-leb, lt-leb, lt-ltb, le-ltb, ltb-true, ltb-false}
+use borrow.Author.Tests.{le-leb, lt-ltb, le-ltb, ltb-true, ltb-false}
 use Rattle.geometry.specs.declared.Geometry.{Geometry}
-use Rattle.geometry.specs.declared.Finding.{Finding}
 use Rattle.geometry.specs.declared.Finding.the-variants.{Good, Bad}
-use Rattle.geometry.specs.Tests.{pick, bit}
+use Rattle.geometry.specs.Tests.{pick}
 use Rattle.model.specs.Bytes.{erased, seqAt, heightAt}
 use Rattle.model.specs.Count.{count, peak, arg}
-use Rattle.model.specs.Image.{pagesOf, seqOf, heightOf, maxSeq, rootScore, rootOf}
+use Rattle.model.specs.Image.{seqOf, heightOf, maxSeq, rootScore, rootOf}
 use Rattle.model.specs.Rules.{r4}
 use Rattle.counts.specs.Tally.{count-more}
 use Rattle.counts.specs.Peak.{peak-more, arg-higher, arg-stays, peak-higher, peak-stays}

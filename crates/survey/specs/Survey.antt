@@ -1,5 +1,5 @@
 -- What the survey says. Definitions alone; assumes nothing.
-use Prim.Native.Nat.{ℕ, _-_, _*_}
+use Prim.Native.Nat.{ℕ, _-_}
 use mathlib.Core.List.{List}
 use Rattle.geometry.specs.declared.Geometry.{Geometry}
 use Rattle.model.specs.Bytes.{erased}

@@ -18,7 +18,8 @@ use Rattle.chips.specs.Collect.{R7, R8}
 use Rattle.images.specs.Views.{beside}
 use Rattle.images.specs.Page.{Parts, builtView}
 use Rattle.images.specs.Held.{Held}
-use Rattle.images.specs.Writes.{nextStore, Legal, put-legal, put-max, side-chip, side-held, side-map, side-lives, side-frees}
+use Rattle.model.specs.Legal.{Legal}
+use Rattle.images.specs.Writes.{nextStore, put-legal, put-max, side-chip, side-held, side-map, side-lives, side-frees}
 
 -- P before and after each store, each store legal
 unfoldable pub Along : Geometry → ℕ → (List ℕ → Type 0) → List ℕ → List Store → Type 0

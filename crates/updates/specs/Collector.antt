@@ -27,7 +27,8 @@ use Rattle.chips.specs.Sweep.{sweep, Sweeping, moved-on, emptied}
 use Rattle.chips.specs.Erase.{eraseBlock, erased-good, erased-pairs, erased-places, erased-frees}
 use Rattle.chips.specs.Collect.{clear, collect, R7, R8, full-none, round-victim, round, collected}
 use Rattle.images.specs.Held.{Held}
-use Rattle.images.specs.Writes.{Legal, wipe-chip, wipe-held, wipe-max}
+use Rattle.model.specs.Legal.{Legal}
+use Rattle.images.specs.Writes.{wipe-chip, wipe-held, wipe-max}
 use Rattle.updates.specs.Along.{Along, Keeps, Runs, runs-end, runs-none, runs-then, runs-as}
 use Rattle.updates.specs.Move.{move-chip, move-held, move-map, move-max, move-legal}
 

@@ -88,6 +88,10 @@ module _ (g : Geometry) (shape : Shape g) (n : ℕ) (few : pagesOf g n + g .page
     own = own-updated g shape n few k a k-low a-low base then (after-collect .keeps) (after-collect .alike .high-is k k-low ∙ not-high)
         (let z = after-collect .room in omega (arith, z, same-m)) then-low then-space
 
+    -- the collection ends because it is done
+    pub insert-collected : g .pages + m ≤ count t (chipOf g n then .er)
+    insert-collected = after-collect .room
+
     -- the own pages are 1 + splits + grow
     pub insert-own : programs (ownStores g n (maxSeq g n then) (chipOf g n then) m k a) ≡ m
     insert-own = subst (λ j. programs (ownStores g n (maxSeq g n then) (chipOf g n then) j k a) ≡ j) same-m
@@ -126,6 +130,9 @@ module _ (g : Geometry) (shape : Shape g) (n : ℕ) (few : pagesOf g n + g .page
 
     abbrev left : List ℕ
     left = applyAll g (collectStores g n 1 2 img) img
+
+    pub delete-collected : g .pages + 1 ≤ count t (chipOf g n left .er)
+    delete-collected = collected-one .room
 
     still : isNone (sought (chipOf g n left) k) ≡ false
     still = ap isNone (sought-map g n (chipOf g n left) (collected-one .keeps .held .whole) k k-low ∙ ap (find k)

@@ -29,7 +29,8 @@ use Rattle.images.specs.Views.{rooted}
 use Rattle.images.specs.Page.{Parts, builtView}
 use Rattle.images.specs.Small.{node-fits}
 use Rattle.images.specs.Held.{Held, height-most}
-use Rattle.images.specs.Writes.{nextStore, Legal, put-legal, put-max, root-chip, root-held}
+use Rattle.model.specs.Legal.{Legal}
+use Rattle.images.specs.Writes.{nextStore, put-legal, put-max, root-chip, root-held}
 use Rattle.updates.specs.Table.{off-table, parts-most}
 
 module _ (g : Geometry) (shape : Shape g) (n : ℕ) (few : pagesOf g n + g .pages < 4294967296) (img : List ℕ) (held : Held g n img) (p : ℕ)

@@ -17,7 +17,8 @@ use Rattle.chips.specs.Whole.{Whole}
 use Rattle.chips.specs.Collect.{R8}
 use Rattle.images.specs.Views.{rooted}
 use Rattle.images.specs.Page.{Parts, builtView}
-use Rattle.images.specs.Writes.{nextStore, Legal, put-legal, root-chip, root-held, root-frees}
+use Rattle.model.specs.Legal.{Legal}
+use Rattle.images.specs.Writes.{nextStore, put-legal, root-chip, root-held, root-frees}
 use Rattle.updates.specs.Along.{Along, along-append, Keeps, Runs, runs-end}
 
 -- Z is what more is known of the chip at the end

@@ -1,4 +1,3 @@
 -- The verdict rule by rule.
 pub mod Verdict
 pub mod Laws
-pub mod Height

@@ -1,5 +1,5 @@
 -- The walk, in the form in which the code has the premises. Assumes nothing.
-use Prim.Native.Nat.{ℕ, zero, suc, _+_, _-_, _*_, _<_, _≤_, min}
+use Prim.Native.Nat.{ℕ, zero, suc, _+_, _-_, _*_, _<_, _≤_}
 use mathlib.Core.Bool.{Bool, true, false, not}
 use mathlib.Core.Path.{_≡_, refl, sym, ap, _∙_}
 use mathlib.Core.List.{List, [], _∷_, _++_}
@@ -9,17 +9,17 @@ use lib.Seq.{set-out, getD-set-same, getD-set-other}
 use native.Mathlib.Omega.{arith}
 use native.Mathlib.Numerals.{sub-one, add-one}
 use native.Mathlib.Nat.{min-eq-left, min-eq-right}
-use borrow.Author.Tests.{eq-eqb, ne-eqb}
+use borrow.Author.Tests.{ne-eqb}
 use Rattle.geometry.specs.declared.Geometry.{Geometry}
 use Rattle.geometry.specs.declared.Entry.{Entry}
-use Rattle.geometry.specs.Tests.{pick, bit}
-use Rattle.model.specs.Bytes.{u32At, entriesAt, nodePlace, nodeCount, nodeAt}
+use Rattle.geometry.specs.Tests.{bit}
+use Rattle.model.specs.Bytes.{u32At, nodePlace, nodeCount, nodeAt}
 use Rattle.model.specs.Count.{count}
-use Rattle.model.specs.Image.{Nodes, Chip}
+use Rattle.model.specs.Image.{Nodes}
 use Rattle.model.specs.Next.{inBlock}
 use Rattle.model.specs.Tree.{gather, Place, places}
 use Rattle.chip.specs.Chip.{entryAt, named, chipWith}
-use Rattle.chip.specs.Node.{node-is, node-read, entries-start, entries-turn, entries-past, addr-is}
+use Rattle.chip.specs.Node.{node-read, entries-start, entries-turn, entries-past, addr-is}
 use Rattle.counts.specs.Least.{by-lt}
 use Rattle.counts.specs.Tally.{count-zero, count-more}
 use Rattle.counts.specs.Blocks.{within, within-is, within-count}

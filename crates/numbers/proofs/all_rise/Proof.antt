@@ -1,11 +1,8 @@
 use lib.ListN.{length}
-use Prim.Native.Nat.{_≤_, _<_, _+_, _*_, _-_}
+use Prim.Native.Nat.{_≤_, _-_}
 use mathlib.Core.Path.{_≡_}
 use Rattle.model.specs.Bytes.{erased, seqAt}
-use Rattle.model.specs.Count.{least}
-use Rattle.model.specs.Rules.{repeated}
-use Rattle.numbers.specs.Ranges.{rangeTo, Ranges, ClearTo, AllClear}
-use Rattle.numbers.specs.Laws.{same}
+use Rattle.numbers.specs.Ranges.{Ranges}
 use borrow.Author.Needs.{needs}
 use Rattle.numbers.specs.Laws.{number-laws}
 use Rattle.numbers.proofs.all_rise.Statement.{statement}

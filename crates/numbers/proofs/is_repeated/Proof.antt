@@ -1,9 +1,7 @@
-use Prim.Native.Nat.{_≤_, _<_, _+_, _*_, _-_}
+use Prim.Native.Nat.{_≤_, _-_}
 use mathlib.Core.Path.{_≡_}
 use Rattle.model.specs.Bytes.{erased, seqAt}
 use Rattle.model.specs.Count.{least}
-use Rattle.model.specs.Rules.{repeated}
-use Rattle.numbers.specs.Ranges.{rangeTo, Ranges, ClearTo, AllClear}
 use Rattle.numbers.specs.Laws.{same}
 use borrow.Author.Needs.{needs}
 use Rattle.numbers.specs.Laws.{number-laws}

@@ -1,7 +1,6 @@
 use Rattle.page.specs.Levels.{level-laws}
 use borrow.Author.Needs.{needs}
 use Rattle.page.specs.Laws.{page-laws}
-use mathlib.Core.Path.{refl}
 use Rattle.page.specs.Page.{blanks}
 use Rattle.page.proofs.blank.Statement.{statement}
 use Rattle.page.proofs.blank.Tie as tie

@@ -1,7 +1,6 @@
-use Prim.Native.Nat.{_≤_, _<_, _+_, _*_, _-_}
+use Prim.Native.Nat.{_≤_, _-_}
 use mathlib.Core.Path.{_≡_}
 use Rattle.model.specs.Count.{least}
-use Rattle.model.specs.Bytes.{erased}
 use Rattle.page_rules.specs.Formed.{malformed}
 use borrow.Author.Needs.{needs}
 use Rattle.page_rules.specs.Laws.{page-laws}

@@ -1,7 +1,7 @@
-use Prim.Native.Nat.{_≤_, _<_, _+_, _*_, _-_}
+use Prim.Native.Nat.{_≤_, _-_}
 use mathlib.Core.Path.{_≡_}
 use lib.ListN.{length}
-use Rattle.walk.specs.Table.{noteAll, rest, Zeros, liveIn}
+use Rattle.walk.specs.Table.{Zeros}
 use borrow.Author.Needs.{needs}
 use Rattle.walk.specs.Laws.{walk-laws}
 use Rattle.walk.proofs.clear.Statement.{statement}

@@ -1,7 +1,6 @@
-use Prim.Native.Nat.{_≤_, _<_, _+_, _*_, _-_}
+use Prim.Native.Nat.{_≤_, _-_}
 use mathlib.Core.Path.{_≡_}
-use lib.ListN.{length}
-use Rattle.walk.specs.Table.{noteAll, rest, Zeros, liveIn}
+use Rattle.walk.specs.Table.{liveIn}
 use Rattle.model.specs.Count.{count}
 use borrow.Author.Needs.{needs}
 use Rattle.walk.specs.Laws.{walk-laws}

@@ -1,0 +1,59 @@
+-- Demand 1's words: bad lengths and damaged trees are refused by number, and nothing else is, for every image, key, address and
+-- allowance; a refusal leaves the image. Assumes nothing.
+use mathlib.Core.Path.{_≡_}
+use mathlib.Core.List.{List}
+use mathlib.Core.Bool.{true, false}
+use mathlib.Core.Option.{Option, none, some}
+use Prim.Native.Nat.{ℕ, _≤_}
+use native.Mathlib.Omega.{arith}
+use Rattle.geometry.specs.declared.Geometry.{Geometry}
+use Rattle.model.specs.Image.{blocksOf, goodLength, chipOf}
+use Rattle.model.specs.Tree.{sought}
+use Rattle.model.specs.Rules.{verdict, isSound}
+use Rattle.model.specs.Calls.{Outcome, refused, judged, answered, lookup, insertRest, insert, deleteRest, delete, format}
+use Rattle.model.specs.Update.{insertStores, deleteStores}
+use Rattle.demands.specs.Tests.{tested-later}
+use Rattle.demands.specs.Calls.{insertTests, deleteTests, insert-rest, delete-rest, made-began}
+
+-- LENGTH for a bad length, DAMAGED for an image that is not sound, neither otherwise; both leave the image
+pub record Refuses (g : Geometry) (img : List ℕ) (o : Outcome) : Type 0 where
+  pub bad-length : goodLength g img ≡ false → o ≡ refused 1 img
+  pub damaged : goodLength g img ≡ true → isSound (verdict g (blocksOf g img) img) ≡ false → o ≡ refused 2 img
+  pub neither : goodLength g img ≡ true → isSound (verdict g (blocksOf g img) img) ≡ true → 1 ≤ o .answer → 3 ≤ o .answer
+
+judged-refuses : (g : Geometry) (img : List ℕ) (rest : Outcome) → (1 ≤ rest .answer → 3 ≤ rest .answer) → Refuses g img (judged g img rest)
+unfolding judged
+judged-refuses g img rest h = record {
+  bad-length = λ e. rw e;
+  damaged = λ e d. rw (e, d);
+  neither = λ e d. rw (e, d) h;
+}
+
+lookup-later : (o : Option ℕ) (img : List ℕ) → 1 ≤ answered o img .answer → 3 ≤ answered o img .answer
+unfolding answered
+lookup-later none img h = omega arith
+lookup-later (some a) img h = absurd (omega (arith, h))
+
+module _ (g : Geometry) (img : List ℕ) (k : ℕ) where
+  pub lookup-refuses : Refuses g img (lookup g img k)
+  unfolding lookup
+  lookup-refuses = judged-refuses g img (answered (sought (chipOf g (blocksOf g img) img) k) img) (lookup-later (sought (chipOf g (blocksOf g img) img) k) img)
+
+  pub insert-refuses : (a al : ℕ) → Refuses g img (insert g img k a al)
+  unfolding insert
+  insert-refuses a al = judged-refuses g img (insertRest g (blocksOf g img) img k a al) (rw (insert-rest g img k a al)
+      (tested-later img (insertTests g img k a al) _ (omega arith, (omega arith, (omega arith, tt))) (made-began g (insertStores g (blocksOf g img) img k a) al img)))
+
+  pub delete-refuses : (al : ℕ) → Refuses g img (delete g img k al)
+  unfolding delete
+  delete-refuses al = judged-refuses g img (deleteRest g (blocksOf g img) img k al) (rw (delete-rest g img k 0 al)
+      (tested-later img (deleteTests g img k 0 al) _ (omega arith, (omega arith, tt)) (made-began g (deleteStores g (blocksOf g img) img k) al img)))
+
+-- format gives 1 for a bad length and leaves the image; else 0
+pub format-refuses : (g : Geometry) (img : List ℕ) → goodLength g img ≡ false → format g img ≡ refused 1 img
+unfolding format
+format-refuses g img e = rw e
+
+pub format-answers : (g : Geometry) (img : List ℕ) → goodLength g img ≡ true → format g img .answer ≡ 0
+unfolding format
+format-answers g img e = rw e
