@@ -93,7 +93,7 @@ fn show_page(img: &[u8; 50688], page: u32) {
 }
 
 fn holds(img: &[u8; 50688], key: u32) -> bool {
-    answers::number(index::lookup(img, key)) == 0
+    answers::number(index::lookup(0, img, key)) == 0
 }
 
 // How many of the keys 1 to n are found.
@@ -117,7 +117,7 @@ fn insert(img: &mut [u8; 50688], key: u32) {
     io::write_all(1, b"insert");
     number(key);
     io::write_all(1, b":");
-    tell(index::insert(&mut *img, key, key, 4294967295));
+    tell(index::insert(0, &mut *img, key, key, 4294967295));
 }
 
 fn show_root(img: &[u8; 50688]) {
@@ -138,7 +138,7 @@ fn fill(img: &mut [u8; 50688]) {
 
 fn format(img: &mut [u8; 50688]) {
     io::write_all(1, b"format:");
-    tell(index::format(&mut *img));
+    tell(index::format(0, &mut *img));
 }
 
 fn show_erased(img: &[u8; 50688], page: u32) {
@@ -156,7 +156,7 @@ fn stopped(img: &mut [u8; 50688]) {
     format(&mut *img);
     fill(&mut *img);
     io::write_all(1, b"insert 64 with allowance 1:");
-    tell(index::insert(&mut *img, 64, 64, 1));
+    tell(index::insert(0, &mut *img, 64, 64, 1));
     show_erased(&*img, 0);
     show_erased(&*img, 32);
     found(&*img, 64);
@@ -192,7 +192,7 @@ fn delete(img: &mut [u8; 50688], key: u32) {
     io::write_all(1, b"delete");
     number(key);
     io::write_all(1, b":");
-    tell(index::delete(&mut *img, key, 4294967295));
+    tell(index::delete(0, &mut *img, key, 4294967295));
     show_root(&*img);
     show_root_leaf(&*img);
 }

@@ -8,8 +8,8 @@ use mathlib.Core.Logic.{_⊎_}
 use mathlib.Core.Option.{none, some}
 use Prim.Native.Nat.{ℕ, _<_, _≤_}
 use Rattle.geometry.specs.declared.Geometry.{Geometry}
-use Rattle.geometry.specs.Geometry.{small}
-use Rattle.geometry.specs.Shape.{Shape, small-shape}
+use Rattle.geometry.specs.Geometry.{small, large}
+use Rattle.geometry.specs.Shape.{Shape, small-shape, large-shape}
 use Rattle.model.specs.Image.{blocksOf, chipOf}
 use Rattle.model.specs.Tree.{find}
 use Rattle.model.specs.Edit.{put, remove}
@@ -132,3 +132,13 @@ pub small-delete-bounds : (img : List ℕ) → Ready small img → (k al : ℕ) 
 small-delete-bounds img ready k al k-low b =
     let h = delete-stores small small-shape img ready k k-low al b in
     (h .programmed, h .wiped)
+
+-- the large chip: at most 7 own pages, 511 pages programmed and 8 blocks erased
+pub large-bounds : (img : List ℕ) → Ready large img → (k a al : ℕ) → k < 4294967296 → a < 4294967296 → Began (insert large img k a al)
+    → (needs large (chipOf large (blocksOf large img) img) k ≤ 7) ×
+    (programs (insertStores large (blocksOf large img) img k a) ≤ 511) ×
+    (erases (insertStores large (blocksOf large img) img k a) ≤ 8)
+large-bounds img ready k a al k-low a-low b =
+    let o = insert-own large large-shape img ready k k-low a al a-low b in
+    let h = insert-stores large large-shape img ready k k-low a al a-low b in
+    (o .atmost, h .programmed, h .wiped)

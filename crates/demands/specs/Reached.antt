@@ -8,8 +8,8 @@ use Prim.Native.Nat.{ℕ, _+_, _-_, _*_, _<_, _≤_}
 use native.Mathlib.Omega.{arith}
 use borrow.Author.Tests.{le-ltb}
 use Rattle.geometry.specs.declared.Geometry.{Geometry}
-use Rattle.geometry.specs.Geometry.{small}
-use Rattle.geometry.specs.Shape.{Shape, small-shape}
+use Rattle.geometry.specs.Geometry.{small, large}
+use Rattle.geometry.specs.Shape.{Shape, small-shape, large-shape}
 use Rattle.model.specs.Bytes.{byteAt}
 use Rattle.model.specs.Image.{blocksOf, goodLength, chipOf}
 use Rattle.model.specs.Calls.{Outcome, roomless, freePages, insert, delete, format}
@@ -98,3 +98,9 @@ pub small-room : (img : List ℕ) → goodLength small img ≡ true → ((i : �
     → 64 ≤ freePages small (blocksOf small (reached small xs (format small img .image)))
     (chipOf small (blocksOf small (reached small xs (format small img .image))) (reached small xs (format small img .image)))
 small-room img length-good bytes xs low = reached-room small small-shape (omega arith) img length-good bytes xs low
+
+-- the large chip: T − L ≥ 128
+pub large-room : (img : List ℕ) → goodLength large img ≡ true → ((i : ℕ) → byteAt img i < 256) → (xs : List Call) → All Low xs
+    → 128 ≤ freePages large (blocksOf large (reached large xs (format large img .image)))
+    (chipOf large (blocksOf large (reached large xs (format large img .image))) (reached large xs (format large img .image)))
+large-room img length-good bytes xs low = reached-room large large-shape (omega arith) img length-good bytes xs low
