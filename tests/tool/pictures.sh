@@ -7,9 +7,10 @@ lines_of() {
 # drawing FILE MOST: a whole SVG picture with its parts, at most so many bytes, near 3:2
 drawing() {
     rm -f chip.svg
-    "$tool" show "$1" --svg chip.svg > /dev/null 2>&1
-    for part in "<title>" "</svg>" "erased pages:" "a row is a block"; do
-        grep -q "$part" chip.svg || fail "the picture of $1 lacks $part"
+    # shellcheck disable=SC2086
+    "$tool" show "$1" $option --svg chip.svg > /dev/null 2>&1
+    for text in "<title>" "</svg>" "erased pages:" "a row is a block of $row pages" " blocks, $kind, "; do
+        grep -q "$text" chip.svg || fail "the picture of $1 lacks $text"
     done
     size=$(wc -c < chip.svg)
     [ "$size" -le "$2" ] || fail "the picture of $1 has $size bytes"
@@ -36,11 +37,14 @@ want 0 "R..............................................................." show "
 [ "$(lines_of show "$chip" --pages)" -eq 1027 ] || fail "show --pages of 1,024 blocks prints $(lines_of show "$chip" --pages) lines"
 drawing "$chip" 100000
 
-# no two neighbouring pages alike: 16,384 times an erased page and one of zeros
-{ head -c 528 /dev/zero | tr '\0' '\377'; head -c 528 /dev/zero; } > pages
+# no two neighbouring pages alike: an erased page and one of zeros, again and again
+filled pages "$page" 377
+head -c "$page" /dev/zero >> pages
 for doubled in 1 2 3 4 5 6 7 8 9 10 11 12 13 14; do
     cat pages pages > twice
     mv twice pages
 done
+# shellcheck disable=SC2086
 drawing pages 500000
-want 2 "16384 programmed, 16384 erased" show pages
+want 2 "$kind, DAMAGED" show pages $option
+want 2 "16384 programmed, 16384 erased" show pages $option
