@@ -97,7 +97,7 @@ struct mutree_geometry {
     uint32_t most_stores;    /* both together: 197, 519 */
 };
 
-/* A chip by its number; NULL for another number. */
+/* A chip by its number; NULL for another number. Tell chips apart by their numbers: the pointers differ between source files. */
 static inline const struct mutree_geometry *mutree_geometry_of(uint32_t number)
 {
     static const struct mutree_geometry geometries[MUTREE_GEOMETRIES] = {

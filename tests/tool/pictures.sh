@@ -7,8 +7,7 @@ lines_of() {
 # drawing FILE MOST: a whole SVG picture with its parts, at most so many bytes, near 3:2
 drawing() {
     rm -f chip.svg
-    # shellcheck disable=SC2086
-    "$tool" show "$1" $option --svg chip.svg > /dev/null 2>&1
+    "$tool" show "$1" "$said" --svg chip.svg > /dev/null 2>&1
     for text in "<title>" "</svg>" "erased pages:" "a row is a block of $row pages" " blocks, $kind, "; do
         grep -q "$text" chip.svg || fail "the picture of $1 lacks $text"
     done
@@ -44,7 +43,6 @@ for doubled in 1 2 3 4 5 6 7 8 9 10 11 12 13 14; do
     cat pages pages > twice
     mv twice pages
 done
-# shellcheck disable=SC2086
 drawing pages 500000
-want 2 "$kind, DAMAGED" show pages $option
-want 2 "16384 programmed, 16384 erased" show pages $option
+want 2 "$kind, DAMAGED" show pages "$said"
+want 2 "16384 programmed, 16384 erased" show pages "$said"
