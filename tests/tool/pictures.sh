@@ -17,12 +17,17 @@ drawing() {
     height=$(sed -n "1s/.* height='\([0-9]*\)'.*/\1/p" chip.svg)
     { [ $((100 * width)) -ge $((120 * height)) ] && [ $((100 * width)) -le $((190 * height)) ]; } \
         || fail "the picture of $1 is $width by $height"
+    rightmost=$(sed -n "s/.*<text x='\([0-9]*\)'.*/\1/p" chip.svg | sort -n | tail -n 1)
+    [ "$rightmost" -lt $((width - 20)) ] || fail "the picture of $1 is $width wide and has a text at $rightmost"
 }
 
 fresh
 want 0 "DONE" insert "$chip" 1 1
 drawing "$chip" 20000
 grep -q "1 entry, height 1" chip.svg || fail "the picture does not tell the entries"
+grep -q "level $top:" chip.svg || fail "the picture of $kind does not tell of level $top"
+! grep -q "level $((top + 1)):" chip.svg || fail "the picture of $kind tells of level $((top + 1))"
+want 0 "1 to $top lowest live level" show "$chip"
 [ "$(lines_of show "$chip")" -eq 6 ] || fail "show of 3 blocks prints $(lines_of show "$chip") lines"
 fresh "$chip" 64
 [ "$(lines_of show "$chip")" -eq 67 ] || fail "show of 64 blocks prints $(lines_of show "$chip") lines"
