@@ -21,7 +21,8 @@ static void tell_counts(const struct survey *s)
     if (s->sound)
         printf("%zu blocks, %s, sound; height %u, %zu %s, root on page %" PRIu32 "\n"
                "pages: %zu live, %zu dead, %zu erased; largest sequence number %" PRIu32 "\n",
-               s->blocks, geometry_words(s->geometry), s->height, s->entries, entries_word(s->entries), s->root, s->live, s->dead, s->erased, s->largest);
+               s->blocks, geometry_words(s->geometry), s->height, s->entries, entries_word(s->entries), s->root, s->live, s->dead,
+               s->erased, s->largest);
     else
         printf("%zu blocks, %s, DAMAGED: live and dead pages can't be told apart\n"
                "pages: %zu programmed, %zu erased; largest sequence number %" PRIu32 "\n",
