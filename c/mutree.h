@@ -28,8 +28,8 @@
  *                              format   lookup    insert    delete
  *                     ARM64     2,224  156,160   175,980   165,840
  *                     x86-64    2,240  160,240   178,080   169,920
- *               192 KiB serve every call, 160 KiB on the small chip. Large frames are touched page by page as they are made, so a guard page
- *               below the stack catches a stack that is too small.
+ *               192 KiB serve every call, 160 KiB on the small chip. Large frames are touched page by page as they are
+ *               made, so a guard page below the stack catches a stack that is too small.
  *
  * Two calls at once: on different images always; on one image lookups together, but no call beside an insert, delete
  * or format. Interrupts: a call may be interrupted at any place. A handler that calls the library is a second call at
