@@ -1,9 +1,8 @@
-// The four calls as a camera service in C makes them: numbers, the lent image, and a lent result buffer.
+// The four calls as a camera service in C makes them: the geometry's number, numbers, the lent image, and a lent result buffer.
 ghost use mathlib.Core.Path.{_≡_};
 ghost use Prim.Native.Nat.{_<_};
-ghost use Rattle.geometry.specs.Geometry.{small};
 ghost use Rattle.model.specs.Page.{putU32};
-ghost use Rattle.model.specs.Calls.{format, lookup, insert, delete};
+ghost use Rattle.model.specs.Calls.{formatOf, lookupOf, insertOf, deleteOf};
 ghost use Rattle.answers.specs.Answers.{numberOf, addressOf, programmedOf, erasedOf};
 ghost use Rattle.camera.specs.Camera.{reportOf, returned};
 use answers::Answer;
@@ -42,63 +41,65 @@ fn report(result: &mut [u8], a: Answer) -> u32
 }
 
 #[no_mangle]
-pub extern "C" fn mutree_format(image: &mut [u8], result: &mut [u8]) -> u32
-    ensures answer { λ r. ⌜ r ≡ returned (format small (now (image .entry))) (now (image .entry)) (now (result .entry)) .answer ⌝ }
-    ensures image { λ _. ⌜ now (image .exit) ≡ returned (format small (now (image .entry))) (now (image .entry)) (now (result .entry)) .image ⌝ }
-    ensures result { λ _. ⌜ now (result .exit) ≡ returned (format small (now (image .entry))) (now (image .entry)) (now (result .entry)) .result ⌝ }
+pub extern "C" fn mutree_format(kind: u32, image: &mut [u8], result: &mut [u8]) -> u32
+    ensures answer { λ r. ⌜ r ≡ returned (formatOf kind (now (image .entry))) (now (image .entry)) (now (result .entry)) .answer ⌝ }
+    ensures image { λ _. ⌜ now (image .exit) ≡ returned (formatOf kind (now (image .entry))) (now (image .entry)) (now (result .entry)) .image ⌝ }
+    ensures result { λ _. ⌜ now (result .exit) ≡ returned (formatOf kind (now (image .entry))) (now (image .entry)) (now (result .entry)) .result ⌝ }
 {
     if result.len() < 16 {
         return 1;
     }
-    let a = index::format(&mut *image);
+    let a = index::format(kind, &mut *image);
     report(&mut *result, a)
 }
 
 #[no_mangle]
-pub extern "C" fn mutree_lookup(image: &[u8], key: u32, result: &mut [u8]) -> u32
-    ensures answer { λ r. ⌜ r ≡ returned (lookup small (now (image .entry)) key) (now (image .entry)) (now (result .entry)) .answer ⌝ }
-    ensures result { λ _. ⌜ now (result .exit) ≡ returned (lookup small (now (image .entry)) key) (now (image .entry)) (now (result .entry)) .result ⌝ }
+pub extern "C" fn mutree_lookup(kind: u32, image: &[u8], key: u32, result: &mut [u8]) -> u32
+    ensures answer { λ r. ⌜ r ≡ returned (lookupOf kind (now (image .entry)) key) (now (image .entry)) (now (result .entry)) .answer ⌝ }
+    ensures result { λ _. ⌜ now (result .exit) ≡ returned (lookupOf kind (now (image .entry)) key) (now (image .entry)) (now (result .entry)) .result ⌝ }
 {
     if result.len() < 16 {
         return 1;
     }
-    let a = index::lookup(image, key);
+    let a = index::lookup(kind, image, key);
     report(&mut *result, a)
 }
 
 #[no_mangle]
 pub extern "C" fn mutree_insert(
+    kind: u32,
     image: &mut [u8],
     key: u32,
     address: u32,
     allowance: u32,
     result: &mut [u8],
 ) -> u32
-    ensures answer { λ r. ⌜ r ≡ returned (insert small (now (image .entry)) key address allowance) (now (image .entry)) (now (result .entry)) .answer ⌝ }
-    ensures image { λ _. ⌜ now (image .exit) ≡ returned (insert small (now (image .entry)) key address allowance) (now (image .entry)) (now (result .entry)) .image ⌝ }
-    ensures result { λ _. ⌜ now (result .exit) ≡ returned (insert small (now (image .entry)) key address allowance) (now (image .entry)) (now (result .entry)) .result ⌝ }
+    ensures answer { λ r. ⌜ r ≡ returned (insertOf kind (now (image .entry)) key address allowance) (now (image .entry)) (now (result .entry)) .answer ⌝ }
+    ensures image { λ _. ⌜ now (image .exit) ≡ returned (insertOf kind (now (image .entry)) key address allowance) (now (image .entry)) (now (result .entry)) .image ⌝ }
+    ensures result { λ _. ⌜ now (result .exit) ≡ returned (insertOf kind (now (image .entry)) key address allowance) (now (image .entry)) (now (result .entry)) .result ⌝ }
 {
     if result.len() < 16 {
         return 1;
     }
-    let a = index::insert(&mut *image, key, address, allowance);
+    let a = index::insert(kind, &mut *image, key, address, allowance);
     report(&mut *result, a)
 }
 
 #[no_mangle]
 pub extern "C" fn mutree_delete(
+    kind: u32,
     image: &mut [u8],
     key: u32,
     allowance: u32,
     result: &mut [u8],
 ) -> u32
-    ensures answer { λ r. ⌜ r ≡ returned (delete small (now (image .entry)) key allowance) (now (image .entry)) (now (result .entry)) .answer ⌝ }
-    ensures image { λ _. ⌜ now (image .exit) ≡ returned (delete small (now (image .entry)) key allowance) (now (image .entry)) (now (result .entry)) .image ⌝ }
-    ensures result { λ _. ⌜ now (result .exit) ≡ returned (delete small (now (image .entry)) key allowance) (now (image .entry)) (now (result .entry)) .result ⌝ }
+    ensures answer { λ r. ⌜ r ≡ returned (deleteOf kind (now (image .entry)) key allowance) (now (image .entry)) (now (result .entry)) .answer ⌝ }
+    ensures image { λ _. ⌜ now (image .exit) ≡ returned (deleteOf kind (now (image .entry)) key allowance) (now (image .entry)) (now (result .entry)) .image ⌝ }
+    ensures result { λ _. ⌜ now (result .exit) ≡ returned (deleteOf kind (now (image .entry)) key allowance) (now (image .entry)) (now (result .entry)) .result ⌝ }
 {
     if result.len() < 16 {
         return 1;
     }
-    let a = index::delete(&mut *image, key, allowance);
+    let a = index::delete(kind, &mut *image, key, allowance);
     report(&mut *result, a)
 }

@@ -5,11 +5,23 @@ use mathlib.Core.List.{List, [], _∷_}
 use lib.Dec.{eqb, leb, ltb}
 use lib.ListN.{getD}
 use Rattle.geometry.specs.declared.Geometry.{Geometry}
+use Rattle.geometry.specs.declared.Chosen.{Chosen}
+use Rattle.geometry.specs.declared.Chosen.the-variants.{Of, Unknown}
 use Rattle.geometry.specs.Tests.{pick, _&_}
 
 -- the small-block chip: 32 pages of 512 main and 16 spare bytes, heights 1 to 5
 abbrev pub small : Geometry
-small = record { pages = 32; main = 512; spare = 16; top = 5; worn = 4294967000 }
+small = record { pages = 32; main = 512; spare = 16; top = 5; worn = 4294967000; table = 0 }
+
+-- the large-page chip (request 9): 64 pages of 2,048 main and 64 spare bytes, heights 1 to 7
+abbrev pub large : Geometry
+large = record { pages = 64; main = 2048; spare = 64; top = 7; worn = 4294966000; table = 1 }
+
+-- "The caller says which geometry by a number, 0 or 1"
+abbrev pub chosenOf : ℕ → Chosen
+chosenOf zero = Of small
+chosenOf (suc zero) = Of large
+chosenOf (suc (suc kind)) = Unknown
 
 abbrev pub pageBytes : Geometry → ℕ
 pageBytes g = g .main + g .spare
@@ -29,13 +41,24 @@ smallFirst = 0 ∷ 0 ∷ 32 ∷ 48 ∷ 56 ∷ 60 ∷ []
 abbrev pub smallSlots : List ℕ
 smallSlots = 0 ∷ 32 ∷ 16 ∷ 8 ∷ 4 ∷ 0 ∷ []
 
+-- the same columns of the large chip, levels 0 to 7
+abbrev pub largeFirst : List ℕ
+largeFirst = 0 ∷ 0 ∷ 128 ∷ 192 ∷ 224 ∷ 240 ∷ 248 ∷ 252 ∷ []
+
+abbrev pub largeSlots : List ℕ
+largeSlots = 0 ∷ 128 ∷ 64 ∷ 32 ∷ 16 ∷ 8 ∷ 4 ∷ 0 ∷ []
+
+-- a level's entry in the table of a geometry, told by its number
+abbrev pub byTable : Geometry → List ℕ → List ℕ → ℕ → ℕ
+byTable g s b l = pick (eqb (g .table) 0) (getD s l 0) (pick (eqb (g .table) 1) (getD b l 0) 0)
+
 -- the first slot of level l, by the table; `halving` (Shape.antt) is its rule
 unfoldable pub firstSlot : Geometry → ℕ → ℕ
-firstSlot g l = pick (eqb (g .main) 512) (getD smallFirst l 0) 0
+firstSlot g l = byTable g smallFirst largeFirst l
 
 -- the slots c of a node at level l below the root
 unfoldable pub slotsOf : Geometry → ℕ → ℕ
-slotsOf g l = pick (eqb (g .main) 512) (getD smallSlots l 0) 0
+slotsOf g l = byTable g smallSlots largeSlots l
 
 -- c/2; the slots are even (`Shape`), so c is 2 * half
 abbrev pub half : Geometry → ℕ → ℕ

@@ -13,7 +13,9 @@ use borrow.Author.Tests.{eq-eqb, ne-eqb, lt-ltb, le-ltb, le-leb, lt-leb}
 use Rattle.geometry.specs.Tests.{pick, _&_, and-true, and-false}
 use Rattle.geometry.specs.Table.{at, every}
 use Rattle.geometry.specs.declared.Geometry.{Geometry}
-use Rattle.geometry.specs.Geometry.{slots, pageBytes, pageBase, smallFirst, smallSlots, firstSlot, slotsOf, half, rootSlots, rootMost, inTable}
+use Rattle.geometry.specs.declared.Chosen.{Chosen}
+use Rattle.geometry.specs.declared.Chosen.the-variants.{Of, Unknown}
+use Rattle.geometry.specs.Geometry.{small, large, chosenOf, slots, pageBytes, pageBase, smallFirst, smallSlots, largeFirst, largeSlots, byTable, firstSlot, slotsOf, half, rootSlots, rootMost, inTable}
 
 pub base-below : (p b : ℕ) → p < 4294967296 → b < 131072 → p * b < 562949953421312
 base-below p b hp hb = lt-of-le-of-lt (mul-le-mul-left p (le-of-lt hb)) (omega arith)
@@ -34,27 +36,64 @@ below-256 : (xs : List ℕ) → T (every low 0 xs) → (k : ℕ) → k < length 
 unfolding low
 below-256 xs t k h = ltb→lt _ _ (at low xs t k h)
 
-pub first-small : (g : Geometry) (l k : ℕ) → k ≡ l → g .main ≡ 512 → getD smallFirst k 0 ≡ firstSlot g l
+-- the four ways through the table
+module _ (g : Geometry) (s b : List ℕ) (l k : ℕ) (e : k ≡ l) where
+  in-small : g .table ≡ 0 → getD s k 0 ≡ byTable g s b l
+  in-small f = rw (e, eq-eqb (g .table) 0 f) refl
+
+  past-small : length s ≤ k → g .table ≡ 0 → 0 ≡ byTable g s b l
+  past-small h f = sym (List·getD-eq-default s 0 h) ∙ in-small f
+
+  in-large : (g .table ≡ 0 → ⊥) → g .table ≡ 1 → getD b k 0 ≡ byTable g s b l
+  in-large n f = rw (e, ne-eqb (g .table) 0 n, eq-eqb (g .table) 1 f) refl
+
+  past-large : length b ≤ k → (g .table ≡ 0 → ⊥) → g .table ≡ 1 → 0 ≡ byTable g s b l
+  past-large h n f = sym (List·getD-eq-default b 0 h) ∙ in-large n f
+
+in-neither : (g : Geometry) (s b : List ℕ) (l : ℕ) → (g .table ≡ 0 → ⊥) → (g .table ≡ 1 → ⊥) → 0 ≡ byTable g s b l
+in-neither g s b l n f = rw (ne-eqb (g .table) 0 n, ne-eqb (g .table) 1 f) refl
+
+module _ (g : Geometry) (l k : ℕ) (e : k ≡ l) where
+  pub first-small : g .table ≡ 0 → getD smallFirst k 0 ≡ firstSlot g l
+  unfolding firstSlot
+  first-small f = in-small g smallFirst largeFirst l k e f
+
+  pub first-past : 6 ≤ k → g .table ≡ 0 → 0 ≡ firstSlot g l
+  unfolding firstSlot
+  first-past h f = past-small g smallFirst largeFirst l k e h f
+
+  pub first-large : (g .table ≡ 0 → ⊥) → g .table ≡ 1 → getD largeFirst k 0 ≡ firstSlot g l
+  unfolding firstSlot
+  first-large n f = in-large g smallFirst largeFirst l k e n f
+
+  pub first-beyond : 8 ≤ k → (g .table ≡ 0 → ⊥) → g .table ≡ 1 → 0 ≡ firstSlot g l
+  unfolding firstSlot
+  first-beyond h n f = past-large g smallFirst largeFirst l k e h n f
+
+pub first-other : (g : Geometry) (l : ℕ) → (g .table ≡ 0 → ⊥) → (g .table ≡ 1 → ⊥) → 0 ≡ firstSlot g l
 unfolding firstSlot
-first-small g l k e f = simp (e, eq-eqb _ _ f)
+first-other g l n f = in-neither g smallFirst largeFirst l n f
 
-pub first-past : (g : Geometry) (l k : ℕ) → k ≡ l → g .main ≡ 512 → 6 ≤ k → 0 ≡ firstSlot g l
-first-past g l k e f h = sym (List·getD-eq-default smallFirst 0 h) ∙ first-small g l k e f
+module _ (g : Geometry) (l k : ℕ) (e : k ≡ l) where
+  pub slots-small : g .table ≡ 0 → getD smallSlots k 0 ≡ slotsOf g l
+  unfolding slotsOf
+  slots-small f = in-small g smallSlots largeSlots l k e f
 
-pub first-other : (g : Geometry) (l : ℕ) → (g .main ≡ 512 → ⊥) → 0 ≡ firstSlot g l
-unfolding firstSlot
-first-other g l f = simp (ne-eqb _ _ f)
+  pub slots-past : 6 ≤ k → g .table ≡ 0 → 0 ≡ slotsOf g l
+  unfolding slotsOf
+  slots-past h f = past-small g smallSlots largeSlots l k e h f
 
-pub slots-small : (g : Geometry) (l k : ℕ) → k ≡ l → g .main ≡ 512 → getD smallSlots k 0 ≡ slotsOf g l
+  pub slots-large : (g .table ≡ 0 → ⊥) → g .table ≡ 1 → getD largeSlots k 0 ≡ slotsOf g l
+  unfolding slotsOf
+  slots-large n f = in-large g smallSlots largeSlots l k e n f
+
+  pub slots-beyond : 8 ≤ k → (g .table ≡ 0 → ⊥) → g .table ≡ 1 → 0 ≡ slotsOf g l
+  unfolding slotsOf
+  slots-beyond h n f = past-large g smallSlots largeSlots l k e h n f
+
+pub slots-other : (g : Geometry) (l : ℕ) → (g .table ≡ 0 → ⊥) → (g .table ≡ 1 → ⊥) → 0 ≡ slotsOf g l
 unfolding slotsOf
-slots-small g l k e f = simp (e, eq-eqb _ _ f)
-
-pub slots-past : (g : Geometry) (l k : ℕ) → k ≡ l → g .main ≡ 512 → 6 ≤ k → 0 ≡ slotsOf g l
-slots-past g l k e f h = sym (List·getD-eq-default smallSlots 0 h) ∙ slots-small g l k e f
-
-pub slots-other : (g : Geometry) (l : ℕ) → (g .main ≡ 512 → ⊥) → 0 ≡ slotsOf g l
-unfolding slotsOf
-slots-other g l f = simp (ne-eqb _ _ f)
+slots-other g l n f = in-neither g smallSlots largeSlots l n f
 
 pub first-256 : (k : ℕ) → k < 6 → getD smallFirst k 0 < 256
 unfolding low
@@ -63,6 +102,27 @@ first-256 k h = below-256 smallFirst tt k h
 pub slots-256 : (k : ℕ) → k < 6 → getD smallSlots k 0 < 256
 unfolding low
 slots-256 k h = below-256 smallSlots tt k h
+
+pub first-large-256 : (k : ℕ) → k < 8 → getD largeFirst k 0 < 256
+unfolding low
+first-large-256 k h = below-256 largeFirst tt k h
+
+pub slots-large-256 : (k : ℕ) → k < 8 → getD largeSlots k 0 < 256
+unfolding low
+slots-large-256 k h = below-256 largeSlots tt k h
+
+-- the geometry by its number
+module _ (kind : ℕ) (g : Geometry) where
+  pub chosen-small : g ≡ small → kind ≡ 0 → Of g ≡ chosenOf kind
+  chosen-small e z = rw (e, z)
+
+  pub chosen-large : g ≡ large → kind ≡ 1 → Of g ≡ chosenOf kind
+  chosen-large e z = rw (e, z)
+
+pub chosen-none : (kind : ℕ) → (kind ≡ 0 → ⊥) → (kind ≡ 1 → ⊥) → Unknown ≡ chosenOf kind
+chosen-none zero n f = absurd (n refl)
+chosen-none (suc zero) n f = absurd (f refl)
+chosen-none (suc (suc kind)) n f = refl
 
 pub half-is : (g : Geometry) (l s : ℕ) → s ≡ slotsOf g l → s / 2 ≡ half g l
 half-is g l s e = rw e
@@ -94,4 +154,4 @@ pub table-some : (g : Geometry) (l a b : ℕ) → a ≡ l → b ≡ g .top → (
 unfolding inTable
 table-some g l a b e f h = rw (e, f, le-leb 1 l (omega arith), and-true)
 
-pub ruleset geometry-laws = (base-below, base-fits, base-is, first-small, first-past, first-other, slots-small, slots-past, slots-other, first-256, slots-256, half-is, root-none, root-some, most-below, most-none, most-top, table-zero, table-some)
+pub ruleset geometry-laws = (base-below, base-fits, base-is, first-small, first-past, first-large, first-beyond, first-other, slots-small, slots-past, slots-large, slots-beyond, slots-other, first-256, slots-256, first-large-256, slots-large-256, chosen-small, chosen-large, chosen-none, half-is, root-none, root-some, most-below, most-none, most-top, table-zero, table-some)

@@ -2,7 +2,7 @@
 -- Assumes nothing.
 use Prim.Native.Nat.{ℕ, zero, suc, _+_, _-_, _*_, _/_, _^_, _<_, _≤_}
 use mathlib.Core.Bool.{Bool, true, false}
-use mathlib.Core.Path.{_≡_, refl, sym, ap, _∙_}
+use mathlib.Core.Path.{_≡_, refl, sym, ap, subst, _∙_}
 use mathlib.Core.List.{List, [], _∷_}
 use lib.Dec.{T, eqb, leb, ltb, eqb→eq, leb→le, ltb→lt, lit<, lit≤}
 use lib.ListN.{getD, length, List·getD-eq-default}
@@ -10,17 +10,32 @@ use borrow.Author.Tests.{ltb-true, ltb-false}
 use native.Mathlib.Omega.{arith}
 use native.Mathlib.Nat.{suc-mul, mul-le-mul-right}
 use Rattle.geometry.specs.Tests.{pick}
-use Rattle.geometry.specs.Table.{at}
+use Rattle.geometry.specs.Table.{at, every}
 use Rattle.geometry.specs.declared.Geometry.{Geometry}
-use Rattle.geometry.specs.Geometry.{small, slots, pageBytes, pageBase, smallFirst, smallSlots, firstSlot, slotsOf, half, rootSlots, rootMost}
+use Rattle.geometry.specs.declared.Chosen.{Chosen}
+use Rattle.geometry.specs.declared.Chosen.the-variants.{Of, Unknown}
+use Rattle.geometry.specs.Geometry.{small, large, chosenOf, slots, pageBytes, pageBase, smallFirst, smallSlots, largeFirst, largeSlots, firstSlot, slotsOf, half, rootSlots, rootMost}
 
--- "The first slot of level l is 64 − 64/2^(l−1)", over the table once
-rule : ℕ → ℕ → Bool
-rule l x = eqb x (64 - 64 / 2 ^ (l - 1))
+-- "The first slot of level l is 64 − 64/2^(l−1)", with 256 for 64 on the large chip, over each table once
+rule : ℕ → ℕ → ℕ → Bool
+rule s l x = eqb x (s - s / 2 ^ (l - 1))
 
-pub halving : (l : ℕ) → l ≤ 5 → firstSlot small l ≡ slots small - slots small / 2 ^ (l - 1)
+halving-small : (l : ℕ) → l ≤ 5 → firstSlot small l ≡ slots small - slots small / 2 ^ (l - 1)
 unfolding firstSlot rule
-halving l h = eqb→eq _ _ (at rule smallFirst tt l (omega arith))
+halving-small l h = eqb→eq _ _ (at (rule 64) smallFirst tt l (omega arith))
+
+halving-large : (l : ℕ) → l ≤ 7 → firstSlot large l ≡ slots large - slots large / 2 ^ (l - 1)
+unfolding firstSlot rule
+halving-large l h = eqb→eq _ _ (at (rule 256) largeFirst tt l (omega arith))
+
+-- the two geometries
+pub data Known : Geometry → Type 0 where
+  is-small : Known small
+  is-large : Known large
+
+pub halving : (g : Geometry) → Known g → (l : ℕ) → l ≤ g .top → firstSlot g l ≡ slots g - slots g / 2 ^ (l - 1)
+halving _ is-small l h = halving-small l h
+halving _ is-large l h = halving-large l h
 
 -- what holds of a geometry and its table
 pub record Shape (g : Geometry) : Type 0 where
@@ -45,34 +60,15 @@ pub record Shape (g : Geometry) : Type 0 where
   pub fits : (l : ℕ) → slotsOf g l ≤ rootMost g l
   pub byte : (l : ℕ) → 1 ≤ l → l ≤ g .top → rootMost g l < 256
 
--- a test passes at each level of the table
-levels : List ℕ
-levels = 0 ∷ 0 ∷ 0 ∷ 0 ∷ 0 ∷ 0 ∷ []
+-- ---- a shape by tests that are computed at each level
+levels : ℕ → List ℕ
+levels zero = []
+levels (suc n) = 0 ∷ levels n
 
-fits-test : ℕ → ℕ → Bool
-fits-test l x = leb (firstSlot small l + slotsOf small l) (slots small)
-
-steps-test : ℕ → ℕ → Bool
-steps-test l x = leb (firstSlot small l + slotsOf small l) (firstSlot small (suc l))
-
-even-test : ℕ → ℕ → Bool
-even-test l x = eqb (slotsOf small l) (2 * half small l)
-
-double-test : ℕ → ℕ → Bool
-double-test l x = eqb (rootSlots small (suc l)) (4 * half small (suc l))
-
-some-test : ℕ → ℕ → Bool
-some-test l x = leb 2 (half small (suc l))
-
-most-test : ℕ → ℕ → Bool
-most-test l x = leb (slotsOf small l) (rootMost small l)
-
-byte-test : ℕ → ℕ → Bool
-byte-test l x = ltb (rootMost small l) 256
-
-past : (l : ℕ) → 6 ≤ l → slotsOf small l ≡ 0
-unfolding slotsOf
-past l h = List·getD-eq-default smallSlots 0 h
+levels-length : (n : ℕ) → length (levels n) ≡ n
+unfolding levels
+levels-length zero = refl
+levels-length (suc n) = ap suc (levels-length n)
 
 by-lt : {C : Type 0} (a b : ℕ) → (a < b → C) → (b ≤ a → C) → C
 by-lt {C} a b f g = go (ltb a b) refl
@@ -81,20 +77,93 @@ by-lt {C} a b f g = go (ltb a b) refl
     go true e = f (ltb-true a b e)
     go false e = g (ltb-false a b e)
 
-even-all : (l : ℕ) → slotsOf small l ≡ 2 * half small l
-unfolding even-test levels slotsOf
-even-all l = by-lt l 6 (λ h. eqb→eq _ _ (at even-test levels tt l h)) (λ h. let e = past l h in rw e refl)
-
-most-all : (l : ℕ) → slotsOf small l ≤ rootMost small l
-unfolding most-test levels slotsOf firstSlot rootMost rootSlots
-most-all l = by-lt l 6 (λ h. leb→le _ _ (at most-test levels tt l h)) (λ h. let e = past l h in omega (arith, e))
-
 pred : (l : ℕ) → 1 ≤ l → suc (l - 1) ≡ l
 pred l h = omega arith
 
-pub small-shape : Shape small
-unfolding fits-test steps-test double-test some-test byte-test levels firstSlot slotsOf rootSlots rootMost
-small-shape = record {
+module _ (g : Geometry) where
+  room-test : ℕ → ℕ → Bool
+  room-test l x = leb (firstSlot g l + slotsOf g l) (slots g)
+
+  steps-test : ℕ → ℕ → Bool
+  steps-test l x = leb (firstSlot g l + slotsOf g l) (firstSlot g (suc l))
+
+  even-test : ℕ → ℕ → Bool
+  even-test l x = eqb (slotsOf g l) (2 * half g l)
+
+  double-test : ℕ → ℕ → Bool
+  double-test l x = eqb (rootSlots g (suc l)) (4 * half g (suc l))
+
+  some-test : ℕ → ℕ → Bool
+  some-test l x = leb 2 (half g (suc l))
+
+  most-test : ℕ → ℕ → Bool
+  most-test l x = leb (slotsOf g l) (rootMost g l)
+
+  byte-test : ℕ → ℕ → Bool
+  byte-test l x = ltb (rootMost g l) 256
+
+-- the tests, each at levels 0 to top, below top, or 1 to below top
+record Tested (g : Geometry) : Type 0 where
+  room : T (every (room-test g) 0 (levels (suc (g .top))))
+  steps : T (every (steps-test g) 0 (levels (g .top)))
+  even : T (every (even-test g) 0 (levels (suc (g .top))))
+  double : T (every (double-test g) 0 (levels (g .top - 1)))
+  some : T (every (some-test g) 0 (levels (g .top - 1)))
+  most : T (every (most-test g) 0 (levels (suc (g .top))))
+  byte : T (every (byte-test g) 0 (levels (suc (g .top))))
+  -- no slots above the table
+  past : (l : ℕ) → suc (g .top) ≤ l → slotsOf g l ≡ 0
+
+-- the linear facts of the five numbers
+record Numbers (g : Geometry) : Type 0 where
+  pages-low : 2 ≤ g .pages
+  pages-high : g .pages ≤ 64
+  spare-low : 4 + g .top < g .spare
+  top-low : 5 ≤ g .top
+  top-high : g .top ≤ 7
+  main-is : g .main ≡ 8 * slots g
+  slots-high : slots g ≤ 256
+  worn-low : g .worn + (g .top + 1) * g .pages + g .top < 4294967295
+  top-none : half g (g .top) ≡ 0
+  top-slots : rootSlots g (g .top) ≡ 4
+
+module _ (g : Geometry) (x : Numbers g) (t : Tested g) where
+  here : (f : ℕ → ℕ → Bool) (n l : ℕ) → T (every f 0 (levels n)) → l < n → T (f l (getD (levels n) l 0))
+  here f n l y h = at f (levels n) y l (rw (levels-length n) h)
+
+  even-all : (l : ℕ) → slotsOf g l ≡ 2 * half g l
+  unfolding even-test
+  even-all l = by-lt l (suc (g .top)) (λ h. eqb→eq _ _ (here (even-test g) (suc (g .top)) l (t .even) h)) (λ h. let e = t .past l h in rw e refl)
+
+  most-all : (l : ℕ) → slotsOf g l ≤ rootMost g l
+  unfolding most-test
+  most-all l = by-lt l (suc (g .top)) (λ h. leb→le _ _ (here (most-test g) (suc (g .top)) l (t .most) h)) (λ h. let e = t .past l h in omega (arith, e))
+
+  shape-by : Shape g
+  unfolding room-test steps-test double-test some-test byte-test
+  shape-by = record {
+    pages-low = x .pages-low;
+    pages-high = x .pages-high;
+    spare-low = x .spare-low;
+    top-low = x .top-low;
+    top-high = x .top-high;
+    main-is = x .main-is;
+    slots-high = x .slots-high;
+    worn-low = x .worn-low;
+    room = λ l h. leb→le _ _ (here (room-test g) (suc (g .top)) l (t .room) (omega arith));
+    steps = λ l h. leb→le _ _ (here (steps-test g) (g .top) l (t .steps) h);
+    even = even-all;
+    double = λ l i h. rw (← (pred l i)) (eqb→eq _ _ (here (double-test g) (g .top - 1) (l - 1) (t .double) (omega arith)));
+    some = λ l i h. rw (← (pred l i)) (leb→le _ _ (here (some-test g) (g .top - 1) (l - 1) (t .some) (omega arith)));
+    top-none = x .top-none;
+    top-slots = x .top-slots;
+    fits = most-all;
+    byte = λ l i h. ltb→lt _ _ (here (byte-test g) (suc (g .top)) l (t .byte) (omega arith));
+  }
+
+small-numbers : Numbers small
+unfolding firstSlot slotsOf rootSlots
+small-numbers = record {
   pages-low = lit≤ tt;
   pages-high = lit≤ tt;
   spare-low = lit< tt;
@@ -103,16 +172,65 @@ small-shape = record {
   main-is = refl;
   slots-high = lit≤ tt;
   worn-low = lit< tt;
-  room = λ l h. leb→le _ _ (at fits-test levels tt l (omega arith));
-  steps = λ l h. leb→le _ _ (at steps-test (0 ∷ 0 ∷ 0 ∷ 0 ∷ 0 ∷ []) tt l (omega arith));
-  even = even-all;
-  double = λ l i h. rw (← (pred l i)) (eqb→eq _ _ (at double-test (0 ∷ 0 ∷ 0 ∷ 0 ∷ []) tt (l - 1) (omega arith)));
-  some = λ l i h. rw (← (pred l i)) (leb→le _ _ (at some-test (0 ∷ 0 ∷ 0 ∷ 0 ∷ []) tt (l - 1) (omega arith)));
   top-none = refl;
   top-slots = refl;
-  fits = most-all;
-  byte = λ l i h. ltb→lt _ _ (at byte-test levels tt l (omega arith));
 }
+
+small-past : (l : ℕ) → 6 ≤ l → slotsOf small l ≡ 0
+unfolding slotsOf
+small-past l h = List·getD-eq-default smallSlots 0 h
+
+small-tested : Tested small
+unfolding room-test steps-test even-test double-test some-test most-test byte-test levels firstSlot slotsOf rootSlots rootMost
+small-tested = record { room = tt; steps = tt; even = tt; double = tt; some = tt; most = tt; byte = tt; past = small-past }
+
+pub small-shape : Shape small
+small-shape = shape-by small small-numbers small-tested
+
+large-numbers : Numbers large
+unfolding firstSlot slotsOf rootSlots
+large-numbers = record {
+  pages-low = lit≤ tt;
+  pages-high = lit≤ tt;
+  spare-low = lit< tt;
+  top-low = lit≤ tt;
+  top-high = lit≤ tt;
+  main-is = refl;
+  slots-high = lit≤ tt;
+  worn-low = lit< tt;
+  top-none = refl;
+  top-slots = refl;
+}
+
+large-past : (l : ℕ) → 8 ≤ l → slotsOf large l ≡ 0
+unfolding slotsOf
+large-past l h = List·getD-eq-default largeSlots 0 h
+
+large-tested : Tested large
+unfolding room-test steps-test even-test double-test some-test most-test byte-test levels firstSlot slotsOf rootSlots rootMost
+large-tested = record { room = tt; steps = tt; even = tt; double = tt; some = tt; most = tt; byte = tt; past = large-past }
+
+pub large-shape : Shape large
+large-shape = shape-by large large-numbers large-tested
+
+pub shape : (g : Geometry) → Known g → Shape g
+shape _ is-small = small-shape
+shape _ is-large = large-shape
+
+-- the page of the large chip is the longest
+pub page-most : (g : Geometry) → Known g → pageBytes g ≤ 2112
+page-most _ is-small = lit≤ tt
+page-most _ is-large = lit≤ tt
+
+-- a number below 2 is that of a geometry, and that geometry is known
+abbrev geometryOf : Chosen → Geometry
+geometryOf (Of g) = g
+geometryOf Unknown = small
+
+pub chosen-known : (kind : ℕ) (g : Geometry) → chosenOf kind ≡ Of g → Known g
+chosen-known zero g e = subst Known (ap geometryOf e) is-small
+chosen-known (suc zero) g e = subst Known (ap geometryOf e) is-large
+chosen-known (suc (suc kind)) g e = subst Known (ap geometryOf e) is-small
 
 -- pages do not overlap: the one place where theorems open the product
 pub base-apart : (g : Geometry) (p q : ℕ) → p < q → pageBase g p + pageBytes g ≤ pageBase g q

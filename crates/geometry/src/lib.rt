@@ -1,15 +1,17 @@
 // The geometry of a chip as a value, what is read off it, and the types that every layer shares.
 ghost use mathlib.Core.Path.{_≡_};
 ghost use Prim.Native.Nat.{_<_};
-ghost use Rattle.geometry.specs.Geometry.{small, pageBytes, pageBase, slots, firstSlot, slotsOf, half, rootSlots, rootMost, inTable};
+ghost use Rattle.geometry.specs.Geometry.{small, large, chosenOf, pageBytes, pageBase, slots, firstSlot, slotsOf, half, rootSlots, rootMost, inTable};
 
-// A block's pages, a page's main and spare bytes, the greatest height, and the number above which the chip is WORN.
+// A block's pages, a page's main and spare bytes, the greatest height, the number above which the chip is WORN, and the
+// number of its table of levels: 0 the small chip's, 1 the large one's.
 pub struct Geometry {
     pub pages: u16,
     pub main: u16,
     pub spare: u16,
     pub top: u16,
     pub worn: u32,
+    pub table: u16,
 }
 
 impl Geometry {
@@ -23,6 +25,8 @@ impl Geometry {
 
     pub const SMALL_WORN: u32 = 4294967000;
 
+    pub const SMALL_TABLE: u16 = 0;
+
     // The small-block chip of document 01.
     pub fn small() -> Geometry
         ensures { λ r. ⌜ r ≡ small ⌝ }
@@ -33,8 +37,54 @@ impl Geometry {
             spare: Geometry::SMALL_SPARE,
             top: Geometry::SMALL_TOP,
             worn: Geometry::SMALL_WORN,
+            table: Geometry::SMALL_TABLE,
         }
     }
+
+    pub const LARGE_PAGES: u16 = 64;
+
+    pub const LARGE_MAIN: u16 = 2048;
+
+    pub const LARGE_SPARE: u16 = 64;
+
+    pub const LARGE_TOP: u16 = 7;
+
+    pub const LARGE_WORN: u32 = 4294966000;
+
+    pub const LARGE_TABLE: u16 = 1;
+
+    // The large-page chip of request 9.
+    pub fn large() -> Geometry
+        ensures { λ r. ⌜ r ≡ large ⌝ }
+    {
+        Geometry {
+            pages: Geometry::LARGE_PAGES,
+            main: Geometry::LARGE_MAIN,
+            spare: Geometry::LARGE_SPARE,
+            top: Geometry::LARGE_TOP,
+            worn: Geometry::LARGE_WORN,
+            table: Geometry::LARGE_TABLE,
+        }
+    }
+}
+
+// A geometry by its number.
+pub enum Chosen {
+    Of(Geometry),
+    Unknown,
+}
+
+// 0 the small chip, 1 the large one.
+pub fn choose(kind: u32) -> Chosen
+    ensures { λ r. ⌜ r ≡ chosenOf kind ⌝ }
+{
+    if kind == 0 {
+        return Chosen::Of(Geometry::small());
+    }
+    if kind == 1 {
+        return Chosen::Of(Geometry::large());
+    }
+    Chosen::Unknown
 }
 
 // One slot: a key, and the caller's address (in a leaf) or a page number (above).
@@ -85,14 +135,24 @@ const SMALL_FIRST: [usize; 6] = [0, 0, 32, 48, 56, 60];
 
 const SMALL_SLOTS: [usize; 6] = [0, 32, 16, 8, 4, 0];
 
+const LARGE_FIRST: [usize; 8] = [0, 0, 128, 192, 224, 240, 248, 252];
+
+const LARGE_SLOTS: [usize; 8] = [0, 128, 64, 32, 16, 8, 4, 0];
+
 // The first slot of a level; 0 for a level that the geometry has not.
 pub fn first_slot(g: Geometry, level: u32) -> usize
     ensures { λ r. ⌜ (r ≡ firstSlot g level) × (r < 256) ⌝ }
 {
     let l = index(level);
-    if g.main == Geometry::SMALL_MAIN {
+    if g.table == Geometry::SMALL_TABLE {
         if l < 6 {
             return SMALL_FIRST[l];
+        }
+        return 0;
+    }
+    if g.table == Geometry::LARGE_TABLE {
+        if l < 8 {
+            return LARGE_FIRST[l];
         }
         return 0;
     }
@@ -104,9 +164,15 @@ pub fn slots_of(g: Geometry, level: u32) -> usize
     ensures { λ r. ⌜ (r ≡ slotsOf g level) × (r < 256) ⌝ }
 {
     let l = index(level);
-    if g.main == Geometry::SMALL_MAIN {
+    if g.table == Geometry::SMALL_TABLE {
         if l < 6 {
             return SMALL_SLOTS[l];
+        }
+        return 0;
+    }
+    if g.table == Geometry::LARGE_TABLE {
+        if l < 8 {
+            return LARGE_SLOTS[l];
         }
         return 0;
     }

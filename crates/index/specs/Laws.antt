@@ -1,20 +1,68 @@
--- The small geometry in the place of any. Assumes nothing.
-use mathlib.Core.Path.{_≡_, ap, _∙_}
+-- A geometry by its number: the calls, and what they ask of a geometry. Assumes nothing.
+use mathlib.Core.Path.{_≡_, refl, sym, ap, subst, _∙_}
 use mathlib.Core.List.{List}
-use Prim.Native.Nat.{ℕ}
+use mathlib.Core.Bool.{Bool, true, false, false≢true}
+use Prim.Native.Nat.{ℕ, zero, suc, _≤_}
+use native.Mathlib.Omega.{arith}
 use Rattle.geometry.specs.declared.Geometry.{Geometry}
-use Rattle.geometry.specs.Geometry.{small}
-use Rattle.model.specs.Calls.{Outcome, format, insert, delete}
-use Rattle.judging.specs.Judging.{small-pages, small-page}
+use Rattle.geometry.specs.declared.Chosen.{Chosen}
+use Rattle.geometry.specs.declared.Chosen.the-variants.{Of, Unknown}
+use Rattle.geometry.specs.Geometry.{chosenOf, pageBytes}
+use Rattle.geometry.specs.Shape.{Known, Shape, shape, page-most, chosen-known}
+use Rattle.model.specs.Calls.{Outcome, refused, chosenCall, format, lookup, insert, delete, formatOf, lookupOf, insertOf, deleteOf}
+use Rattle.answers.specs.declared.Answer.the-variants.{Length}
+use Rattle.answers.specs.Answers.{told}
 
-module _ (g : Geometry) (o : Outcome) (img : List ℕ) (e : g ≡ small) where
-  pub small-format : o ≡ format g img → o ≡ format small img
-  small-format h = h ∙ ap (λ (x : Geometry). format x img) e
+module _ (kind : ℕ) (c : Chosen) (ec : c ≡ chosenOf kind) (g : Geometry) (e : c ≡ Of g) where
+  known : Known g
+  known = chosen-known kind g (sym ec ∙ e)
 
-  pub small-insert : (k a x : ℕ) → o ≡ insert g img k a x → o ≡ insert small img k a x
-  small-insert k a x h = h ∙ ap (λ (y : Geometry). insert y img k a x) e
+  pub of-pages : g .pages ≤ 64
+  of-pages = shape g known .pages-high
 
-  pub small-delete : (k x : ℕ) → o ≡ delete g img k x → o ≡ delete small img k x
-  small-delete k x h = h ∙ ap (λ (y : Geometry). delete y img k x) e
+  pub of-page : pageBytes g ≤ 2112
+  of-page = page-most g known
 
-pub ruleset index-laws = (small-pages, small-page, small-format, small-insert, small-delete)
+  called : (call : Geometry → Outcome) (img : List ℕ) (o : Outcome) → o ≡ call g → o ≡ chosenCall (chosenOf kind) call img
+  unfolding chosenCall
+  called call img o h = h ∙ ap (λ (x : Chosen). chosenCall x call img) (sym e ∙ ec)
+
+  pub of-format : (img : List ℕ) (o : Outcome) → o ≡ format g img → o ≡ formatOf kind img
+  unfolding formatOf
+  of-format img o h = called (λ x. format x img) img o h
+
+  pub of-lookup : (img : List ℕ) (k : ℕ) (o : Outcome) → o ≡ lookup g img k → o ≡ lookupOf kind img k
+  unfolding lookupOf
+  of-lookup img k o h = called (λ x. lookup x img k) img o h
+
+  pub of-insert : (img : List ℕ) (k a al : ℕ) (o : Outcome) → o ≡ insert g img k a al → o ≡ insertOf kind img k a al
+  unfolding insertOf
+  of-insert img k a al o h = called (λ x. insert x img k a al) img o h
+
+  pub of-delete : (img : List ℕ) (k al : ℕ) (o : Outcome) → o ≡ delete g img k al → o ≡ deleteOf kind img k al
+  unfolding deleteOf
+  of-delete img k al o h = called (λ x. delete x img k al) img o h
+
+-- no such geometry. A `let .. else` leaves that the choice is no Of, whatever geometry
+module _ (kind : ℕ) (c : Chosen) (ec : c ≡ chosenOf kind) (e : c ≡ Unknown) (img : List ℕ) where
+  unknown : (call : Geometry → Outcome) → told Length img ≡ chosenCall (chosenOf kind) call img
+  unfolding chosenCall
+  unknown call = ap (λ (x : Chosen). chosenCall x call img) (sym e ∙ ec)
+
+  pub no-format : told Length img ≡ formatOf kind img
+  unfolding formatOf
+  no-format = unknown (λ x. format x img)
+
+  pub no-lookup : (k : ℕ) → told Length img ≡ lookupOf kind img k
+  unfolding lookupOf
+  no-lookup k = unknown (λ x. lookup x img k)
+
+  pub no-insert : (k a al : ℕ) → told Length img ≡ insertOf kind img k a al
+  unfolding insertOf
+  no-insert k a al = unknown (λ x. insert x img k a al)
+
+  pub no-delete : (k al : ℕ) → told Length img ≡ deleteOf kind img k al
+  unfolding deleteOf
+  no-delete k al = unknown (λ x. delete x img k al)
+
+pub ruleset index-laws = (of-pages, of-page, of-format, of-lookup, of-insert, of-delete, no-format, no-lookup, no-insert, no-delete)

@@ -1,2 +1,2 @@
--- Laws by which the calls on the small-block chip are proved.
+-- Laws by which the calls on a geometry by its number are proved.
 pub mod Laws

@@ -1,32 +1,47 @@
-// The index as Rattle calls on the small-block chip. No call asks anything of its caller, and each contract is one
-// equation: the answer, its numbers and the image afterwards are those of the definition, for every image.
+// The index as Rattle calls, on the small-block chip (0) or the large-page chip (1). No call asks anything of its caller, and
+// each contract is one equation: the answer, its numbers and the image afterwards are those of the definition, for every image.
 ghost use mathlib.Core.Path.{_≡_};
-ghost use Rattle.geometry.specs.Geometry.{small};
-ghost use Rattle.model.specs.Calls.{format, lookup, insert, delete};
+ghost use Rattle.model.specs.Calls.{formatOf, lookupOf, insertOf, deleteOf};
 ghost use Rattle.answers.specs.Answers.{told};
 use answers::Answer;
-use geometry::Geometry;
+use geometry::Chosen;
 
-pub fn format(img: &mut [u8]) -> Answer
-    ensures { λ r. ⌜ told r (now (img .exit)) ≡ format small (now (img .entry)) ⌝ }
+pub fn format(kind: u32, img: &mut [u8]) -> Answer
+    ensures { λ r. ⌜ told r (now (img .exit)) ≡ formatOf kind (now (img .entry)) ⌝ }
 {
-    format::format(Geometry::small(), &mut *img)
+    let chosen = geometry::choose(kind);
+    let Chosen::Of(g) = chosen else {
+        return Answer::Length;
+    };
+    format::format(g, &mut *img)
 }
 
-pub fn lookup(img: &[u8], key: u32) -> Answer
-    ensures { λ r. ⌜ told r (now (img .entry)) ≡ lookup small (now (img .entry)) key ⌝ }
+pub fn lookup(kind: u32, img: &[u8], key: u32) -> Answer
+    ensures { λ r. ⌜ told r (now (img .entry)) ≡ lookupOf kind (now (img .entry)) key ⌝ }
 {
-    lookup::lookup_small(img, key)
+    let chosen = geometry::choose(kind);
+    let Chosen::Of(g) = chosen else {
+        return Answer::Length;
+    };
+    lookup::lookup_on(g, img, key)
 }
 
-pub fn insert(img: &mut [u8], key: u32, address: u32, allowance: u32) -> Answer
-    ensures { λ r. ⌜ told r (now (img .exit)) ≡ insert small (now (img .entry)) key address allowance ⌝ }
+pub fn insert(kind: u32, img: &mut [u8], key: u32, address: u32, allowance: u32) -> Answer
+    ensures { λ r. ⌜ told r (now (img .exit)) ≡ insertOf kind (now (img .entry)) key address allowance ⌝ }
 {
-    insert::insert_on(Geometry::small(), &mut *img, key, address, allowance)
+    let chosen = geometry::choose(kind);
+    let Chosen::Of(g) = chosen else {
+        return Answer::Length;
+    };
+    insert::insert_on(g, &mut *img, key, address, allowance)
 }
 
-pub fn delete(img: &mut [u8], key: u32, allowance: u32) -> Answer
-    ensures { λ r. ⌜ told r (now (img .exit)) ≡ delete small (now (img .entry)) key allowance ⌝ }
+pub fn delete(kind: u32, img: &mut [u8], key: u32, allowance: u32) -> Answer
+    ensures { λ r. ⌜ told r (now (img .exit)) ≡ deleteOf kind (now (img .entry)) key allowance ⌝ }
 {
-    delete::delete_on(Geometry::small(), &mut *img, key, allowance)
+    let chosen = geometry::choose(kind);
+    let Chosen::Of(g) = chosen else {
+        return Answer::Length;
+    };
+    delete::delete_on(g, &mut *img, key, allowance)
 }

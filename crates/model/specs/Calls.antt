@@ -7,6 +7,9 @@ use mathlib.Core.Option.{Option, none, some}
 use lib.Dec.{eqb, leb, ltb}
 use lib.ListN.{length, take}
 use Rattle.geometry.specs.declared.Geometry.{Geometry}
+use Rattle.geometry.specs.declared.Chosen.{Chosen}
+use Rattle.geometry.specs.declared.Chosen.the-variants.{Of, Unknown}
+use Rattle.geometry.specs.Geometry.{chosenOf}
 use Rattle.geometry.specs.Tests.{pick}
 use Rattle.model.specs.Image.{Chip, chipOf, pagesOf, blocksOf, goodLength, maxSeq}
 use Rattle.model.specs.Tree.{sought, livePages}
@@ -91,3 +94,20 @@ format g img = pick (goodLength g img)
       image = applyAll g (formatStores g (blocksOf g img)) img;
     })
     (refused 1 img)
+
+-- "The caller says which geometry by a number, 0 or 1; another gives LENGTH"
+unfoldable pub chosenCall : Chosen → (Geometry → Outcome) → List ℕ → Outcome
+chosenCall (Of g) call img = call g
+chosenCall Unknown call img = refused 1 img
+
+unfoldable pub formatOf : ℕ → List ℕ → Outcome
+formatOf kind img = chosenCall (chosenOf kind) (λ g. format g img) img
+
+unfoldable pub lookupOf : ℕ → List ℕ → ℕ → Outcome
+lookupOf kind img k = chosenCall (chosenOf kind) (λ g. lookup g img k) img
+
+unfoldable pub insertOf : ℕ → List ℕ → ℕ → ℕ → ℕ → Outcome
+insertOf kind img k a allowance = chosenCall (chosenOf kind) (λ g. insert g img k a allowance) img
+
+unfoldable pub deleteOf : ℕ → List ℕ → ℕ → ℕ → Outcome
+deleteOf kind img k allowance = chosenCall (chosenOf kind) (λ g. delete g img k allowance) img

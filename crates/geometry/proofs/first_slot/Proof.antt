@@ -10,4 +10,15 @@ ruleset all = (needs, geometry-laws)
 
 pub first-slot-spec : {M : Type 1} → statement M
 first-slot-spec =
-    tie.close (tie.spec (λ c κs. search all) (λ c. search all) (λ c. search all) (λ c. search all) (λ c. search all) (λ c. search all))
+    tie.close
+    (tie.spec
+    (λ c κs. search all)
+    (λ c. search all)
+    (λ c. search all)
+    (λ c. search all)
+    (λ c. search all)
+    (λ c. search all)
+    (λ c. search all)
+    (λ c. search all)
+    (λ c. search all)
+    (λ c. search all))
