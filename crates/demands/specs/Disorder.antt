@@ -68,14 +68,14 @@ module _ (p n : ℕ) (er : ℕ → Bool) where
   before-late : (b i : ℕ) → Before b i → inOrder p er b ≡ false
   unfolding inOrder late
   before-late b i x = ap not (any-one p (x .later) (late b) (x .place-in)
-      (and-both _ _ (lt-ltb _ _ (omega (arith, first-le b i (x .erased-is), x .after))) (ap not (x .programmed-is))))
+      (and-both _ _ (lt-ltb (firstIn p er b) (x .later) (omega (arith, first-le b i (x .erased-is), x .after))) (ap not (x .programmed-is))))
 
   late-before : (b : ℕ) → b < n → inOrder p er b ≡ false → Before b (firstIn p er b)
   unfolding inOrder late
   late-before b q e =
       let h = ltb-true (least p (late b)) p (not-false _ e) in
       let w = least-is (late b) p .there h in
-      let up = ltb-true _ _ (and-left _ _ w) in
+      let up = ltb-true (firstIn p er b) (least p (late b)) (and-left _ _ w) in
       record {
         block-in = q;
         erased-is = least-is (λ j. er (p * b + j)) p .there (omega (arith, up, h));
@@ -101,7 +101,7 @@ module _ (p n : ℕ) (er : ℕ → Bool) where
         first = λ b i y. by-le disordered b
             (λ z. by-eq disordered b
             (λ e. subst (λ d. p * d + firstIn p er d ≤ p * b + i) (sym e) (omega (arith, first-le b i (y .erased-is))))
-            (λ d. let w = mul-le-mul-left p {disordered + 1} {b} (omega (arith, z, d)) in omega (arith, w, mul-suc p disordered, x .after, x .place-in)))
+            (λ d. let w = mul-le-mul-left {m = suc disordered} {n = b} p (omega (arith, z, d)) in omega (arith, w, mul-suc p disordered, x .after, x .place-in)))
             (λ z. absurd (true-false _ (ap not (before-late b i y)) (l .before b z)));
       }
 
@@ -164,10 +164,10 @@ module _ (p n : ℕ) (er : ℕ → Bool) where
         let s = secondMixed p n er in
         let w = least-is other n .there h in
         let m = and-left _ _ w in
-        let apart = eqb-false _ _ (not-true _ (and-right _ _ w)) in
+        let apart : s ≡ one-is → ⊥ = eqb-false s one-is (not-true (eqb s one-is) (and-right _ _ w)) in
         let l = least-is (mixed p er) n in
         let low : one-is ≤ s = by-le one-is s (λ z. z) (λ z. absurd (true-false _ m (l .before s z))) in
-        let under : one-is < s = omega (arith, low, λ z. apart z) in
+        let under : one-is < s = by-eq s one-is (λ z. absurd (apart z)) (λ z. omega (arith, low, z)) in
         record {
           ordered = ordered;
           one = one-is;

@@ -162,7 +162,7 @@ lowest-place f (x ∷ xs) t = go (f x & ltb (x .page) t) refl (lowest-place f xs
         }
 
 -- ---- a node whose own test passes names programmed pages below t, where it is no leaf
-rising-names : (ok : ℕ → Bool) (es : List Entry) (lo hi : ℕ) → rising ok es lo hi ≡ true → All (λ e. ok (e .addr) ≡ true) es
+pub rising-names : (ok : ℕ → Bool) (es : List Entry) (lo hi : ℕ) → rising ok es lo hi ≡ true → All (λ e. ok (e .addr) ≡ true) es
 unfolding rising
 rising-names ok [] lo hi h = tt
 rising-names ok (e ∷ es) lo hi h = (and-right _ _ (and-left _ _ h), rising-names ok es (e .key + 1) hi (and-right _ _ h))

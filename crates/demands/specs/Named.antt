@@ -26,7 +26,8 @@ use Rattle.counts.specs.Peak.{arg-less}
 use Rattle.trees.specs.Lists.{All, Mem}
 use Rattle.trees.specs.Tests.{by-eq, by-le, by-test, true-false}
 use Rattle.chips.specs.Tests.{any-one}
-use Rattle.demands.specs.Findings.{bad-unless, bad-lowest, firstBroken, broke, Led, led, LowestPlace, lowest-place, entries-below, node-below}
+use Rattle.demands.specs.Findings.{bad-unless, bad-lowest, firstBroken, broke, Led, led, LowestPlace, lowest-place, rising-names, entries-below, node-below}
+use Rattle.demands.specs.Disorder.{FirstErased, SecondMixed, page-of-2}
 
 zero-page : (t : Bool) (p : ℕ) → unless t 0 Good ≡ Bad p → p ≡ 0
 zero-page t p e = go (bad-unless t 0 p Good e)
@@ -34,6 +35,16 @@ zero-page t p e = go (bad-unless t 0 p Good e)
     go : ((t ≡ false) × (0 ≡ p)) ⊎ ((t ≡ true) × (Good ≡ Bad p)) → p ≡ 0
     go (inl w) = sym (w .1)
     go (inr w) = absurd (bad-good p (sym (w .1)))
+
+or-led : {own : Type 0} {other : Type 0} {bad : Type 0} {then : Type 0} → own ⊎ (other × bad) → (bad → then) → own ⊎ (other × then)
+or-led (inl w) f = inl w
+or-led (inr w) f = inr (w .0, f (w .1))
+
+-- pages below t, of each finding of a list
+bad-within : (t : ℕ) (fs : List Finding) → All (λ f. (p : ℕ) → f ≡ Bad p → p < t) fs → (i p : ℕ) → getD fs i Good ≡ Bad p → p < t
+bad-within t [] a i p e = absurd (bad-good p (sym e))
+bad-within t (f ∷ fs) a zero p e = a .0 p e
+bad-within t (f ∷ fs) a (suc i) p e = bad-within t fs (a .1) i p e
 
 -- ---- "the first broken rule, in the order R1 to R7", and R8 after them
 module _ (g : Geometry) (n : ℕ) (img : List ℕ) where
@@ -133,3 +144,59 @@ module _ (g : Geometry) (n : ℕ) (img : List ℕ) where
       go (inl w) = subst (λ m. (m < pagesOf g n) × LowestPlace isLoose (placesOf c) (pagesOf g n) m) (w .1)
           (leb-false (pagesOf g n) low (w .0), lowest-place isLoose (placesOf c) (pagesOf g n))
       go (inr w) = absurd (bad-good p (sym (w .1)))
+
+  -- ---- R5: "the page of the first node, each before its subtrees and those left to right, whose own counts, keys or page numbers
+  -- break it". First the root
+  abbrev t : ℕ
+  t = pagesOf g n
+
+  pub page-of-5 : (p : ℕ) → r5 g t c ≡ Bad p
+      → ((ownRoot g (c .er) (c .nodes) t (suc (c .level)) (c .root) ≡ false) × (c .root ≡ p)) ⊎
+      ((ownRoot g (c .er) (c .nodes) t (suc (c .level)) (c .root) ≡ true) ×
+      Led (judgeNode g (c .er) (c .nodes) t (c .level)) (c .nodes (c .root) (suc (c .level))) 4294967296 p)
+  unfolding r5
+  page-of-5 p e = or-led (bad-unless _ _ p _ e) (led (judgeNode g (c .er) (c .nodes) t (c .level)) (c .nodes (c .root) (suc (c .level))) 4294967296 p)
+
+  -- and so below each entry: the node that it names, or else the first bad one below that
+  pub page-below : (l q lo hi p : ℕ) → judgeNode g (c .er) (c .nodes) t (suc l) q lo hi ≡ Bad p
+      → ((own g (c .er) (c .nodes) t (suc l) q lo hi ≡ false) × (q ≡ p)) ⊎
+      ((own g (c .er) (c .nodes) t (suc l) q lo hi ≡ true) × Led (judgeNode g (c .er) (c .nodes) t l) (c .nodes q (suc l)) hi p)
+  unfolding judgeNode
+  page-below l q lo hi p e = or-led (bad-unless _ _ p _ e) (led (judgeNode g (c .er) (c .nodes) t l) (c .nodes q (suc l)) hi p)
+
+  -- ---- every page named is one of the image
+  root-below : 1 ≤ t → c .root < t
+  unfolding rootOf
+  root-below h = arg-less (rootScore g img) t h
+
+  below-5 : 1 ≤ t → (p : ℕ) → r5 g t c ≡ Bad p → p < t
+  unfolding r5 ownRoot
+  below-5 h p e = go (bad-unless _ _ p _ e)
+    where
+      go : ((ownRoot g (c .er) (c .nodes) t (suc (c .level)) (c .root) ≡ false) × (c .root ≡ p)) ⊎
+          ((ownRoot g (c .er) (c .nodes) t (suc (c .level)) (c .root) ≡ true) ×
+          (judgeEntries (judgeNode g (c .er) (c .nodes) t (c .level)) (c .nodes (c .root) (suc (c .level))) 4294967296 ≡ Bad p)) → p < t
+      go (inl w) = omega (arith, w .1, root-below h)
+      go (inr w) = entries-below g (c .er) (c .nodes) t (c .level) (c .nodes (c .root) (suc (c .level))) 4294967296 p
+          (rising-names (names (c .er) t (suc (c .level))) (c .nodes (c .root) (suc (c .level))) 0 4294967296 (and-right _ _ (w .0)))
+          (λ q lo y. node-below g (c .er) (c .nodes) t (c .level) q lo y p) (w .1)
+
+  below-2 : (p : ℕ) → r2 (g .pages) n (erased g img) ≡ Bad p → p < t
+  below-2 p e = go (page-of-2 (g .pages) n (erased g img) p e)
+    where
+      inside : (b i : ℕ) → b < n → i < g .pages → g .pages * b + i < g .pages * n
+      inside b i h k = let w = mul-le-mul-left {m = suc b} {n = n} (g .pages) h in omega (arith, w, mul-suc (g .pages) b, k)
+
+      go : FirstErased (g .pages) n (erased g img) p ⊎ SecondMixed (g .pages) n (erased g img) p → p < t
+      go (inl x) = subst (λ q. q < t) (sym (x .page-is)) (inside (x .block) (x .place) (x .before .block-in) (omega (arith, x .before .after, x .before .place-in)))
+      go (inr x) = subst (λ q. q < t) (sym (x .page-is)) (let w = inside (x .second) 0 (x .second-mixed .block-in) (omega (arith, x .second-mixed .erased-in)) in omega (arith, w))
+
+  zero-below : 1 ≤ t → (f : Finding) → ((p : ℕ) → f ≡ Bad p → p ≡ 0) → (p : ℕ) → f ≡ Bad p → p < t
+  zero-below h f z p e = omega (arith, h, z p e)
+
+  pub page-inside : 1 ≤ t → (rule page : ℕ) → verdict g n img ≡ Broken rule page → page < t
+  page-inside h rule page e = bad-within t findings within (rule - 1) page (first-broken rule page e .broken)
+    where
+      within : All (λ f. (p : ℕ) → f ≡ Bad p → p < t) findings
+      within = ((λ p i. page-of-1 p i .0), (below-2, ((λ p i. page-of-3 p i .inside), (zero-below h _ page-of-4, (below-5 h,
+          ((λ p i. page-of-6 p i .0), (zero-below h _ page-of-7, (zero-below h _ page-of-8, tt))))))))
