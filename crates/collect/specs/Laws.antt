@@ -13,11 +13,9 @@ use Rattle.geometry.specs.declared.Geometry.{Geometry}
 use Rattle.geometry.specs.Tests.{pick}
 use Rattle.model.specs.Bytes.{erased}
 use Rattle.model.specs.Collect.{moveStore, sweepStores, clearStores, collectStores, theVictim}
-use Rattle.model.specs.Count.{arg}
-use Rattle.model.specs.Image.{chipOf, pagesOf, seqOf}
+use Rattle.model.specs.Image.{chipOf, pagesOf}
 use Rattle.model.specs.Stores.{erase, applyStore, applyAll}
 use Rattle.model.specs.Tree.{placesOf, live, lowLevel, erasedPages}
-use Rattle.chip.specs.Chip.{chipWith}
 use Rattle.survey.specs.declared.Survey.{Survey}
 use Rattle.survey.specs.Survey.{surveyOf}
 use Rattle.walk.specs.Table.{liveIn}

@@ -1,15 +1,15 @@
 -- R2 in request 5's words: a block's pages p, n blocks, er tells the erased pages. Assumes nothing.
-use mathlib.Core.Path.{_≡_, refl, ap, sym, subst, _∙_}
+use mathlib.Core.Path.{_≡_, refl, ap, sym, subst}
 use mathlib.Core.Logic.{_⊎_, inl, inr}
 use mathlib.Core.Bool.{Bool, true, false, not}
 use Prim.Native.Nat.{ℕ, suc, _+_, _-_, _*_, _<_, _≤_}
 use native.Mathlib.Omega.{arith}
 use native.Mathlib.Nat.{mul-suc, mul-le-mul-left}
 use lib.Dec.{eqb, leb, ltb}
-use borrow.Author.Tests.{not-true, not-false, ne-eqb, eqb-true, eqb-false, lt-ltb, ltb-true, leb-true, leb-false}
+use borrow.Author.Tests.{not-true, not-false, ne-eqb, eqb-false, lt-ltb, ltb-true, leb-true, leb-false}
 use Rattle.geometry.specs.declared.Finding.the-variants.{Good, Bad}
-use Rattle.geometry.specs.Tests.{pick, _&_, and-true, and-left, and-right, and-both}
-use Rattle.model.specs.Count.{least, any}
+use Rattle.geometry.specs.Tests.{pick, _&_, and-left, and-right, and-both}
+use Rattle.model.specs.Count.{least}
 use Rattle.model.specs.Next.{mixed, firstIn}
 use Rattle.model.specs.Rules.{inOrder, secondMixed, unless, r2}
 use Rattle.counts.specs.Least.{least-is}

@@ -1,32 +1,31 @@
 -- Request 5, of the definitions: which rule and which page a damaged image's answer names, in the request's words. Assumes nothing.
-use mathlib.Core.Path.{_≡_, refl, ap, sym, subst, _∙_}
+use mathlib.Core.Path.{_≡_, ap, sym, subst}
 use mathlib.Core.List.{List, [], _∷_}
 use mathlib.Core.Logic.{_⊎_, inl, inr}
 use mathlib.Core.Bool.{Bool, true, false, not}
 use Prim.Native.Nat.{ℕ, zero, suc, _+_, _-_, _*_, _<_, _≤_}
 use native.Mathlib.Omega.{arith}
 use native.Mathlib.Nat.{mul-suc, mul-le-mul-left}
-use lib.Dec.{eqb, leb, ltb}
+use lib.Dec.{eqb, leb}
 use lib.ListN.{getD}
-use borrow.Author.Tests.{not-true, not-false, eq-eqb, eqb-true, lt-ltb, ltb-true, leb-true, leb-false}
+use borrow.Author.Tests.{not-true, eq-eqb, eqb-true, ltb-true, leb-false}
 use Rattle.geometry.specs.declared.Geometry.{Geometry}
 use Rattle.geometry.specs.declared.Finding.{Finding}
 use Rattle.geometry.specs.declared.Finding.the-variants.{Good, Bad}
 use Rattle.geometry.specs.declared.Verdict.the-variants.{Broken}
-use Rattle.geometry.specs.Tests.{_&_, and-true, and-left, and-right, and-both}
+use Rattle.geometry.specs.Tests.{_&_, and-left, and-right, and-both}
 use Rattle.model.specs.Bytes.{erased, seqAt}
-use Rattle.model.specs.Count.{least, any}
+use Rattle.model.specs.Count.{least}
 use Rattle.model.specs.Image.{Chip, chipOf, pagesOf, rootOf, rootScore}
-use Rattle.model.specs.Next.{mixed, firstIn}
 use Rattle.model.specs.Tree.{Place, placesOf}
-use Rattle.model.specs.Rules.{unless, wellFormed, r1, inOrder, secondMixed, r2, repeated, r3, r4, names, rising, own, ownRoot, judgeEntries, judgeNode, r5, loose, lowestPage, r6, r7, r8, verdict}
-use Rattle.counts.specs.Least.{Least, least-is, none-passes}
+use Rattle.model.specs.Rules.{unless, wellFormed, r1, r2, repeated, r3, r4, names, own, ownRoot, judgeEntries, judgeNode, r5, loose, lowestPage, r6, r7, r8, verdict}
+use Rattle.counts.specs.Least.{Least, least-is}
 use Rattle.counts.specs.Lowest.{bad-good}
 use Rattle.counts.specs.Peak.{arg-less}
-use Rattle.trees.specs.Lists.{All, Mem}
-use Rattle.trees.specs.Tests.{by-eq, by-le, by-test, true-false}
+use Rattle.trees.specs.Lists.{All}
+use Rattle.trees.specs.Tests.{by-le, true-false}
 use Rattle.chips.specs.Tests.{any-one}
-use Rattle.demands.specs.Findings.{bad-unless, bad-lowest, firstBroken, broke, Led, led, LowestPlace, lowest-place, rising-names, entries-below, node-below}
+use Rattle.demands.specs.Findings.{bad-unless, bad-lowest, broke, Led, led, LowestPlace, lowest-place, rising-names, entries-below, node-below}
 use Rattle.demands.specs.Disorder.{FirstErased, SecondMixed, page-of-2}
 
 zero-page : (t : Bool) (p : ℕ) → unless t 0 Good ≡ Bad p → p ≡ 0
@@ -198,5 +197,19 @@ module _ (g : Geometry) (n : ℕ) (img : List ℕ) where
   page-inside h rule page e = bad-within t findings within (rule - 1) page (first-broken rule page e .broken)
     where
       within : All (λ f. (p : ℕ) → f ≡ Bad p → p < t) findings
-      within = ((λ p i. page-of-1 p i .0), (below-2, ((λ p i. page-of-3 p i .inside), (zero-below h _ page-of-4, (below-5 h,
-          ((λ p i. page-of-6 p i .0), (zero-below h _ page-of-7, (zero-below h _ page-of-8, tt))))))))
+      within = (
+        (λ p i. page-of-1 p i .0),
+        (
+          below-2,
+          (
+            (λ p i. page-of-3 p i .inside),
+            (
+              zero-below h _ page-of-4,
+              (
+                below-5 h,
+                ((λ p i. page-of-6 p i .0), (zero-below h _ page-of-7, (zero-below h _ page-of-8, tt))),
+              ),
+            ),
+          ),
+        ),
+      )
