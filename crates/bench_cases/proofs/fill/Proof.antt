@@ -8,10 +8,10 @@ use Rattle.bench_cases.proofs.insert.Reads as insert-reads
 use Rattle.bench_cases.proofs.show_root.Reads as show-root-reads
 
 abbrev Inv-loop : tie.InvT-loop
-Inv-loop img₀ key₀ img key = key ≤ 63
+Inv-loop bench img₀ key₀ img key = key ≤ bench .full
 
 abbrev μ-loop : tie.MeasureT-loop
-μ-loop img₀ key₀ img key = 63 - key
+μ-loop bench img₀ key₀ img key = bench .full - key
 
 pub fill-spec : {M : Type 1} → statement M
 fill-spec =
