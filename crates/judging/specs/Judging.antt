@@ -1,14 +1,13 @@
 -- A call that is judged first, in the form in which the code has the premises: `rest` is what a sound image gives.
 -- Assumes nothing.
 use Prim.Native.Nat.{ℕ, _*_, _≤_}
-use mathlib.Core.Path.{_≡_, sym, subst, _∙_}
+use mathlib.Core.Path.{_≡_, sym, _∙_}
 use mathlib.Core.List.{List}
 use native.Mathlib.Omega.{arith}
 use native.Mathlib.Nat.{mul-le-mul-left, mul-le-mul-right}
 use lib.ListN.{length}
 use Rattle.geometry.specs.declared.Geometry.{Geometry}
 use Rattle.geometry.specs.declared.Verdict.the-variants.{Sound, Broken}
-use Rattle.geometry.specs.Geometry.{small, pageBytes}
 use Rattle.model.specs.Rules.{verdict}
 use Rattle.model.specs.Calls.{Outcome, damaged, byVerdict, judged, judgedCall}
 use Rattle.answers.specs.declared.Answer.the-variants.{Length, Damaged}
@@ -47,10 +46,3 @@ module _ (g : Geometry) (img : List ℕ) (rest : Outcome) (n : ℕ) (en : n ≡ 
   pub judged-blocks : (o : Outcome) → (n ≡ 0 → ⊥) → o ≡ judgedIn g n img rest → o ≡ judgedCall g img rest
   unfolding judged judgedIn
   judged-blocks o h e = e ∙ sym (simp (some-good g img n en h, ← (some-blocks g img n en h)))
-
--- the small geometry
-pub small-pages : (g : Geometry) → g ≡ small → g .pages ≤ 64
-small-pages g e = rw e (omega arith)
-
-pub small-page : (g : Geometry) → g ≡ small → pageBytes g ≤ 2112
-small-page g e = subst (λ (x : Geometry). pageBytes x ≤ 2112) (sym e) (omega arith)

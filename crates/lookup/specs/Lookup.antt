@@ -5,7 +5,6 @@ use mathlib.Core.List.{List}
 use mathlib.Core.Option.{Option}
 use Rattle.geometry.specs.declared.Geometry.{Geometry}
 use Rattle.geometry.specs.declared.Verdict.the-variants.{Sound}
-use Rattle.geometry.specs.Geometry.{small}
 use Rattle.model.specs.Image.{Chip, chipOf}
 use Rattle.model.specs.Tree.{sought}
 use Rattle.model.specs.Calls.{answered, lookup}
@@ -20,7 +19,7 @@ use Rattle.search.specs.Search.{found}
 use Rattle.verdict.specs.declared.Judgement.{Judgement}
 use Rattle.verdict.specs.Verdict.{Judged}
 use Rattle.survey.specs.Laws.{chip-is}
-use Rattle.judging.specs.Judging.{judgedIn, judged-damaged, judged-rest, judged-length, judged-blocks, small-pages}
+use Rattle.judging.specs.Judging.{judgedIn, judged-damaged, judged-rest, judged-length, judged-blocks}
 
 unfoldable pub answerOf : Found → Answer
 answerOf (At a) = Done a 0 0
@@ -57,7 +56,4 @@ module _ (g : Geometry) (img : List ℕ) (k n : ℕ) (en : n ≡ goodBlocks g im
   lookup-blocks a h e =
       judged-blocks g img _ n en (told a img) h (e ∙ ap (λ (m : ℕ). judgedIn g n img (answered (sought (chipOf g m img) k) img)) (some-blocks g img n en h))
 
-pub lookup-small : (g : Geometry) (img : List ℕ) (k : ℕ) (a : Answer) → g ≡ small → told a img ≡ lookup g img k → told a img ≡ lookup small img k
-lookup-small g img k a e h = h ∙ rw e refl
-
-pub ruleset lookup-laws = (answer-at, answer-none, judged-damaged, lookup-length, lookup-done, lookup-blocks, lookup-small, small-pages)
+pub ruleset lookup-laws = (answer-at, answer-none, judged-damaged, lookup-length, lookup-done, lookup-blocks)

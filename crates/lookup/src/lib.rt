@@ -2,7 +2,6 @@
 ghost use mathlib.Core.Path.{_≡_};
 ghost use Prim.Native.Nat.{ℕ, _≤_};
 ghost use lib.ListN.{length};
-ghost use Rattle.geometry.specs.Geometry.{small};
 ghost use Rattle.model.specs.Image.{chipOf};
 ghost use Rattle.model.specs.Tree.{sought};
 ghost use Rattle.model.specs.Calls.{answered, lookup};
@@ -49,11 +48,4 @@ pub fn lookup_on(g: Geometry, img: &[u8], key: u32) -> Answer
     }
     let mut table: [u8; 65536] = [0; 65536];
     lookup_blocks(g, img, &mut table, n, key)
-}
-
-// Lookup on the small-block chip.
-pub fn lookup_small(img: &[u8], key: u32) -> Answer
-    ensures { λ r. ⌜ told r (now (img .entry)) ≡ lookup small (now (img .entry)) key ⌝ }
-{
-    lookup_on(Geometry::small(), img, key)
 }
