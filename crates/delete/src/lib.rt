@@ -37,7 +37,7 @@ fn make_stores(
         return r;
     }
     let s = survey::take_survey(g, &*img, n);
-    deletion::delete_own(g, &mut *img, n, r, s.most, s.last, s.level, s.root, key)
+    deletion::delete_own(g, &mut *img, n, r, s, key)
 }
 
 // ABSENT: nothing stands under the key.
@@ -91,7 +91,7 @@ fn delete_blocks(
     let verdict = judgement.verdict;
     let survey = judgement.survey;
     match verdict {
-        Verdict::Broken(_, _) => Answer::Damaged,
+        Verdict::Broken(rule, page) => Answer::Damaged(rule, page),
         Verdict::Sound => delete_rest(g, &mut *img, &mut *table, n, survey, key, allowance),
     }
 }

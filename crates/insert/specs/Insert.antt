@@ -20,10 +20,9 @@ use Rattle.chip.specs.Blocks.{some-blocks}
 use Rattle.stores.specs.declared.Budget.{Budget}
 use Rattle.stores.specs.Run.{Ran}
 use Rattle.survey.specs.declared.Survey.{Survey}
-use Rattle.survey.specs.Survey.{surveyOf}
+use Rattle.survey.specs.Laws.{chip-is}
 use Rattle.walk.specs.Table.{liveIn}
 use Rattle.victim.specs.Victim.{Looked}
-use Rattle.victim.specs.Laws.{chip-is}
 use Rattle.plan.specs.declared.Plan.{Plan}
 use Rattle.plan.specs.Plan.{Plans}
 use Rattle.judging.specs.Judging.{judgedIn, judged-damaged, judged-rest, judged-looked, judged-room, judged-length, judged-blocks}
@@ -46,12 +45,9 @@ module _ (g : Geometry) (n k a m x : ℕ) (i : List ℕ) (em : m ≡ needs g (ch
   pub insert-halt : (r : Budget) (o : List ℕ) → Ran g (collectStores g n m (m + 1) i) b r i o → r .stopped ≡ true → Ran g (insertStores g n i k a) (freshOf x) r i o
   insert-halt r o run t = rw stores-are (first-halt g first own x b eb r i o run t)
 
-  pub insert-on : (r u : Budget) (s : Survey) (h o : List ℕ) → Ran g (ownStores g n (s .most) (chipWith g h (s .level) (s .root)) m k a) r u h o → s ≡ surveyOf g n h
+  pub insert-on : (r u : Budget) (h o : List ℕ) → Ran g (ownStores g n (maxSeq g n h) (chipOf g n h) m k a) r u h o
       → Ran g (collectStores g n m (m + 1) i) b r i h → r .stopped ≡ false → Ran g (insertStores g n i k a) (freshOf x) u i o
-  unfolding surveyOf
-  insert-on r u s h o mine es run t =
-      let e : ownStores g n (s .most) (chipWith g h (s .level) (s .root)) m k a ≡ own h = (λ z. ownStores g n (es z .most) (chipWith g h (es z .level) (es z .root)) m k a) in
-      rw stores-are (first-then g first own x b eb r i h run u o t (rw e at mine))
+  insert-on r u h o mine run t = rw stores-are (first-then g first own x b eb r i h run u o t mine)
 
 -- ---- the answers
 module _ (g : Geometry) (n k a x : ℕ) (i : List ℕ) (s : Survey) (tbl : List ℕ) (lk : Looked g n i s tbl) where

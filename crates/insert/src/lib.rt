@@ -37,19 +37,7 @@ fn make_stores(
         return r;
     }
     let s = survey::take_survey(g, &*img, n);
-    insertion::insert_own(
-        g,
-        &mut *img,
-        n,
-        r,
-        s.most,
-        s.last,
-        s.level,
-        s.root,
-        m,
-        key,
-        addr,
-    )
+    insertion::insert_own(g, &mut *img, n, r, s, m, key, addr)
 }
 
 // The rest on a judged image of n blocks.
@@ -98,7 +86,7 @@ fn insert_blocks(
     let verdict = judgement.verdict;
     let survey = judgement.survey;
     match verdict {
-        Verdict::Broken(_, _) => Answer::Damaged,
+        Verdict::Broken(rule, page) => Answer::Damaged(rule, page),
         Verdict::Sound => insert_rest(g, &mut *img, &mut *table, n, survey, key, addr, allowance),
     }
 }
