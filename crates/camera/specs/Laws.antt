@@ -14,28 +14,25 @@ use Rattle.answers.specs.declared.Row.{Row}
 use Rattle.answers.specs.Answers.{rowOf, toldBy, told}
 use Rattle.camera.specs.Camera.{putNumbers, numbersOf, reportOf, returned}
 
--- ---- the loop that puts numbers: what is to come leads to the whole. vs the numbers, i of them put, d the buffer
-pub put-start : (b : List ℕ) (vs : List ℕ) → putNumbers b 0 vs ≡ putNumbers b (4 * 0) (drop 0 vs)
-put-start b vs = refl
-
-pub put-go : (w m d vs : List ℕ) (i v : ℕ) → w ≡ putNumbers m (4 * i) (drop i vs) → d ≡ putU32 m (4 * i) v → v ≡ getD vs i 0 → i < length vs
+-- ---- the loop that puts six numbers: what is to come leads to the whole. vs the numbers, i of them put, d the buffer
+pub put-go : (w m d vs : List ℕ) (i v : ℕ) → w ≡ putNumbers m (4 * i) (drop i vs) → d ≡ putU32 m (4 * i) v → v ≡ getD vs i 0 → length vs ≡ 6 → i < 6
     → w ≡ putNumbers d (4 * (i + 1)) (drop (i + 1) vs)
 unfolding putNumbers
-put-go w m d vs i v e f ev h =
+put-go w m d vs i v e f ev len h =
     let at : 4 * i + 4 ≡ 4 * (i + 1) = omega arith in
-    e ∙ rw (drop-cons vs i 0 h, ← ev, ← f, at, add-one)
+    e ∙ rw (← at, add-one, drop-cons vs i 0 (omega (arith, len, h)), ← ev, f)
 
-pub put-end : (w m vs : List ℕ) (i : ℕ) → w ≡ putNumbers m (4 * i) (drop i vs) → length vs ≤ i → m ≡ w
+pub put-end : (w m vs : List ℕ) (i : ℕ) → w ≡ putNumbers m (4 * i) (drop i vs) → length vs ≡ 6 → 6 ≤ i → m ≡ w
 unfolding putNumbers
-put-end w m vs i e h = sym (e ∙ rw (drop-of-length-le vs h))
+put-end w m vs i e len h = sym (e ∙ rw (drop-of-length-le vs {i = i} (omega (arith, len, h))))
 
 length-numbers : (b : List ℕ) (at : ℕ) (vs : List ℕ) → length (putNumbers b at vs) ≡ length b
 unfolding putNumbers putU32
 length-numbers b at [] = refl
 length-numbers b at (v ∷ vs) = length-numbers (putU32 b at v) (at + 4) vs ∙ simp length-set
 
-pub put-same : (b d vs : List ℕ) (at : ℕ) → d ≡ putNumbers b at vs → length d ≡ length b
-put-same b d vs at e = rw e (length-numbers b at vs)
+pub put-same : (b d vs ws : List ℕ) (i j : ℕ) → putNumbers b i vs ≡ putNumbers d j ws → length d ≡ length b
+put-same b d vs ws i j e = sym (length-numbers d j ws) ∙ ap length (sym e) ∙ length-numbers b i vs
 
 pub report-is : (a : Answer) (w : Row) (b d : List ℕ) → d ≡ putNumbers b 0 (numbersOf (toldBy w [])) → w ≡ rowOf a → d ≡ reportOf a b
 unfolding reportOf
@@ -69,4 +66,4 @@ module _ (o : Outcome) (img out buf : List ℕ) (a : Answer) (e : told a out ≡
   unfolding returned reportOf
   made-result b f = rw (le-ltb _ _ h) (f ∙ ap (λ (x : Outcome). putNumbers buf 0 (numbersOf x)) e)
 
-pub ruleset camera-laws = (put-start, put-go, put-end, put-same, report-is, short-answer, short-image, short-result, made-answer, made-image, made-result)
+pub ruleset camera-laws = (put-go, put-end, put-same, report-is, short-answer, short-image, short-result, made-answer, made-image, made-result)

@@ -128,4 +128,4 @@ number-read b (v ∷ vs) at (suc i) room h low =
 -- so is each number of an outcome
 pub told-number : (o : Outcome) (result : List ℕ) → 24 ≤ length result → (i : ℕ) → i < 6 → getD (numbersOf o) i 0 < 4294967296
     → numberIn i (whole o result .result) ≡ getD (numbersOf o) i 0
-told-number o result room i h low = number-read result (numbersOf o) 0 i room h low
+told-number o result room i h low = let q : 4 * i ≡ 0 + 4 * i = omega arith in rw q (number-read result (numbersOf o) 0 i room h low)
