@@ -125,9 +125,10 @@ fn put_sixteen(img: &mut [u8; 50688], from: u8, page: u32)
     put_count(&mut *img, page, 2, 16);
     let mut i: u8 = 0;
     while i < 16 {
-        put_page(&mut *img, (from + i) as u32, from + i + 1, 0);
-        put_one(&mut *img, (from + i) as u32, 1, from + i, 0);
-        put_entry(&mut *img, page, 2, i as usize, from + i, from + i);
+        let leaf = from + i;
+        put_page(&mut *img, leaf as u32, leaf + 1, 0);
+        put_one(&mut *img, leaf as u32, 1, leaf, 0);
+        put_entry(&mut *img, page, 2, i as usize, leaf, leaf);
         i += 1;
     }
 }
