@@ -30,15 +30,15 @@ static uint32_t call(int which, uint32_t number, uint8_t *image, size_t length, 
 
 static void is_no_chip(uint32_t number, const uint8_t *image, size_t length)
 {
-    static const uint8_t written[20] = { MUTREE_LENGTH, 0, 0, 0, 0, 0, 0, 0, 0, 0, 0, 0, 0, 0, 0, 0, 9, 9, 9, 9 };
-    uint8_t *copy = copy_of(image, length), result[20], untouched[20];
+    uint8_t *copy = copy_of(image, length), result[RESULT + 4], untouched[RESULT + 4], written[RESULT + 4] = { MUTREE_LENGTH };
     int which;
     memset(untouched, 9, sizeof untouched);
+    memset(written + RESULT, 9, 4);
     for (which = 0; which < 4; which++) {
         memset(result, 9, sizeof result);
-        if (call(which, number, copy, length, result, 15) != MUTREE_LENGTH || memcmp(result, untouched, sizeof result))
+        if (call(which, number, copy, length, result, RESULT - 1) != MUTREE_LENGTH || memcmp(result, untouched, sizeof result))
             fail("a number that is no chip's, with a short buffer, is LENGTH and writes nothing");
-        if (call(which, number, copy, length, result, 20) != MUTREE_LENGTH || memcmp(result, written, sizeof result))
+        if (call(which, number, copy, length, result, RESULT + 4) != MUTREE_LENGTH || memcmp(result, written, sizeof result))
             fail("a number that is no chip's is LENGTH, and the result says so");
         if (memcmp(copy, image, length))
             fail("a call with a number that is no chip's wrote to the image");
@@ -52,7 +52,7 @@ void numbers_are_the_documents(void)
 {
     static const uint32_t others[] = { 2, 3, 255, 256, 257, 65536, 2147483648u, 4294967295u };
     size_t length = length_of(chip, 3), i;
-    uint8_t *image = room_for(length), result[16];
+    uint8_t *image = room_for(length), result[RESULT];
     header_is_the_documents();
     memset(image, 255, length);
     if (mutree_format(chip->number, image, length, result, sizeof result) != MUTREE_DONE)
