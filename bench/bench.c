@@ -17,7 +17,7 @@
 #endif
 
 enum { CHIPS = MUTREE_GEOMETRIES, SIZES = 3 };
-enum { LEFT = 90, SPAN = 300, PANEL = 350 }; /* of the plot, in pixels */
+enum { LEFT = 90, SPAN = 300, PANEL = 390 }; /* of the plot, in pixels */
 
 static const unsigned sizes[SIZES] = { 3, 64, 1024 };
 static const char *const chip_names[CHIPS] = { "small pages", "large pages" };

@@ -74,6 +74,7 @@ static void find_root(const struct run *r)
 {
     uint32_t largest = 0;
     size_t page;
+    tree.chip = SMALL;
     for (page = 0; page < r->length / SMALL->page; page++) {
         const uint8_t *spare = r->image + page * SMALL->page + SMALL->main;
         if (spare[4] >= 1 && spare[4] <= SMALL->top && number_at(spare) > largest) {

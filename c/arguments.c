@@ -63,7 +63,7 @@ static const struct option *option_of(const struct command *command, const char 
 static int take_chip(const struct command *command, const char *option, struct arguments *arguments)
 {
     const struct mutree_geometry *geometry = geometry_of_option(option);
-    if (arguments->geometry != NULL && arguments->geometry != geometry)
+    if (arguments->geometry != NULL && arguments->geometry->number != geometry->number)
         return usage(command, "%s contradicts the option before it", option);
     arguments->geometry = geometry;
     return 0;

@@ -2,13 +2,15 @@
 #include "geometry.h"
 #include "say.h"
 
-enum { MARGIN = 20, LABEL = 34, GAP = 14, TOP = 128, ROW_WIDTH = 32, STEP = 95, LEAST_CELL_WITH_GRID = 7 };
+enum { MARGIN = 20, LABEL = 34, GAP = 14, TOP = 128, ROW_WIDTH = 32, LEAST_CELL_WITH_GRID = 7 };
+enum { STEP = 95, LINE = 16, ROOT_MARK = 20 }; /* of the legend: from level to level, from line to line, the root's part */
 enum { KINDS = MUTREE_MOST_TOP + 2, STRETCH = 4 };
 
 /* Places in the picture, in pixels. A cell is a page. */
 struct layout {
     unsigned pages;           /* cells of a row */
     unsigned cell, row, line; /* a cell's width, a row's height, and how much of the row is inked */
+    unsigned levels, legend;  /* how many levels a line of the legend takes, and how many lines there are */
     size_t columns, rows, width, height;
 };
 
@@ -21,12 +23,20 @@ static unsigned kind_of(const struct survey *s, size_t page)
     return (unsigned)(s->page[page] + 1);
 }
 
-static void measure(struct layout *l, size_t blocks, size_t columns)
+/* Where the first row begins. */
+static size_t first_row(const struct layout *l)
+{
+    return TOP + LINE * (l->legend - 1);
+}
+
+static void measure(struct layout *l, const struct mutree_geometry *geometry, size_t blocks, size_t columns)
 {
     l->columns = columns;
     l->rows = (blocks + columns - 1) / columns;
     l->width = 2 * MARGIN + columns * (LABEL + l->cell * l->pages + GAP);
-    l->height = TOP + l->rows * l->row + MARGIN;
+    l->levels = (unsigned)(l->width - 2 * MARGIN - ROOT_MARK) / STEP;
+    l->legend = (geometry->top + l->levels - 1) / l->levels;
+    l->height = first_row(l) + l->rows * l->row + MARGIN;
 }
 
 /* How far a picture is from 3:2. */
@@ -36,12 +46,12 @@ static size_t miss(const struct layout *l)
 }
 
 /* Rows of a low picture are made higher. */
-static void stretch(struct layout *l, size_t blocks)
+static void stretch(struct layout *l, const struct mutree_geometry *geometry, size_t blocks)
 {
     unsigned most = STRETCH * l->row;
     while (l->row < most && 2 * l->width > 3 * l->height) {
         l->row++;
-        measure(l, blocks, l->columns);
+        measure(l, geometry, blocks, l->columns);
     }
 }
 
@@ -52,15 +62,15 @@ static struct layout lay_out(const struct mutree_geometry *geometry, size_t bloc
     best.pages = geometry->pages;
     best.row = blocks <= 64 ? 14 : blocks <= 256 ? 8 : 5;
     best.cell = (ROW_WIDTH * best.row + best.pages - 1) / best.pages;
-    measure(&best, blocks, 1);
+    measure(&best, geometry, blocks, 1);
     next = best;
     while (next.columns < blocks) {
-        measure(&next, blocks, next.columns + 1);
+        measure(&next, geometry, blocks, next.columns + 1);
         if (miss(&next) < miss(&best))
             best = next;
     }
     if (best.columns == 1)
-        stretch(&best, blocks);
+        stretch(&best, geometry, blocks);
     best.line = best.row > 8 ? best.row - 2 : best.row - 1;
     return best;
 }
@@ -72,10 +82,10 @@ static size_t left_of(const struct layout *l, size_t block)
 
 static size_t top_of(const struct layout *l, size_t block)
 {
-    return TOP + block % l->rows * l->row;
+    return first_row(l) + block % l->rows * l->row;
 }
 
-static void heading(FILE *out, const struct survey *s)
+static void heading(FILE *out, const struct survey *s, const struct layout *l)
 {
     fprintf(out, "<title>Index of %zu blocks</title>\n<text x='%d' y='34' font-size='18'>Index of %zu blocks, %s, %s</text>\n",
             s->blocks, MARGIN, s->blocks, geometry_words(s->geometry), s->sound ? "sound" : "DAMAGED");
@@ -85,7 +95,7 @@ static void heading(FILE *out, const struct survey *s)
     else
         fprintf(out, "<text x='%d' y='54'>%s, so live and dead pages can't be told apart; largest sequence number %u</text>\n",
                 MARGIN, damage_words(s->verdict), (unsigned)s->largest);
-    fprintf(out, "<text x='%d' y='118'>a row is a block of %u pages, page 0 of it at the left</text>\n", MARGIN,
+    fprintf(out, "<text x='%d' y='%zu'>a row is a block of %u pages, page 0 of it at the left</text>\n", MARGIN, first_row(l) - 10,
             (unsigned)s->geometry->pages);
 }
 
@@ -95,21 +105,30 @@ static void legend_item(FILE *out, unsigned x, unsigned y, const char *colour, c
             x, y, colour, x + 16, y + 10, name, count);
 }
 
-static void legend(FILE *out, const struct survey *s)
+/* The levels, and the root after the last of them. */
+static void legend_levels(FILE *out, const struct survey *s, const struct layout *l)
 {
-    unsigned level, top = s->geometry->top, root = MARGIN + STEP * top;
+    unsigned i, x = MARGIN, y = 88;
     char name[16];
+    for (i = 0; i < s->geometry->top; i++) {
+        x = MARGIN + STEP * (i % l->levels);
+        y = 88 + LINE * (i / l->levels);
+        snprintf(name, sizeof name, "level %u:", i + 1);
+        legend_item(out, x, y, colours[i + 2], name, s->level[i + 1]);
+    }
+    x += STEP;
+    fprintf(out, "<rect x='%u' y='%u' width='11' height='11' fill='none' stroke='#000' stroke-width='2'/>"
+                 "<text x='%u' y='%u'>root</text>\n", x, y, x + 17, y + 10);
+}
+
+static void legend(FILE *out, const struct survey *s, const struct layout *l)
+{
     legend_item(out, MARGIN, 66, colours[0], "erased pages:", s->erased);
     legend_item(out, MARGIN + 160, 66, colours[1], s->sound ? "dead:" : "programmed:", s->sound ? s->dead : s->pages - s->erased);
     if (!s->sound)
         return;
     fprintf(out, "<text x='%d' y='76'>live: %zu, by their lowest live level:</text>\n", MARGIN + 280, s->live);
-    for (level = 1; level <= top; level++) {
-        snprintf(name, sizeof name, "level %u:", level);
-        legend_item(out, MARGIN + STEP * (level - 1), 88, colours[level + 1], name, s->level[level]);
-    }
-    fprintf(out, "<rect x='%u' y='88' width='11' height='11' fill='none' stroke='#000' stroke-width='2'/>"
-                 "<text x='%u' y='98'>root</text>\n", root, root + 17);
+    legend_levels(out, s, l);
 }
 
 /* Numbers beside the rows: all of them where there is room, else every eighth. */
@@ -169,7 +188,7 @@ static void grid(FILE *out, const struct survey *s, const struct layout *l)
     for (line = 0; line < lines; line++) {
         size_t block = line / l->pages * l->rows;
         if (line % l->pages != 0)
-            fprintf(out, "M%zu %dv%zu\n", left_of(l, block) + l->cell * (line % l->pages), TOP,
+            fprintf(out, "M%zu %zuv%zu\n", left_of(l, block) + l->cell * (line % l->pages), first_row(l),
                     l->row * rows_from(s, l, block) - 1);
     }
     fputs("'/>\n", out);
@@ -188,8 +207,8 @@ void draw_survey(FILE *out, const struct survey *s)
     unsigned kind;
     fprintf(out, DRAWING_BEGINS " width='%zu' height='%zu' viewBox='0 0 %zu %zu' font-family='sans-serif' font-size='11'>\n"
                  "<rect width='100%%' height='100%%' fill='#fafafa'/>\n", l.width, l.height, l.width, l.height);
-    heading(out, s);
-    legend(out, s);
+    heading(out, s, &l);
+    legend(out, s, &l);
     labels(out, s, &l);
     ground(out, s, &l);
     for (kind = 1; kind < KINDS; kind++)

@@ -51,7 +51,8 @@
  *
  * Capacity, measured (tests/limits). On the small chip rising keys answer MUTREE_HEIGHT after 7,456 keys however many blocks
  * there are; random keys did so after 14,835 to 25,108 keys in ten runs; no tree has more than 65,536 keys. On the large chip
- * a higher tree has room for more than the chip: the pages end first, with MUTREE_ROOM. ..
+ * the pages end before the tree does, with MUTREE_ROOM: rising keys after 4,224 keys on 3 blocks, 24,704 on 8, 4,096 more for each
+ * block more; random keys after 6,111 on 3 blocks and 33,510 on 8 (one run each).
  *
  * No checksum: a changed byte is found only where it breaks a rule of the index. It can also leave another sound index
  * with another key or address in it. Where the chip's own error correction cannot mend a page, do not call.
@@ -111,7 +112,7 @@ struct mutree_geometry {
     uint32_t most_stores;    /* both together: 197, 519 */
 };
 
-/* A chip by its number; NULL for another number. */
+/* A chip by its number; NULL for another number. Tell chips apart by their numbers: the pointers differ between source files. */
 static inline const struct mutree_geometry *mutree_geometry_of(uint32_t number)
 {
     static const struct mutree_geometry geometries[MUTREE_GEOMETRIES] = {

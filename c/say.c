@@ -98,7 +98,7 @@ int say_length(const char *path, const struct mutree_geometry *geometry, uintmax
     for (number = 0; number < MUTREE_GEOMETRIES; number++) {
         const struct mutree_geometry *g = mutree_geometry_of(number);
         size_t used = strlen(sizes);
-        if (geometry != NULL && geometry != g)
+        if (geometry != NULL && geometry->number != g->number)
             continue;
         bare |= looks_bare(g, length);
         snprintf(sizes + used, sizeof sizes - used, "%s%" PRIu32 " (%s)", used ? " or " : "", g->block_bytes, geometry_words(g));

@@ -4,7 +4,8 @@
  * Where a page is programmed on a wholly erased block, that block is the one that request 2 names. An insert is ROOM exactly
  * where T - L < 63 + k (127 + k), and a delete never (request 11).
  *
- * usage: demands [ROUNDS] [SEED] [small|large]       both chips if none is named
+ * usage: demands [ROUNDS] [SEED] [small|large|both] [quick]
+ *        quick: of an update of over 60 stores only the last three allowances are tried
  */
 #include "built.h"
 #include "demands.h"
@@ -18,6 +19,9 @@ const struct chip *chip;
 static struct tree before, state;
 static struct entry oracle[200000];
 static size_t entries;
+
+enum { LONG = 60, LAST_ONES = 3 };
+static int quick;
 
 /* What was met on one chip. */
 static struct {
@@ -260,17 +264,37 @@ static struct trial begin(struct update u, const uint8_t *image, size_t length)
     return t;
 }
 
-/* The image that one store more left: `before` is judged from it. */
-static void look_at_store(struct trial *t, uint32_t allowance, struct mutree_result r)
+/* The allowance to begin with: 0, or for a quick look at a long update one of the last. */
+static uint32_t first_allowance(const struct trial *t)
 {
-    met.prefixes++;
-    if (allowance > 0) {
+    struct mutree_result r;
+    if (!quick)
+        return 0;
+    memcpy(t->now, t->image, t->length);
+    r = run(t->u, t->now, t->length, UINT32_MAX);
+    return r.programmed + r.erased > LONG ? r.programmed + r.erased + 1 - LAST_ONES : 0;
+}
+
+/* The stores that led to the image: one more than to the last one that was looked at, or, at first, as many as were allowed. */
+static void count_stores(struct trial *t, int is_first, uint32_t allowance, struct mutree_result r)
+{
+    if (!is_first) {
         int kind = one_store(&before, t->last, t->now);
         t->programmed += kind == 1;
         t->erased += kind == 2;
-    } else if (memcmp(t->now, t->image, t->length)) {
+    } else if (allowance == 0 && memcmp(t->now, t->image, t->length)) {
         fail("an update without an allowance wrote");
+    } else if (r.programmed + r.erased == allowance) {
+        t->programmed = r.programmed;
+        t->erased = r.erased;
     }
+}
+
+/* The image that so many stores left: `before` is judged from it. */
+static void look_at_store(struct trial *t, int is_first, uint32_t allowance, struct mutree_result r)
+{
+    met.prefixes++;
+    count_stores(t, is_first, allowance, r);
     if (r.programmed != t->programmed || r.erased != t->erased)
         fail("the counts are not the stores made");
     if (judge(&before, chip, t->now, t->length))
@@ -314,17 +338,15 @@ uint32_t every_allowance(struct update u, uint8_t *image, size_t length)
 {
     struct trial t = begin(u, image, length);
     struct mutree_result r;
-    uint32_t allowance = 0;
+    uint32_t first = first_allowance(&t), allowance = first;
     do {
         uint8_t *free_one = t.last;
-        if (allowance > 0) {
-            t.last = t.now;
-            t.now = free_one;
-        }
+        t.last = t.now;
+        t.now = free_one;
         memcpy(t.now, image, length);
         r = run(u, t.now, length, allowance);
         if (r.answer == MUTREE_DONE || r.answer == MUTREE_STOPPED)
-            look_at_store(&t, allowance, r);
+            look_at_store(&t, allowance == first, allowance, r);
         else if (memcmp(t.now, image, length) || r.programmed || r.erased)
             fail("a refused update wrote");
         allowance++;
@@ -475,8 +497,9 @@ int main(int count, char **words)
 {
     unsigned rounds = count > 1 ? (unsigned)strtoul(words[1], NULL, 10) : 8;
     seed = count > 2 ? strtoull(words[2], NULL, 10) : 1;
+    quick = count > 4 && strcmp(words[4], "quick") == 0;
     for (chip = chips; chip < chips + CHIPS; chip++)
-        if (count < 4 || strcmp(words[3], chip->name) == 0) {
+        if (count < 4 || strcmp(words[3], "both") == 0 || strcmp(words[3], chip->name) == 0) {
             numbers_are_the_documents();
             test_chip(rounds);
         }

@@ -105,7 +105,7 @@ static void fill(uint8_t *image, size_t length)
         u.key += 2;
     while (run(u, image, length, UINT32_MAX).answer == 0);
     if (judge(&state, chip, image, length) || state.pages - state.live != chip->room + 1)
-        fail("rising keys on 4 blocks end at T - L = 64 (128)");
+        fail("rising keys on 5 blocks end at T - L = 64 (128)");
     edges++;
 }
 
@@ -123,7 +123,7 @@ static void empty(uint8_t *image, size_t length)
 
 static void full_chip(void)
 {
-    size_t length = length_of(chip, 4);
+    size_t length = length_of(chip, 5); /* on 4 large blocks the last key would grow the root, and end at 129 */
     uint8_t *image = room_for(length);
     uint32_t key;
     fill(image, length);

@@ -11,8 +11,7 @@
 #include <stdlib.h>
 #include <string.h>
 
-/* Rising keys end on the small chip by the tree's height, however many blocks there are; on the large chip by its pages. Then two
- * blocks' pages are without a live node, and a page more holds the root and the last leaf; each page else has a half full leaf. */
+/* Rising keys end on the small chip by the tree's height, however many blocks there are. */
 enum { RISING_KEYS_SMALL = 7456 };
 
 static const struct mutree_geometry *chip;
@@ -47,6 +46,14 @@ static uint32_t random_key(void)
     return (uint32_t)(seed >> 32);
 }
 
+/* On the large chip they end by its pages. Two blocks' pages are then without a live node and each other page has a leaf: the first one
+ * and the last one full, the others half full. Where the last leaf would also grow the root, it is not taken. */
+static int fits_pages(uint32_t keys, size_t blocks)
+{
+    size_t leaves = (blocks - 2) * chip->pages, half = chip->slots / 4;
+    return keys == half * (leaves + 2) || keys == half * (leaves + 1);
+}
+
 static int fill(int rising, size_t blocks)
 {
     uint32_t keys = 0, answer, wanted = chip->number == MUTREE_SMALL ? MUTREE_HEIGHT : MUTREE_ROOM;
@@ -57,7 +64,8 @@ static int fill(int rising, size_t blocks)
            (unsigned)blocks, (unsigned)answer, (unsigned)keys);
     need(answer == wanted, wanted == MUTREE_HEIGHT ? "the chip was full before the tree was; give it more blocks"
                                                    : "the tree was too high before the chip was full");
-    need(!rising || wanted == MUTREE_ROOM || keys == RISING_KEYS_SMALL, "c/mutree.h says another number of rising keys");
+    need(!rising || (wanted == MUTREE_ROOM ? fits_pages(keys, blocks) : keys == RISING_KEYS_SMALL),
+         "c/mutree.h says another number of rising keys");
     return 0;
 }
 

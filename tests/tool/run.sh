@@ -55,14 +55,14 @@ want() {
     has "$out" "$text" || fail "'mutree $*' printed '$out', wanted '$text'"
 }
 
-# use_chip small|large: the chip of the parts that follow: its option where it must be said, the bytes of a block, of three blocks and of
-# a page, a page's main bytes, the pages of a block, and so many blocks that a change of them takes a while
+# use_chip small|large: the chip of the parts that follow: its option for format, the bytes of a block, of three blocks and of
+# a page, a page's main bytes, the pages of a block, the greatest height, and so many blocks that a change of them takes a while
 use_chip() {
     case $1 in
-    small) option='' block=16896 page=528 main=512 row=32 many=1024 ;;
-    large) option=--large block=135168 page=2112 main=2048 row=64 many=128 ;;
+    small) option='' block=16896 page=528 main=512 row=32 top=5 many=1024 ;;
+    large) option=--large block=135168 page=2112 main=2048 row=64 top=7 many=128 ;;
     esac
-    kind="$1 pages"
+    kind="$1 pages" said=--$1
     three=$((3 * block))
 }
 

@@ -51,7 +51,7 @@ out=$("$tool" cut "$chip" 5 50 2>&1 | tail -n 1)
 has "$out" "new map, the same as the old, 1 entry" || fail "cut on a pair that is there printed '$out'"
 
 head -c "$three" /dev/zero > zeros.img
-want 2 "DAMAGED" insert zeros.img 1 1 $option
-want 2 "DAMAGED" show zeros.img $option
-want 2 "DAMAGED" cut zeros.img 1 1 $option
-want 2 "DAMAGED" lookup zeros.img 1 $option
+want 2 "DAMAGED" insert zeros.img 1 1 "$said"
+want 2 "DAMAGED" show zeros.img "$said"
+want 2 "DAMAGED" cut zeros.img 1 1 "$said"
+want 2 "DAMAGED" lookup zeros.img 1 "$said"
