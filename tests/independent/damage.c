@@ -319,7 +319,9 @@ static void each_clause(void)
     }
 }
 
-/* ---- by chance: bytes of an index that has seen some updates */
+/* ---- by chance: bytes of an index that has seen some updates, every second time of its root's page */
+static uint32_t root;
+
 static void some_updates(void)
 {
     struct update u = { 1, 0, 0 };
@@ -332,11 +334,14 @@ static void some_updates(void)
         u.key = some(4294967295u);
         run(u, image, length, UINT32_MAX);
     }
+    if (judge(&state, chip, image, length))
+        fail("updates left an image that is not sound");
+    root = state.root;
 }
 
 static void change_something(void)
 {
-    uint32_t pages = 3 * chip->block_pages, page = some(pages), level = 1 + some(3);
+    uint32_t pages = 3 * chip->block_pages, page = some(2) ? root : some(pages), level = 1 + some(3);
     switch (some(7)) {
     case 0: spare_at(page)[some(5 + chip->top)] = (uint8_t)some(256); break;
     case 1: spare_at(page)[4 + level] = (uint8_t)some(some(2) ? 4 : 256); break;
