@@ -17,6 +17,18 @@ static void header_is_the_documents(void)
         fail("c/mutree.h gives the chip other bounds");
 }
 
+/* R1 to R8 have words, no other number has; R4, R7 and R8 have no page (requests 5 and 11). */
+static void rules_are_the_documents(void)
+{
+    uint32_t rule;
+    for (rule = 0; rule < 20; rule++) {
+        if ((mutree_rule_words(rule) != NULL) != (rule >= 1 && rule <= 8))
+            fail("c/mutree.h has words for other rules than R1 to R8");
+        if (mutree_rule_has_page(rule) != (rule == 1 || rule == 2 || rule == 3 || rule == 5 || rule == 6))
+            fail("c/mutree.h gives another rule a page");
+    }
+}
+
 /* One call with a number that is no chip's: 0 format, 1 lookup, 2 insert, 3 delete. */
 static uint32_t call(int which, uint32_t number, uint8_t *image, size_t length, uint8_t *result, size_t room)
 {
@@ -54,6 +66,7 @@ void numbers_are_the_documents(void)
     size_t length = length_of(chip, 3), i;
     uint8_t *image = room_for(length), result[RESULT];
     header_is_the_documents();
+    rules_are_the_documents();
     memset(image, 255, length);
     if (mutree_format(chip->number, image, length, result, sizeof result) != MUTREE_DONE)
         fail("format was refused");
