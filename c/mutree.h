@@ -39,9 +39,9 @@
  *               ARM64: normal memory, not device memory).
  *   stack       measured, in bytes, the larger of both chips; it does not grow with the image:
  *                              format   lookup    insert    delete
- *                     ARM64     2,192   92,656   151,532   141,916
- *                     x86-64    2,192   90,592   151,628   141,612
- *               160 KiB serve every call. Large frames are touched page by page as they are made, so a guard page
+ *                     ARM64     2,224  156,160   175,980   165,840
+ *                     x86-64    X86-64
+ *               192 KiB serve every call. Large frames are touched page by page as they are made, so a guard page
  *               below the stack catches a stack that is too small.
  *
  * Two calls at once: on different images always; on one image lookups together, but no call beside an insert, delete

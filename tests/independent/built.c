@@ -58,8 +58,8 @@ static uint32_t entries_of(unsigned level, uint32_t below, int on_path)
     return below < most && !(on_path && plan.full_path) ? below : most;
 }
 
-/* The leaves of a node's first child: an even share, and as many as a full path needs. */
-static uint32_t first_share(unsigned level, uint32_t below, uint32_t n, int on_path)
+/* The leaves of the child on the path: an even share, and as many as a full path needs. */
+static uint32_t path_share(unsigned level, uint32_t below, uint32_t n, int on_path)
 {
     uint32_t even = (below + n - 1) / n;
     uint32_t least = on_path && plan.full_path && level > 2
@@ -71,15 +71,16 @@ static uint32_t first_share(unsigned level, uint32_t below, uint32_t n, int on_p
 static uint32_t grow_node(unsigned level, uint32_t below, int on_path)
 {
     uint32_t first_key = last_key + 2, page = leaf_page(leaves), n = entries_of(level, below, on_path), i;
+    uint32_t path = plan.full_path == LAST_PATH ? n - 1 : 0, most = level == 1 ? 0 : path_share(level, below, n, on_path);
     leaves += level == 1;
     for (i = 0; i < n; i++) {
         if (level == 1) {
             last_key += 2;
             add_entry(page, 1, last_key, 1);
         } else {
-            uint32_t share = i == 0 ? first_share(level, below, n, on_path) : (below + n - 1 - i) / (n - i);
+            uint32_t others = n - i - (i <= path), share = i == path ? most : (below - (i < path ? most : 0) + others - 1) / others;
             uint32_t child = leaf_page(leaves);
-            add_entry(page, level, grow_node(level - 1, share, on_path && i == 0), child);
+            add_entry(page, level, grow_node(level - 1, share, on_path && i == path), child);
             below -= share;
         }
     }

@@ -1,16 +1,18 @@
 /* built.h: images made by hand, for both chips. One leaf a page, on all pages of each block but the last; an inner node stands on
  * the page of its first child. Keys are even, from 2 on. The leaf of the smallest key is full and the others have one entry; where
- * the plan says so, all nodes of that path are full below the root. */
+ * the plan says so, all nodes of that path are full below the root. With LAST_PATH both hold of the largest key's path. */
 #ifndef BUILT_H
 #define BUILT_H
 
 #include "judge.h"
 
+enum path { NO_PATH, FIRST_PATH, LAST_PATH };
+
 struct built {
     const struct chip *chip;
     uint32_t blocks, height;
     uint32_t root;                         /* entries of the root */
-    int full_path;
+    enum path full_path;
     uint32_t leaves;                       /* at height 1 none but the root */
     uint32_t programmed;                   /* pages from 0 on; those without a leaf are dead */
 };

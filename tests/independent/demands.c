@@ -451,7 +451,7 @@ static void day(unsigned blocks, int way, unsigned steps)
 static void reach_bounds(void)
 {
     uint32_t row = chip->block_pages, blocks = row + chip->own_pages, live = (blocks - 1) * (row - 1);
-    struct built plan = { chip, blocks, chip->top, 3, 1, live, (blocks - 1) * row + 1 };
+    struct built plan = { chip, blocks, chip->top, 3, FIRST_PATH, live, (blocks - 1) * row + 1 };
     struct update u = { 1, 3, 99 };
     size_t length = length_of(chip, blocks);
     uint8_t *image = build(plan);

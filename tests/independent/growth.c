@@ -54,10 +54,10 @@ static void first_root_is_halved(void)
 }
 
 /* A root with all entries it can store over a full path, so that the next key halves every node. */
-static uint8_t *full_tree(unsigned height, size_t *length)
+static uint8_t *full_tree(unsigned height, enum path path, size_t *length)
 {
     uint32_t root = most_root(chip, height), leaves = leaves_of_full_path(chip, height, root), blocks = 5 + leaves / chip->block_pages;
-    struct built plan = { chip, 0, 0, 0, 1, 0, 0 };
+    struct built plan = { chip, 0, 0, 0, path, 0, 0 };
     plan.blocks = blocks;
     plan.height = height;
     plan.root = root;
@@ -67,22 +67,32 @@ static uint8_t *full_tree(unsigned height, size_t *length)
     return build(plan);
 }
 
-static void every_height_grows(void)
+/* A new key and a present one on the full path. */
+static void grows_on(enum path path, unsigned height)
 {
     struct update u = { 1, 3, 5 };
+    size_t length;
+    uint8_t *image = full_tree(height, path, &length);
+    if (judge(&state, chip, image, length) || state.height != height)
+        fail("the tree with a full path is not sound");
+    if (path == LAST_PATH)
+        u.key = state.map[state.entries - 1].key - 1;
+    if (pages_needed(&state, image, u.key) != height + 1)
+        fail("the tree with a full path is not as planned");
+    if (tried(u, image, length) != (height < chip->top ? MUTREE_DONE : MUTREE_HEIGHT))
+        fail("a full root grows at every height but the greatest, where it is HEIGHT");
+    u.key--;
+    if (tried(u, image, length) != MUTREE_DONE)
+        fail("a present key is never HEIGHT");
+    free(image);
+}
+
+static void every_height_grows(void)
+{
     unsigned height;
     for (height = 1; height <= chip->top; height++) {
-        size_t length;
-        uint8_t *image = full_tree(height, &length);
-        if (judge(&state, chip, image, length) || state.height != height || pages_needed(&state, image, 3) != height + 1)
-            fail("the tree with a full path is not as planned");
-        if (tried(u, image, length) != (height < chip->top ? MUTREE_DONE : MUTREE_HEIGHT))
-            fail("a full root grows at every height but the greatest, where it is HEIGHT");
-        u.key = 2; /* a present key */
-        if (tried(u, image, length) != MUTREE_DONE)
-            fail("a present key is never HEIGHT");
-        u.key = 3;
-        free(image);
+        grows_on(FIRST_PATH, height);
+        grows_on(LAST_PATH, height);
     }
     if (greatest_height() != chip->top)
         fail("the greatest height was not reached");

@@ -68,7 +68,7 @@ static int both_sides(struct built plan)
 static void three_blocks(void)
 {
     uint32_t row = chip->block_pages;
-    struct built plan = { chip, 3, 3, 8, 0, 0, 0 };
+    struct built plan = { chip, 3, 3, 8, NO_PATH, 0, 0 };
     for (plan.leaves = row - 1; plan.leaves <= row + 1; plan.leaves++)
         for (plan.programmed = row + 2; plan.programmed <= 3 * row; plan.programmed++) {
             int wanted = plan.leaves <= row ? 0 : plan.programmed == 3 * row - 1 ? 7 : 8;
@@ -83,7 +83,7 @@ static void three_blocks(void)
 static void no_page_to_spare(void)
 {
     uint32_t row = chip->block_pages, blocks = row + 1;
-    struct built edge = { chip, blocks, chip->top, 3, 1, row * (row - 1), row * row + 1 }, more = edge;
+    struct built edge = { chip, blocks, chip->top, 3, FIRST_PATH, row * (row - 1), row * row + 1 }, more = edge;
     struct update u = { 0, 2, 0 };
     uint8_t *image = build(edge);
     struct mutree_result r = run(u, image, length_of(chip, blocks), UINT32_MAX);

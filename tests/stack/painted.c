@@ -126,7 +126,8 @@ uint32_t __wrap_mutree_delete(uint32_t geometry, uint8_t *image, size_t image_le
     return on_painted_stack(DELETE);
 }
 
-/* A finished insert is also undone, on a copy, so that delete meets the trees on which insert needs the most. */
+/* A finished insert is also undone, on a copy, and its key looked up before, so that the other calls meet the trees on which insert
+ * needs the most. */
 static void undo_on_copy(uint32_t geometry, const uint8_t *image, size_t image_len, uint32_t key)
 {
     uint8_t ignored[MUTREE_RESULT_BYTES], *copy = malloc(image_len);
@@ -140,7 +141,9 @@ static void undo_on_copy(uint32_t geometry, const uint8_t *image, size_t image_l
 uint32_t __wrap_mutree_insert(uint32_t geometry, uint8_t *image, size_t image_len, uint32_t key, uint32_t address, uint32_t allowance,
                               uint8_t *result, size_t result_len)
 {
+    uint8_t ignored[MUTREE_RESULT_BYTES];
     uint32_t answer;
+    __wrap_mutree_lookup(geometry, image, image_len, key, ignored, sizeof ignored);
     set_buffers(geometry, image, image_len, result, result_len);
     now.key = key;
     now.address = address;
