@@ -1,4 +1,6 @@
+use mathlib.Core.Path.{_≡_}
 use Prim.Native.Nat.{_-_, _≤_}
+use lib.ListN.{length}
 use borrow.Author.Needs.{needs}
 use Rattle.bench_cases.proofs.fill.Statement.{statement}
 use Rattle.bench_cases.proofs.fill.Tie as tie
@@ -8,7 +10,7 @@ use Rattle.bench_cases.proofs.insert.Reads as insert-reads
 use Rattle.bench_cases.proofs.show_root.Reads as show-root-reads
 
 abbrev Inv-loop : tie.InvT-loop
-Inv-loop bench img₀ key₀ img key = key ≤ bench .full
+Inv-loop bench img₀ key₀ img key = (key ≤ bench .full) × (length img ≡ length img₀)
 
 abbrev μ-loop : tie.MeasureT-loop
 μ-loop bench img₀ key₀ img key = bench .full - key
@@ -23,6 +25,7 @@ fill-spec =
     (λ c. search needs)
     (λ c κs. search needs)
     (λ c κs. search needs)
+    (λ c. search needs)
     (λ c. search needs)
     (λ c. search needs)
     (λ c. search needs))
