@@ -27,7 +27,8 @@ use Rattle.model.specs.Calls.{Outcome, refused, damaged, made, answered, lookup
 use Rattle.demands.specs.Words.{Ready, mapAt, Holds, programmedMost, erasedMost, Began, OneOf}
 use Rattle.demands.specs.Refusals.{Refuses, lookup-refuses, insert-refuses, delete-refuses}
 use Rattle.demands.specs.Demands.{lookup-reads, insert-refused, delete-refused, lookup-answers, insert-answers, delete-answers, insert-done, delete-done, insert-stopped, delete-stopped, insert-made, delete-made, insert-bounds, delete-bounds}
-use Rattle.demands.specs.Named.{first-broken, page-inside}
+use Rattle.demands.specs.Named.{first-broken}
+use Rattle.demands.specs.Inside.{page-inside}
 use Rattle.images.specs.Lengths.{good-blocks}
 use Rattle.camera.specs.Camera.{Left, returned}
 use Rattle.service.specs.Left.{looksUp, inserts, deletes, other-unknown, on, answerIn, programmedIn, erasedIn, ruleIn, pageIn, short, whole, told-whole, told-short, told-number}
