@@ -180,9 +180,9 @@ module _ (p n : ℕ) (er : ℕ → Bool) where
           programmed-is = (let z : p * s + 0 ≡ p * s = omega arith in subst (λ j. er j ≡ false) z (test-parts _ _ m .0));
         }
 
-  pub page-of-2 : (q : ℕ) → r2 p n er ≡ Bad q → FirstErased q ⊎ SecondMixed q
+  pub r2-names : (q : ℕ) → r2 p n er ≡ Bad q → FirstErased q ⊎ SecondMixed q
   unfolding r2
-  page-of-2 q e = go (bad-unless _ _ q _ e)
+  r2-names q e = go (bad-unless _ _ q _ e)
     where
       none : leb n disordered ≡ true → (b i : ℕ) → Before b i → ⊥
       none h b i x = true-false _ (ap not (before-late b i x)) (least-is (λ b. not (inOrder p er b)) n .before b (omega (arith, leb-true n disordered h, x .block-in)))

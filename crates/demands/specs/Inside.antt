@@ -19,8 +19,8 @@ use Rattle.counts.specs.Lowest.{bad-good}
 use Rattle.counts.specs.Peak.{arg-less}
 use Rattle.trees.specs.Lists.{All}
 use Rattle.demands.specs.Findings.{bad-unless, rising-names, entries-below, node-below}
-use Rattle.demands.specs.Named.{findings, first-broken, page-of-1, page-of-3, page-of-4, page-of-6, page-of-7, page-of-8}
-use Rattle.demands.specs.Disorder.{FirstErased, SecondMixed, page-of-2}
+use Rattle.demands.specs.Named.{findings, first-broken, page-of-1, page-of-2, page-of-3, page-of-4, page-of-6, page-of-7, page-of-8}
+use Rattle.demands.specs.Disorder.{FirstErased, SecondMixed}
 
 -- pages below t, of each finding of a list
 bad-within : (t : ℕ) (fs : List Finding) → All (λ f. (p : ℕ) → f ≡ Bad p → p < t) fs → (i p : ℕ) → getD fs i Good ≡ Bad p → p < t
@@ -52,7 +52,7 @@ module _ (g : Geometry) (n : ℕ) (img : List ℕ) where
           (λ q lo y. node-below g (c .er) (c .nodes) t (c .level) q lo y p) (w .1)
 
   below-2 : (p : ℕ) → r2 (g .pages) n (erased g img) ≡ Bad p → p < t
-  below-2 p e = go (page-of-2 (g .pages) n (erased g img) p e)
+  below-2 p e = go (page-of-2 g n img p e)
     where
       inside : (b i : ℕ) → b < n → i < g .pages → g .pages * b + i < g .pages * n
       inside b i h k = let w = mul-le-mul-left {m = suc b} {n = n} (g .pages) h in omega (arith, w, mul-suc (g .pages) b, k)

@@ -22,6 +22,7 @@ use Rattle.counts.specs.Least.{Least, least-is}
 use Rattle.counts.specs.Lowest.{bad-good}
 use Rattle.trees.specs.Tests.{by-le, true-false}
 use Rattle.chips.specs.Tests.{any-one}
+use Rattle.demands.specs.Disorder.{FirstErased, SecondMixed, r2-names}
 use Rattle.demands.specs.Findings.{bad-unless, zero-page, or-led, bad-lowest, broke, Led, led, LowestPlace, lowest-place}
 
 -- ---- "the first broken rule, in the order R1 to R7", and R8 after them
@@ -60,11 +61,14 @@ module _ (g : Geometry) (n : ℕ) (img : List ℕ) where
       }
 
   -- ---- R1: "the lowest page"
-  pub page-of-1 : (p : ℕ) → r1 g n img ≡ Bad p → (p < t) × Least (λ q. not (wellFormed g img q)) (t) p
+  pub page-of-1 : (p : ℕ) → r1 g n img ≡ Bad p → (p < t) × Least (λ q. not (wellFormed g img q)) t p
   unfolding r1
-  page-of-1 p e = bad-lowest (t) (λ q. not (wellFormed g img q)) p e
+  page-of-1 p e = bad-lowest t (λ q. not (wellFormed g img q)) p e
 
-  -- ---- R2: "the first erased page before a programmed one, or else the first programmed page of the second mixed block": `Disorder`
+  -- ---- R2: "the first erased page before a programmed one, or else the first programmed page of the second mixed block"
+  pub page-of-2 : (p : ℕ) → r2 (g .pages) n (erased g img) ≡ Bad p
+      → FirstErased (g .pages) n (erased g img) p ⊎ SecondMixed (g .pages) n (erased g img) p
+  page-of-2 p e = r2-names (g .pages) n (erased g img) p e
 
   -- ---- R3: "the higher-numbered page of the pair whose higher page is lowest"
   -- two programmed pages with one number, q the lower
@@ -80,7 +84,7 @@ module _ (g : Geometry) (n : ℕ) (img : List ℕ) where
   pub page-of-3 : (p : ℕ) → r3 g n img ≡ Bad p → Higher p
   unfolding r3 repeated
   page-of-3 p e =
-      let w = bad-lowest (t) (repeated (erased g img) (seqAt g img)) p e in
+      let w = bad-lowest t (repeated (erased g img) (seqAt g img)) p e in
       let h = w .1 .there (w .0) in
       let l = least-is (twin p) p in
       let q = ltb-true (least p (twin p)) p (and-right _ _ h) in
@@ -131,15 +135,15 @@ module _ (g : Geometry) (n : ℕ) (img : List ℕ) where
   abbrev pub isLoose : Place → Bool
   isLoose = loose (c .nodes) (placesOf c)
 
-  pub page-of-6 : (p : ℕ) → r6 (t) c ≡ Bad p → (p < t) × LowestPlace isLoose (placesOf c) (t) p
+  pub page-of-6 : (p : ℕ) → r6 t c ≡ Bad p → (p < t) × LowestPlace isLoose (placesOf c) t p
   unfolding r6
-  page-of-6 p e = go (bad-unless (leb (t) low) low p Good e)
+  page-of-6 p e = go (bad-unless (leb t low) low p Good e)
     where
       low : ℕ
-      low = lowestPage isLoose (placesOf c) (t)
+      low = lowestPage isLoose (placesOf c) t
 
-      go : ((leb (t) low ≡ false) × (low ≡ p)) ⊎ ((leb (t) low ≡ true) × (Good ≡ Bad p))
-          → (p < t) × LowestPlace isLoose (placesOf c) (t) p
-      go (inl w) = subst (λ m. (m < t) × LowestPlace isLoose (placesOf c) (t) m) (w .1)
-          (leb-false (t) low (w .0), lowest-place isLoose (placesOf c) (t))
+      go : ((leb t low ≡ false) × (low ≡ p)) ⊎ ((leb t low ≡ true) × (Good ≡ Bad p))
+          → (p < t) × LowestPlace isLoose (placesOf c) t p
+      go (inl w) = subst (λ m. (m < t) × LowestPlace isLoose (placesOf c) t m) (w .1)
+          (leb-false t low (w .0), lowest-place isLoose (placesOf c) t)
       go (inr w) = absurd (bad-good p (sym (w .1)))
