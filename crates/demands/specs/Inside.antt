@@ -5,19 +5,21 @@ use mathlib.Core.Logic.{_⊎_, inl, inr}
 use mathlib.Core.Bool.{true, false}
 use Prim.Native.Nat.{ℕ, zero, suc, _+_, _-_, _*_, _<_, _≤_}
 use native.Mathlib.Omega.{arith}
-use native.Mathlib.Nat.{mul-suc, mul-le-mul-left}
 use lib.ListN.{getD}
 use Rattle.geometry.specs.declared.Geometry.{Geometry}
+use Rattle.geometry.specs.Shape.{Shape}
 use Rattle.geometry.specs.declared.Finding.{Finding}
 use Rattle.geometry.specs.declared.Finding.the-variants.{Good, Bad}
 use Rattle.geometry.specs.declared.Verdict.the-variants.{Broken}
 use Rattle.geometry.specs.Tests.{and-right}
 use Rattle.model.specs.Bytes.{erased}
-use Rattle.model.specs.Image.{Chip, chipOf, pagesOf, rootOf, rootScore}
+use Rattle.model.specs.Image.{blocksOf, goodLength, Chip, chipOf, pagesOf, rootOf, rootScore}
 use Rattle.model.specs.Rules.{r2, names, ownRoot, judgeEntries, judgeNode, r5, verdict}
 use Rattle.counts.specs.Lowest.{bad-good}
 use Rattle.counts.specs.Peak.{arg-less}
 use Rattle.trees.specs.Lists.{All}
+use Rattle.chips.specs.Next.{block-in}
+use Rattle.images.specs.Lengths.{good-blocks}
 use Rattle.demands.specs.Findings.{bad-unless, rising-names, entries-below, node-below}
 use Rattle.demands.specs.Named.{findings, first-broken, page-of-1, page-of-2, page-of-3, page-of-4, page-of-6, page-of-7, page-of-8}
 use Rattle.demands.specs.Disorder.{FirstErased, SecondMixed}
@@ -55,7 +57,7 @@ module _ (g : Geometry) (n : ℕ) (img : List ℕ) where
   below-2 p e = go (page-of-2 g n img p e)
     where
       inside : (b i : ℕ) → b < n → i < g .pages → g .pages * b + i < g .pages * n
-      inside b i h k = let w = mul-le-mul-left {m = suc b} {n = n} (g .pages) h in omega (arith, w, mul-suc (g .pages) b, k)
+      inside b i h k = omega (arith, block-in (g .pages) b n h, k)
 
       go : FirstErased (g .pages) n (erased g img) p ⊎ SecondMixed (g .pages) n (erased g img) p → p < t
       go (inl x) = subst (λ q. q < t) (sym (x .page-is)) (inside (x .block) (x .place) (x .before .block-in) (omega (arith, x .before .after, x .before .place-in)))
@@ -64,8 +66,8 @@ module _ (g : Geometry) (n : ℕ) (img : List ℕ) where
   zero-below : 1 ≤ t → (f : Finding) → ((p : ℕ) → f ≡ Bad p → p ≡ 0) → (p : ℕ) → f ≡ Bad p → p < t
   zero-below h f z p e = omega (arith, h, z p e)
 
-  pub page-inside : 1 ≤ t → (rule page : ℕ) → verdict g n img ≡ Broken rule page → page < t
-  page-inside h rule page e = bad-within t (findings g n img) within (rule - 1) page (first-broken g n img rule page e .broken)
+  below : 1 ≤ t → (rule page : ℕ) → verdict g n img ≡ Broken rule page → page < t
+  below h rule page e = bad-within t (findings g n img) within (rule - 1) page (first-broken g n img rule page e .broken)
     where
       within : All (λ f. (p : ℕ) → f ≡ Bad p → p < t) (findings g n img)
       within = (
@@ -84,3 +86,9 @@ module _ (g : Geometry) (n : ℕ) (img : List ℕ) where
           ),
         ),
       )
+
+pub page-inside : (g : Geometry) → Shape g → (img : List ℕ) → goodLength g img ≡ true → (rule page : ℕ) → verdict g (blocksOf g img) img ≡ Broken rule page
+    → page < pagesOf g (blocksOf g img)
+page-inside g shape img good rule page e =
+    let w = block-in (g .pages) 0 (blocksOf g img) (omega (arith, good-blocks g img good .least)) in
+    below g (blocksOf g img) img (omega (arith, w, shape .pages-low)) rule page e
