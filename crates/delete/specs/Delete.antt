@@ -7,7 +7,8 @@ use mathlib.Core.Option.{Option}
 use Rattle.geometry.specs.declared.Geometry.{Geometry}
 use Rattle.model.specs.Image.{Chip, chipOf, blocksOf, maxSeq}
 use Rattle.model.specs.Tree.{sought}
-use Rattle.model.specs.Calls.{Outcome, worn, deleteRest, delete}
+use Rattle.model.specs.Rules.{verdict}
+use Rattle.model.specs.Calls.{refused, damaged, byVerdict, Outcome, worn, deleteRest, delete}
 use Rattle.model.specs.Collect.{collectStores}
 use Rattle.model.specs.Stores.{Store}
 use Rattle.model.specs.Update.{isNone, deleteStore, deleteStores}
@@ -27,7 +28,7 @@ use Rattle.victim.specs.Victim.{Looked}
 use Rattle.account.specs.Account.{freshOf, answerBy}
 use Rattle.account.specs.Laws.{told-made}
 use Rattle.account.specs.Rest.{worn-is, fresh-is, first-halt, first-then}
-use Rattle.judging.specs.Judging.{judgedIn, judged-damaged, judged-rest, judged-looked, judged-room, judged-length, judged-blocks}
+use Rattle.judging.specs.Judging.{judged-broken, judged-rest, judged-looked, judged-room, judged-length, judged-blocks}
 
 -- ---- ABSENT
 module _ (f : Found) (o : Option ℕ) (ef : found f ≡ o) where
@@ -78,12 +79,12 @@ module _ (g : Geometry) (n k x : ℕ) (i : List ℕ) (s : Survey) (tbl : List �
 module _ (g : Geometry) (img : List ℕ) (k x n : ℕ) (en : n ≡ goodBlocks g img) where
   pub delete-length : n ≡ 0 → told Length img ≡ delete g img k x
   unfolding delete
-  delete-length z = judged-length g img _ n en z
+  delete-length z = judged-length g img (refused 1 img) (damaged img) _ n en z
 
-  pub delete-blocks : (o : Outcome) → (n ≡ 0 → ⊥) → o ≡ judgedIn g n img (deleteRest g n img k x) → o ≡ delete g img k x
+  pub delete-blocks : (o : Outcome) → (n ≡ 0 → ⊥) → o ≡ byVerdict (verdict g n img) (damaged img) (deleteRest g n img k x) → o ≡ delete g img k x
   unfolding delete
   delete-blocks o h e =
-      let f : o ≡ judgedIn g n img (deleteRest g (blocksOf g img) img k x) = e ∙ ap (λ (m : ℕ). judgedIn g n img (deleteRest g m img k x)) (some-blocks g img n en h) in
-      judged-blocks g img _ n en o h f
+      let f : o ≡ byVerdict (verdict g n img) (damaged img) (deleteRest g (blocksOf g img) img k x) = e ∙ ap (λ (m : ℕ). byVerdict (verdict g n img) (damaged img) (deleteRest g m img k x)) (some-blocks g img n en h) in
+      judged-blocks g img (refused 1 img) (damaged img) _ n en o h f
 
-pub ruleset delete-laws = (absent-no, absent-is, delete-halt, delete-on, rest-worn, rest-absent, rest-made, judged-damaged, judged-rest, judged-looked, judged-room, delete-length, delete-blocks)
+pub ruleset delete-laws = (absent-no, absent-is, delete-halt, delete-on, rest-worn, rest-absent, rest-made, judged-broken, judged-rest, judged-looked, judged-room, delete-length, delete-blocks)

@@ -2,9 +2,8 @@
 use mathlib.Core.Path.{_≡_, refl, ap, sym, subst}
 use mathlib.Core.Logic.{_⊎_, inl, inr}
 use mathlib.Core.Bool.{Bool, true, false, not}
-use Prim.Native.Nat.{ℕ, suc, _+_, _-_, _*_, _<_, _≤_}
+use Prim.Native.Nat.{ℕ, _+_, _-_, _*_, _<_, _≤_}
 use native.Mathlib.Omega.{arith}
-use native.Mathlib.Nat.{mul-suc, mul-le-mul-left}
 use lib.Dec.{eqb, leb, ltb}
 use borrow.Author.Tests.{not-true, not-false, ne-eqb, eqb-false, lt-ltb, ltb-true, leb-true, leb-false}
 use Rattle.geometry.specs.declared.Finding.the-variants.{Good, Bad}
@@ -15,6 +14,7 @@ use Rattle.model.specs.Rules.{inOrder, secondMixed, unless, r2}
 use Rattle.counts.specs.Least.{least-is}
 use Rattle.counts.specs.Lowest.{bad-good}
 use Rattle.trees.specs.Tests.{by-eq, by-le, by-test, true-false}
+use Rattle.chips.specs.Next.{block-in}
 use Rattle.chips.specs.Tests.{any-one}
 use Rattle.demands.specs.Findings.{bad-unless}
 
@@ -101,7 +101,7 @@ module _ (p n : ℕ) (er : ℕ → Bool) where
         first = λ b i y. by-le disordered b
             (λ z. by-eq disordered b
             (λ e. subst (λ d. p * d + firstIn p er d ≤ p * b + i) (sym e) (omega (arith, first-le b i (y .erased-is))))
-            (λ d. let w = mul-le-mul-left {m = suc disordered} {n = b} p (omega (arith, z, d)) in omega (arith, w, mul-suc p disordered, x .after, x .place-in)))
+            (λ d. omega (arith, block-in p disordered b (omega (arith, z, d)), x .after, x .place-in)))
             (λ z. absurd (true-false _ (ap not (before-late b i y)) (l .before b z)));
       }
 
@@ -180,9 +180,9 @@ module _ (p n : ℕ) (er : ℕ → Bool) where
           programmed-is = (let z : p * s + 0 ≡ p * s = omega arith in subst (λ j. er j ≡ false) z (test-parts _ _ m .0));
         }
 
-  pub page-of-2 : (q : ℕ) → r2 p n er ≡ Bad q → FirstErased q ⊎ SecondMixed q
+  pub r2-names : (q : ℕ) → r2 p n er ≡ Bad q → FirstErased q ⊎ SecondMixed q
   unfolding r2
-  page-of-2 q e = go (bad-unless _ _ q _ e)
+  r2-names q e = go (bad-unless _ _ q _ e)
     where
       none : leb n disordered ≡ true → (b i : ℕ) → Before b i → ⊥
       none h b i x = true-false _ (ap not (before-late b i x)) (least-is (λ b. not (inOrder p er b)) n .before b (omega (arith, leb-true n disordered h, x .block-in)))

@@ -38,6 +38,18 @@ unfolding unless
 bad-unless true p q v e = inr (refl, e)
 bad-unless false p q v e = inl (refl, bad-same p q e)
 
+pub zero-page : (t : Bool) (p : ℕ) → unless t 0 Good ≡ Bad p → p ≡ 0
+zero-page t p e = go (bad-unless t 0 p Good e)
+  where
+    go : ((t ≡ false) × (0 ≡ p)) ⊎ ((t ≡ true) × (Good ≡ Bad p)) → p ≡ 0
+    go (inl w) = sym (w .1)
+    go (inr w) = absurd (bad-good p (sym (w .1)))
+
+-- a bad finding of the first, or of the rest as it is told further
+pub or-led : {own : Type 0} {other : Type 0} {bad : Type 0} {then : Type 0} → own ⊎ (other × bad) → (bad → then) → own ⊎ (other × then)
+or-led (inl w) f = inl w
+or-led (inr w) f = inr (w .0, f (w .1))
+
 bad-first : (v w : Finding) (q : ℕ) → first v w ≡ Bad q → (v ≡ Bad q) ⊎ ((v ≡ Good) × (w ≡ Bad q))
 unfolding first
 bad-first Good w q e = inr (refl, e)

@@ -9,6 +9,7 @@ pub mod Refusals
 pub mod Findings
 pub mod Disorder
 pub mod Named
+pub mod Inside
 pub mod Proofs
 pub mod Demands
 pub mod Builds

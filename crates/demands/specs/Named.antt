@@ -3,9 +3,8 @@ use mathlib.Core.Path.{_≡_, ap, sym, subst}
 use mathlib.Core.List.{List, [], _∷_}
 use mathlib.Core.Logic.{_⊎_, inl, inr}
 use mathlib.Core.Bool.{Bool, true, false, not}
-use Prim.Native.Nat.{ℕ, zero, suc, _+_, _-_, _*_, _<_, _≤_}
+use Prim.Native.Nat.{ℕ, suc, _-_, _<_, _≤_}
 use native.Mathlib.Omega.{arith}
-use native.Mathlib.Nat.{mul-suc, mul-le-mul-left}
 use lib.Dec.{eqb, leb}
 use lib.ListN.{getD}
 use borrow.Author.Tests.{not-true, eq-eqb, eqb-true, ltb-true, leb-false}
@@ -16,44 +15,28 @@ use Rattle.geometry.specs.declared.Verdict.the-variants.{Broken}
 use Rattle.geometry.specs.Tests.{_&_, and-left, and-right, and-both}
 use Rattle.model.specs.Bytes.{erased, seqAt}
 use Rattle.model.specs.Count.{least}
-use Rattle.model.specs.Image.{Chip, chipOf, pagesOf, rootOf, rootScore}
+use Rattle.model.specs.Image.{Chip, chipOf, pagesOf}
 use Rattle.model.specs.Tree.{Place, placesOf}
-use Rattle.model.specs.Rules.{unless, wellFormed, r1, r2, repeated, r3, r4, names, own, ownRoot, judgeEntries, judgeNode, r5, loose, lowestPage, r6, r7, r8, verdict}
+use Rattle.model.specs.Rules.{wellFormed, r1, r2, repeated, r3, r4, own, ownRoot, judgeNode, r5, loose, lowestPage, r6, r7, r8, verdict}
 use Rattle.counts.specs.Least.{Least, least-is}
 use Rattle.counts.specs.Lowest.{bad-good}
-use Rattle.counts.specs.Peak.{arg-less}
-use Rattle.trees.specs.Lists.{All}
 use Rattle.trees.specs.Tests.{by-le, true-false}
 use Rattle.chips.specs.Tests.{any-one}
-use Rattle.demands.specs.Findings.{bad-unless, bad-lowest, broke, Led, led, LowestPlace, lowest-place, rising-names, entries-below, node-below}
-use Rattle.demands.specs.Disorder.{FirstErased, SecondMixed, page-of-2}
-
-zero-page : (t : Bool) (p : ℕ) → unless t 0 Good ≡ Bad p → p ≡ 0
-zero-page t p e = go (bad-unless t 0 p Good e)
-  where
-    go : ((t ≡ false) × (0 ≡ p)) ⊎ ((t ≡ true) × (Good ≡ Bad p)) → p ≡ 0
-    go (inl w) = sym (w .1)
-    go (inr w) = absurd (bad-good p (sym (w .1)))
-
-or-led : {own : Type 0} {other : Type 0} {bad : Type 0} {then : Type 0} → own ⊎ (other × bad) → (bad → then) → own ⊎ (other × then)
-or-led (inl w) f = inl w
-or-led (inr w) f = inr (w .0, f (w .1))
-
--- pages below t, of each finding of a list
-bad-within : (t : ℕ) (fs : List Finding) → All (λ f. (p : ℕ) → f ≡ Bad p → p < t) fs → (i p : ℕ) → getD fs i Good ≡ Bad p → p < t
-bad-within t [] a i p e = absurd (bad-good p (sym e))
-bad-within t (f ∷ fs) a zero p e = a .0 p e
-bad-within t (f ∷ fs) a (suc i) p e = bad-within t fs (a .1) i p e
+use Rattle.demands.specs.Disorder.{FirstErased, SecondMixed, r2-names}
+use Rattle.demands.specs.Findings.{bad-unless, zero-page, or-led, bad-lowest, broke, Led, led, LowestPlace, lowest-place}
 
 -- ---- "the first broken rule, in the order R1 to R7", and R8 after them
 module _ (g : Geometry) (n : ℕ) (img : List ℕ) where
   abbrev c : Chip
   c = chipOf g n img
 
+  abbrev t : ℕ
+  t = pagesOf g n
+
   -- what each rule finds
   abbrev pub findings : List Finding
   findings =
-      r1 g n img ∷ r2 (g .pages) n (erased g img) ∷ r3 g n img ∷ r4 g n img ∷ r5 g (pagesOf g n) c ∷ r6 (pagesOf g n) c ∷ r7 (g .pages) n c
+      r1 g n img ∷ r2 (g .pages) n (erased g img) ∷ r3 g n img ∷ r4 g n img ∷ r5 g t c ∷ r6 t c ∷ r7 (g .pages) n c
       ∷ r8 (g .pages) n c ∷ []
 
   abbrev pub finding : ℕ → Finding
@@ -78,9 +61,14 @@ module _ (g : Geometry) (n : ℕ) (img : List ℕ) where
       }
 
   -- ---- R1: "the lowest page"
-  pub page-of-1 : (p : ℕ) → r1 g n img ≡ Bad p → (p < pagesOf g n) × Least (λ q. not (wellFormed g img q)) (pagesOf g n) p
+  pub page-of-1 : (p : ℕ) → r1 g n img ≡ Bad p → (p < t) × Least (λ q. not (wellFormed g img q)) t p
   unfolding r1
-  page-of-1 p e = bad-lowest (pagesOf g n) (λ q. not (wellFormed g img q)) p e
+  page-of-1 p e = bad-lowest t (λ q. not (wellFormed g img q)) p e
+
+  -- ---- R2: "the first erased page before a programmed one, or else the first programmed page of the second mixed block"
+  pub page-of-2 : (p : ℕ) → r2 (g .pages) n (erased g img) ≡ Bad p
+      → FirstErased (g .pages) n (erased g img) p ⊎ SecondMixed (g .pages) n (erased g img) p
+  page-of-2 p e = r2-names (g .pages) n (erased g img) p e
 
   -- ---- R3: "the higher-numbered page of the pair whose higher page is lowest"
   -- two programmed pages with one number, q the lower
@@ -88,7 +76,7 @@ module _ (g : Geometry) (n : ℕ) (img : List ℕ) where
   Pair q p = (q < p) × (erased g img q ≡ false) × (erased g img p ≡ false) × (seqAt g img q ≡ seqAt g img p)
 
   pub record Higher (p : ℕ) : Type 0 where
-    pub inside : p < pagesOf g n
+    pub inside : p < t
     pub lower : ℕ
     pub pair : Pair lower p
     pub lowest : (a b : ℕ) → Pair a b → p ≤ b
@@ -96,7 +84,7 @@ module _ (g : Geometry) (n : ℕ) (img : List ℕ) where
   pub page-of-3 : (p : ℕ) → r3 g n img ≡ Bad p → Higher p
   unfolding r3 repeated
   page-of-3 p e =
-      let w = bad-lowest (pagesOf g n) (repeated (erased g img) (seqAt g img)) p e in
+      let w = bad-lowest t (repeated (erased g img) (seqAt g img)) p e in
       let h = w .1 .there (w .0) in
       let l = least-is (twin p) p in
       let q = ltb-true (least p (twin p)) p (and-right _ _ h) in
@@ -127,28 +115,8 @@ module _ (g : Geometry) (n : ℕ) (img : List ℕ) where
   unfolding r8
   page-of-8 p e = zero-page _ _ e
 
-  -- ---- R6: "the lowest page" of the live nodes above another of their page that do not name it
-  abbrev pub isLoose : Place → Bool
-  isLoose = loose (c .nodes) (placesOf c)
-
-  pub page-of-6 : (p : ℕ) → r6 (pagesOf g n) c ≡ Bad p → (p < pagesOf g n) × LowestPlace isLoose (placesOf c) (pagesOf g n) p
-  unfolding r6
-  page-of-6 p e = go (bad-unless (leb (pagesOf g n) low) low p Good e)
-    where
-      low : ℕ
-      low = lowestPage isLoose (placesOf c) (pagesOf g n)
-
-      go : ((leb (pagesOf g n) low ≡ false) × (low ≡ p)) ⊎ ((leb (pagesOf g n) low ≡ true) × (Good ≡ Bad p))
-          → (p < pagesOf g n) × LowestPlace isLoose (placesOf c) (pagesOf g n) p
-      go (inl w) = subst (λ m. (m < pagesOf g n) × LowestPlace isLoose (placesOf c) (pagesOf g n) m) (w .1)
-          (leb-false (pagesOf g n) low (w .0), lowest-place isLoose (placesOf c) (pagesOf g n))
-      go (inr w) = absurd (bad-good p (sym (w .1)))
-
   -- ---- R5: "the page of the first node, each before its subtrees and those left to right, whose own counts, keys or page numbers
   -- break it". First the root
-  abbrev t : ℕ
-  t = pagesOf g n
-
   pub page-of-5 : (p : ℕ) → r5 g t c ≡ Bad p
       → ((ownRoot g (c .er) (c .nodes) t (suc (c .level)) (c .root) ≡ false) × (c .root ≡ p)) ⊎
       ((ownRoot g (c .er) (c .nodes) t (suc (c .level)) (c .root) ≡ true) ×
@@ -163,53 +131,19 @@ module _ (g : Geometry) (n : ℕ) (img : List ℕ) where
   unfolding judgeNode
   page-below l q lo hi p e = or-led (bad-unless _ _ p _ e) (led (judgeNode g (c .er) (c .nodes) t l) (c .nodes q (suc l)) hi p)
 
-  -- ---- every page named is one of the image
-  root-below : 1 ≤ t → c .root < t
-  unfolding rootOf
-  root-below h = arg-less (rootScore g img) t h
+  -- ---- R6: "the lowest page" of the live nodes above another of their page that do not name it
+  abbrev pub isLoose : Place → Bool
+  isLoose = loose (c .nodes) (placesOf c)
 
-  below-5 : 1 ≤ t → (p : ℕ) → r5 g t c ≡ Bad p → p < t
-  unfolding r5 ownRoot
-  below-5 h p e = go (bad-unless _ _ p _ e)
+  pub page-of-6 : (p : ℕ) → r6 t c ≡ Bad p → (p < t) × LowestPlace isLoose (placesOf c) t p
+  unfolding r6
+  page-of-6 p e = go (bad-unless (leb t low) low p Good e)
     where
-      go : ((ownRoot g (c .er) (c .nodes) t (suc (c .level)) (c .root) ≡ false) × (c .root ≡ p)) ⊎
-          ((ownRoot g (c .er) (c .nodes) t (suc (c .level)) (c .root) ≡ true) ×
-          (judgeEntries (judgeNode g (c .er) (c .nodes) t (c .level)) (c .nodes (c .root) (suc (c .level))) 4294967296 ≡ Bad p)) → p < t
-      go (inl w) = omega (arith, w .1, root-below h)
-      go (inr w) = entries-below g (c .er) (c .nodes) t (c .level) (c .nodes (c .root) (suc (c .level))) 4294967296 p
-          (rising-names (names (c .er) t (suc (c .level))) (c .nodes (c .root) (suc (c .level))) 0 4294967296 (and-right _ _ (w .0)))
-          (λ q lo y. node-below g (c .er) (c .nodes) t (c .level) q lo y p) (w .1)
+      low : ℕ
+      low = lowestPage isLoose (placesOf c) t
 
-  below-2 : (p : ℕ) → r2 (g .pages) n (erased g img) ≡ Bad p → p < t
-  below-2 p e = go (page-of-2 (g .pages) n (erased g img) p e)
-    where
-      inside : (b i : ℕ) → b < n → i < g .pages → g .pages * b + i < g .pages * n
-      inside b i h k = let w = mul-le-mul-left {m = suc b} {n = n} (g .pages) h in omega (arith, w, mul-suc (g .pages) b, k)
-
-      go : FirstErased (g .pages) n (erased g img) p ⊎ SecondMixed (g .pages) n (erased g img) p → p < t
-      go (inl x) = subst (λ q. q < t) (sym (x .page-is)) (inside (x .block) (x .place) (x .before .block-in) (omega (arith, x .before .after, x .before .place-in)))
-      go (inr x) = subst (λ q. q < t) (sym (x .page-is)) (let w = inside (x .second) 0 (x .second-mixed .block-in) (omega (arith, x .second-mixed .erased-in)) in omega (arith, w))
-
-  zero-below : 1 ≤ t → (f : Finding) → ((p : ℕ) → f ≡ Bad p → p ≡ 0) → (p : ℕ) → f ≡ Bad p → p < t
-  zero-below h f z p e = omega (arith, h, z p e)
-
-  pub page-inside : 1 ≤ t → (rule page : ℕ) → verdict g n img ≡ Broken rule page → page < t
-  page-inside h rule page e = bad-within t findings within (rule - 1) page (first-broken rule page e .broken)
-    where
-      within : All (λ f. (p : ℕ) → f ≡ Bad p → p < t) findings
-      within = (
-        (λ p i. page-of-1 p i .0),
-        (
-          below-2,
-          (
-            (λ p i. page-of-3 p i .inside),
-            (
-              zero-below h _ page-of-4,
-              (
-                below-5 h,
-                ((λ p i. page-of-6 p i .0), (zero-below h _ page-of-7, (zero-below h _ page-of-8, tt))),
-              ),
-            ),
-          ),
-        ),
-      )
+      go : ((leb t low ≡ false) × (low ≡ p)) ⊎ ((leb t low ≡ true) × (Good ≡ Bad p))
+          → (p < t) × LowestPlace isLoose (placesOf c) t p
+      go (inl w) = subst (λ m. (m < t) × LowestPlace isLoose (placesOf c) t m) (w .1)
+          (leb-false t low (w .0), lowest-place isLoose (placesOf c) t)
+      go (inr w) = absurd (bad-good p (sym (w .1)))

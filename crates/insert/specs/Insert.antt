@@ -8,7 +8,8 @@ use native.Mathlib.Numerals.{add-one}
 use Rattle.geometry.specs.declared.Geometry.{Geometry}
 use Rattle.model.specs.Image.{chipOf, blocksOf, maxSeq}
 use Rattle.model.specs.Count.{count}
-use Rattle.model.specs.Calls.{worn, roomless, freePages, insertRest, insert}
+use Rattle.model.specs.Rules.{verdict}
+use Rattle.model.specs.Calls.{refused, damaged, byVerdict, worn, roomless, freePages, insertRest, insert}
 use Rattle.model.specs.Collect.{collectStores}
 use Rattle.model.specs.Stores.{Store, applyAll}
 use Rattle.model.specs.Update.{needs, ownStores, insertStores}
@@ -25,7 +26,7 @@ use Rattle.walk.specs.Table.{liveIn}
 use Rattle.victim.specs.Victim.{Looked}
 use Rattle.plan.specs.declared.Plan.{Plan}
 use Rattle.plan.specs.Plan.{Plans}
-use Rattle.judging.specs.Judging.{judgedIn, judged-damaged, judged-rest, judged-looked, judged-room, judged-length, judged-blocks}
+use Rattle.judging.specs.Judging.{judged-broken, judged-rest, judged-looked, judged-room, judged-length, judged-blocks}
 use Rattle.account.specs.Account.{freshOf, answerBy}
 use Rattle.account.specs.Laws.{told-made}
 use Rattle.account.specs.Rest.{worn-is, fresh-is, roomless-is, first-halt, first-then}
@@ -84,11 +85,11 @@ module _ (g : Geometry) (n k a x : ℕ) (i : List ℕ) (s : Survey) (tbl : List 
 module _ (g : Geometry) (img : List ℕ) (k a x n : ℕ) (en : n ≡ goodBlocks g img) where
   pub insert-length : n ≡ 0 → told Length img ≡ insert g img k a x
   unfolding insert
-  insert-length z = judged-length g img (insertRest g (blocksOf g img) img k a x) n en z
+  insert-length z = judged-length g img (refused 1 img) (damaged img) (insertRest g (blocksOf g img) img k a x) n en z
 
-  pub insert-judged : (c : Answer) (o : List ℕ) → (n ≡ 0 → ⊥) → told c o ≡ judgedIn g n img (insertRest g n img k a x) → told c o ≡ insert g img k a x
+  pub insert-judged : (c : Answer) (o : List ℕ) → (n ≡ 0 → ⊥) → told c o ≡ byVerdict (verdict g n img) (damaged img) (insertRest g n img k a x) → told c o ≡ insert g img k a x
   unfolding insert
   insert-judged c o h e =
-      judged-blocks g img (insertRest g (blocksOf g img) img k a x) n en (told c o) h (e ∙ ap (λ m. judgedIn g n img (insertRest g m img k a x)) (some-blocks g img n en h))
+      judged-blocks g img (refused 1 img) (damaged img) (insertRest g (blocksOf g img) img k a x) n en (told c o) h (e ∙ ap (λ m. byVerdict (verdict g n img) (damaged img) (insertRest g m img k a x)) (some-blocks g img n en h))
 
-pub ruleset insert-laws = (insert-halt, insert-on, rest-worn, rest-high, rest-room, rest-made, needs-is, judged-damaged, judged-rest, judged-looked, judged-room, insert-length, insert-judged)
+pub ruleset insert-laws = (insert-halt, insert-on, rest-worn, rest-high, rest-room, rest-made, needs-is, judged-broken, judged-rest, judged-looked, judged-room, insert-length, insert-judged)

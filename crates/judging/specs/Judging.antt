@@ -9,26 +9,21 @@ use lib.ListN.{length}
 use Rattle.geometry.specs.declared.Geometry.{Geometry}
 use Rattle.geometry.specs.declared.Verdict.the-variants.{Sound, Broken}
 use Rattle.model.specs.Rules.{verdict}
-use Rattle.model.specs.Calls.{Outcome, damaged, byVerdict, judged, judgedCall}
-use Rattle.answers.specs.declared.Answer.the-variants.{Length, Damaged}
-use Rattle.answers.specs.Answers.{told}
+use Rattle.model.specs.Calls.{byVerdict, judged}
 use Rattle.chip.specs.Chip.{goodBlocks}
 use Rattle.chip.specs.Blocks.{none-good, some-good, some-blocks}
 use Rattle.verdict.specs.declared.Judgement.{Judgement}
 use Rattle.verdict.specs.Verdict.{Judged}
 use Rattle.victim.specs.Victim.{Looked}
 
--- the rest on an image of n blocks, if it is sound
-unfoldable pub judgedIn : Geometry → ℕ → List ℕ → Outcome → Outcome
-judgedIn g n img rest = byVerdict (verdict g n img) (damaged img) rest
+-- an image of n blocks, in a call of any kind
+module _ {A : Type 0} (g : Geometry) (n : ℕ) (img : List ℕ) (broken : ℕ → ℕ → A) (rest : A) (j : Judgement) (t u : List ℕ) (x : Judged g n img j t u) where
+  pub judged-broken : (o : A) (r p : ℕ) → j .verdict ≡ Broken r p → o ≡ broken r p → o ≡ byVerdict (verdict g n img) broken rest
+  unfolding byVerdict
+  judged-broken o r p e h = h ∙ sym (simp (← (x .verdict), e))
 
-module _ (g : Geometry) (n : ℕ) (img : List ℕ) (rest : Outcome) (j : Judgement) (t u : List ℕ) (x : Judged g n img j t u) where
-  pub judged-damaged : (r p : ℕ) → j .verdict ≡ Broken r p → told (Damaged r p) img ≡ judgedIn g n img rest
-  unfolding judgedIn byVerdict
-  judged-damaged r p e = sym (simp (← (x .verdict), e))
-
-  pub judged-rest : (o : Outcome) → o ≡ rest → j .verdict ≡ Sound → o ≡ judgedIn g n img rest
-  unfolding judgedIn byVerdict
+  pub judged-rest : (o : A) → o ≡ rest → j .verdict ≡ Sound → o ≡ byVerdict (verdict g n img) broken rest
+  unfolding byVerdict
   judged-rest o h e = h ∙ sym (simp (← (x .verdict), e))
 
 -- a sound image's judgement tells what an update looks at, and the table has a place for each page
@@ -38,11 +33,11 @@ judged-looked g n img j t u x e = record { survey = x .survey; marked = x .table
 pub judged-room : (g : Geometry) (n : ℕ) (img : List ℕ) (j : Judgement) (t u : List ℕ) → Judged g n img j t u → g .pages ≤ 64 → n ≤ 1024 → 65536 ≤ length t → g .pages * n ≤ length u
 judged-room g n img j t u x p b h = let y = mul-le-mul-left (g .pages) b in let z = mul-le-mul-right 1024 p in omega (arith, y, z, h, x .same)
 
-module _ (g : Geometry) (img : List ℕ) (rest : Outcome) (n : ℕ) (en : n ≡ goodBlocks g img) where
-  pub judged-length : n ≡ 0 → told Length img ≡ judgedCall g img rest
+module _ {A : Type 0} (g : Geometry) (img : List ℕ) (short : A) (broken : ℕ → ℕ → A) (rest : A) (n : ℕ) (en : n ≡ goodBlocks g img) where
+  pub judged-length : n ≡ 0 → short ≡ judged g img short broken rest
   unfolding judged
   judged-length z = sym (simp (none-good g img n en z))
 
-  pub judged-blocks : (o : Outcome) → (n ≡ 0 → ⊥) → o ≡ judgedIn g n img rest → o ≡ judgedCall g img rest
-  unfolding judged judgedIn
+  pub judged-blocks : (o : A) → (n ≡ 0 → ⊥) → o ≡ byVerdict (verdict g n img) broken rest → o ≡ judged g img short broken rest
+  unfolding judged
   judged-blocks o h e = e ∙ sym (simp (some-good g img n en h, ← (some-blocks g img n en h)))

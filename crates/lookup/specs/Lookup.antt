@@ -7,7 +7,8 @@ use Rattle.geometry.specs.declared.Geometry.{Geometry}
 use Rattle.geometry.specs.declared.Verdict.the-variants.{Sound}
 use Rattle.model.specs.Image.{Chip, chipOf}
 use Rattle.model.specs.Tree.{sought}
-use Rattle.model.specs.Calls.{answered, lookup}
+use Rattle.model.specs.Rules.{verdict}
+use Rattle.model.specs.Calls.{refused, damaged, byVerdict, answered, lookup}
 use Rattle.answers.specs.declared.Answer.{Answer}
 use Rattle.answers.specs.declared.Answer.the-variants.{Done, Length, Absent}
 use Rattle.answers.specs.Answers.{told}
@@ -19,7 +20,7 @@ use Rattle.search.specs.Search.{found}
 use Rattle.verdict.specs.declared.Judgement.{Judgement}
 use Rattle.verdict.specs.Verdict.{Judged}
 use Rattle.survey.specs.Laws.{chip-is}
-use Rattle.judging.specs.Judging.{judgedIn, judged-damaged, judged-rest, judged-length, judged-blocks}
+use Rattle.judging.specs.Judging.{judged-broken, judged-rest, judged-length, judged-blocks}
 
 unfoldable pub answerOf : Found → Answer
 answerOf (At a) = Done a 0 0
@@ -40,20 +41,20 @@ answer-tells Nothing img = refl
 
 module _ (g : Geometry) (n : ℕ) (img : List ℕ) (k : ℕ) (j : Judgement) (t u : List ℕ) (x : Judged g n img j t u) where
   pub lookup-done : (f : Found) (a : Answer) → j .verdict ≡ Sound → found f ≡ sought (chipWith g img (j .survey .level) (j .survey .root)) k
-      → a ≡ answerOf f → told a img ≡ judgedIn g n img (answered (sought (chipOf g n img) k) img)
+      → a ≡ answerOf f → told a img ≡ byVerdict (verdict g n img) (damaged img) (answered (sought (chipOf g n img) k) img)
   lookup-done f a e ef ea =
       let c : found f ≡ sought (chipOf g n img) k = ef ∙ ap (λ (y : Chip). sought y k) (chip-is g n img (j .survey) (x .survey)) in
-      judged-rest g n img _ j t u x (told a img)
+      judged-rest g n img (damaged img) _ j t u x (told a img)
       (ap (λ (y : Answer). told y img) ea ∙ answer-tells f img ∙ ap (λ (y : Option ℕ). answered y img) c) e
 
 module _ (g : Geometry) (img : List ℕ) (k n : ℕ) (en : n ≡ goodBlocks g img) where
   pub lookup-length : n ≡ 0 → told Length img ≡ lookup g img k
   unfolding lookup
-  lookup-length z = judged-length g img _ n en z
+  lookup-length z = judged-length g img (refused 1 img) (damaged img) _ n en z
 
-  pub lookup-blocks : (a : Answer) → (n ≡ 0 → ⊥) → told a img ≡ judgedIn g n img (answered (sought (chipOf g n img) k) img) → told a img ≡ lookup g img k
+  pub lookup-blocks : (a : Answer) → (n ≡ 0 → ⊥) → told a img ≡ byVerdict (verdict g n img) (damaged img) (answered (sought (chipOf g n img) k) img) → told a img ≡ lookup g img k
   unfolding lookup
   lookup-blocks a h e =
-      judged-blocks g img _ n en (told a img) h (e ∙ ap (λ (m : ℕ). judgedIn g n img (answered (sought (chipOf g m img) k) img)) (some-blocks g img n en h))
+      judged-blocks g img (refused 1 img) (damaged img) _ n en (told a img) h (e ∙ ap (λ (m : ℕ). byVerdict (verdict g n img) (damaged img) (answered (sought (chipOf g m img) k) img)) (some-blocks g img n en h))
 
-pub ruleset lookup-laws = (answer-at, answer-none, judged-damaged, lookup-length, lookup-done, lookup-blocks)
+pub ruleset lookup-laws = (answer-at, answer-none, judged-broken, lookup-length, lookup-done, lookup-blocks)

@@ -4,9 +4,9 @@ ghost use Prim.Native.Nat.{ℕ, _≤_};
 ghost use lib.ListN.{length};
 ghost use Rattle.model.specs.Image.{chipOf};
 ghost use Rattle.model.specs.Tree.{sought};
-ghost use Rattle.model.specs.Calls.{answered, lookup};
+ghost use Rattle.model.specs.Rules.{verdict};
+ghost use Rattle.model.specs.Calls.{damaged, byVerdict, answered, lookup};
 ghost use Rattle.answers.specs.Answers.{told};
-ghost use Rattle.judging.specs.Judging.{judgedIn};
 ghost use Rattle.lookup.specs.Lookup.{answerOf};
 use answers::Answer;
 use geometry::Geometry;
@@ -26,7 +26,7 @@ fn answer(found: Found) -> Answer
 // Lookup on n blocks, with a lent table for the judge.
 fn lookup_blocks(g: Geometry, img: &[u8], table: &mut [u8], n: u16, key: u32) -> Answer
     requires { ⌜ (g .pages ≤ 64) × (n ≤ 1024) × (65536 ≤ length (now table)) ⌝ }
-    ensures { λ r. ⌜ told r (now (img .entry)) ≡ judgedIn g n (now (img .entry)) (answered (sought (chipOf g n (now (img .entry))) key) (now (img .entry))) ⌝ }
+    ensures { λ r. ⌜ told r (now (img .entry)) ≡ byVerdict (verdict g n (now (img .entry))) (damaged (now (img .entry))) (answered (sought (chipOf g n (now (img .entry))) key) (now (img .entry))) ⌝ }
 {
     let judgement = verdict::judge_image(g, img, &mut *table, n);
     let verdict = judgement.verdict;

@@ -6,7 +6,6 @@ use mathlib.Core.Bool.{Bool, true, false}
 use mathlib.Core.Logic.{_⊎_}
 use Prim.Native.Nat.{ℕ, zero, suc, _<_, _≤_}
 use native.Mathlib.Omega.{arith}
-use native.Mathlib.Nat.{mul-le-mul-left}
 use lib.Dec.{ltb}
 use Rattle.geometry.specs.declared.Entry.{Entry}
 use Rattle.geometry.specs.declared.Geometry.{Geometry}
@@ -27,8 +26,9 @@ use Rattle.model.specs.Calls.{Outcome, refused, damaged, made, answered, lookup
 use Rattle.demands.specs.Words.{Ready, mapAt, Holds, programmedMost, erasedMost, Began, OneOf}
 use Rattle.demands.specs.Refusals.{Refuses, lookup-refuses, insert-refuses, delete-refuses}
 use Rattle.demands.specs.Demands.{lookup-reads, insert-refused, delete-refused, lookup-answers, insert-answers, delete-answers, insert-done, delete-done, insert-stopped, delete-stopped, insert-made, delete-made, insert-bounds, delete-bounds}
-use Rattle.demands.specs.Named.{first-broken, page-inside}
-use Rattle.images.specs.Lengths.{good-blocks}
+use Rattle.demands.specs.Named.{first-broken}
+use Rattle.demands.specs.Inside.{page-inside}
+use Rattle.images.specs.Lengths.{good-blocks, few-pages}
 use Rattle.camera.specs.Camera.{Left, returned}
 use Rattle.service.specs.Left.{looksUp, inserts, deletes, other-unknown, on, answerIn, programmedIn, erasedIn, ruleIn, pageIn, short, whole, told-whole, told-short, told-number}
 
@@ -112,16 +112,10 @@ module _ (kind : ℕ) (g : Geometry) (is : chosenOf kind ≡ Of g) (image result
 
   -- a page of the image
   pub page-in : page < pagesOf g (blocksOf g image)
-  page-in =
-      let b = good-blocks g image good in
-      let w = mul-le-mul-left {m = 1} {n = blocksOf g image} (g .pages) (omega (arith, b .least)) in
-      page-inside g (blocksOf g image) image (omega (arith, w, formed-by .pages-low)) rule page broken
+  page-in = page-inside g formed-by image good rule page broken
 
-  page-low : page < 65536
-  page-low =
-      let b = good-blocks g image good in
-      let w = mul-le-mul-left {m = blocksOf g image} {n = 1024} (g .pages) (b .most) in
-      omega (arith, w, formed-by .pages-high, page-in)
+  page-low : page < 4294967296
+  page-low = omega (arith, few-pages g formed-by (blocksOf g image) (good-blocks g image good .most), page-in)
 
   pub damaged-call : (l : Left) → Refused kind image result l
       → (l .answer ≡ 2) × (l .image ≡ image) × (answerIn (l .result) ≡ 2) × (ruleIn (l .result) ≡ rule) × (pageIn (l .result) ≡ page)
