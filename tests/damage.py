@@ -66,12 +66,15 @@ class Bench:
         return img
 
     def erased_before(self, img):
-        """One or two programmed pages erased that have a programmed one after them in their block."""
+        """One or two programmed pages erased that have a programmed one after them in their block, with up to three before them."""
         for _ in range(self.rng.choice([1, 2])):
             pages = [p for p in self.programmed(img) if p + 1 < self.m.T(img) and self.m.block_of(p + 1) == self.m.block_of(p)
                      and not self.m.erased(img, p + 1)]
             if pages:
-                img = self.put(img, self.rng.choice(pages), 0, self.m.ERASED)
+                last = self.rng.choice(pages)
+                first = max(last - self.rng.randrange(4), self.m.block_pages(self.m.block_of(last)).start)
+                for p in range(first, last + 1):
+                    img = self.put(img, p, 0, self.m.ERASED)
         return img
 
     def second_mixed(self, img):
