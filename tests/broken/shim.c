@@ -17,7 +17,8 @@
 
 uint32_t real_format(uint32_t geometry, uint8_t *image, size_t image_len, uint8_t *result, size_t result_len);
 uint32_t real_lookup(uint32_t geometry, const uint8_t *image, size_t image_len, uint32_t key, uint8_t *result, size_t result_len);
-uint32_t real_insert(uint32_t geometry, uint8_t *image, size_t image_len, uint32_t key, uint32_t address, uint32_t allowance, uint8_t *result, size_t result_len);
+uint32_t real_insert(uint32_t geometry, uint8_t *image, size_t image_len, uint32_t key, uint32_t address,
+                     uint32_t allowance, uint8_t *result, size_t result_len);
 uint32_t real_delete(uint32_t geometry, uint8_t *image, size_t image_len, uint32_t key, uint32_t allowance, uint8_t *result, size_t result_len);
 
 static volatile uint8_t seen; /* what faults 7 and 8 read */
@@ -63,7 +64,8 @@ static uint8_t *copy_of(const uint8_t *image, size_t length)
     return copy;
 }
 
-uint32_t mutree_insert(uint32_t geometry, uint8_t *image, size_t image_len, uint32_t key, uint32_t address, uint32_t allowance, uint8_t *result, size_t result_len)
+uint32_t mutree_insert(uint32_t geometry, uint8_t *image, size_t image_len, uint32_t key, uint32_t address,
+                       uint32_t allowance, uint8_t *result, size_t result_len)
 {
     uint8_t *before = FAULT == 1 ? copy_of(image, image_len) : NULL;
     uint32_t more = FAULT == 6 && allowance < UINT32_MAX;

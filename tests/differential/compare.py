@@ -154,6 +154,12 @@ def full_path(library, m, fuzz, rng):
     every_update(library, m, rng, img, ("insert", gone, 5))
 
 
+def roomless(m, rng, img, known):
+    """A present key that is deleted where an insert beside it is ROOM, if some are tried and one is found."""
+    some = rng.sample(known, min(40, len(known))) if m.first_damage(img) is None else []
+    return [pair for pair in some if m.plan(img, ("insert", min(pair[0] + 1, LARGEST), 5))[0] == ANSWERS.index("ROOM")][:1]
+
+
 def scarce(library, m, fuzz, rng):
     """T - L of 64 (128), where deletes end and some inserts are ROOM, and one less, where all is DAMAGED (request 11)."""
     blocks = rng.choice([3, 3, 4])
@@ -162,7 +168,7 @@ def scarce(library, m, fuzz, rng):
         known = m.map_of(img)
         library.edges += m.first_damage(img) is None
         library.beyond += m.first_damage(img) == reference.BREAKS_R8
-        for key in rng.sample(known, 3):
+        for key in rng.sample(known, 3) + roomless(m, rng, img, known):
             lookups(library, m, rng, img, [key[0]])
             every_update(library, m, rng, img, ("delete", key[0]))
             every_update(library, m, rng, img, ("insert", key[0], 5))
@@ -205,8 +211,8 @@ def broken(library, m, fuzz, rng):
 
 
 def no_chip(library, m, fuzz, rng):
-    """Numbers that are no chip's: LENGTH, the result is written, the image stays."""
-    img = fuzz.hand_image(rng, m, 3)
+    """Numbers that are no chip's: LENGTH, the result is written, the image stays. Its length fits both chips."""
+    img = m.format(b"\xff" * (3 * fuzz.LARGE.block_size)).img
     for name in CALLS:
         buf = buffer(rng)
         number = rng.choice([2, 3, 256, 2 ** 31, LARGEST, rng.randrange(2, 2 ** 32)])
@@ -229,9 +235,11 @@ def tell_met(library, wanted):
 
 def compare(fuzz, geometry, wanted, rng):
     library, m = Library(sys.argv[1], geometry), reference.mu(fuzz, geometry)
-    clauses(library, m, fuzz, rng)
+    kinds = [no_chip, full_path, scarce, hand_made, broken, a_log, hand_made]
+    for kind in [clauses] + kinds:
+        kind(library, m, fuzz, rng)
     while library.calls < wanted:
-        rng.choice([a_log, hand_made, hand_made, broken, full_path, scarce, no_chip])(library, m, fuzz, rng)
+        rng.choice(kinds)(library, m, fuzz, rng)
     print("differential: %s chip: %d calls agree with the reference model" % (geometry.name, library.calls))
     tell_met(library, wanted)
 

@@ -1,11 +1,12 @@
 /* target.c: any bytes, any lengths, small buffers, through the four calls; for libFuzzer with sanitizers, or for main.c.
  *
- * The first bytes choose the call, the chip or a number that is none's, the key, the allowance, the result buffer's length and which
- * guard page the buffers stand against; the rest is the image. Where the input says so the image is a formatted one with the rest laid over it, so that
- * sound and nearly sound images are met. The library itself has no sanitizers in it. So the image and the result buffer lie
- * in mapped memory before a guard page, or after one: a byte read or written past their ends ends the run. Checked
- * besides: a number that is no chip's gives LENGTH, refused calls leave the image, a finished call leaves one that is not DAMAGED, a short result buffer stays as
- * it was, and so do the bytes after the 24; rule and page are 0 but for DAMAGED, and then a rule's number and a page of the image. */
+ * The first bytes choose the call, the chip or a number that is none's, the key, the allowance, the result buffer's length and
+ * which guard page the buffers stand against; the rest is the image. Where the input says so the image is a formatted one with
+ * the rest laid over it, so that sound and nearly sound images are met. The library itself has no sanitizers in it. So the
+ * image and the result buffer lie in mapped memory before a guard page, or after one: a byte read or written past their ends
+ * ends the run. Checked besides: a number that is no chip's gives LENGTH, refused calls leave the image, a finished call leaves
+ * one that is not DAMAGED, a short result buffer stays as it was, and so do the bytes after the 24; rule and page are 0 but for
+ * DAMAGED, and then a rule's number and a page of the image. */
 #define _DEFAULT_SOURCE
 #include "../../c/mutree.h"
 #include "../guarded.h"
