@@ -33,7 +33,8 @@ static const struct command commands[] = {
       TAKES_CHIP | TAKES_PAGES | TAKES_SVG, 1, show_command },
     { "check", "FILE " CHIP, "whether FILE is a sound index; where it is not, what is broken, and the page where it is",
       TAKES_CHIP, 1, check_command },
-    { "page", "FILE N " CHIP, "print page N: its place, numbers and entries, and whether it is live", TAKES_CHIP, 2, page_command },
+    { "page", "FILE N " CHIP, "print page N: its place, numbers and entries, and whether it is live",
+      TAKES_CHIP, 2, page_command },
     { "cut", "FILE KEY ADDRESS " CHIP, "what a battery loss after each store of this insert leaves; FILE stays as it is",
       TAKES_CHIP, 3, cut_command },
 };

@@ -19,12 +19,11 @@
  * 0. mutree_rule_words says each rule in words. The page of each, a page number of the image:
  *
  *   1   the lowest page that breaks it
- *   2   the first erased page before a programmed one of its block; where there is none, the first programmed page of the
- *       second block that has both
- *   3   of the pairs of pages with one sequence number, each has a higher-numbered page; the lowest of these
- *   5   the page of the first node whose own counts, keys or page numbers break it; each node comes before its subtrees, and
- *       those from left to right. A key outside its bounds is charged to the node that holds it, a bad page number to the node
- *       that names it
+ *   2   the first erased page before a programmed one of its block, or else the first programmed page of the second mixed block
+ *       (one that has both)
+ *   3   the higher-numbered page of the pair (two pages with one number) whose higher page is lowest
+ *   5   the page of the first node, each before its subtrees and those left to right, whose own counts, keys or page numbers
+ *       break it. A key outside its bounds is charged to the node that holds it, a bad page number to the node that names it
  *   6   the lowest page that breaks it
  *   4, 7, 8   0: they speak of the whole image (mutree_rule_has_page)
  *

@@ -37,7 +37,8 @@ uint32_t mutree_lookup(uint32_t geometry, const uint8_t *image, size_t image_len
 {
     uint8_t longer[MUTREE_RESULT_BYTES];
     int takes = FAULT == 12 && result_len >= 16 && result_len < sizeof longer;
-    uint32_t answer = real_lookup(chip_of(geometry), image, image_len, key, takes ? longer : result, takes ? sizeof longer : result_len);
+    uint32_t answer = real_lookup(chip_of(geometry), image, image_len, key, takes ? longer : result,
+                                  takes ? sizeof longer : result_len);
     if (takes)
         memcpy(result, longer, result_len);
     tell_wrongly(FAULT, geometry, image, image_len, answer, result);

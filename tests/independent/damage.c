@@ -1,5 +1,5 @@
-/* damage.c: request 5. Images with one rule broken, or two, whose rule and page are known beforehand; and images with bytes changed by
- * chance. Of each the judge and every call of the library say the same rule and page. */
+/* damage.c: request 5. Images with one rule broken, or two, whose rule and page are known beforehand; and images with bytes
+ * changed by chance. Of each the judge and every call of the library say the same rule and page. */
 #include "built.h"
 #include "demands.h"
 
@@ -43,8 +43,8 @@ static void refused(int rule, uint32_t answer, const uint8_t *result)
     put_number(wanted + 20, state.broken);
     memset(wanted + RESULT, 9, 4);
     if (answer != MUTREE_DAMAGED || memcmp(result, wanted, sizeof wanted)) {
-        printf("independent: the judge says R%d, page %u; answer %u, rule %u, page %u\n", rule, (unsigned)state.broken, (unsigned)answer,
-               (unsigned)number_at(result + 16), (unsigned)number_at(result + 20));
+        printf("independent: the judge says R%d, page %u; answer %u, rule %u, page %u\n", rule, (unsigned)state.broken,
+               (unsigned)answer, (unsigned)number_at(result + 16), (unsigned)number_at(result + 20));
         fail("a damaged image is DAMAGED, with the judge's rule and page");
     }
 }

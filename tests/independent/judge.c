@@ -84,8 +84,8 @@ static size_t programmed_in(const struct tree *t, size_t block)
     return programmed;
 }
 
-/* "The first erased page before a programmed one, or else the first programmed page of the second mixed block": where no erased page
- * stands before a programmed one, a block's first page is its first programmed one. */
+/* "The first erased page before a programmed one, or else the first programmed page of the second mixed block": where no erased
+ * page stands before a programmed one, a block's first page is its first programmed one. */
 static int rule_2(struct tree *t)
 {
     size_t b, p, mixed = 0, row = t->chip->block_pages;
@@ -178,8 +178,8 @@ static unsigned most_of(const struct tree *t, unsigned level, int is_root)
     return is_root ? most_root(t->chip, level) : most_below(t->chip, level);
 }
 
-/* R5 of a node and all below it, keys from `low` on and below `high`; marks what is live and gathers the map. "The page of the first
- * node, each before its subtrees and those left to right, whose own counts, keys or page numbers break it." */
+/* R5 of a node and all below it, keys from `low` on and below `high`; marks what is live and gathers the map. "The page of the
+ * first node, each before its subtrees and those left to right, whose own counts, keys or page numbers break it." */
 static int node(struct tree *t, const uint8_t *image, uint32_t page, unsigned level, int is_root, uint64_t low, uint64_t high)
 {
     const uint8_t *slot = slots_of(t, image, page, level);

@@ -1,5 +1,5 @@
-/* judge.h: document 01's rules R1 to R7, request 11's R8, request 5's page and the map of an image, for both chips, written from the
- * documents alone. */
+/* judge.h: document 01's rules R1 to R7, request 11's R8, request 5's page and the map of an image, for both chips, written from
+ * the documents alone. */
 #ifndef JUDGE_H
 #define JUDGE_H
 
