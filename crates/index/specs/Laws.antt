@@ -23,9 +23,9 @@ module _ (kind : ℕ) (c : Chosen) (ec : c ≡ chosenOf kind) (g : Geometry) (e 
   pub of-page : pageBytes g ≤ 2112
   of-page = page-most g known
 
-  called : (call : Geometry → Outcome) (img : List ℕ) (o : Outcome) → o ≡ call g → o ≡ chosenCall (chosenOf kind) call img
+  called : (call : Geometry → Outcome) (img : List ℕ) (o : Outcome) → o ≡ call g → o ≡ chosenCall (chosenOf kind) call (refused 1 img)
   unfolding chosenCall
-  called call img o h = h ∙ ap (λ (x : Chosen). chosenCall x call img) (sym e ∙ ec)
+  called call img o h = h ∙ ap (λ (x : Chosen). chosenCall x call (refused 1 img)) (sym e ∙ ec)
 
   pub of-format : (img : List ℕ) (o : Outcome) → o ≡ format g img → o ≡ formatOf kind img
   unfolding formatOf
@@ -45,9 +45,9 @@ module _ (kind : ℕ) (c : Chosen) (ec : c ≡ chosenOf kind) (g : Geometry) (e 
 
 -- no such geometry. A `let .. else` leaves that the choice is no Of, whatever geometry
 module _ (kind : ℕ) (c : Chosen) (ec : c ≡ chosenOf kind) (e : c ≡ Unknown) (img : List ℕ) where
-  unknown : (call : Geometry → Outcome) → told Length img ≡ chosenCall (chosenOf kind) call img
+  unknown : (call : Geometry → Outcome) → told Length img ≡ chosenCall (chosenOf kind) call (refused 1 img)
   unfolding chosenCall
-  unknown call = ap (λ (x : Chosen). chosenCall x call img) (sym e ∙ ec)
+  unknown call = ap (λ (x : Chosen). chosenCall x call (refused 1 img)) (sym e ∙ ec)
 
   pub no-format : told Length img ≡ formatOf kind img
   unfolding formatOf
