@@ -36,11 +36,11 @@
  *   memory      the whole image lies in RAM, 3 to 1,024 blocks: 50,688 to 17,301,504 bytes of a small chip, 405,504 to
  *               138,412,032 bytes of a large one. Any alignment will do where the processor takes unaligned reads (on
  *               ARM64: normal memory, not device memory).
- *   stack       measured, in bytes, the larger of both chips; it does not grow with the image:
+ *   stack       measured, in bytes, on the large chip, whose trees are deeper; it does not grow with the image:
  *                              format   lookup    insert    delete
  *                     ARM64     2,224  156,160   175,980   165,840
- *                     x86-64    X86-64
- *               192 KiB serve every call. Large frames are touched page by page as they are made, so a guard page
+ *                     x86-64    2,240  160,240   178,080   169,920
+ *               192 KiB serve every call, 160 KiB on the small chip. Large frames are touched page by page as they are made, so a guard page
  *               below the stack catches a stack that is too small.
  *
  * Two calls at once: on different images always; on one image lookups together, but no call beside an insert, delete
