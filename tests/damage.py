@@ -1,4 +1,4 @@
-"""Images that break one clause of request 5, or several rules at once, made from sound ones. For both chips."""
+"""Images that break one clause of request 5, or two rules at once, made from sound ones. For both chips."""
 import reference
 
 CLAUSES = ("R1", "R2 an erased page before a programmed one", "R2 a second mixed block", "R3", "R4", "R5 the root", "R5 below the root",
@@ -125,7 +125,7 @@ class Bench:
 
 
 def images(rng, fuzz, m, each=3):
-    """Some images for each clause, and with rules broken two at a time; the sound images of hand and R6 to R8 by chance."""
+    """Some images for each clause, and with rules broken two at a time; R6 to R8 as chance gives them."""
     b, out = Bench(rng, fuzz, m), []
     makers = [b.rule_1, b.erased_before, b.second_mixed, b.rule_3, b.rule_4, b.rule_5]
     for make in makers:

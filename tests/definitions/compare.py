@@ -1,4 +1,5 @@
-"""The definitions of crates/model, run as they stand, against the reference model: answers, counts, whole images, verdicts.
+"""The definitions of crates/model, run as they stand, against the reference model: answers, counts, rule and
+page, whole images, verdicts; first on images that break each clause of request 5.
 
 usage: compare.py [seconds] [seed] [small|large]
 """

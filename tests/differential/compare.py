@@ -196,6 +196,15 @@ def clauses(library, m, fuzz, rng):
             every_call(library, m, rng, img)
 
 
+def worn(library, m, fuzz, rng):
+    """The largest sequence number at the chip's limit, where updates are made, and above it, where they are WORN."""
+    for number in (m.G.worn_limit, m.G.worn_limit + 1, LARGEST):
+        img = bytearray(m.format(b"\xff" * (3 * m.G.block_size)).img)
+        img[m.G.main:m.G.main + 4] = number.to_bytes(4, "little")
+        for call in (("insert", 5, 6), ("delete", 5)):
+            every_update(library, m, rng, bytes(img), call)
+
+
 def broken(library, m, fuzz, rng):
     """Damaged trees, random bytes, bad lengths."""
     img = fuzz.hand_image(rng, m, 3)
@@ -235,7 +244,7 @@ def tell_met(library, wanted):
 
 def compare(fuzz, geometry, wanted, rng):
     library, m = Library(sys.argv[1], geometry), reference.mu(fuzz, geometry)
-    kinds = [no_chip, full_path, scarce, hand_made, broken, a_log, hand_made]
+    kinds = [no_chip, worn, full_path, scarce, hand_made, broken, a_log, hand_made]
     for kind in [clauses] + kinds:
         kind(library, m, fuzz, rng)
     while library.calls < wanted:
