@@ -28,15 +28,14 @@ static struct mutree_result obey(struct image *image, const struct order *order)
 }
 
 /* All lines, on the image in memory. The first that is not DONE ends it. */
-static uint32_t obey_all(struct image *image, struct orders *orders, struct tally *tally, size_t *at)
+static struct mutree_result obey_all(struct image *image, struct orders *orders, struct tally *tally, size_t *at)
 {
-    uint32_t answer = MUTREE_DONE;
+    struct mutree_result result = { MUTREE_DONE, 0, 0, 0, 0, 0 };
     progress_begin();
     for (*at = 0; *at < orders->count; ++*at) {
         struct order *order = &orders->list[*at];
-        struct mutree_result result = obey(image, order);
-        answer = result.answer;
-        if (answer != MUTREE_DONE)
+        result = obey(image, order);
+        if (result.answer != MUTREE_DONE)
             break;
         if (order->kind == ORDER_LOOKUP)
             order->address = result.address;
@@ -46,7 +45,7 @@ static uint32_t obey_all(struct image *image, struct orders *orders, struct tall
         progress_show("commands", *at + 1, orders->count);
     }
     progress_end();
-    return answer;
+    return result;
 }
 
 /* The lookups' answers, key and address, in the order of the lines. */
@@ -58,19 +57,24 @@ static void tell_lookups(const struct orders *orders)
             printf("%" PRIu32 " %" PRIu32 "\n", orders->list[i].key, orders->list[i].address);
 }
 
+/* The line that was not DONE. Returns the answer as an exit status. */
+static int say_line(const struct image *image, const struct order *order, struct mutree_result result)
+{
+    complain("line %zu: %s %" PRIu32 ": %s: %s; nothing was changed", order->line, order_name(order->kind), order->key,
+             answer_name(result.answer), answer_meaning(result));
+    say_check(image, result);
+    return (int)result.answer;
+}
+
 /* Nothing is written unless every line was DONE; the answers are printed when the file is replaced. */
 static int apply_to(struct file *file, struct image *image, struct orders *orders)
 {
     struct tally tally = { { 0, 0, 0 }, 0, 0 };
     size_t at;
-    uint32_t answer = obey_all(image, orders, &tally, &at);
+    struct mutree_result result = obey_all(image, orders, &tally, &at);
     int status = 0;
-    if (answer != MUTREE_DONE) {
-        const struct order *order = &orders->list[at];
-        complain("line %zu: %s %" PRIu32 ": %s: %s; nothing was changed", order->line, order_name(order->kind), order->key,
-                 answer_name(answer), answer_meaning(answer));
-        return (int)answer;
-    }
+    if (result.answer != MUTREE_DONE)
+        return say_line(image, &orders->list[at], result);
     if (tally.programmed + tally.erased > 0) {
         status = file_replace(file, image->bytes, image->length);
         if (status != 0)

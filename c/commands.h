@@ -11,5 +11,7 @@ int lookup_command(const struct arguments *arguments);
 int apply_command(const struct arguments *arguments);
 int show_command(const struct arguments *arguments);
 int cut_command(const struct arguments *arguments);
+int check_command(const struct arguments *arguments);
+int page_command(const struct arguments *arguments);
 
 #endif

@@ -20,9 +20,9 @@ struct insertion {
 };
 
 /* Which map a sound image holds. Where the pair was there already, old and new are the same. */
-static void tell_map(const struct insertion *insertion, const struct image *image, uint32_t answer)
+static void tell_map(const struct insertion *insertion, const struct image *image, struct mutree_result verdict, uint32_t answer)
 {
-    struct survey after = survey_image(image, 1);
+    struct survey after = survey_image(image, verdict);
     int same = same_map(&insertion->before, &after);
     struct mutree_result found = image_lookup(image, insertion->key);
     int holds = found.answer == MUTREE_DONE && found.address == insertion->address;
@@ -32,44 +32,45 @@ static void tell_map(const struct insertion *insertion, const struct image *imag
     survey_free(&after);
 }
 
-/* One battery loss: the insert on a copy with this allowance, and what it leaves. Returns the answer. */
-static uint32_t cut_once(const struct insertion *insertion, uint32_t allowance)
+/* One battery loss: the insert on a copy with this allowance, and what it leaves. */
+static struct mutree_result cut_once(const struct insertion *insertion, uint32_t allowance)
 {
     struct image copy = image_copy(&insertion->image);
     struct mutree_result result = image_insert(&copy, insertion->key, insertion->address, allowance);
-    uint32_t verdict;
+    struct mutree_result verdict;
     if (result.answer == MUTREE_DONE || result.answer == MUTREE_STOPPED) {
         verdict = image_judge(&copy);
         printf("%6" PRIu32 "  %-8s %4" PRIu32 " programmed %2" PRIu32 " erased  %-8s ", allowance, answer_name(result.answer),
-               result.programmed, result.erased, verdict == MUTREE_DONE ? "sound" : answer_name(verdict));
-        if (verdict == MUTREE_DONE)
-            tell_map(insertion, &copy, result.answer);
+               result.programmed, result.erased, verdict.answer == MUTREE_DONE ? "sound" : answer_name(verdict.answer));
+        if (verdict.answer == MUTREE_DONE)
+            tell_map(insertion, &copy, verdict, result.answer);
         else
-            putchar('\n');
+            puts(damage_words(verdict));
     }
     image_free(&copy);
-    return result.answer;
+    return result;
 }
 
 /* Every allowance from 0 until the insert is done. Ends early where nothing can be printed. */
 static int cut_all(const struct insertion *insertion)
 {
-    uint32_t allowance = 0, answer;
+    struct mutree_result result;
+    uint32_t allowance = 0;
     puts("stores  answer   made                       image    holds");
     if (!isatty(STDOUT_FILENO))
         progress_begin();
     do {
-        answer = cut_once(insertion, allowance);
+        result = cut_once(insertion, allowance);
         progress_show("stores tried", allowance, 0);
-    } while (answer == MUTREE_STOPPED && allowance++ < UINT32_MAX && !ferror(stdout));
+    } while (result.answer == MUTREE_STOPPED && allowance++ < UINT32_MAX && !ferror(stdout));
     progress_end();
-    return answer == MUTREE_DONE || answer == MUTREE_STOPPED ? 0 : say_refused(answer);
+    return result.answer == MUTREE_DONE || result.answer == MUTREE_STOPPED ? 0 : say_refused(&insertion->image, result);
 }
 
 int cut_command(const struct arguments *arguments)
 {
     struct insertion insertion;
-    uint32_t verdict;
+    struct mutree_result verdict;
     int status;
     if (read_number(arguments->word[1], "key", &insertion.key) || read_number(arguments->word[2], "address", &insertion.address))
         return BAD_USAGE;
@@ -77,13 +78,13 @@ int cut_command(const struct arguments *arguments)
     if (status != 0)
         return status;
     verdict = image_judge(&insertion.image);
-    if (verdict != MUTREE_DONE) {
-        image_free(&insertion.image);
-        return say_refused(verdict);
+    if (verdict.answer == MUTREE_DONE) {
+        insertion.before = survey_image(&insertion.image, verdict);
+        status = cut_all(&insertion);
+        survey_free(&insertion.before);
+    } else {
+        status = say_refused(&insertion.image, verdict);
     }
-    insertion.before = survey_image(&insertion.image, 1);
-    status = cut_all(&insertion);
-    survey_free(&insertion.before);
     image_free(&insertion.image);
     return status;
 }

@@ -93,8 +93,8 @@ static void heading(FILE *out, const struct survey *s, const struct layout *l)
         fprintf(out, "<text x='%d' y='54'>%zu %s, height %u, root on page %u; largest sequence number %u</text>\n", MARGIN,
                 s->entries, entries_word(s->entries), s->height, (unsigned)s->root, (unsigned)s->largest);
     else
-        fprintf(out, "<text x='%d' y='54'>live and dead pages can't be told apart; largest sequence number %u</text>\n", MARGIN,
-                (unsigned)s->largest);
+        fprintf(out, "<text x='%d' y='54'>%s, so live and dead pages can't be told apart; largest sequence number %u</text>\n",
+                MARGIN, damage_words(s->verdict), (unsigned)s->largest);
     fprintf(out, "<text x='%d' y='%zu'>a row is a block of %u pages, page 0 of it at the left</text>\n", MARGIN, first_row(l) - 10,
             (unsigned)s->geometry->pages);
 }

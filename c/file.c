@@ -148,6 +148,7 @@ static ssize_t read_all(int descriptor, uint8_t *bytes, size_t length)
 int file_read(const struct file *file, struct image *image)
 {
     ssize_t got;
+    image->name = file->name;
     image->geometry = NULL;
     image->length = (size_t)file->state.st_size;
     image->bytes = need(malloc(image->length ? image->length : 1));

@@ -15,11 +15,11 @@ static void tell_index(const char *name, struct image *image)
 {
     struct survey s;
     image->geometry = geometry_of_image(image);
-    if (image->geometry == NULL || image_judge(image) != MUTREE_DONE) {
+    if (image->geometry == NULL || !image_is_sound(image)) {
         complain("%s holds a damaged index, or none (%zu bytes); --force wipes it", name, image->length);
         return;
     }
-    s = survey_image(image, 1);
+    s = survey_image(image, image_judge(image));
     complain("%s holds an index of %zu blocks, %s, with %zu %s (%zu bytes); --force wipes it", name, s.blocks,
              geometry_words(s.geometry), s.entries, entries_word(s.entries), image->length);
     survey_free(&s);

@@ -13,6 +13,11 @@ const struct mutree_geometry *geometry_of_option(const char *option)
     return mutree_geometry_of(number);
 }
 
+const char *geometry_option(const struct mutree_geometry *geometry)
+{
+    return options[geometry->number];
+}
+
 const char *geometry_words(const struct mutree_geometry *geometry)
 {
     return words[geometry->number];
@@ -43,7 +48,7 @@ static const struct mutree_geometry *only(const struct image *image, int sound)
     uint32_t number;
     for (number = 0; number < MUTREE_GEOMETRIES; number++) {
         as.geometry = mutree_geometry_of(number);
-        if (!fits(as.geometry, image->length) || (sound && image_judge(&as) != MUTREE_DONE))
+        if (!fits(as.geometry, image->length) || (sound && !image_is_sound(&as)))
             continue;
         if (found != NULL)
             return NULL;

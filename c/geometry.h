@@ -8,6 +8,9 @@
 /* The chip of the option --small or --large, else NULL. */
 const struct mutree_geometry *geometry_of_option(const char *option);
 
+/* "--small", "--large" */
+const char *geometry_option(const struct mutree_geometry *geometry);
+
 /* "small pages", "large pages" */
 const char *geometry_words(const struct mutree_geometry *geometry);
 

@@ -17,6 +17,7 @@ void *need(void *pointer)
 struct image image_erased(const struct mutree_geometry *geometry, uint32_t blocks)
 {
     struct image image;
+    image.name = NULL;
     image.geometry = geometry;
     image.length = (size_t)blocks * geometry->block_bytes;
     image.bytes = need(malloc(image.length ? image.length : 1));
@@ -75,8 +76,16 @@ struct mutree_result image_delete(struct image *image, uint32_t key, uint32_t al
     return mutree_read_result(result);
 }
 
-uint32_t image_judge(const struct image *image)
+struct mutree_result image_judge(const struct image *image)
 {
-    uint32_t answer = image_lookup(image, 0).answer;
-    return answer == MUTREE_ABSENT ? MUTREE_DONE : answer;
+    struct mutree_result result = image_lookup(image, 0);
+    if (result.answer == MUTREE_ABSENT)
+        result.answer = MUTREE_DONE;
+    result.address = 0;
+    return result;
+}
+
+int image_is_sound(const struct image *image)
+{
+    return image_judge(image).answer == MUTREE_DONE;
 }

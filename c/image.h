@@ -8,6 +8,7 @@
 #include <stdint.h>
 
 struct image {
+    const char *name; /* the file that it was read from, as the user wrote it; NULL for none */
     uint8_t *bytes;
     size_t length;
     const struct mutree_geometry *geometry; /* the chip; NULL where it is not known yet */
@@ -24,8 +25,10 @@ void image_free(struct image *image);
 /* Whether `count` bytes are all 255. */
 int all_255(const uint8_t *bytes, size_t count);
 
-/* What the library says of an image whose chip is known: MUTREE_DONE for a sound one, MUTREE_LENGTH or MUTREE_DAMAGED. */
-uint32_t image_judge(const struct image *image);
+/* What the library says of an image whose chip is known: MUTREE_DONE for a sound one, MUTREE_LENGTH, or MUTREE_DAMAGED with the
+ * rule and the page. */
+struct mutree_result image_judge(const struct image *image);
+int image_is_sound(const struct image *image);
 
 /* The library's calls on an image whose chip is known. */
 struct mutree_result image_format(struct image *image);

@@ -31,6 +31,10 @@ static const struct command commands[] = {
     { "show", "FILE " CHIP " [--pages] [--svg OUT]",
       "numbers and a picture of the chip; --pages: of every page above 64 blocks too",
       TAKES_CHIP | TAKES_PAGES | TAKES_SVG, 1, show_command },
+    { "check", "FILE " CHIP, "whether FILE is a sound index; where it is not, what is broken, and the page where it is",
+      TAKES_CHIP, 1, check_command },
+    { "page", "FILE N " CHIP, "print page N: its place, numbers and entries, and whether it is live",
+      TAKES_CHIP, 2, page_command },
     { "cut", "FILE KEY ADDRESS " CHIP, "what a battery loss after each store of this insert leaves; FILE stays as it is",
       TAKES_CHIP, 3, cut_command },
 };

@@ -11,9 +11,21 @@
  * as `nanddump --oob` writes them. The image is the whole state: the library keeps nothing between calls, allocates nothing,
  * and is safe for any numbers, any bytes and any lengths.
  *
- * Every call returns its answer number and writes 16 bytes to the caller's result buffer: answer, address, pages
- * programmed, blocks erased, 32 bits each, least byte first. Bytes after the 16 stay as they were. With a shorter
+ * Every call returns its answer number and writes 24 bytes to the caller's result buffer: answer, address, pages
+ * programmed, blocks erased, rule, page, 32 bits each, least byte first. Bytes after the 24 stay as they were. With a shorter
  * buffer the call returns MUTREE_LENGTH and changes neither image nor buffer.
+ *
+ * With MUTREE_DAMAGED rule is the first broken rule of a sound image, 1 to 8, and page says where; in all other answers both are
+ * 0. mutree_rule_words says each rule in words. The page of each, a page number of the image:
+ *
+ *   1   the lowest page that breaks it
+ *   2   the first erased page before a programmed one of its block, or else the first programmed page of the second mixed block
+ *       (one that has both)
+ *   3   the higher-numbered page of the pair (two pages with one number) whose higher page is lowest
+ *   5   the page of the first node, each before its subtrees and those left to right, whose own counts, keys or page numbers
+ *       break it. A key outside its bounds is charged to the node that holds it, a bad page number to the node that names it
+ *   6   the lowest page that breaks it
+ *   4, 7, 8   0: they speak of the whole image (mutree_rule_has_page)
  *
  * The caller owns both buffers. They must not overlap. Both pointers must be valid for their lengths; a call with a
  * length of 0 may pass any non-null pointer.
@@ -50,7 +62,7 @@
 #include <stddef.h>
 #include <stdint.h>
 
-#define MUTREE_VERSION "0.3.0"
+#define MUTREE_VERSION "0.4.0"
 
 /* Lengths are 64 bits in the library. This line does not compile where size_t has another width. */
 typedef char mutree_needs_size_t_of_64_bits[sizeof(size_t) == 8 ? 1 : -1];
@@ -61,7 +73,8 @@ extern "C" {
 
 #define MUTREE_LEAST_BLOCKS 3u
 #define MUTREE_MOST_BLOCKS 1024u
-#define MUTREE_RESULT_BYTES 16u
+#define MUTREE_RESULT_BYTES 24u
+#define MUTREE_RULES 8u      /* of a sound image, numbered from 1 */
 #define MUTREE_SLOT_BYTES 8u /* a key and an address */
 
 /* The chips' numbers, and what an array of a fixed size needs: uint8_t image[3 * MUTREE_LARGE_BLOCK_BYTES]. */
@@ -116,8 +129,8 @@ enum mutree_answer {
     MUTREE_LENGTH = 1,  /* the geometry's number is neither 0 nor 1; or the image's length is not 3 to 1,024 times the
                            chip's block (16,896, 135,168); or the result buffer is too short. But for the short buffer the
                            result is written */
-    MUTREE_DAMAGED = 2, /* the image is not a sound index of this chip; a sound one has at least two blocks' pages (64, 128)
-                           without a live node (R8), as calls from format on always leave it */
+    MUTREE_DAMAGED = 2, /* the image is not a sound index of this chip: rule and page of the result say what is broken, and
+                           where. Calls from format on always leave a sound one */
     MUTREE_WORN = 3,    /* insert, delete: the sequence numbers are used up, the largest is above the chip's `worn` */
     MUTREE_ABSENT = 4,  /* lookup, delete: there is no such key */
     MUTREE_HEIGHT = 5,  /* insert: the tree can grow no higher (5, 7) */
@@ -131,22 +144,52 @@ struct mutree_result {
     uint32_t address;
     uint32_t programmed;
     uint32_t erased;
+    uint32_t rule; /* with DAMAGED the first broken rule, 1 to MUTREE_RULES; else 0 */
+    uint32_t page; /* with DAMAGED where it is broken, 0 for a rule of the whole image; else 0 */
 };
 
-/* The result, read from the 16 bytes that a call wrote. */
+/* The result, read from the 24 bytes that a call wrote. */
 static inline struct mutree_result mutree_read_result(const uint8_t *bytes)
 {
-    uint32_t n[4];
+    uint32_t n[6];
     struct mutree_result r;
     unsigned i;
-    for (i = 0; i < 4; i++)
+    for (i = 0; i < 6; i++)
         n[i] = (uint32_t)bytes[4 * i] | (uint32_t)bytes[4 * i + 1] << 8 | (uint32_t)bytes[4 * i + 2] << 16
              | (uint32_t)bytes[4 * i + 3] << 24;
     r.answer = n[0];
     r.address = n[1];
     r.programmed = n[2];
     r.erased = n[3];
+    r.rule = n[4];
+    r.page = n[5];
     return r;
+}
+
+/* What a rule asks of a sound image, in words; NULL for another number. Where two numbers stand in brackets, the first is the
+ * small chip's and the second the large chip's. */
+static inline const char *mutree_rule_words(uint32_t rule)
+{
+    static const char *const words[MUTREE_RULES] = {
+        "each page is erased, or its height byte is at most the chip's greatest height (5, 7), its sequence number is not 0 and "
+        "the spare bytes after its counts are 255",
+        "in a block the programmed pages come before the erased ones, and at most one block has both",
+        "no two programmed pages have the same sequence number",
+        "some page carries a root: its height byte is 1 or more",
+        "from the root down, each node has a count that its place allows, its keys rise and lie within the bounds from "
+        "above, and its page numbers name programmed pages",
+        "where a page has live nodes at several levels, the levels follow one another and each upper node names this page",
+        "at least as many pages as a block has (32, 64) are erased, or some block without erased pages has no more live pages "
+        "than the image has erased pages",
+        "at least as many pages as two blocks have (64, 128) are without a live node",
+    };
+    return rule >= 1 && rule <= MUTREE_RULES ? words[rule - 1] : NULL;
+}
+
+/* Whether a rule is broken at a page; else it speaks of the whole image, and its page is 0. */
+static inline int mutree_rule_has_page(uint32_t rule)
+{
+    return rule >= 1 && rule <= 6 && rule != 4;
 }
 
 /* Erases every block and programs page 0 as an empty index. Answers DONE (1 page, B erases) or LENGTH. */

@@ -16,19 +16,29 @@ const char *answer_name(uint32_t answer)
     return names[answer];
 }
 
-const char *answer_meaning(uint32_t answer)
+const char *damage_words(struct mutree_result verdict)
+{
+    static char words[64];
+    if (mutree_rule_has_page(verdict.rule))
+        snprintf(words, sizeof words, "R%" PRIu32 " is broken on page %" PRIu32, verdict.rule, verdict.page);
+    else
+        snprintf(words, sizeof words, "R%" PRIu32 " is broken", verdict.rule);
+    return words;
+}
+
+const char *answer_meaning(struct mutree_result result)
 {
     static const char *const meanings[] = {
         "",
         "the file's length is no index's",
-        "the file is not a sound index",
+        NULL, /* damage_words */
         "the sequence numbers are used up",
         "there is no such key",
         "the tree can grow no higher",
         "the insert needs two pages or more, and too few are free of live nodes",
         "the allowance was smaller than the stores needed; the old map is whole"
     };
-    return meanings[answer];
+    return result.answer == MUTREE_DAMAGED ? damage_words(result) : meanings[result.answer];
 }
 
 const char *entries_word(size_t count)
@@ -53,17 +63,25 @@ void complain_of(const char *path, const char *what)
     complain("%s: %s: %s", path, what, reason);
 }
 
-int say_refused(uint32_t answer)
+void say_check(const struct image *image, struct mutree_result result)
 {
-    complain("%s: %s", answer_name(answer), answer_meaning(answer));
-    return (int)answer;
+    if (result.answer == MUTREE_DAMAGED)
+        complain("%s is not a sound index; 'mutree check %s %s' says what is broken and where", image->name, image->name,
+                 geometry_option(image->geometry));
 }
 
-int say_result(struct mutree_result result)
+int say_refused(const struct image *image, struct mutree_result result)
+{
+    complain("%s: %s", answer_name(result.answer), answer_meaning(result));
+    say_check(image, result);
+    return (int)result.answer;
+}
+
+int say_result(const struct image *image, struct mutree_result result)
 {
     if (result.answer == MUTREE_DONE || result.answer == MUTREE_STOPPED)
         printf("%s: %" PRIu32 " programmed, %" PRIu32 " erased\n", answer_name(result.answer), result.programmed, result.erased);
-    return result.answer == MUTREE_DONE ? 0 : say_refused(result.answer);
+    return result.answer == MUTREE_DONE ? 0 : say_refused(image, result);
 }
 
 /* Whether this may be a dump of the chip without its spare bytes. */

@@ -2,15 +2,18 @@
 #ifndef MUTREE_SAY_H
 #define MUTREE_SAY_H
 
-#include "mutree.h"
+#include "image.h"
 
 #include <stddef.h>
 
 /* DONE, LENGTH and so on. */
 const char *answer_name(uint32_t answer);
 
-/* What a number other than DONE means. */
-const char *answer_meaning(uint32_t answer);
+/* What an answer other than DONE means. The words stay until the next call. */
+const char *answer_meaning(struct mutree_result result);
+
+/* The same for DAMAGED: "R5 is broken on page 65". */
+const char *damage_words(struct mutree_result verdict);
 
 /* "1 entry", "2 entries": the ending for a count. */
 const char *entries_word(size_t count);
@@ -21,11 +24,14 @@ void complain(const char *format, ...);
 /* The same for a call on a file that failed, with the system's reason. */
 void complain_of(const char *path, const char *what);
 
-/* Prints an answer that is not DONE. Returns it as an exit status. */
-int say_refused(uint32_t answer);
+/* Where the answer is DAMAGED: which command says more of the image's file. */
+void say_check(const struct image *image, struct mutree_result result);
 
-/* Prints the answer of a format, an insert or a delete. Returns it as an exit status. */
-int say_result(struct mutree_result result);
+/* Prints an answer that is not DONE. Returns it as an exit status. */
+int say_refused(const struct image *image, struct mutree_result result);
+
+/* Prints the answer of an insert or a delete. Returns it as an exit status. */
+int say_result(const struct image *image, struct mutree_result result);
 
 /* Prints LENGTH for a file of this length, which is not the chip's; with NULL no chip's. Returns it as an exit status. */
 int say_length(const char *path, const struct mutree_geometry *geometry, uintmax_t length);

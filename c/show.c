@@ -2,32 +2,18 @@
 
 #include "commands.h"
 #include "drawing.h"
-#include "geometry.h"
 #include "picture.h"
 #include "replace.h"
 #include "say.h"
 #include "status.h"
+#include "summary.h"
 
-#include <inttypes.h>
 #include <stdio.h>
 #include <stdlib.h>
 #include <string.h>
 #include <unistd.h>
 
 enum { MOST_BLOCKS_BY_PAGE = 64 };
-
-static void tell_counts(const struct survey *s)
-{
-    if (s->sound)
-        printf("%zu blocks, %s, sound; height %u, %zu %s, root on page %" PRIu32 "\n"
-               "pages: %zu live, %zu dead, %zu erased; largest sequence number %" PRIu32 "\n",
-               s->blocks, geometry_words(s->geometry), s->height, s->entries, entries_word(s->entries), s->root, s->live, s->dead,
-               s->erased, s->largest);
-    else
-        printf("%zu blocks, %s, DAMAGED: live and dead pages can't be told apart\n"
-               "pages: %zu programmed, %zu erased; largest sequence number %" PRIu32 "\n",
-               s->blocks, geometry_words(s->geometry), s->pages - s->erased, s->erased, s->largest);
-}
 
 /* Nonzero, after a line, where a drawing would wipe the index itself. */
 static int is_index(const char *name, const struct stat *index)
@@ -83,7 +69,7 @@ static int show_survey(const struct arguments *arguments, const struct stat *ind
     int status = arguments->svg == NULL ? 0 : draw(arguments->svg, index, s);
     if (status != 0)
         return status;
-    tell_counts(s);
+    summary_print(s);
     if (s->blocks <= MOST_BLOCKS_BY_PAGE || arguments->pages)
         picture_of_pages(s);
     else
@@ -96,7 +82,7 @@ int show_command(const struct arguments *arguments)
     struct file file;
     struct image image;
     struct survey s;
-    uint32_t verdict;
+    struct mutree_result verdict;
     int status = file_open_to_read(arguments->word[0], &file);
     if (status != 0)
         return status;
@@ -105,9 +91,13 @@ int show_command(const struct arguments *arguments)
     if (status != 0)
         return status;
     verdict = image_judge(&image);
-    s = survey_image(&image, verdict == MUTREE_DONE);
+    s = survey_image(&image, verdict);
     status = show_survey(arguments, &file.state, &s);
+    if (status == 0) {
+        say_check(&image, verdict);
+        status = (int)verdict.answer;
+    }
     survey_free(&s);
     image_free(&image);
-    return status != 0 ? status : (int)verdict;
+    return status;
 }

@@ -1,17 +1,8 @@
 #include "survey.h"
+#include "page.h"
 
 #include <stdlib.h>
 #include <string.h>
-
-static uint32_t number(const uint8_t *at)
-{
-    return (uint32_t)at[0] | (uint32_t)at[1] << 8 | (uint32_t)at[2] << 16 | (uint32_t)at[3] << 24;
-}
-
-static const uint8_t *page_at(const struct image *image, uint32_t page)
-{
-    return image->bytes + (size_t)page * image->geometry->page_bytes;
-}
 
 static void add_pair(struct survey *s, uint32_t key, uint32_t address)
 {
@@ -27,27 +18,25 @@ static void add_pair(struct survey *s, uint32_t key, uint32_t address)
 /* The live nodes from one down, in key order. The image is sound: levels fall, and page numbers are in range. */
 static void walk(struct survey *s, const struct image *image, uint32_t page, unsigned level)
 {
-    const struct mutree_geometry *g = s->geometry;
-    const uint8_t *at = page_at(image, page);
-    const uint8_t *slot = at + MUTREE_SLOT_BYTES * (g->slots - (g->slots >> (level - 1)));
-    unsigned count = at[g->main_bytes + 4 + level], i;
+    unsigned i;
     if (s->page[page] == PAGE_DEAD || s->page[page] > (int)level)
         s->page[page] = (signed char)level;
-    for (i = 0; i < count; i++, slot += MUTREE_SLOT_BYTES) {
+    s->levels[page] |= (unsigned char)(1 << (level - 1));
+    for (i = 0; i < count_of(image, page, level); i++) {
+        const uint8_t *slot = slot_at(image, page, level, i);
         if (level == 1)
-            add_pair(s, number(slot), number(slot + 4));
+            add_pair(s, number_at(slot), number_at(slot + 4));
         else
-            walk(s, image, number(slot + 4), level - 1);
+            walk(s, image, number_at(slot + 4), level - 1);
     }
 }
 
 /* Erased or not; and the root, where this page carries the newest one so far. */
 static void look_at_page(struct survey *s, const struct image *image, uint32_t page, uint32_t *newest)
 {
-    const uint8_t *at = page_at(image, page), *spare = at + s->geometry->main_bytes;
-    uint32_t sequence = number(spare);
-    unsigned height = spare[4];
-    if (all_255(at, s->geometry->page_bytes)) {
+    uint32_t sequence = sequence_of(image, page);
+    unsigned height = height_of(image, page);
+    if (is_erased(image, page)) {
         s->page[page] = PAGE_ERASED;
         s->erased++;
         return;
@@ -72,19 +61,21 @@ static void count_levels(struct survey *s)
     s->dead = s->pages - s->erased - s->live;
 }
 
-struct survey survey_image(const struct image *image, int sound)
+struct survey survey_image(const struct image *image, struct mutree_result verdict)
 {
     struct survey s;
     uint32_t page, newest = 0;
     memset(&s, 0, sizeof s);
     s.geometry = image->geometry;
-    s.sound = sound;
+    s.verdict = verdict;
+    s.sound = verdict.answer == MUTREE_DONE;
     s.blocks = image->length / s.geometry->block_bytes;
     s.pages = s.blocks * s.geometry->pages;
     s.page = need(calloc(s.pages ? s.pages : 1, 1));
+    s.levels = need(calloc(s.pages ? s.pages : 1, 1));
     for (page = 0; page < s.pages; page++)
         look_at_page(&s, image, page, &newest);
-    if (sound) {
+    if (s.sound) {
         walk(&s, image, s.root, s.height);
         count_levels(&s);
     }
@@ -94,8 +85,10 @@ struct survey survey_image(const struct image *image, int sound)
 void survey_free(struct survey *s)
 {
     free(s->page);
+    free(s->levels);
     free(s->pairs);
     s->page = NULL;
+    s->levels = NULL;
     s->pairs = NULL;
 }
 

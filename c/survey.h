@@ -14,9 +14,11 @@ struct pair {
 
 struct survey {
     const struct mutree_geometry *geometry;
+    struct mutree_result verdict; /* what the library says of the image */
     int sound;               /* where it is not, PAGE_DEAD says no more than programmed */
     size_t blocks, pages;
     signed char *page;       /* one for each page */
+    unsigned char *levels;   /* one for each page: bit l - 1 for a live node at level l; 0 where the image is not sound */
     uint32_t root;           /* the root's page, where there is one */
     unsigned height;         /* 0: no page carries a root */
     uint32_t largest;        /* the largest sequence number */
@@ -26,8 +28,9 @@ struct survey {
     size_t entries, room;
 };
 
-/* Looks at an image. Of one that is not sound only the erased pages and the largest number are told. */
-struct survey survey_image(const struct image *image, int sound);
+/* Looks at an image of which the library says this (image_judge). Of one that is not sound only the erased pages and the largest
+ * number are told. */
+struct survey survey_image(const struct image *image, struct mutree_result verdict);
 void survey_free(struct survey *survey);
 int same_map(const struct survey *a, const struct survey *b);
 

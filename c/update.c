@@ -24,8 +24,10 @@ static int update_file(struct file *file, const struct arguments *arguments, uin
         if (status == 0)
             say_changed();
     }
+    if (status == 0)
+        status = say_result(&image, result);
     image_free(&image);
-    return status != 0 ? status : say_result(result);
+    return status;
 }
 
 static int update(const struct arguments *arguments, const uint32_t *address)
@@ -66,9 +68,10 @@ int lookup_command(const struct arguments *arguments)
     if (status != 0)
         return status;
     result = image_lookup(&image, key);
+    if (result.answer == MUTREE_DONE)
+        printf("%" PRIu32 "\n", result.address);
+    else
+        status = say_refused(&image, result);
     image_free(&image);
-    if (result.answer != MUTREE_DONE)
-        return say_refused(result.answer);
-    printf("%" PRIu32 "\n", result.address);
-    return 0;
+    return status;
 }

@@ -23,7 +23,7 @@ def load():
 
 def rules(fuzz):
     """The requests that have landed and that the model tells apart."""
-    return fuzz.Rules(wish2=True, wish11=True)
+    return fuzz.Rules(wish2=True, wish5=True, wish11=True)
 
 
 def geometries(fuzz):

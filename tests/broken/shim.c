@@ -5,8 +5,12 @@
  * 6 an insert that makes one store more than its allowance
  * 7 a lookup that reads one byte past the image   8 an insert that reads one byte past the result buffer
  * 9 a delete that is ROOM where an insert of the next key is
- * 10 every number but 0 is taken for the large chip   11 the large chip is taken for the small one */
+ * 10 every number but 0 is taken for the large chip   11 the large chip is taken for the small one
+ * 12 a lookup that takes a result buffer of 16 bytes   13 a delete that says neither rule nor page
+ * 14 R3 with the lower page of the pair   15 R2 with the last erased page in a row, not the first
+ * 16 R5 with the root's page (damage.c has 14 to 16) */
 #include "../../c/mutree.h"
+#include "damage.h"
 
 #include <stdlib.h>
 #include <string.h>
@@ -31,7 +35,13 @@ uint32_t mutree_format(uint32_t geometry, uint8_t *image, size_t image_len, uint
 
 uint32_t mutree_lookup(uint32_t geometry, const uint8_t *image, size_t image_len, uint32_t key, uint8_t *result, size_t result_len)
 {
-    uint32_t answer = real_lookup(chip_of(geometry), image, image_len, key, result, result_len);
+    uint8_t longer[MUTREE_RESULT_BYTES];
+    int takes = FAULT == 12 && result_len >= 16 && result_len < sizeof longer;
+    uint32_t answer = real_lookup(chip_of(geometry), image, image_len, key, takes ? longer : result,
+                                  takes ? sizeof longer : result_len);
+    if (takes)
+        memcpy(result, longer, result_len);
+    tell_wrongly(FAULT, geometry, image, image_len, answer, result);
     if (FAULT == 7)
         seen = image[image_len];
     if (FAULT == 5 && answer == MUTREE_DONE)
@@ -63,6 +73,7 @@ uint32_t mutree_insert(uint32_t geometry, uint8_t *image, size_t image_len, uint
     uint32_t answer = real_insert(chip_of(geometry), image, image_len, key, address, allowance + more, result, result_len);
     undo(image, before, image_len);
     free(before);
+    tell_wrongly(FAULT, geometry, image, image_len, answer, result);
     if (FAULT == 8)
         seen = result[result_len];
     if (FAULT == 2 && answer == MUTREE_DONE)
@@ -89,6 +100,9 @@ uint32_t mutree_delete(uint32_t geometry, uint8_t *image, size_t image_len, uint
         memset(result, 0, MUTREE_RESULT_BYTES);
         answer = result[0] = MUTREE_ROOM;
     }
+    if (FAULT == 13 && answer == MUTREE_DAMAGED)
+        memset(result + 16, 0, 8);
+    tell_wrongly(FAULT, geometry, image, image_len, answer, result);
     free(before);
     return answer;
 }

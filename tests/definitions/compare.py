@@ -1,4 +1,5 @@
-"""The definitions of crates/model, run as they stand, against the reference model: answers, counts, whole images, verdicts.
+"""The definitions of crates/model, run as they stand, against the reference model: answers, counts, rule and
+page, whole images, verdicts; first on images that break each clause of request 5.
 
 usage: compare.py [seconds] [seed] [small|large]
 """
@@ -9,19 +10,22 @@ import time
 
 HERE = os.path.dirname(os.path.abspath(__file__))
 sys.path[:0] = [HERE, os.path.dirname(HERE)]
+import damage
 import reference
 from antt import Definitions, force
 
+NAMES = "answer", "address", "programmed", "erased", "rule", "page", "image"
+
 
 def outcome(record):
-    return tuple(force(record.fields[name]) for name in ("answer", "address", "programmed", "erased", "image"))
+    return tuple(force(record.fields[name]) for name in NAMES)
 
 
 def same(what, ours, theirs, img):
     if ours != theirs:
         with open("differs.img", "wb") as f:
             f.write(img)
-        sys.exit("%s: the definitions say %s, the reference %s; the image is in differs.img" % (what, ours[:4], theirs[:4]))
+        sys.exit("%s: the definitions say %s, the reference %s; the image is in differs.img" % (what, ours[:6], theirs[:6]))
 
 
 def compare(seconds, seed, name):
@@ -32,27 +36,30 @@ def compare(seconds, seed, name):
     geometry = next(g for g in reference.geometries(fuzz) if g.name == name)
     d, m, rng = Definitions(reference.ROOT), reference.mu(fuzz, geometry), random.Random(seed)
     chip, calls, met = force(d[name]), 0, {}
-    rest = lambda r: (r.answer, r.address, r.programmed, r.erased, r.img)
+    rest = lambda r: (r.answer, r.address, r.programmed, r.erased, r.rule, r.page, r.img)
+    broken = damage.images(rng, fuzz, m)  # each clause of request 5 comes first
     edges = [geometry.r8_least - 1, geometry.r8_least]  # both sides of R8 come first
     end = time.time() + seconds
-    while time.time() < end or edges:
-        img = fuzz.hand_image(rng, m, rng.choice([3, 3, 3, 4, 5]))
+    while time.time() < end or edges or broken:
+        img = broken.pop() if broken else fuzz.hand_image(rng, m, rng.choice([3, 3, 3, 4, 5]))
         u = rng.random()
-        if edges or u > .9:
+        if m.first_damage(img):
+            pass
+        elif edges or u > .9:
             img = reference.with_free(rng, m, fuzz, edges.pop() if edges else geometry.r8_least - rng.randrange(2))
         elif u < .4:
             img = reference.damaged(rng, m, img) if u < .3 else reference.loose(rng, m, fuzz, 3)
         verdict = tuple(force(x) for x in d["verdict"](chip, m.B(img), img))
-        damage = m.first_damage(img)
-        same("verdict", verdict, ("Broken",) + damage if damage else ("Sound",), img)
-        key = "sound" if damage is None else "R%d" % damage[0]
+        broke = m.first_damage(img)
+        same("verdict", verdict, ("Broken",) + broke if broke else ("Sound",), img)
+        key = "sound" if broke is None else damage.clause(m, img)
         met[key] = met.get(key, 0) + 1
-        if damage is None and m.T(img) - m.L(img) == geometry.r8_least:
+        if broke is None and m.T(img) - m.L(img) == geometry.r8_least:
             met["at the edge"] = met.get("at the edge", 0) + 1
-        model = dict(m.map_of(img)) if damage is None else {}
-        for _ in range(3 if damage is None else 1):
-            call = fuzz.some_call(rng, m, img, model) if damage is None else ("insert", 5, 5)
-            needed = len(m.plan(img, call)[1]) if damage is None else 0
+        model = dict(m.map_of(img)) if broke is None else {}
+        for _ in range(3 if broke is None else 1):
+            call = fuzz.some_call(rng, m, img, model) if broke is None else ("insert", 5, 5)
+            needed = len(m.plan(img, call)[1]) if broke is None else 0
             allowance = reference.allowances(rng, needed)
             if call[0] == "insert":
                 ours, theirs = d["insert"](chip, img, call[1], call[2], allowance), m.insert(img, call[1], call[2], allowance)
@@ -61,6 +68,8 @@ def compare(seconds, seed, name):
             same("%s allowance %d" % (call, allowance), outcome(ours), rest(theirs), img)
             same("lookup", outcome(d["lookup"](chip, img, call[1])), rest(m.lookup(img, call[1])), img)
             calls += 2
+            if broke:
+                same("delete", outcome(d["delete"](chip, img, 5, 1)), rest(m.delete(img, 5, 1)), img)
             met["answer %d" % theirs.answer] = met.get("answer %d" % theirs.answer, 0) + 1
             if theirs.answer in (0, 7):
                 img = theirs.img
@@ -70,6 +79,9 @@ def compare(seconds, seed, name):
         img = b"\xff" * cut
         same("format of %d" % cut, outcome(d["format"](chip, img)), rest(m.format(img)), img)
         same("lookup in %d" % cut, outcome(d["lookup"](chip, img, 1)), rest(m.lookup(img, 1)), img)
+    missing = [c for c in damage.CLAUSES if c not in met]
+    if missing:
+        sys.exit("definitions: no image for " + ", ".join(missing))
     print("definitions: %s chip: %d calls agree with the reference model; met: %s" % (name, calls, " ".join("%s %d" % x for x in sorted(met.items()))))
 
 

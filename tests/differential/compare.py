@@ -11,11 +11,18 @@ import subprocess
 import sys
 
 sys.path.insert(0, os.path.dirname(os.path.dirname(os.path.abspath(__file__))))
+import damage
 import reference
 
 CALLS = {"format": 0, "lookup": 1, "insert": 2, "delete": 3}
 ANSWERS = ["DONE", "LENGTH", "DAMAGED", "WORN", "ABSENT", "HEIGHT", "ROOM", "STOPPED"]
 LARGEST = 2 ** 32 - 1
+RESULT = 24  # bytes of the result: six numbers
+
+
+def numbers(buf):
+    """The six numbers of a result, or the bytes of a buffer that is too short; the bytes after them."""
+    return struct.unpack("<6I", buf[:RESULT]) + (buf[RESULT:].hex(),) if len(buf) >= RESULT else buf.hex()
 
 
 class Library:
@@ -23,6 +30,7 @@ class Library:
         self.process = subprocess.Popen([driver], stdin=subprocess.PIPE, stdout=subprocess.PIPE)
         self.geometry = geometry
         self.calls, self.met = 0, {}
+        self.clauses = {}  # clauses of request 5, and how many images broke each
         self.edges, self.beyond = 0, 0  # sound images with T - L = 64 (128), and images that break R8 alone
 
     def call(self, name, img, buf, key=0, address=0, allowance=LARGEST, number=None):
@@ -43,30 +51,31 @@ class Library:
         if got != wanted:
             with open("build/differs.img", "wb") as f:
                 f.write(img)
-            sys.exit("differential: %s chip: %s %s: returned %d, wanted %d; image %s, buffer %s; the image is in build/differs.img" % (
-                self.geometry.name, name, args, got[0], wanted[0], "alike" if got[1] == wanted[1] else "differs", "alike" if got[2] == wanted[2] else "differs"))
+            sys.exit("differential: %s chip: %s %s: returned %d, wanted %d; image %s; numbers %s, wanted %s; the image is in build/differs.img" % (
+                self.geometry.name, name, args, got[0], wanted[0], "alike" if got[1] == wanted[1] else "differs", numbers(got[2]), numbers(wanted[2])))
 
 
 def buffer(rng):
-    """A result buffer with something in it: mostly longer than 16 bytes, now and then too short."""
-    return bytes(rng.randrange(256) for _ in range(rng.choice([16, 17, 24, 40, 40, rng.randrange(16)])))
+    """A result buffer with something in it: mostly longer than 24 bytes, now and then too short."""
+    return bytes(rng.randrange(256) for _ in range(rng.choice([RESULT, RESULT + 1, 32, 40, 40, rng.choice([16, RESULT - 1, rng.randrange(RESULT)])])))
 
 
-def result(answer, programmed, erased, img, buf):
+def result(answer, programmed, erased, img, buf, rule=0, page=0):
     """What a C call gives for an update's outcome."""
-    if len(buf) < 16:
-        return None
-    return answer, img, struct.pack("<4I", answer, 0, programmed, erased) + buf[16:]
+    if len(buf) < RESULT:
+        return 1, img, buf
+    return answer, img, struct.pack("<6I", answer, 0, programmed, erased, rule, page) + buf[RESULT:]
 
 
 def every_update(library, m, rng, img, call):
     """One update with every allowance (some of them where there are many). Returns the image after the last store."""
     bad = m.refusal(img)
     answer, stores = (bad.answer, []) if bad else m.plan(img, call)
+    where = (bad.rule, bad.page) if bad else (0, 0)
     args = dict(key=call[1]) if call[0] == "delete" else dict(key=call[1], address=call[2])
     if answer:
         buf = buffer(rng)
-        wanted = result(answer, 0, 0, img, buf) or (1, img, buf)
+        wanted = result(answer, 0, 0, img, buf, *where)
         library.hold(wanted, call[0], img, buf, allowance=rng.choice([0, 1, LARGEST]), **args)
         return img
     tried = set(range(len(stores) + 2)) if len(stores) < 8 else set(rng.sample(range(len(stores)), 6)) | {0, len(stores), len(stores) + 1}
@@ -74,7 +83,7 @@ def every_update(library, m, rng, img, call):
     for made in range(len(stores) + 2):
         if made in tried:
             buf = buffer(rng)
-            wanted = result(7 if made < len(stores) else 0, programmed, erased, now, buf) or (1, img, buf)
+            wanted = result(7 if made < len(stores) else 0, programmed, erased, now if len(buf) >= RESULT else img, buf)
             library.hold(wanted, call[0], img, buf, allowance=LARGEST if made > len(stores) else made, **args)
         if made < len(stores):
             now = m.apply_store(now, stores[made])
@@ -167,6 +176,35 @@ def scarce(library, m, fuzz, rng):
             every_update(library, m, rng, img, call)
 
 
+def every_call(library, m, rng, img):
+    """All four calls on an image that is refused, or may be."""
+    if m.good_length(img) and m.first_damage(img):
+        library.beyond += m.first_damage(img) == reference.BREAKS_R8
+        clause = damage.clause(m, img)
+        library.clauses[clause] = library.clauses.get(clause, 0) + 1
+    lookups(library, m, rng, img, [rng.randrange(2 ** 32)])
+    every_update(library, m, rng, img, ("insert", rng.randrange(2 ** 32), 5))
+    every_update(library, m, rng, img, ("delete", rng.randrange(2 ** 32)))
+    buf = buffer(rng)
+    library.hold(m.c_call("format", img, buf), "format", img, buf)
+
+
+def clauses(library, m, fuzz, rng):
+    """Images for each rule and each clause of request 5, and with two rules broken: rule and page of the result."""
+    while set(library.clauses) != set(damage.CLAUSES):
+        for img in damage.images(rng, fuzz, m, 1):
+            every_call(library, m, rng, img)
+
+
+def worn(library, m, fuzz, rng):
+    """The largest sequence number at the chip's limit, where updates are made, and above it, where they are WORN."""
+    for number in (m.G.worn_limit, m.G.worn_limit + 1, LARGEST):
+        img = bytearray(m.format(b"\xff" * (3 * m.G.block_size)).img)
+        img[m.G.main:m.G.main + 4] = number.to_bytes(4, "little")
+        for call in (("insert", 5, 6), ("delete", 5)):
+            every_update(library, m, rng, bytes(img), call)
+
+
 def broken(library, m, fuzz, rng):
     """Damaged trees, random bytes, bad lengths."""
     img = fuzz.hand_image(rng, m, 3)
@@ -178,12 +216,7 @@ def broken(library, m, fuzz, rng):
     kinds.append(img[:-1])
     kinds.append(b"\xff" * len(img))
     for x in kinds:
-        library.beyond += m.good_length(x) and m.first_damage(x) == reference.BREAKS_R8
-        lookups(library, m, rng, x, [rng.randrange(2 ** 32)])
-        every_update(library, m, rng, x, ("insert", rng.randrange(2 ** 32), 5))
-        every_update(library, m, rng, x, ("delete", rng.randrange(2 ** 32)))
-        buf = buffer(rng)
-        library.hold(m.c_call("format", x, buf), "format", x, buf)
+        every_call(library, m, rng, x)
 
 
 def no_chip(library, m, fuzz, rng):
@@ -192,7 +225,7 @@ def no_chip(library, m, fuzz, rng):
     for name in CALLS:
         buf = buffer(rng)
         number = rng.choice([2, 3, 256, 2 ** 31, LARGEST, rng.randrange(2, 2 ** 32)])
-        library.hold(result(1, 0, 0, img, buf) or (1, img, buf), name, img, buf, key=rng.randrange(2 ** 32), number=number)
+        library.hold(result(1, 0, 0, img, buf), name, img, buf, key=rng.randrange(2 ** 32), number=number)
 
 
 def tell_met(library, wanted):
@@ -200,6 +233,7 @@ def tell_met(library, wanted):
     counts = [sum(n for (_, answer), n in library.met.items() if answer == a) for a in range(8)]
     print("  answers: " + ", ".join("%s %d" % x for x in zip(ANSWERS, counts)))
     print("  by call: " + ", ".join("%s %s: %d" % (call, ANSWERS[a], n) for (call, a), n in sorted(library.met.items())))
+    print("  damaged images: " + ", ".join("%s: %d" % (c, library.clauses[c]) for c in damage.CLAUSES))
     print("  T - L = %d on %d sound images; %d images refused by R8 alone" % (
         library.geometry.r8_least, library.edges, library.beyond))
     if wanted >= 5000 and 0 in counts:
@@ -210,8 +244,8 @@ def tell_met(library, wanted):
 
 def compare(fuzz, geometry, wanted, rng):
     library, m = Library(sys.argv[1], geometry), reference.mu(fuzz, geometry)
-    kinds = [no_chip, full_path, scarce, hand_made, broken, a_log, hand_made]
-    for kind in kinds:
+    kinds = [no_chip, worn, full_path, scarce, hand_made, broken, a_log, hand_made]
+    for kind in [clauses] + kinds:
         kind(library, m, fuzz, rng)
     while library.calls < wanted:
         rng.choice(kinds)(library, m, fuzz, rng)

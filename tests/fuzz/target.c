@@ -5,7 +5,8 @@
  * the rest laid over it, so that sound and nearly sound images are met. The library itself has no sanitizers in it. So the
  * image and the result buffer lie in mapped memory before a guard page, or after one: a byte read or written past their ends
  * ends the run. Checked besides: a number that is no chip's gives LENGTH, refused calls leave the image, a finished call leaves
- * one that is not DAMAGED, a short result buffer stays as it was, and so do the bytes after the 16. */
+ * one that is not DAMAGED, a short result buffer stays as it was, and so do the bytes after the 24; rule and page are 0 but for
+ * DAMAGED, and then a rule's number and a page of the image. */
 #define _DEFAULT_SOURCE
 #include "../../c/mutree.h"
 #include "../guarded.h"
@@ -84,7 +85,19 @@ static uint32_t call(struct head head, struct guarded image, struct guarded resu
     }
 }
 
-/* A result buffer that is too short stays as it was, and so do the bytes after the 16. */
+/* With DAMAGED a rule, and a page of the image where the rule has one; else 0 and 0. */
+static void check_damage(uint32_t geometry, uint32_t answer, size_t length, const uint8_t *result)
+{
+    struct mutree_result r = mutree_read_result(result);
+    if (r.answer != answer || (answer == MUTREE_DAMAGED) != (mutree_rule_words(r.rule) != NULL))
+        abort();
+    if (r.rule == 0 ? r.page != 0 : r.page >= length / mutree_geometry_of(geometry)->page_bytes)
+        abort();
+    if (!mutree_rule_has_page(r.rule) && r.page != 0)
+        abort();
+}
+
+/* A result buffer that is too short stays as it was, and so do the bytes after the 24. */
 static void check_result(struct guarded result)
 {
     size_t i;
@@ -112,6 +125,7 @@ int LLVMFuzzerTestOneInput(const uint8_t *data, size_t size)
     struct guarded image, result;
     struct head head;
     uint8_t *before;
+    uint32_t answer;
     if (size < HEAD)
         return 0;
     head = head_of(data);
@@ -122,8 +136,11 @@ int LLVMFuzzerTestOneInput(const uint8_t *data, size_t size)
         abort();
     memcpy(before, image.bytes, image.length);
     memset(result.bytes, 7, result.length);
-    check_image(head.geometry, call(head, image, result), image, before);
+    answer = call(head, image, result);
+    check_image(head.geometry, answer, image, before);
     check_result(result);
+    if (result.length >= MUTREE_RESULT_BYTES)
+        check_damage(head.geometry, answer, image.length, result.bytes);
     free(before);
     guarded_free(&image);
     guarded_free(&result);

@@ -59,7 +59,7 @@ unsigned greatest_height(void)
 
 static uint64_t seed;
 
-static uint32_t some(uint32_t below)
+uint32_t some(uint32_t below)
 {
     seed = seed * 6364136223846793005u + 1442695040888963407u;
     return (uint32_t)((seed >> 33) % below);
@@ -118,15 +118,17 @@ void take_map(const struct tree *t)
 /* ---- one update */
 struct mutree_result run(struct update u, uint8_t *image, size_t length, uint32_t allowance)
 {
-    uint8_t result[24];
+    uint8_t result[RESULT + 8];
     uint32_t answer;
     memset(result, 77, sizeof result);
     answer = u.adds ? mutree_insert(chip->number, image, length, u.key, u.address, allowance, result, sizeof result)
                     : mutree_delete(chip->number, image, length, u.key, allowance, result, sizeof result);
     if (answer != mutree_read_result(result).answer || mutree_read_result(result).address != 0)
         fail("the result buffer differs from the answer");
-    if (result[16] != 77 || result[23] != 77)
-        fail("bytes after the 16 changed");
+    if (mutree_read_result(result).rule || mutree_read_result(result).page)
+        fail("rule and page of a sound image are not 0");
+    if (result[RESULT] != 77 || result[RESULT + 7] != 77)
+        fail("bytes after the 24 changed");
     met.deletes += !u.adds;
     if (!u.adds && answer == MUTREE_ROOM)
         fail("a delete was refused for room");
@@ -374,8 +376,10 @@ uint32_t tried(struct update u, const uint8_t *image, size_t length)
 
 static void look(const uint8_t *image, size_t length, uint32_t key)
 {
-    uint8_t result[16];
+    uint8_t result[RESULT];
     uint32_t answer = mutree_lookup(chip->number, image, length, key, result, sizeof result);
+    if (mutree_read_result(result).rule || mutree_read_result(result).page)
+        fail("rule and page of a sound image are not 0");
     if (has(key) ? answer != 0 || mutree_read_result(result).address != oracle[place_of(key)].address : answer != 4)
         fail("lookup differs from the map");
 }
@@ -429,7 +433,7 @@ static void one_step(struct update u, uint8_t *image, size_t length)
 static void day(unsigned blocks, int way, unsigned steps)
 {
     size_t length = length_of(chip, blocks);
-    uint8_t *image = room_for(length), result[16];
+    uint8_t *image = room_for(length), result[RESULT];
     unsigned step;
     memset(image, (int)some(256), length);
     if (mutree_format(chip->number, image, length, result, sizeof result) || mutree_read_result(result).erased != blocks
@@ -479,6 +483,7 @@ static void test_chip(unsigned rounds)
     reach_bounds();
     roots_grow();
     delete_is_never_short_of_room();
+    damage_is_named();
     if (met.least_spare != chip->room + 1 || met.rooms == 0)
         fail("T - L of 64 (128), or ROOM, was not met");
     for (i = 0; i < rounds; i++)

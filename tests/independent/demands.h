@@ -10,11 +10,17 @@ struct update {
     uint32_t key, address;
 };
 
+/* Bytes of the result (request 5). */
+enum { RESULT = 24 };
+
 /* The chip that is tested now. */
 extern const struct chip *chip;
 
 /* Ends the program with a line. */
 void fail(const char *what);
+
+/* A number below `below`, by chance. */
+uint32_t some(uint32_t below);
 
 /* Memory, or the end of the program. */
 uint8_t *room_for(size_t length);
@@ -34,6 +40,13 @@ uint32_t tried(struct update u, const uint8_t *image, size_t length);
 
 /* The largest height after an update so far. */
 unsigned greatest_height(void);
+
+/* Every call on a copy says what the judge says of the image: DAMAGED with its rule and page, and writes nothing; or not DAMAGED.
+ * Returns the first broken rule (damage.c). */
+int is_judged_alike(const uint8_t *image, size_t length, uint32_t key);
+
+/* Request 5: damaged images for each rule and clause, and by chance (damage.c). */
+void damage_is_named(void);
 
 /* Request 11 (room.c). */
 void delete_is_never_short_of_room(void);

@@ -32,7 +32,7 @@ static void is_halved(const uint8_t *image, size_t length)
 static void first_root_is_halved(void)
 {
     size_t length = length_of(chip, 3);
-    uint8_t *image = room_for(length), result[16];
+    uint8_t *image = room_for(length), result[RESULT];
     struct update u = { 1, 0, 7 };
     unsigned erased = 0;
     mutree_format(chip->number, image, length, result, sizeof result);

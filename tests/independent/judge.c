@@ -54,7 +54,14 @@ static const uint8_t *spare_of(const struct tree *t, const uint8_t *image, size_
     return page_of(t, image, page) + t->chip->main;
 }
 
-/* Spare bytes 0 to 3 the number, 4 the height, then a count for each level, then 255. */
+/* Request 5: the first broken rule, and its page. */
+static int breaks(struct tree *t, int rule, size_t page)
+{
+    t->broken = (uint32_t)page;
+    return rule;
+}
+
+/* Spare bytes 0 to 3 the number, 4 the height, then a count for each level, then 255. "The lowest page." */
 static int rule_1(struct tree *t, const uint8_t *image)
 {
     unsigned counts = 5 + t->chip->top, rest = t->chip->page - t->chip->main - counts;
@@ -63,45 +70,69 @@ static int rule_1(struct tree *t, const uint8_t *image)
         const uint8_t *spare = spare_of(t, image, p);
         t->erased[p] = (unsigned char)all_255(page_of(t, image, p), t->chip->page);
         if (!t->erased[p] && (spare[4] > t->chip->top || !all_255(spare + counts, rest) || number_at(spare) == 0))
-            return 1;
+            return breaks(t, 1, p);
     }
     return 0;
 }
 
-static int rule_2(const struct tree *t)
+/* How many pages of a block are programmed. */
+static size_t programmed_in(const struct tree *t, size_t block)
 {
-    size_t b, mixed = 0, row = t->chip->block_pages;
+    size_t row = t->chip->block_pages, programmed = 0, p;
+    for (p = block * row; p < (block + 1) * row; p++)
+        programmed += !t->erased[p];
+    return programmed;
+}
+
+/* "The first erased page before a programmed one, or else the first programmed page of the second mixed block": where no erased
+ * page stands before a programmed one, a block's first page is its first programmed one. */
+static int rule_2(struct tree *t)
+{
+    size_t b, p, mixed = 0, row = t->chip->block_pages;
     for (b = 0; b < t->pages / row; b++) {
-        const unsigned char *e = t->erased + b * row;
-        size_t i, programmed = 0;
-        for (i = 0; i < row; i++) {
-            programmed += !e[i];
-            if (i > 0 && e[i - 1] && !e[i])
-                return 2;
+        size_t programmed = programmed_in(t, b);
+        for (p = b * row; programmed > 0; p++) {
+            if (t->erased[p])
+                return breaks(t, 2, p);
+            programmed--;
         }
-        mixed += programmed > 0 && programmed < row;
     }
-    return mixed > 1 ? 2 : 0;
-}
-
-static int by_size(const void *a, const void *b)
-{
-    uint32_t x = *(const uint32_t *)a, y = *(const uint32_t *)b;
-    return x < y ? -1 : x > y;
-}
-
-static int rule_3(const struct tree *t, const uint8_t *image)
-{
-    static uint32_t seen[MOST_PAGES];
-    size_t n = 0, p;
-    for (p = 0; p < t->pages; p++)
-        if (!t->erased[p])
-            seen[n++] = number_at(spare_of(t, image, p));
-    qsort(seen, n, sizeof *seen, by_size);
-    for (p = 1; p < n; p++)
-        if (seen[p] == seen[p - 1])
-            return 3;
+    for (b = 0; b < t->pages / row; b++) {
+        size_t programmed = programmed_in(t, b);
+        mixed += programmed > 0 && programmed < row;
+        if (mixed == 2)
+            return breaks(t, 2, b * row);
+    }
     return 0;
+}
+
+struct numbered {
+    uint32_t number, page;
+};
+
+static int by_number(const void *a, const void *b)
+{
+    const struct numbered *x = a, *y = b;
+    if (x->number != y->number)
+        return x->number < y->number ? -1 : 1;
+    return x->page < y->page ? -1 : x->page > y->page;
+}
+
+/* "The higher-numbered page of the pair whose higher page is lowest." */
+static int rule_3(struct tree *t, const uint8_t *image)
+{
+    static struct numbered seen[MOST_PAGES];
+    size_t n = 0, p, lowest = t->pages;
+    for (p = 0; p < t->pages; p++)
+        if (!t->erased[p]) {
+            seen[n].number = number_at(spare_of(t, image, p));
+            seen[n++].page = (uint32_t)p;
+        }
+    qsort(seen, n, sizeof *seen, by_number);
+    for (p = 1; p < n; p++)
+        if (seen[p].number == seen[p - 1].number && seen[p].page < lowest)
+            lowest = seen[p].page;
+    return lowest < t->pages ? breaks(t, 3, lowest) : 0;
 }
 
 static int rule_4(struct tree *t, const uint8_t *image)
@@ -147,21 +178,22 @@ static unsigned most_of(const struct tree *t, unsigned level, int is_root)
     return is_root ? most_root(t->chip, level) : most_below(t->chip, level);
 }
 
-/* R5 of a node and all below it, keys from `low` on and below `high`; marks what is live and gathers the map. */
+/* R5 of a node and all below it, keys from `low` on and below `high`; marks what is live and gathers the map. "The page of the
+ * first node, each before its subtrees and those left to right, whose own counts, keys or page numbers break it." */
 static int node(struct tree *t, const uint8_t *image, uint32_t page, unsigned level, int is_root, uint64_t low, uint64_t high)
 {
     const uint8_t *slot = slots_of(t, image, page, level);
     unsigned n = count_of(t, image, page, level), i;
     unsigned least = is_root ? (level == 1 ? 0 : 2) : 1;
     if (n < least || n > most_of(t, level, is_root))
-        return 5;
+        return breaks(t, 5, page);
     for (i = 0; i < n; i++) {
         uint64_t key = number_at(slot + 8 * i);
         uint32_t address = number_at(slot + 8 * i + 4);
         if (key < low || key >= high || (i > 0 && key <= number_at(slot + 8 * i - 8)))
-            return 5;
+            return breaks(t, 5, page);
         if (level > 1 && (address >= t->pages || t->erased[address]))
-            return 5;
+            return breaks(t, 5, page);
     }
     t->nodes++;
     t->levels[page] |= (unsigned char)(1 << (level - 1));
@@ -186,7 +218,8 @@ static int names(const struct tree *t, const uint8_t *image, size_t page, unsign
     return 0;
 }
 
-static int rule_6(const struct tree *t, const uint8_t *image)
+/* "The lowest page." */
+static int rule_6(struct tree *t, const uint8_t *image)
 {
     size_t p;
     for (p = 0; p < t->pages; p++) {
@@ -198,7 +231,7 @@ static int rule_6(const struct tree *t, const uint8_t *image)
             }
         for (level = low + 1; low > 0 && level <= high; level++)
             if (!(t->levels[p] >> (level - 1) & 1) || !names(t, image, p, level))
-                return 6;
+                return breaks(t, 6, p);
     }
     return 0;
 }
@@ -239,6 +272,7 @@ int judge(struct tree *t, const struct chip *chip, const uint8_t *image, size_t 
     t->chip = chip;
     t->pages = length / chip->page;
     t->nodes = t->entries = 0;
+    t->broken = 0;
     memset(t->levels, 0, t->pages);
     if ((rule = rule_1(t, image)) || (rule = rule_2(t)) || (rule = rule_3(t, image)) || (rule = rule_4(t, image))
         || (rule = node(t, image, t->root, t->height, 1, 0, (uint64_t)1 << 32)) || (rule = rule_6(t, image))

@@ -1,4 +1,5 @@
-/* judge.h: document 01's rules R1 to R7, request 11's R8 and the map of an image, for both chips, written from the documents alone. */
+/* judge.h: document 01's rules R1 to R7, request 11's R8, request 5's page and the map of an image, for both chips, written from
+ * the documents alone. */
 #ifndef JUDGE_H
 #define JUDGE_H
 
@@ -40,6 +41,7 @@ struct tree {
     size_t nodes, live, free_pages;        /* live nodes, live pages, erased pages */
     struct entry *map;                     /* rising keys */
     size_t entries, room;
+    uint32_t broken;                       /* the page that request 5 names for the first broken rule, else 0 */
 };
 
 /* The first broken rule, or 0 for a sound image of a good length. Fills the tree; `tree` may be used again and again. */

@@ -17,6 +17,18 @@ static void header_is_the_documents(void)
         fail("c/mutree.h gives the chip other bounds");
 }
 
+/* R1 to R8 have words, no other number has; R4, R7 and R8 have no page (requests 5 and 11). */
+static void rules_are_the_documents(void)
+{
+    uint32_t rule;
+    for (rule = 0; rule < 20; rule++) {
+        if ((mutree_rule_words(rule) != NULL) != (rule >= 1 && rule <= 8))
+            fail("c/mutree.h has words for other rules than R1 to R8");
+        if (mutree_rule_has_page(rule) != (rule == 1 || rule == 2 || rule == 3 || rule == 5 || rule == 6))
+            fail("c/mutree.h gives another rule a page");
+    }
+}
+
 /* One call with a number that is no chip's: 0 format, 1 lookup, 2 insert, 3 delete. */
 static uint32_t call(int which, uint32_t number, uint8_t *image, size_t length, uint8_t *result, size_t room)
 {
@@ -30,15 +42,15 @@ static uint32_t call(int which, uint32_t number, uint8_t *image, size_t length, 
 
 static void is_no_chip(uint32_t number, const uint8_t *image, size_t length)
 {
-    static const uint8_t written[20] = { MUTREE_LENGTH, 0, 0, 0, 0, 0, 0, 0, 0, 0, 0, 0, 0, 0, 0, 0, 9, 9, 9, 9 };
-    uint8_t *copy = copy_of(image, length), result[20], untouched[20];
+    uint8_t *copy = copy_of(image, length), result[RESULT + 4], untouched[RESULT + 4], written[RESULT + 4] = { MUTREE_LENGTH };
     int which;
     memset(untouched, 9, sizeof untouched);
+    memset(written + RESULT, 9, 4);
     for (which = 0; which < 4; which++) {
         memset(result, 9, sizeof result);
-        if (call(which, number, copy, length, result, 15) != MUTREE_LENGTH || memcmp(result, untouched, sizeof result))
+        if (call(which, number, copy, length, result, RESULT - 1) != MUTREE_LENGTH || memcmp(result, untouched, sizeof result))
             fail("a number that is no chip's, with a short buffer, is LENGTH and writes nothing");
-        if (call(which, number, copy, length, result, 20) != MUTREE_LENGTH || memcmp(result, written, sizeof result))
+        if (call(which, number, copy, length, result, RESULT + 4) != MUTREE_LENGTH || memcmp(result, written, sizeof result))
             fail("a number that is no chip's is LENGTH, and the result says so");
         if (memcmp(copy, image, length))
             fail("a call with a number that is no chip's wrote to the image");
@@ -52,8 +64,9 @@ void numbers_are_the_documents(void)
 {
     static const uint32_t others[] = { 2, 3, 255, 256, 257, 65536, 2147483648u, 4294967295u };
     size_t length = length_of(&chips[CHIPS - 1], 3), i; /* which fits both chips */
-    uint8_t *image = room_for(length), result[16];
+    uint8_t *image = room_for(length), result[RESULT];
     header_is_the_documents();
+    rules_are_the_documents();
     memset(image, 255, length);
     if (mutree_format(chip->number, image, length, result, sizeof result) != MUTREE_DONE)
         fail("format was refused");

@@ -30,7 +30,7 @@ static unsigned address_on(const struct mutree_geometry *chip, uint32_t key)
 
 int main(void)
 {
-    if (mutree_geometry_of(MUTREE_GEOMETRIES) != NULL)
+    if (mutree_geometry_of(MUTREE_GEOMETRIES) != NULL || mutree_rule_words(MUTREE_RULES) == NULL || mutree_rule_has_page(MUTREE_RULES))
         return 1;
     printf("%s %u %u\n", MUTREE_VERSION, address_on(mutree_geometry_of(MUTREE_SMALL), 7), address_on(mutree_geometry_of(MUTREE_LARGE), 8));
     return 0;

@@ -1,19 +1,38 @@
 # README shows what the tool prints, and the plot of docs/BENCHMARKS.md fits its figures.
 sh "$root/c/day.sh" "$tool" > day 2>&1 || fail "the short day ended with $?"
 
-# README's lines of the day, without their indentation; '..' stands for lines left out
-sed -n '/^    A chip of three blocks is formatted\.$/,/^[^ ]/p' "$root/README.md" | sed -n 's/^    //p' > shown
-[ "$(wc -l < shown)" -gt 20 ] || fail "README shows no day"
-exec 3< day
-while IFS= read -r line; do
-    [ "$line" = ".." ] && continue
-    found=0
-    while [ "$found" -eq 0 ] && IFS= read -r printed <&3; do
-        [ "$printed" != "$line" ] || found=1
-    done
-    [ "$found" -eq 1 ] || { fail "README shows '$line', which the day does not print there"; break; }
-done < shown
-exec 3<&-
+# in_order FIRST PRINTED: README's indented lines from FIRST on, without their indentation, are lines of a file, in this order; '..'
+# stands for lines left out
+in_order() {
+    sed -n "/^    $1\$/,/^[^ ]/p" "$root/README.md" | sed -n 's/^    //p' > shown
+    [ "$(wc -l < shown)" -gt 10 ] || fail "README does not show '$1'"
+    exec 3< "$2"
+    while IFS= read -r line; do
+        [ "$line" = ".." ] && continue
+        found=0
+        while [ "$found" -eq 0 ] && IFS= read -r printed <&3; do
+            [ "$printed" != "$line" ] || found=1
+        done
+        [ "$found" -eq 1 ] || { fail "README shows '$line', which is not printed there"; break; }
+    done < shown
+    exec 3<&-
+}
+
+in_order 'A chip of three blocks is formatted\.' day
+
+# the day's index, with the first page number of its root changed
+fresh
+key=1
+while [ "$key" -le 64 ]; do
+    echo "insert $key $((1000 + key))"
+    key=$((key + 1))
+done | "$tool" apply "$chip" > /dev/null
+printf '\5' | dd of="$chip" bs=1 seek=$((65 * page + main / 2 + 4)) conv=notrunc 2> /dev/null
+{
+    echo "\$ mutree check $chip"
+    "$tool" check "$chip"
+} > checked
+in_order '\$ mutree check chip.img' checked
 
 # A point's height: 54 for each power of ten, from 0.1 microseconds at 400. The figures have one decimal.
 if have awk; then

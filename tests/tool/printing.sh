@@ -17,7 +17,7 @@ out=$("$tool" insert "$chip" 1 1 --allow 0 2>&1 | head -n 1)
 [ "$out" = "STOPPED: 0 programmed, 0 erased" ] || fail "in a pipe the first line of STOPPED is '$out'"
 
 if [ -c /dev/full ]; then
-    for words in help --version "show $chip" "lookup $chip 1" "cut $chip 2 2"; do
+    for words in help --version "show $chip" "check $chip" "page $chip 0" "lookup $chip 1" "cut $chip 2 2"; do
         "$tool" insert "$chip" 1 1 > /dev/null
         "$tool" $words > /dev/full 2> err
         status=$?

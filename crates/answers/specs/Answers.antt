@@ -1,82 +1,70 @@
--- Document 01's numbers for each answer, and the outcome that an answer and an image tell. Assumes nothing.
+-- Document 01's table of answers, with request 5's rule and page, and the outcome that an answer and an image tell.
+-- Assumes nothing.
 use mathlib.Core.Path.{_≡_, refl, ap, sym, _∙_}
-use mathlib.Core.List.{List}
-use Prim.Native.Nat.{ℕ, zero, suc}
+use mathlib.Core.List.{List, [], _∷_}
+use Prim.Native.Nat.{ℕ}
+use lib.ListN.{getD}
 use Rattle.model.specs.Calls.{Outcome}
 use Rattle.answers.specs.declared.Answer.{Answer}
 use Rattle.answers.specs.declared.Answer.the-variants.{Done, Length, Damaged, Worn, Absent, Height, Room, Stopped}
+use Rattle.answers.specs.declared.Row.{Row}
 
--- the table "Answer numbers"
-abbrev pub numberOf : Answer → ℕ
-numberOf (Done a p e) = 0
-numberOf Length = 1
-numberOf Damaged = 2
-numberOf Worn = 3
-numberOf Absent = 4
-numberOf Height = 5
-numberOf Room = 6
-numberOf (Stopped p e) = 7
+-- an answer that is not DAMAGED: "the two new numbers last and 0 in other answers"
+abbrev pub plain : ℕ → ℕ → ℕ → ℕ → Row
+plain answer address programmed erased =
+    record { answer = answer; address = address; programmed = programmed; erased = erased; rule = 0; page = 0 }
 
-abbrev pub addressOf : Answer → ℕ
-addressOf (Done a p e) = a
-addressOf Length = 0
-addressOf Damaged = 0
-addressOf Worn = 0
-addressOf Absent = 0
-addressOf Height = 0
-addressOf Room = 0
-addressOf (Stopped p e) = 0
+-- the table "Answer numbers": an answer's six numbers
+abbrev pub rowOf : Answer → Row
+rowOf (Done a p e) = plain 0 a p e
+rowOf Length = plain 1 0 0 0
+rowOf (Damaged r q) = record { answer = 2; address = 0; programmed = 0; erased = 0; rule = r; page = q }
+rowOf Worn = plain 3 0 0 0
+rowOf Absent = plain 4 0 0 0
+rowOf Height = plain 5 0 0 0
+rowOf Room = plain 6 0 0 0
+rowOf (Stopped p e) = plain 7 0 p e
 
-abbrev pub programmedOf : Answer → ℕ
-programmedOf (Done a p e) = p
-programmedOf Length = 0
-programmedOf Damaged = 0
-programmedOf Worn = 0
-programmedOf Absent = 0
-programmedOf Height = 0
-programmedOf Room = 0
-programmedOf (Stopped p e) = p
+-- the row of an answer that is known to be x: the one law by which the code has the table
+pub row-is : (a x : Answer) (w : Row) → a ≡ x → w ≡ rowOf x → w ≡ rowOf a
+row-is a x w e f = f ∙ ap rowOf (sym e)
 
-abbrev pub erasedOf : Answer → ℕ
-erasedOf (Done a p e) = e
-erasedOf Length = 0
-erasedOf Damaged = 0
-erasedOf Worn = 0
-erasedOf Absent = 0
-erasedOf Height = 0
-erasedOf Room = 0
-erasedOf (Stopped p e) = e
+-- what a row and the image afterwards say together
+abbrev pub toldBy : Row → List ℕ → Outcome
+toldBy w img = record {
+  answer = w .answer;
+  address = w .address;
+  programmed = w .programmed;
+  erased = w .erased;
+  rule = w .rule;
+  page = w .page;
+  image = img;
+}
 
--- what an answer and the image afterwards say together
 abbrev pub told : Answer → List ℕ → Outcome
-told a img = record { answer = numberOf a; address = addressOf a; programmed = programmedOf a; erased = erasedOf a; image = img }
+told a img = toldBy (rowOf a) img
 
--- an answer is settled by its four numbers
-rebuilt : ℕ → ℕ → ℕ → ℕ → Answer
-rebuilt zero a p e = Done a p e
-rebuilt (suc zero) a p e = Length
-rebuilt (suc (suc zero)) a p e = Damaged
-rebuilt (suc (suc (suc zero))) a p e = Worn
-rebuilt (suc (suc (suc (suc zero)))) a p e = Absent
-rebuilt (suc (suc (suc (suc (suc zero))))) a p e = Height
-rebuilt (suc (suc (suc (suc (suc (suc zero)))))) a p e = Room
-rebuilt (suc (suc (suc (suc (suc (suc (suc n))))))) a p e = Stopped p e
+-- an answer is settled by its row: the number is its place in the table
+rebuilt : Outcome → Answer
+rebuilt o = getD (Done (o .address) (o .programmed) (o .erased) ∷ Length ∷ Damaged (o .rule) (o .page) ∷ Worn ∷ Absent ∷ Height ∷ Room
+    ∷ Stopped (o .programmed) (o .erased) ∷ []) (o .answer) Length
 
-same : (x : Answer) → rebuilt (numberOf x) (addressOf x) (programmedOf x) (erasedOf x) ≡ x
+same : (x : Answer) (img : List ℕ) → rebuilt (told x img) ≡ x
 unfolding rebuilt
-same (Done a p e) = refl
-same Length = refl
-same Damaged = refl
-same Worn = refl
-same Absent = refl
-same Height = refl
-same Room = refl
-same (Stopped p e) = refl
+same (Done a p e) img = refl
+same Length img = refl
+same (Damaged r q) img = refl
+same Worn img = refl
+same Absent img = refl
+same Height img = refl
+same Room img = refl
+same (Stopped p e) img = refl
 
 -- no second answer fits an outcome, and no second image
 pub one-answer : (x y : Answer) (i o : List ℕ) → told x i ≡ told y o → x ≡ y
-one-answer x y i o h =
-    sym (same x) ∙ ap (λ (t : Outcome). rebuilt (t .answer) (t .address) (t .programmed) (t .erased)) h ∙ same y
+one-answer x y i o h = sym (same x i) ∙ ap rebuilt h ∙ same y o
 
 pub one-image : (x y : Answer) (i o : List ℕ) → told x i ≡ told y o → i ≡ o
 one-image x y i o h = ap (λ (t : Outcome). t .image) h
+
+pub ruleset answers-laws = (row-is)

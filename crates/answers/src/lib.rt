@@ -1,12 +1,13 @@
 // What a call answers, by name, and document 01's numbers for it.
 ghost use mathlib.Core.Path.{_≡_};
-ghost use Rattle.answers.specs.Answers.{numberOf, addressOf, programmedOf, erasedOf};
+ghost use Rattle.answers.specs.Answers.{plain, rowOf};
 
 pub enum Answer {
     // the address (lookup), pages programmed, blocks erased
     Done(u32, u32, u32),
     Length,
-    Damaged,
+    // the first broken rule, and its page
+    Damaged(u32, u32),
     Worn,
     Absent,
     Height,
@@ -15,62 +16,49 @@ pub enum Answer {
     Stopped(u32, u32),
 }
 
-pub fn number(a: Answer) -> u32
-    ensures { λ r. ⌜ r ≡ numberOf a ⌝ }
+// An answer in numbers: a row of the table.
+pub struct Row {
+    pub answer: u32,
+    pub address: u32,
+    pub programmed: u32,
+    pub erased: u32,
+    pub rule: u32,
+    pub page: u32,
+}
+
+// The row of an answer that is not DAMAGED.
+fn undamaged(answer: u32, address: u32, programmed: u32, erased: u32) -> Row
+    ensures { λ r. ⌜ r ≡ plain answer address programmed erased ⌝ }
 {
-    match a {
-        Answer::Done(_, _, _) => 0,
-        Answer::Length => 1,
-        Answer::Damaged => 2,
-        Answer::Worn => 3,
-        Answer::Absent => 4,
-        Answer::Height => 5,
-        Answer::Room => 6,
-        Answer::Stopped(_, _) => 7,
+    Row {
+        answer: answer,
+        address: address,
+        programmed: programmed,
+        erased: erased,
+        rule: 0,
+        page: 0,
     }
 }
 
-pub fn address(a: Answer) -> u32
-    ensures { λ r. ⌜ r ≡ addressOf a ⌝ }
+// An answer's row.
+pub fn row_of(a: Answer) -> Row
+    ensures { λ r. ⌜ r ≡ rowOf a ⌝ }
 {
     match a {
-        Answer::Done(at, _, _) => at,
-        Answer::Length => 0,
-        Answer::Damaged => 0,
-        Answer::Worn => 0,
-        Answer::Absent => 0,
-        Answer::Height => 0,
-        Answer::Room => 0,
-        Answer::Stopped(_, _) => 0,
-    }
-}
-
-pub fn programmed(a: Answer) -> u32
-    ensures { λ r. ⌜ r ≡ programmedOf a ⌝ }
-{
-    match a {
-        Answer::Done(_, n, _) => n,
-        Answer::Length => 0,
-        Answer::Damaged => 0,
-        Answer::Worn => 0,
-        Answer::Absent => 0,
-        Answer::Height => 0,
-        Answer::Room => 0,
-        Answer::Stopped(n, _) => n,
-    }
-}
-
-pub fn erased(a: Answer) -> u32
-    ensures { λ r. ⌜ r ≡ erasedOf a ⌝ }
-{
-    match a {
-        Answer::Done(_, _, n) => n,
-        Answer::Length => 0,
-        Answer::Damaged => 0,
-        Answer::Worn => 0,
-        Answer::Absent => 0,
-        Answer::Height => 0,
-        Answer::Room => 0,
-        Answer::Stopped(_, n) => n,
+        Answer::Done(address, programmed, erased) => undamaged(0, address, programmed, erased),
+        Answer::Length => undamaged(1, 0, 0, 0),
+        Answer::Damaged(rule, page) => Row {
+            answer: 2,
+            address: 0,
+            programmed: 0,
+            erased: 0,
+            rule: rule,
+            page: page,
+        },
+        Answer::Worn => undamaged(3, 0, 0, 0),
+        Answer::Absent => undamaged(4, 0, 0, 0),
+        Answer::Height => undamaged(5, 0, 0, 0),
+        Answer::Room => undamaged(6, 0, 0, 0),
+        Answer::Stopped(programmed, erased) => undamaged(7, 0, programmed, erased),
     }
 }

@@ -25,10 +25,11 @@ fn line() {
 }
 
 fn tell(a: Answer) {
-    number(answers::number(a));
-    number(answers::address(a));
-    number(answers::programmed(a));
-    number(answers::erased(a));
+    let w = answers::row_of(a);
+    number(w.answer);
+    number(w.address);
+    number(w.programmed);
+    number(w.erased);
     line();
 }
 
@@ -101,7 +102,8 @@ fn show_page(bench: Bench, img: &[u8], page: u32) {
 }
 
 fn holds(bench: Bench, img: &[u8], key: u32) -> bool {
-    answers::number(index::lookup(bench.kind, img, key)) == 0
+    let w = answers::row_of(index::lookup(bench.kind, img, key));
+    w.answer == 0
 }
 
 // How many of the keys 1 to n are found.

@@ -71,23 +71,28 @@ pub fn put_tree(img: &mut [u8; 50688]) {
     put_two(&mut *img, 1, 2, 0, 1);
 }
 
-// Nodes of level 2 on pages 0 and 1, leaves on pages 1 and 2.
-fn put_levels(img: &mut [u8; 50688]) {
-    put_one(&mut *img, 0, 2, 10, 1);
-    put_one(&mut *img, 1, 2, 20, 2);
-    put_one(&mut *img, 1, 1, 10, 110);
-    put_one(&mut *img, 2, 1, 20, 120);
-}
-
-// The same under a root of height 3 on page 3: page 1 lives at levels 1 and 2 and does not name itself.
-pub fn put_loose(img: &mut [u8; 50688]) {
+// A root of height 3 on page 3 over nodes of level 2 on two pages, which name each a leaf's page.
+fn put_high(img: &mut [u8; 50688], left: u8, left_leaf: u8, right: u8, right_leaf: u8) {
     erase_all(&mut *img);
     put_page(&mut *img, 0, 1, 0);
     put_page(&mut *img, 1, 2, 0);
     put_page(&mut *img, 2, 3, 0);
-    put_levels(&mut *img);
+    put_one(&mut *img, left as u32, 2, 10, left_leaf);
+    put_one(&mut *img, right as u32, 2, 20, right_leaf);
+    put_one(&mut *img, left_leaf as u32, 1, 10, 110);
+    put_one(&mut *img, right_leaf as u32, 1, 20, 120);
     put_page(&mut *img, 3, 4, 3);
-    put_two(&mut *img, 3, 3, 0, 1);
+    put_two(&mut *img, 3, 3, left, right);
+}
+
+// Page 1 lives at levels 1 and 2 and does not name itself.
+pub fn put_loose(img: &mut [u8; 50688]) {
+    put_high(&mut *img, 0, 1, 1, 2);
+}
+
+// Pages 1 and 2 live at levels 1 and 2, and each names the other.
+pub fn put_crossed(img: &mut [u8; 50688]) {
+    put_high(&mut *img, 2, 1, 1, 2);
 }
 
 // All pages programmed, without nodes.
@@ -111,4 +116,32 @@ pub fn put_full(img: &mut [u8; 50688]) {
     put_one(&mut *img, 32, 1, 20, 120);
     put_page(&mut *img, 95, 96, 2);
     put_two(&mut *img, 95, 2, 0, 32);
+}
+
+// Leaves of one entry on 16 pages from `from` on, under a node of level 2 on `page`.
+fn put_sixteen(img: &mut [u8; 50688], from: u8, page: u32)
+    requires { ⌜ from < 100 ⌝ }
+{
+    put_count(&mut *img, page, 2, 16);
+    let mut i: u8 = 0;
+    while i < 16 {
+        let leaf = from + i;
+        put_page(&mut *img, leaf as u32, leaf + 1, 0);
+        put_one(&mut *img, leaf as u32, 1, leaf, 0);
+        put_entry(&mut *img, page, 2, i as usize, leaf, leaf);
+        i += 1;
+    }
+}
+
+// 35 live pages of 96: 32 leaves, two nodes of level 2, a root of height 3.
+pub fn put_crowded(img: &mut [u8; 50688]) {
+    erase_all(&mut *img);
+    put_page(&mut *img, 32, 33, 0);
+    put_page(&mut *img, 33, 34, 0);
+    put_page(&mut *img, 34, 35, 3);
+    put_sixteen(&mut *img, 0, 32);
+    put_sixteen(&mut *img, 16, 33);
+    put_count(&mut *img, 34, 3, 2);
+    put_entry(&mut *img, 34, 3, 0, 0, 32);
+    put_entry(&mut *img, 34, 3, 1, 16, 33);
 }

@@ -1,37 +1,17 @@
-// Document 01's reading bench cases: lengths, an image of all 255, and damaged trees, one for each rule. For each image
-// a line: its name, the answer of lookup, and the first broken rule with its page (0 0 for none, or for a bad length).
-use geometry::Geometry;
-use geometry::Verdict;
-
-fn space() {
+// Document 01's reading bench cases and request 5's: lengths, an image of all 255, and damaged trees, for each rule and each
+// clause that names a page. For each image a line: its name, lookup's answer, the rule and the page.
+fn number(n: u32) {
     io::write_all(1, b" ");
+    io::print_decimal(1, n as u64);
 }
 
-fn print(answer: u32, rule: u32, page: u32) {
-    space();
-    io::print_decimal(1, answer as u64);
-    space();
-    io::print_decimal(1, rule as u64);
-    space();
-    io::print_decimal(1, page as u64);
-    io::write_all(1, b"\n");
-}
-
-// One image: the answer of lookup with key 20, the rule and the page.
+// One image: lookup with key 20.
 fn case(img: &[u8]) {
-    let answer = answers::number(lookup::lookup_small(img, 20));
-    let n = chip::good_blocks(Geometry::small(), img);
-    if n == 0 {
-        print(answer, 0, 0);
-        return;
-    }
-    let mut table: [u8; 65536] = [0; 65536];
-    let judgement = verdict::judge_image(Geometry::small(), img, &mut table, n);
-    let verdict = judgement.verdict;
-    match verdict {
-        Verdict::Sound => print(answer, 0, 0),
-        Verdict::Broken(rule, page) => print(answer, rule, page),
-    }
+    let w = answers::row_of(index::lookup(0, img, 20));
+    number(w.answer);
+    number(w.rule);
+    number(w.page);
+    io::write_all(1, b"\n");
 }
 
 fn lengths() {
@@ -52,49 +32,142 @@ fn sound(img: &mut [u8; 50688]) {
     case(&*img);
 }
 
+// The tree with one page more, or another.
+fn page_more(img: &mut [u8; 50688], page: u32, seq: u8, height: u8) {
+    bench_images::put_tree(&mut *img);
+    bench_images::put_page(&mut *img, page, seq, height);
+}
+
 fn rule_1(img: &mut [u8; 50688]) {
-    bench_images::put_tree(&mut *img);
-    bench_images::put_page(&mut *img, 0, 1, 6);
-    io::write_all(1, b"R1, height byte 6");
+    page_more(&mut *img, 0, 1, 6);
+    io::write_all(1, b"R1, height byte 6 on page 0");
+    case(&*img);
+    page_more(&mut *img, 1, 0, 2);
+    io::write_all(1, b"R1, number 0 on page 1");
+    case(&*img);
+    bench_images::put_page(&mut *img, 2, 3, 7);
+    io::write_all(1, b"R1, the same and height byte 7 on page 2");
     case(&*img);
 }
 
-// The tree with one page more.
-fn page_more(img: &mut [u8; 50688], page: u32, seq: u8) {
-    bench_images::put_tree(&mut *img);
-    bench_images::put_page(&mut *img, page, seq, 0);
-    case(&*img);
-}
-
-fn rules_2_and_3(img: &mut [u8; 50688]) {
+fn rule_2_order(img: &mut [u8; 50688]) {
+    page_more(&mut *img, 3, 3, 0);
     io::write_all(1, b"R2, page 2 erased before page 3");
-    page_more(&mut *img, 3, 3);
-    io::write_all(1, b"R2, a second mixed block");
-    page_more(&mut *img, 32, 3);
-    io::write_all(1, b"R3, number 2 again");
-    page_more(&mut *img, 2, 2);
+    case(&*img);
+    bench_images::put_page(&mut *img, 5, 4, 0);
+    io::write_all(1, b"R2, the same and page 4 erased before page 5");
+    case(&*img);
+}
+
+fn rule_2_mixed(img: &mut [u8; 50688]) {
+    page_more(&mut *img, 32, 3, 0);
+    io::write_all(1, b"R2, blocks 0 and 1 mixed");
+    case(&*img);
+    bench_images::put_page(&mut *img, 64, 4, 0);
+    io::write_all(1, b"R2, blocks 0, 1 and 2 mixed");
+    case(&*img);
+    bench_images::put_page(&mut *img, 66, 5, 0);
+    io::write_all(1, b"R2, the same and page 65 erased before page 66");
+    case(&*img);
+}
+
+fn rule_3(img: &mut [u8; 50688]) {
+    page_more(&mut *img, 2, 2, 0);
+    io::write_all(1, b"R3, pages 1 and 2 have number 2");
+    case(&*img);
+    page_more(&mut *img, 2, 3, 0);
+    bench_images::put_page(&mut *img, 3, 2, 0);
+    bench_images::put_page(&mut *img, 4, 1, 0);
+    io::write_all(
+        1,
+        b"R3, pages 0 and 4 have number 1, pages 1 and 3 number 2",
+    );
+    case(&*img);
 }
 
 fn rule_4(img: &mut [u8; 50688]) {
-    bench_images::put_tree(&mut *img);
-    bench_images::put_page(&mut *img, 1, 2, 0);
+    page_more(&mut *img, 1, 2, 0);
     io::write_all(1, b"R4, no root");
     case(&*img);
 }
 
-fn rule_5(img: &mut [u8; 50688]) {
+// The first bad node: a leaf, not the node above it.
+fn rule_5_leaf(img: &mut [u8; 50688]) {
     bench_images::put_tree(&mut *img);
     bench_images::put_one(&mut *img, 0, 1, 20, 110);
-    io::write_all(1, b"R5, a key not below the next entry's");
+    io::write_all(
+        1,
+        b"R5, a key not below the next entry's in the leaf on page 0",
+    );
+    case(&*img);
+    bench_images::put_loose(&mut *img);
+    bench_images::put_one(&mut *img, 2, 1, 5, 120);
+    io::write_all(
+        1,
+        b"R5, a key below its entry's in the right leaf, on page 2",
+    );
+    case(&*img);
+    bench_images::put_one(&mut *img, 1, 1, 5, 110);
+    io::write_all(1, b"R5, the same in the left leaf too, on page 1");
     case(&*img);
 }
 
-fn rules_6_and_7(img: &mut [u8; 50688]) {
+// A node is named before those below it.
+fn rule_5_node(img: &mut [u8; 50688]) {
+    bench_images::put_loose(&mut *img);
+    bench_images::put_one(&mut *img, 2, 1, 5, 120);
+    bench_images::put_one(&mut *img, 1, 2, 15, 2);
+    io::write_all(
+        1,
+        b"R5, the right leaf on page 2 and the node above it on page 1",
+    );
+    case(&*img);
+    bench_images::put_one(&mut *img, 0, 2, 10, 96);
+    io::write_all(
+        1,
+        b"R5, the same and page 96 named by the left node on page 0",
+    );
+    case(&*img);
+    bench_images::put_one(&mut *img, 3, 3, 10, 0);
+    io::write_all(1, b"R5, the same and one entry in the root on page 3");
+    case(&*img);
+}
+
+fn rule_5_erased(img: &mut [u8; 50688]) {
+    bench_images::put_loose(&mut *img);
+    bench_images::put_one(&mut *img, 0, 2, 10, 50);
+    io::write_all(1, b"R5, the erased page 50 named by the node on page 0");
+    case(&*img);
+}
+
+fn rule_6(img: &mut [u8; 50688]) {
     bench_images::put_loose(&mut *img);
     io::write_all(1, b"R6, page 1 does not name itself");
     case(&*img);
+    bench_images::put_crossed(&mut *img);
+    io::write_all(1, b"R6, neither page 2 nor page 1 names itself");
+    case(&*img);
+}
+
+fn rules_7_and_8(img: &mut [u8; 50688]) {
     bench_images::put_full(&mut *img);
     io::write_all(1, b"R7, no erased page, a live one in each block");
+    case(&*img);
+    bench_images::put_crowded(&mut *img);
+    io::write_all(1, b"R8, 35 live pages of 96");
+    case(&*img);
+}
+
+// Two broken rules: the first is named.
+fn two_rules(img: &mut [u8; 50688]) {
+    page_more(&mut *img, 2, 2, 6);
+    io::write_all(1, b"R3 and R1 on page 2");
+    case(&*img);
+    page_more(&mut *img, 3, 2, 0);
+    io::write_all(1, b"R3 on page 3 and R2");
+    case(&*img);
+    page_more(&mut *img, 1, 1, 0);
+    io::write_all(1, b"R4 and R3 on page 1");
     case(&*img);
 }
 
@@ -103,8 +176,14 @@ fn main() {
     let mut image: [u8; 50688] = [0; 50688];
     sound(&mut image);
     rule_1(&mut image);
-    rules_2_and_3(&mut image);
+    rule_2_order(&mut image);
+    rule_2_mixed(&mut image);
+    rule_3(&mut image);
     rule_4(&mut image);
-    rule_5(&mut image);
-    rules_6_and_7(&mut image);
+    rule_5_leaf(&mut image);
+    rule_5_node(&mut image);
+    rule_5_erased(&mut image);
+    rule_6(&mut image);
+    rules_7_and_8(&mut image);
+    two_rules(&mut image);
 }

@@ -1,33 +1,34 @@
 -- A call of the camera service: the number returned, the image and the result buffer afterwards. Definitions alone; assumes nothing.
-use mathlib.Core.List.{List}
-use Prim.Native.Nat.{ℕ}
+use mathlib.Core.List.{List, [], _∷_}
+use Prim.Native.Nat.{ℕ, _+_}
 use lib.Dec.{ltb}
 use lib.ListN.{length}
 use Rattle.geometry.specs.Tests.{pick}
 use Rattle.model.specs.Page.{putU32}
 use Rattle.model.specs.Calls.{Outcome}
 use Rattle.answers.specs.declared.Answer.{Answer}
-use Rattle.answers.specs.Answers.{numberOf, addressOf, programmedOf, erasedOf}
+use Rattle.answers.specs.Answers.{told}
 
 pub record Left : Type 0 where
   pub answer : ℕ
   pub image : List ℕ
   pub result : List ℕ
 
--- "answer, address, programmed, erased, 32 bits each, least byte first. Bytes after the 16 stay"
-unfoldable pub fourNumbers : ℕ → ℕ → ℕ → ℕ → List ℕ → List ℕ
-fourNumbers answer address programmed erased buf =
-    putU32 (putU32 (putU32 (putU32 buf 0 answer) 4 address) 8 programmed) 12 erased
+-- numbers of "32 bits each, least byte first", one after the other from a place on; bytes after them stay
+unfoldable pub putNumbers : List ℕ → ℕ → List ℕ → List ℕ
+putNumbers buf at [] = buf
+putNumbers buf at (v ∷ vs) = putNumbers (putU32 buf at v) (at + 4) vs
 
+-- "answer, address, programmed, erased", and request 5's "two new numbers last": rule and page
+abbrev pub numbersOf : Outcome → List ℕ
+numbersOf o = o .answer ∷ o .address ∷ o .programmed ∷ o .erased ∷ o .rule ∷ o .page ∷ []
+
+-- an answer's numbers in a buffer
 unfoldable pub reportOf : Answer → List ℕ → List ℕ
-reportOf a buf = fourNumbers (numberOf a) (addressOf a) (programmedOf a) (erasedOf a) buf
+reportOf a buf = putNumbers buf 0 (numbersOf (told a []))
 
--- "a lent result buffer of at least 16 bytes .. A shorter one gives 1 and nothing changes"
+-- "The C result buffer becomes 24 bytes"; "a buffer shorter than 24 now gives 1", and nothing changes
 unfoldable pub returned : Outcome → List ℕ → List ℕ → Left
-returned o img buf = pick (ltb (length buf) 16)
+returned o img buf = pick (ltb (length buf) 24)
     (record { answer = 1; image = img; result = buf })
-    (record {
-      answer = o .answer;
-      image = o .image;
-      result = fourNumbers (o .answer) (o .address) (o .programmed) (o .erased) buf;
-    })
+    (record { answer = o .answer; image = o .image; result = putNumbers buf 0 (numbersOf o) })

@@ -1,30 +1,45 @@
 -- What the C calls leave, in the form in which the code has the premises. Assumes nothing.
-use mathlib.Core.Path.{_≡_, ap, _∙_}
-use mathlib.Core.List.{List}
-use Prim.Native.Nat.{ℕ, _≤_, _<_}
-use lib.ListN.{length}
+use mathlib.Core.Path.{_≡_, refl, sym, ap, _∙_}
+use mathlib.Core.List.{List, [], _∷_}
+use Prim.Native.Nat.{ℕ, _+_, _-_, _*_, _≤_, _<_}
+use native.Mathlib.Omega.{arith}
+use native.Mathlib.Numerals.{add-one}
+use lib.ListN.{length, drop, getD, length-set, drop-of-length-le}
+use lib.Seq.{drop-cons}
 use borrow.Author.Tests.{lt-ltb, le-ltb}
 use Rattle.model.specs.Page.{putU32}
 use Rattle.model.specs.Calls.{Outcome}
 use Rattle.answers.specs.declared.Answer.{Answer}
-use Rattle.answers.specs.Answers.{numberOf, addressOf, programmedOf, erasedOf, told}
-use Rattle.camera.specs.Camera.{fourNumbers, reportOf, returned}
+use Rattle.answers.specs.declared.Row.{Row}
+use Rattle.answers.specs.Answers.{rowOf, toldBy, told}
+use Rattle.camera.specs.Camera.{putNumbers, numbersOf, reportOf, returned}
 
--- the puts of the four numbers
-pub number-is : (b c : List ℕ) (at v w : ℕ) → c ≡ putU32 b at w → w ≡ v → c ≡ putU32 b at v
-number-is b c at v w h e = h ∙ rw e
+-- ---- the loop that puts six numbers: what is to come leads to the whole. vs the numbers, i of them put, d the buffer
+pub put-go : (w m d vs : List ℕ) (i v : ℕ) → w ≡ putNumbers m (4 * i) (drop i vs) → d ≡ putU32 m (4 * i) v → v ≡ getD vs i 0 → length vs ≡ 6 → i < 6
+    → w ≡ putNumbers d (4 * (i + 1)) (drop (i + 1) vs)
+unfolding putNumbers
+put-go w m d vs i v e f ev len h =
+    let at : 4 * i + 4 ≡ 4 * (i + 1) = omega arith in
+    e ∙ rw (← at, add-one, drop-cons vs i 0 (omega (arith, len, h)), ← ev, f)
 
-pub counts-is : (a : Answer) (b c d : List ℕ) (p e : ℕ) → d ≡ putU32 c 12 e → c ≡ putU32 b 8 p → p ≡ programmedOf a → e ≡ erasedOf a
-    → d ≡ putU32 (putU32 b 8 (programmedOf a)) 12 (erasedOf a)
-counts-is a b c d p e h i hp he = h ∙ rw (i, hp, he)
+pub put-end : (w m vs : List ℕ) (i : ℕ) → w ≡ putNumbers m (4 * i) (drop i vs) → length vs ≡ 6 → 6 ≤ i → m ≡ w
+unfolding putNumbers
+put-end w m vs i e len h = sym (e ∙ rw (drop-of-length-le vs {i = i} (omega (arith, len, h))))
 
-pub report-is : (a : Answer) (b c d o : List ℕ) (n p : ℕ) → o ≡ putU32 (putU32 d 8 (programmedOf a)) 12 (erasedOf a) → d ≡ putU32 c 4 p → c ≡ putU32 b 0 n
-    → n ≡ numberOf a → p ≡ addressOf a → o ≡ reportOf a b
-unfolding reportOf fourNumbers
-report-is a b c d o n p h i j hn hp = h ∙ rw (i, j, hn, hp)
+length-numbers : (b : List ℕ) (at : ℕ) (vs : List ℕ) → length (putNumbers b at vs) ≡ length b
+unfolding putNumbers putU32
+length-numbers b at [] = refl
+length-numbers b at (v ∷ vs) = length-numbers (putU32 b at v) (at + 4) vs ∙ simp length-set
+
+pub put-same : (b d vs ws : List ℕ) (i j : ℕ) → putNumbers b i vs ≡ putNumbers d j ws → length d ≡ length b
+put-same b d vs ws i j e = sym (length-numbers d j ws) ∙ ap length (sym e) ∙ length-numbers b i vs
+
+pub report-is : (a : Answer) (w : Row) (b d : List ℕ) → d ≡ putNumbers b 0 (numbersOf (toldBy w [])) → w ≡ rowOf a → d ≡ reportOf a b
+unfolding reportOf
+report-is a w b d e f = e ∙ ap (λ (x : Row). putNumbers b 0 (numbersOf (toldBy x []))) f
 
 -- a buffer that is too short
-module _ (o : Outcome) (img buf : List ℕ) (h : length buf < 16) where
+module _ (o : Outcome) (img buf : List ℕ) (h : length buf < 24) where
   pub short-answer : 1 ≡ returned o img buf .answer
   unfolding returned
   short-answer = rw (lt-ltb _ _ h)
@@ -38,8 +53,8 @@ module _ (o : Outcome) (img buf : List ℕ) (h : length buf < 16) where
   short-result = rw (lt-ltb _ _ h)
 
 -- a call made, o its outcome
-module _ (o : Outcome) (img out buf : List ℕ) (a : Answer) (e : told a out ≡ o) (h : 16 ≤ length buf) where
-  pub made-answer : (n : ℕ) → n ≡ numberOf a → n ≡ returned o img buf .answer
+module _ (o : Outcome) (img out buf : List ℕ) (a : Answer) (e : told a out ≡ o) (h : 24 ≤ length buf) where
+  pub made-answer : (n : ℕ) → n ≡ rowOf a .answer → n ≡ returned o img buf .answer
   unfolding returned
   made-answer n f = rw (le-ltb _ _ h) (f ∙ ap (λ (x : Outcome). x .answer) e)
 
@@ -49,6 +64,6 @@ module _ (o : Outcome) (img out buf : List ℕ) (a : Answer) (e : told a out ≡
 
   pub made-result : (b : List ℕ) → b ≡ reportOf a buf → b ≡ returned o img buf .result
   unfolding returned reportOf
-  made-result b f = rw (le-ltb _ _ h) (f ∙ ap (λ (x : Outcome). fourNumbers (x .answer) (x .address) (x .programmed) (x .erased) buf) e)
+  made-result b f = rw (le-ltb _ _ h) (f ∙ ap (λ (x : Outcome). putNumbers buf 0 (numbersOf x)) e)
 
-pub ruleset camera-laws = (number-is, counts-is, report-is, short-answer, short-image, short-result, made-answer, made-image, made-result)
+pub ruleset camera-laws = (put-go, put-end, put-same, report-is, short-answer, short-image, short-result, made-answer, made-image, made-result)

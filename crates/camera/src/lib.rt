@@ -1,10 +1,8 @@
 // The four calls as a camera service in C makes them: the geometry's number, numbers, the lent image, and a lent result buffer.
 ghost use mathlib.Core.Path.{_≡_};
-ghost use Prim.Native.Nat.{_<_};
-ghost use Rattle.model.specs.Page.{putU32};
 ghost use Rattle.model.specs.Calls.{formatOf, lookupOf, insertOf, deleteOf};
-ghost use Rattle.answers.specs.Answers.{numberOf, addressOf, programmedOf, erasedOf};
-ghost use Rattle.camera.specs.Camera.{reportOf, returned};
+ghost use Rattle.answers.specs.Answers.{rowOf};
+ghost use Rattle.camera.specs.Camera.{putNumbers, reportOf, returned};
 use answers::Answer;
 
 fn long(v: u32) -> u64
@@ -13,31 +11,28 @@ fn long(v: u32) -> u64
     v as u64
 }
 
-fn put_number(result: &mut [u8], at: usize, v: u32)
-    requires { ⌜ at < 16 ⌝ }
-    ensures { λ _. ⌜ now (result .exit) ≡ putU32 (now (result .entry)) at v ⌝ }
+// Six numbers of 32 bits, least byte first, from the buffer's start on.
+fn put_numbers(buf: &mut [u8], numbers: [u32; 6])
+    ensures { λ _. ⌜ now (buf .exit) ≡ putNumbers (now (buf .entry)) 0 numbers ⌝ }
 {
-    page::put_u32(&mut *result, at, long(v));
+    let mut i: usize = 0;
+    while i < 6 {
+        page::put_u32(&mut *buf, 4 * i, long(numbers[i]));
+        i += 1;
+    }
 }
 
-// The last two numbers: programmed, erased.
-fn report_counts(result: &mut [u8], a: Answer)
-    ensures { λ _. ⌜ now (result .exit) ≡ putU32 (putU32 (now (result .entry)) 8 (programmedOf a)) 12 (erasedOf a) ⌝ }
-{
-    put_number(&mut *result, 8, answers::programmed(a));
-    put_number(&mut *result, 12, answers::erased(a));
-}
-
-// Answer, address, programmed, erased, 32 bits each, least byte first. Gives the answer number.
+// An answer's row in the result buffer. Gives the answer number.
 fn report(result: &mut [u8], a: Answer) -> u32
-    ensures number { λ r. ⌜ r ≡ numberOf a ⌝ }
+    ensures number { λ r. ⌜ r ≡ rowOf a .answer ⌝ }
     ensures bytes { λ _. ⌜ now (result .exit) ≡ reportOf a (now (result .entry)) ⌝ }
 {
-    let n = answers::number(a);
-    put_number(&mut *result, 0, n);
-    put_number(&mut *result, 4, answers::address(a));
-    report_counts(&mut *result, a);
-    n
+    let w = answers::row_of(a);
+    put_numbers(
+        &mut *result,
+        [w.answer, w.address, w.programmed, w.erased, w.rule, w.page],
+    );
+    w.answer
 }
 
 #[no_mangle]
@@ -46,7 +41,7 @@ pub extern "C" fn mutree_format(kind: u32, image: &mut [u8], result: &mut [u8]) 
     ensures image { λ _. ⌜ now (image .exit) ≡ returned (formatOf kind (now (image .entry))) (now (image .entry)) (now (result .entry)) .image ⌝ }
     ensures result { λ _. ⌜ now (result .exit) ≡ returned (formatOf kind (now (image .entry))) (now (image .entry)) (now (result .entry)) .result ⌝ }
 {
-    if result.len() < 16 {
+    if result.len() < 24 {
         return 1;
     }
     let a = index::format(kind, &mut *image);
@@ -58,7 +53,7 @@ pub extern "C" fn mutree_lookup(kind: u32, image: &[u8], key: u32, result: &mut 
     ensures answer { λ r. ⌜ r ≡ returned (lookupOf kind (now (image .entry)) key) (now (image .entry)) (now (result .entry)) .answer ⌝ }
     ensures result { λ _. ⌜ now (result .exit) ≡ returned (lookupOf kind (now (image .entry)) key) (now (image .entry)) (now (result .entry)) .result ⌝ }
 {
-    if result.len() < 16 {
+    if result.len() < 24 {
         return 1;
     }
     let a = index::lookup(kind, image, key);
@@ -78,7 +73,7 @@ pub extern "C" fn mutree_insert(
     ensures image { λ _. ⌜ now (image .exit) ≡ returned (insertOf kind (now (image .entry)) key address allowance) (now (image .entry)) (now (result .entry)) .image ⌝ }
     ensures result { λ _. ⌜ now (result .exit) ≡ returned (insertOf kind (now (image .entry)) key address allowance) (now (image .entry)) (now (result .entry)) .result ⌝ }
 {
-    if result.len() < 16 {
+    if result.len() < 24 {
         return 1;
     }
     let a = index::insert(kind, &mut *image, key, address, allowance);
@@ -97,7 +92,7 @@ pub extern "C" fn mutree_delete(
     ensures image { λ _. ⌜ now (image .exit) ≡ returned (deleteOf kind (now (image .entry)) key allowance) (now (image .entry)) (now (result .entry)) .image ⌝ }
     ensures result { λ _. ⌜ now (result .exit) ≡ returned (deleteOf kind (now (image .entry)) key allowance) (now (image .entry)) (now (result .entry)) .result ⌝ }
 {
-    if result.len() < 16 {
+    if result.len() < 24 {
         return 1;
     }
     let a = index::delete(kind, &mut *image, key, allowance);

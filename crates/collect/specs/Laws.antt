@@ -13,11 +13,9 @@ use Rattle.geometry.specs.declared.Geometry.{Geometry}
 use Rattle.geometry.specs.Tests.{pick}
 use Rattle.model.specs.Bytes.{erased}
 use Rattle.model.specs.Collect.{moveStore, sweepStores, clearStores, collectStores, theVictim}
-use Rattle.model.specs.Count.{arg}
-use Rattle.model.specs.Image.{chipOf, pagesOf, seqOf}
+use Rattle.model.specs.Image.{chipOf, pagesOf}
 use Rattle.model.specs.Stores.{erase, applyStore, applyAll}
 use Rattle.model.specs.Tree.{placesOf, live, lowLevel, erasedPages}
-use Rattle.chip.specs.Chip.{chipWith}
 use Rattle.survey.specs.declared.Survey.{Survey}
 use Rattle.survey.specs.Survey.{surveyOf}
 use Rattle.walk.specs.Table.{liveIn}
@@ -27,23 +25,14 @@ use Rattle.stores.specs.Run.{Ran}
 use Rattle.stores.specs.Runs.{ran-none, ran-then, ran-halted, ran-full}
 use Rattle.victim.specs.declared.Best.{Best}
 use Rattle.victim.specs.Victim.{fullIn, livesBy, bestOf, Bests, Looked}
-use Rattle.victim.specs.Laws.{chip-is, inside, victim-is}
-use Rattle.moving.specs.Own.{moveBy}
+use Rattle.victim.specs.Laws.{inside, victim-is}
 use Rattle.collect.specs.declared.Swept.{Swept}
 use Rattle.collect.specs.Collect.{pageStores, Sweeps}
 
--- the page with the largest number, as the survey has it
-pub survey-last : (g : Geometry) (n : ℕ) (i : List ℕ) (s : Survey) → s ≡ surveyOf g n i → s .last ≡ arg (pagesOf g n) (seqOf g i)
-unfolding surveyOf
-survey-last g n i s e = ap (λ (x : Survey). x .last) e
-
 -- ---- one page
 module _ (g : Geometry) (n : ℕ) (i : List ℕ) (s : Survey) (tbl : List ℕ) (lk : Looked g n i s tbl) (q w : ℕ) (ew : w ≡ getD tbl q 0) (k : q < length tbl) where
-  pub low-is : w ≡ lowLevel (placesOf (chipWith g i (s .level) (s .root))) q
-  low-is = ew ∙ lk .marked .lows q k ∙ sym (ap (λ c. lowLevel (placesOf c) q) (chip-is g n i s (lk .survey)))
-
-  pub newest-is : s .last ≡ arg (pagesOf g n) (seqOf g i)
-  newest-is = survey-last g n i s (lk .survey)
+  pub low-is : w ≡ lowLevel (placesOf (chipOf g n i)) q
+  low-is = ew ∙ lk .marked .lows q k
 
   dead : w ≡ 0 → live (placesOf (chipOf g n i)) q ≡ false
   unfolding liveIn
@@ -53,18 +42,14 @@ module _ (g : Geometry) (n : ℕ) (i : List ℕ) (s : Survey) (tbl : List ℕ) (
   unfolding liveIn
   alive e = sym (marked-live (chipOf g n i) tbl (lk .marked) q k) ∙ rw (ne-eqb (getD tbl q 0) 0 (λ y. e (ew ∙ y)))
 
-  store-is : moveBy g n q (s .most) (chipWith g i (s .level) (s .root)) ≡ moveStore g n q i
-  unfolding surveyOf moveBy moveStore
-  store-is = λ y. moveBy g n q (lk .survey y .most) (chipWith g i (lk .survey y .level) (lk .survey y .root))
-
   pub page-dead : (b : Budget) → w ≡ 0 → Sweeps g n q b (record { budget = b; survey = s }) i i tbl
   unfolding pageStores
   page-dead b e = record { ran = rw (dead e) (ran-none g b i); seen = lk }
 
-  pub page-moved : (b r : Budget) (t : Survey) (o u : List ℕ) → Ran g (moveBy g n q (s .most) (chipWith g i (s .level) (s .root)) ∷ []) b r i o → Looked g n o t u → (w ≡ 0 → ⊥)
+  pub page-moved : (b r : Budget) (t : Survey) (o u : List ℕ) → Ran g (moveStore g n q i ∷ []) b r i o → Looked g n o t u → (w ≡ 0 → ⊥)
       → Sweeps g n q b (record { budget = r; survey = t }) i o u
   unfolding pageStores
-  page-moved b r t o u run l e = record { ran = rw (alive e) (rw store-is at run); seen = l }
+  page-moved b r t o u run l e = record { ran = rw (alive e) run; seen = l }
 
 -- ---- the pages of a block
 sweep-suc : (g : Geometry) (n v j : ℕ) (i : List ℕ)
@@ -165,6 +150,3 @@ module _ (g : Geometry) (n k : ℕ) (i : List ℕ) (s : Survey) (tbl : List ℕ)
       rw (collect-suc g n k m i true (few-is l), ← made) (ran-then g _ _ b r u i h o run two)
 
 pub ruleset collect-laws = (low-is, page-dead, page-moved, page-in, sweep-none, sweep-halt, sweep-on, room-is, clear-none, clear-halt, clear-done, collect-none, collect-enough, collect-halt, collect-on)
-
--- for the page that moves alone
-pub ruleset newest-laws = (newest-is)

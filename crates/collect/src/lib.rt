@@ -42,7 +42,7 @@ fn sweep_page(
             survey: s,
         };
     }
-    let r = moving::move_page(g, &mut *img, n, b, s.most, s.last, s.level, s.root, low, q);
+    let r = moving::move_page(g, &mut *img, n, b, s, low, q);
     let t = victim::look(g, &*img, &mut *table, n);
     Swept {
         budget: r,

@@ -7,7 +7,8 @@ use mathlib.Core.Option.{Option}
 use Rattle.geometry.specs.declared.Geometry.{Geometry}
 use Rattle.model.specs.Image.{Chip, chipOf, blocksOf, maxSeq}
 use Rattle.model.specs.Tree.{sought}
-use Rattle.model.specs.Calls.{Outcome, worn, deleteRest, delete}
+use Rattle.model.specs.Rules.{verdict}
+use Rattle.model.specs.Calls.{refused, damaged, byVerdict, Outcome, worn, deleteRest, delete}
 use Rattle.model.specs.Collect.{collectStores}
 use Rattle.model.specs.Stores.{Store}
 use Rattle.model.specs.Update.{isNone, deleteStore, deleteStores}
@@ -22,14 +23,12 @@ use Rattle.search.specs.Search.{found}
 use Rattle.stores.specs.declared.Budget.{Budget}
 use Rattle.stores.specs.Run.{Ran}
 use Rattle.survey.specs.declared.Survey.{Survey}
-use Rattle.survey.specs.Survey.{surveyOf}
-use Rattle.collect.specs.Laws.{survey-last}
+use Rattle.survey.specs.Laws.{chip-is}
 use Rattle.victim.specs.Victim.{Looked}
-use Rattle.victim.specs.Laws.{chip-is}
 use Rattle.account.specs.Account.{freshOf, answerBy}
 use Rattle.account.specs.Laws.{told-made}
 use Rattle.account.specs.Rest.{worn-is, fresh-is, first-halt, first-then}
-use Rattle.judging.specs.Judging.{judgedIn, judged-damaged, judged-rest, judged-looked, judged-room, judged-length, judged-blocks}
+use Rattle.judging.specs.Judging.{judged-broken, judged-rest, judged-looked, judged-room, judged-length, judged-blocks}
 
 -- ---- ABSENT
 module _ (f : Found) (o : Option ℕ) (ef : found f ≡ o) where
@@ -51,12 +50,10 @@ module _ (g : Geometry) (n k x : ℕ) (i : List ℕ) (b : Budget) (eb : b ≡ fr
   unfolding deleteStores own
   delete-halt t = first-halt g (collectStores g n 1 2 i) own x b eb r i h run t
 
-  pub delete-on : (s : Survey) (u : Budget) (o : List ℕ) → Ran g (deleteStore g n (s .most) (chipWith g h (s .level) (s .root)) k ∷ []) r u h o → s ≡ surveyOf g n h
-      → r .stopped ≡ false → Ran g (deleteStores g n i k) (freshOf x) u i o
-  unfolding deleteStores own surveyOf
-  delete-on s u o last es t =
-      let e : deleteStore g n (s .most) (chipWith g h (s .level) (s .root)) k ∷ [] ≡ own h = (λ z. deleteStore g n (es z .most) (chipWith g h (es z .level) (es z .root)) k ∷ []) in
-      first-then g (collectStores g n 1 2 i) own x b eb r i h run u o t (rw e at last)
+  pub delete-on : (u : Budget) (o : List ℕ) → Ran g (deleteStore g n (maxSeq g n h) (chipOf g n h) k ∷ []) r u h o → r .stopped ≡ false
+      → Ran g (deleteStores g n i k) (freshOf x) u i o
+  unfolding deleteStores own
+  delete-on u o last t = first-then g (collectStores g n 1 2 i) own x b eb r i h run u o t last
 
 -- ---- the answers
 module _ (g : Geometry) (n k x : ℕ) (i : List ℕ) (s : Survey) (tbl : List ℕ) (lk : Looked g n i s tbl) where
@@ -82,12 +79,12 @@ module _ (g : Geometry) (n k x : ℕ) (i : List ℕ) (s : Survey) (tbl : List �
 module _ (g : Geometry) (img : List ℕ) (k x n : ℕ) (en : n ≡ goodBlocks g img) where
   pub delete-length : n ≡ 0 → told Length img ≡ delete g img k x
   unfolding delete
-  delete-length z = judged-length g img _ n en z
+  delete-length z = judged-length g img (refused 1 img) (damaged img) _ n en z
 
-  pub delete-blocks : (o : Outcome) → (n ≡ 0 → ⊥) → o ≡ judgedIn g n img (deleteRest g n img k x) → o ≡ delete g img k x
+  pub delete-blocks : (o : Outcome) → (n ≡ 0 → ⊥) → o ≡ byVerdict (verdict g n img) (damaged img) (deleteRest g n img k x) → o ≡ delete g img k x
   unfolding delete
   delete-blocks o h e =
-      let f : o ≡ judgedIn g n img (deleteRest g (blocksOf g img) img k x) = e ∙ ap (λ (m : ℕ). judgedIn g n img (deleteRest g m img k x)) (some-blocks g img n en h) in
-      judged-blocks g img _ n en o h f
+      let f : o ≡ byVerdict (verdict g n img) (damaged img) (deleteRest g (blocksOf g img) img k x) = e ∙ ap (λ (m : ℕ). byVerdict (verdict g n img) (damaged img) (deleteRest g m img k x)) (some-blocks g img n en h) in
+      judged-blocks g img (refused 1 img) (damaged img) _ n en o h f
 
-pub ruleset delete-laws = (survey-last, absent-no, absent-is, delete-halt, delete-on, rest-worn, rest-absent, rest-made, judged-damaged, judged-rest, judged-looked, judged-room, delete-length, delete-blocks)
+pub ruleset delete-laws = (absent-no, absent-is, delete-halt, delete-on, rest-worn, rest-absent, rest-made, judged-broken, judged-rest, judged-looked, judged-room, delete-length, delete-blocks)

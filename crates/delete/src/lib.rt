@@ -3,7 +3,8 @@ ghost use mathlib.Core.Path.{_≡_};
 ghost use Prim.Native.Nat.{ℕ, _+_, _*_, _-_, _≤_, _<_};
 ghost use lib.ListN.{length};
 ghost use Rattle.geometry.specs.Geometry.{pageBytes};
-ghost use Rattle.model.specs.Calls.{deleteRest, delete};
+ghost use Rattle.model.specs.Rules.{verdict};
+ghost use Rattle.model.specs.Calls.{damaged, byVerdict, deleteRest, delete};
 ghost use Rattle.model.specs.Tree.{sought};
 ghost use Rattle.model.specs.Update.{isNone, deleteStores};
 ghost use Rattle.answers.specs.Answers.{told};
@@ -11,7 +12,6 @@ ghost use Rattle.chip.specs.Chip.{chipWith};
 ghost use Rattle.stores.specs.Run.{Ran};
 ghost use Rattle.account.specs.Account.{freshOf};
 ghost use Rattle.victim.specs.Victim.{Looked};
-ghost use Rattle.judging.specs.Judging.{judgedIn};
 use answers::Answer;
 use geometry::Geometry;
 use geometry::Verdict;
@@ -37,7 +37,7 @@ fn make_stores(
         return r;
     }
     let s = survey::take_survey(g, &*img, n);
-    deletion::delete_own(g, &mut *img, n, r, s.most, s.last, s.level, s.root, key)
+    deletion::delete_own(g, &mut *img, n, r, s, key)
 }
 
 // ABSENT: nothing stands under the key.
@@ -85,13 +85,13 @@ fn delete_blocks(
     allowance: u32,
 ) -> Answer
     requires { ⌜ (g .pages ≤ 64) × (n ≤ 1024) × (65536 ≤ length (now table)) × (pageBytes g ≤ 2112) ⌝ }
-    ensures { λ r. ⌜ told r (now (img .exit)) ≡ judgedIn g n (now (img .entry)) (deleteRest g n (now (img .entry)) key allowance) ⌝ }
+    ensures { λ r. ⌜ told r (now (img .exit)) ≡ byVerdict (verdict g n (now (img .entry))) (damaged (now (img .entry))) (deleteRest g n (now (img .entry)) key allowance) ⌝ }
 {
     let judgement = verdict::judge_image(g, &*img, &mut *table, n);
     let verdict = judgement.verdict;
     let survey = judgement.survey;
     match verdict {
-        Verdict::Broken(_, _) => Answer::Damaged,
+        Verdict::Broken(rule, page) => Answer::Damaged(rule, page),
         Verdict::Sound => delete_rest(g, &mut *img, &mut *table, n, survey, key, allowance),
     }
 }

@@ -11,8 +11,7 @@ use Rattle.geometry.specs.declared.Entry.{Entry}
 use Rattle.geometry.specs.Geometry.{pageBytes}
 use Rattle.model.specs.Bytes.{erased, nodeAt}
 use Rattle.model.specs.Edit.{collapse}
-use Rattle.model.specs.Image.{Nodes, pagesOf, seqOf}
-use Rattle.model.specs.Count.{arg}
+use Rattle.model.specs.Image.{Nodes}
 use Rattle.model.specs.Next.{nextPage}
 use Rattle.model.specs.Page.{built, only}
 use Rattle.model.specs.Stores.{program}
@@ -34,6 +33,9 @@ use Rattle.edit.specs.Laws.{still}
 use Rattle.crown.specs.Crown.{pathStore}
 use Rattle.next.specs.Coming.{seen}
 use Rattle.deletion.specs.declared.Top.{Top}
+use Rattle.survey.specs.declared.Survey.{Survey}
+use Rattle.survey.specs.Survey.{surveyOf}
+use Rattle.survey.specs.Laws.{newest-is}
 use Rattle.deletion.specs.Own.{firstOf, Collapses, topStore, rootStore, storeBy, Removes}
 
 -- ---- collapse
@@ -122,8 +124,8 @@ with-is g j l e b r u i h o p q run ch ep ec =
     let s = still g j l e b u i h p q ch (λ m c. nothing g j m c ec) in
     ran-then g [] (_ ∷ []) b (u .budget) r i i o (s .1) (rw (s .0, ch .node, ch .page, ep) at run)
 
-pub removes : (g : Geometry) (n : ℕ) (i : List ℕ) (seq k x s z : ℕ) (ps : List ℕ) → x ≡ nextPage (g .pages) n (seen (erased g i) z) → z ≡ arg (pagesOf g n) (seqOf g i) → s ≡ seq → s < 4294967296
-    → Removes g n i seq k (record { key = k; page = x; seq = s; sides = ps; change = Remove })
-removes g n i seq k x s z ps ex ez es h = record { key = refl; change = refl; number = es; small = h; page = ex ∙ rw ez }
+pub removes : (g : Geometry) (n : ℕ) (i : List ℕ) (s : Survey) (k x y : ℕ) (ps : List ℕ) → x ≡ nextPage (g .pages) n (seen (erased g i) (s .last)) → s ≡ surveyOf g n i → y ≡ s .most → y < 4294967296
+    → Removes g n i (s .most) k (record { key = k; page = x; seq = y; sides = ps; change = Remove })
+removes g n i s k x y ps ex es ey h = record { key = refl; change = refl; number = ey; small = h; page = ex ∙ rw (newest-is g n i s es) }
 
 pub ruleset deletion-laws = (length-mapped, first-none, first-some, collapse-leaf, collapse-stay, collapse-on, top-is, root-stay, root-fall, with-is, removes)

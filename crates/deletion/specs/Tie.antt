@@ -12,7 +12,7 @@ use Rattle.geometry.specs.declared.Entry.{Entry}
 use Rattle.geometry.specs.Geometry.{pageBytes}
 use Rattle.geometry.specs.Tests.{pick, and-true, and-false}
 use Rattle.model.specs.Bytes.{nodeAt}
-use Rattle.model.specs.Image.{Chip, Nodes}
+use Rattle.model.specs.Image.{Chip, Nodes, chipOf, maxSeq}
 use Rattle.model.specs.Next.{taken}
 use Rattle.model.specs.Page.{built, sealed, only}
 use Rattle.model.specs.Stores.{program}
@@ -29,6 +29,9 @@ use Rattle.edit.specs.Edit.{changed, pathOf, partsOf}
 use Rattle.edit.specs.Paths.{path-top}
 use Rattle.chip.specs.Chip.{chipWith}
 use Rattle.crown.specs.Crown.{pathStore}
+use Rattle.survey.specs.declared.Survey.{Survey}
+use Rattle.survey.specs.Survey.{surveyOf}
+use Rattle.survey.specs.Laws.{makes}
 use Rattle.deletion.specs.Own.{rootAt, topStore, rootStore, storeBy, Removes}
 
 -- a root that does not fall keeps its entries
@@ -121,11 +124,16 @@ module _ (g : Geometry) (n : ℕ) (i : List ℕ) (seq l p k : ℕ) (j : Job) (pj
           (λ z. program (j .page) (built g (suc (pj .number z)) (suc (falls z .level)) (only (suc (falls z .level)) (falls z .list))))
           ∙ sym (λ z. program (j .page) (built g (suc seq) (suc (deleteTop c k (j .page) .level)) (λ x. part-only g c k (j .page) (λ r. eqb-false _ _ q ((λ z. falls z .level) ∙ r)) x z)))
 
-  pub deleted : (b r : Budget) (o : List ℕ) → Ran g (storeBy g j l (rootAt p) i ∷ []) b r i o → pageBytes g ≤ 2112 → Ran g (deleteStore g n seq (chipWith g i l p) k ∷ []) b r i o
+  own-is : pageBytes g ≤ 2112 → storeBy g j l (rootAt p) i ≡ deleteStore g n seq (chipWith g i l p) k
   unfolding deleteStore c at
-  deleted b r o run le =
-      let e : storeBy g j l (rootAt p) i ≡ program at (built g (suc seq) (suc (deleteTop c k at .level)) (deletePart c k at)) =
-      store-is le ∙ (λ z. program (page z) (built g (suc seq) (suc (deleteTop c k (page z) .level)) (deletePart c k (page z)))) in
-      rw e at run
+  own-is le = store-is le ∙ (λ z. program (page z) (built g (suc seq) (suc (deleteTop c k (page z) .level)) (deletePart c k (page z))))
+
+-- with the survey of the image
+pub deleted : (g : Geometry) (n : ℕ) (i : List ℕ) (s : Survey) (k : ℕ) (j : Job) (b r : Budget) (o : List ℕ) → Ran g (storeBy g j (s .level) (rootAt (s .root)) i ∷ []) b r i o
+    → Removes g n i (s .most) k j → s ≡ surveyOf g n i → pageBytes g ≤ 2112 → Ran g (deleteStore g n (maxSeq g n i) (chipOf g n i) k ∷ []) b r i o
+deleted g n i s k j b r o run pj es le =
+    let e : storeBy g j (s .level) (rootAt (s .root)) i ≡ deleteStore g n (maxSeq g n i) (chipOf g n i) k =
+    own-is g n i (s .most) (s .level) (s .root) k j pj le ∙ makes g n i s es (λ y c. deleteStore g n y c k) in
+    rw e at run
 
 pub ruleset tie-laws = (deleted)

@@ -4,12 +4,11 @@ ghost use mathlib.Core.List.{[], _∷_};
 ghost use Prim.Native.Nat.{ℕ, suc, _+_, _*_, _-_, _≤_, _<_};
 ghost use Rattle.geometry.specs.Geometry.{pageBytes};
 ghost use Rattle.model.specs.Bytes.{nodeAt};
-ghost use Rattle.model.specs.Count.{arg};
-ghost use Rattle.model.specs.Image.{pagesOf, seqOf};
+ghost use Rattle.model.specs.Image.{chipOf, maxSeq};
 ghost use Rattle.model.specs.Update.{deleteStore};
 ghost use Rattle.node.specs.Node.{entries};
-ghost use Rattle.chip.specs.Chip.{chipWith};
 ghost use Rattle.stores.specs.Run.{Ran};
+ghost use Rattle.survey.specs.Survey.{surveyOf};
 ghost use Rattle.deletion.specs.Own.{firstOf, Collapses, Removes, topStore, rootStore, storeBy, rootAt};
 ghost use Rattle.step.specs.declared.Change.{Change};
 use edit::Changed;
@@ -19,6 +18,7 @@ use node::Node;
 use step::Change;
 use step::Job;
 use stores::Budget;
+use survey::Survey;
 
 // The root that is left, and the levels below it.
 pub struct Top {
@@ -119,14 +119,14 @@ fn long(x: u32) -> u64
     x as u64
 }
 
-// The job of removing a key; `newest` is the page with the largest number.
-fn delete_job(g: Geometry, img: &[u8], n: u16, seq: u32, newest: u32, key: u32) -> Job
-    requires { ⌜ newest ≡ arg (pagesOf g n) (seqOf g (now img)) ⌝ }
-    ensures { λ r. ⌜ Removes g n (now (img .entry)) seq key r ⌝ }
+// The job of removing a key.
+fn delete_job(g: Geometry, img: &[u8], n: u16, s: Survey, key: u32) -> Job
+    requires { ⌜ s ≡ surveyOf g n (now img) ⌝ }
+    ensures { λ r. ⌜ Removes g n (now (img .entry)) (s .most) key r ⌝ }
 {
-    let page = next::next_page(g, img, n, newest);
+    let page = next::next_page(g, img, n, s.last);
     let none = next::no_pages();
-    let last = long(seq);
+    let last = long(s.most);
     Job {
         key: key,
         page: page,
@@ -136,21 +136,11 @@ fn delete_job(g: Geometry, img: &[u8], n: u16, seq: u32, newest: u32, key: u32) 
     }
 }
 
-// The store of a delete on an image of n blocks, its largest number and that number's page, root and levels given.
-pub fn delete_own(
-    g: Geometry,
-    img: &mut [u8],
-    n: u16,
-    b: Budget,
-    seq: u32,
-    newest: u32,
-    level: u32,
-    root: u32,
-    key: u32,
-) -> Budget
-    requires { ⌜ (level < 255) × (newest ≡ arg (pagesOf g n) (seqOf g (now img))) × (pageBytes g ≤ 2112) × (b .left + b .programmed + b .erased < 4294967296) ⌝ }
-    ensures { λ r. ⌜ Ran g (deleteStore g n seq (chipWith g (now (img .entry)) level root) key ∷ []) b r (now (img .entry)) (now (img .exit)) ⌝ }
+// The store of a delete on an image of n blocks, with its survey given.
+pub fn delete_own(g: Geometry, img: &mut [u8], n: u16, b: Budget, s: Survey, key: u32) -> Budget
+    requires { ⌜ (s ≡ surveyOf g n (now img)) × (s .level < 255) × (pageBytes g ≤ 2112) × (b .left + b .programmed + b .erased < 4294967296) ⌝ }
+    ensures { λ r. ⌜ Ran g (deleteStore g n (maxSeq g n (now (img .entry))) (chipOf g n (now (img .entry))) key ∷ []) b r (now (img .entry)) (now (img .exit)) ⌝ }
 {
-    let job = delete_job(g, &*img, n, seq, newest, key);
-    delete_with(g, &mut *img, b, job, level, root)
+    let job = delete_job(g, &*img, n, s, key);
+    delete_with(g, &mut *img, b, job, s.level, s.root)
 }

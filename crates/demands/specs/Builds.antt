@@ -21,7 +21,7 @@ use Rattle.model.specs.Rules.{verdict}
 use Rattle.model.specs.Stores.{Store, program, erase, applyAll, programs, erases}
 use Rattle.model.specs.Edit.{put}
 use Rattle.model.specs.Update.{isNone, rootNode, rootGains, fills, needs, tooHigh, insertStores, deleteStores, formatStores}
-use Rattle.model.specs.Calls.{Outcome, refused, made, answered, lookup, worn, roomless, freePages, insert, delete, format}
+use Rattle.model.specs.Calls.{Outcome, gives, refused, made, answered, lookup, worn, roomless, freePages, insert, delete, format}
 use Rattle.counts.specs.Tally.{bit-most}
 use Rattle.trees.specs.Splits.{splits-le}
 use Rattle.chips.specs.Next.{block-in}
@@ -91,13 +91,7 @@ module _ (g : Geometry) (shape : Shape g) (some-worn : 1 ≤ g .worn) (img : Lis
 
   pub new-is : format g img .image ≡ applyAll g (formatStores g b) img
   unfolding format
-  new-is = ap (λ t. pick t (record {
-    answer = 0;
-    address = 0;
-    programmed = 1;
-    erased = blocksOf g img;
-    image = applyAll g (formatStores g (blocksOf g img)) img;
-  }) (refused 1 img) .image) length-good
+  new-is = ap (λ t. pick t (gives 0 0 1 (blocksOf g img) (applyAll g (formatStores g (blocksOf g img)) img)) (refused 1 img) .image) length-good
 
   new-length : length new ≡ length img
   new-length = ap length new-is ∙ length-all g (formatStores g b) img

@@ -10,29 +10,31 @@ use lib.Seq.{take-all}
 use lib.Dec.{leb}
 use borrow.Author.Tests.{ltb-false, leb-true, leb-false}
 use Rattle.geometry.specs.declared.Geometry.{Geometry}
+use Rattle.geometry.specs.declared.Verdict.{Verdict}
+use Rattle.geometry.specs.declared.Verdict.the-variants.{Sound, Broken}
 use Rattle.geometry.specs.Tests.{pick}
 use Rattle.model.specs.Image.{blocksOf, goodLength, maxSeq, Chip, chipOf}
 use Rattle.model.specs.Tree.{sought}
-use Rattle.model.specs.Rules.{verdict, isSound}
+use Rattle.model.specs.Rules.{verdict}
 use Rattle.model.specs.Stores.{Store, applyAll, programs}
 use Rattle.model.specs.Update.{isNone, needs, tooHigh, insertStores, deleteStores}
-use Rattle.model.specs.Calls.{Outcome, refused, made, judged, worn, roomless, freePages, insertRest, insert, deleteRest, delete}
+use Rattle.model.specs.Calls.{Outcome, refused, damaged, made, byVerdict, judged, judgedCall, worn, roomless, freePages, insertRest, insert, deleteRest, delete}
 use Rattle.trees.specs.Lists.{All}
 use Rattle.demands.specs.Words.{Ready, Began}
 use Rattle.demands.specs.Tests.{Test, tested, Untouched, Unmet, tested-untouched, tested-passed}
 
-pub judged-ready : (g : Geometry) (img : List ℕ) (rest : Outcome) → Ready g img → judged g img rest ≡ rest
-unfolding judged
+pub judged-ready : (g : Geometry) (img : List ℕ) (rest : Outcome) → Ready g img → judgedCall g img rest ≡ rest
+unfolding judged byVerdict
 judged-ready g img rest r = rw (r .length-good, r .is-sound) refl
 
-judged-untouched : (g : Geometry) (img : List ℕ) (rest : Outcome) → Untouched img rest → Untouched img (judged g img rest)
-unfolding judged
-judged-untouched g img rest h = go (goodLength g img) (isSound (verdict g (blocksOf g img) img))
+judged-untouched : (g : Geometry) (img : List ℕ) (rest : Outcome) → Untouched img rest → Untouched img (judgedCall g img rest)
+unfolding judged byVerdict
+judged-untouched g img rest h = go (goodLength g img) (verdict g (blocksOf g img) img)
   where
-    go : (x y : Bool) → Untouched img (pick x (pick y rest (refused 2 img)) (refused 1 img))
-    go true true = λ p q. h p q
-    go true false = λ p q. refl
-    go false y = λ p q. refl
+    go : (x : Bool) (v : Verdict) → Untouched img (pick x (byVerdict v (damaged img) rest) (refused 1 img))
+    go true Sound = λ p q. h p q
+    go true (Broken rule page) = λ p q. refl
+    go false v = λ p q. refl
 
 made-untouched : (g : Geometry) (ss : List Store) (al : ℕ) (img : List ℕ) → Untouched img (made g ss al img)
 unfolding made

@@ -1,11 +1,15 @@
--- Demands 1, 2 and 3 of the definitions: read Words, then Refusals (demand 1) and Demands; Round for request 2, Reached for request 11, Inserts and Many for
--- request 10. The other files are their proofs.
+-- Demands 1, 2 and 3 of the definitions: read Words, then Refusals (demand 1) and Demands; Round for request 2, Named for request 5, Reached for
+-- request 11, Inserts and Many for request 10. The other files are their proofs.
 pub mod Words
 pub mod Maps
 pub mod Bridges
 pub mod Tests
 pub mod Calls
 pub mod Refusals
+pub mod Findings
+pub mod Disorder
+pub mod Named
+pub mod Inside
 pub mod Proofs
 pub mod Demands
 pub mod Builds

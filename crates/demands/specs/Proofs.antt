@@ -10,15 +10,17 @@ use borrow.Author.Tests.{ltb-true}
 use Rattle.geometry.specs.declared.Geometry.{Geometry}
 use Rattle.geometry.specs.declared.Entry.{Entry}
 use Rattle.geometry.specs.Tests.{pick, and-right}
+use Rattle.geometry.specs.declared.Verdict.{Verdict}
+use Rattle.geometry.specs.declared.Verdict.the-variants.{Sound, Broken}
 use Rattle.geometry.specs.Geometry.{half}
 use Rattle.geometry.specs.Shape.{Shape}
 use Rattle.model.specs.Image.{blocksOf, goodLength, Nodes, Chip, chipOf}
 use Rattle.model.specs.Tree.{chosen, find, sought}
-use Rattle.model.specs.Rules.{verdict, isSound}
+use Rattle.model.specs.Rules.{verdict}
 use Rattle.model.specs.Stores.{applyAll, programs, erases}
 use Rattle.model.specs.Edit.{put, gains, remove}
 use Rattle.model.specs.Update.{isNone, rootNode, rootGains, needs, tooHigh, insertStores, deleteStore, deleteStores}
-use Rattle.model.specs.Calls.{Outcome, refused, made, judged, answered, lookup, worn, roomless, freePages, insert, delete}
+use Rattle.model.specs.Calls.{Outcome, refused, damaged, made, byVerdict, judged, answered, lookup, worn, roomless, freePages, insert, delete}
 use Rattle.trees.specs.Tests.{true-false}
 use Rattle.chips.specs.Whole.{sought-map}
 use Rattle.chips.specs.Insertion.{Fuller}
@@ -31,14 +33,14 @@ use Rattle.demands.specs.Tests.{Met, tested-one, tested-met}
 use Rattle.demands.specs.Calls.{judged-ready, insertTests, deleteTests, insert-is, delete-is, insert-passed, delete-passed, not-worn, made-began, made-done, made-stopped, made-image}
 
 pub lookup-image : (g : Geometry) (img : List ℕ) (k : ℕ) → lookup g img k .image ≡ img
-unfolding lookup judged answered
-lookup-image g img k = go (goodLength g img) (isSound (verdict g (blocksOf g img) img)) (sought (chipOf g (blocksOf g img) img) k)
+unfolding lookup judged byVerdict answered
+lookup-image g img k = go (goodLength g img) (verdict g (blocksOf g img) img) (sought (chipOf g (blocksOf g img) img) k)
   where
-    go : (x y : Bool) (o : Option ℕ) → pick x (pick y (answered o img) (refused 2 img)) (refused 1 img) .image ≡ img
-    go true true none = refl
-    go true true (some a) = refl
-    go true false o = refl
-    go false y o = refl
+    go : (x : Bool) (v : Verdict) (o : Option ℕ) → pick x (byVerdict v (damaged img) (answered o img)) (refused 1 img) .image ≡ img
+    go true Sound none = refl
+    go true Sound (some a) = refl
+    go true (Broken rule page) o = refl
+    go false v o = refl
 
 none-is : (o : Option ℕ) → isNone o ≡ true → o ≡ none
 none-is none h = refl

@@ -1,5 +1,5 @@
 -- Demand 1's words: bad lengths and damaged trees are refused by number, and nothing else is, for every image, key, address and
--- allowance; a refusal leaves the image. Assumes nothing.
+-- allowance; a refusal leaves the image, and that of a damaged tree has the verdict's rule and page. Assumes nothing.
 use mathlib.Core.Path.{_≡_}
 use mathlib.Core.List.{List}
 use mathlib.Core.Bool.{true, false}
@@ -7,25 +7,26 @@ use mathlib.Core.Option.{Option, none, some}
 use Prim.Native.Nat.{ℕ, _≤_}
 use native.Mathlib.Omega.{arith}
 use Rattle.geometry.specs.declared.Geometry.{Geometry}
+use Rattle.geometry.specs.declared.Verdict.the-variants.{Sound, Broken}
 use Rattle.model.specs.Image.{blocksOf, goodLength, chipOf}
 use Rattle.model.specs.Tree.{sought}
-use Rattle.model.specs.Rules.{verdict, isSound}
-use Rattle.model.specs.Calls.{Outcome, refused, judged, answered, lookup, insertRest, insert, deleteRest, delete, format}
+use Rattle.model.specs.Rules.{verdict}
+use Rattle.model.specs.Calls.{Outcome, refused, damaged, byVerdict, judged, judgedCall, answered, lookup, insertRest, insert, deleteRest, delete, format}
 use Rattle.model.specs.Update.{insertStores, deleteStores}
 use Rattle.demands.specs.Tests.{tested-later}
 use Rattle.demands.specs.Calls.{insertTests, deleteTests, insert-rest, delete-rest, made-began}
 
--- LENGTH for a bad length, DAMAGED for an image that is not sound, neither otherwise; both leave the image
+-- LENGTH for a bad length, DAMAGED with rule and page for an image that is not sound, neither otherwise; both leave the image
 pub record Refuses (g : Geometry) (img : List ℕ) (o : Outcome) : Type 0 where
   pub bad-length : goodLength g img ≡ false → o ≡ refused 1 img
-  pub damaged : goodLength g img ≡ true → isSound (verdict g (blocksOf g img) img) ≡ false → o ≡ refused 2 img
-  pub neither : goodLength g img ≡ true → isSound (verdict g (blocksOf g img) img) ≡ true → 1 ≤ o .answer → 3 ≤ o .answer
+  pub not-sound : (rule page : ℕ) → goodLength g img ≡ true → verdict g (blocksOf g img) img ≡ Broken rule page → o ≡ damaged img rule page
+  pub neither : goodLength g img ≡ true → verdict g (blocksOf g img) img ≡ Sound → 1 ≤ o .answer → 3 ≤ o .answer
 
-judged-refuses : (g : Geometry) (img : List ℕ) (rest : Outcome) → (1 ≤ rest .answer → 3 ≤ rest .answer) → Refuses g img (judged g img rest)
-unfolding judged
+judged-refuses : (g : Geometry) (img : List ℕ) (rest : Outcome) → (1 ≤ rest .answer → 3 ≤ rest .answer) → Refuses g img (judgedCall g img rest)
+unfolding judged byVerdict
 judged-refuses g img rest h = record {
   bad-length = λ e. rw e;
-  damaged = λ e d. rw (e, d);
+  not-sound = λ rule page e d. rw (e, d);
   neither = λ e d. rw (e, d) h;
 }
 

@@ -15,7 +15,7 @@ use Rattle.model.specs.Image.{blocksOf, goodLength}
 use Rattle.model.specs.Page.{built, sealed}
 use Rattle.model.specs.Stores.{Store, program, erase, applyStore, applyAll}
 use Rattle.model.specs.Update.{erasures, formatStores}
-use Rattle.model.specs.Calls.{format}
+use Rattle.model.specs.Calls.{gives, format}
 use Rattle.answers.specs.Answers.{told}
 use Rattle.answers.specs.declared.Answer.the-variants.{Done, Length}
 use Rattle.chip.specs.Chip.{goodBlocks}
@@ -77,6 +77,6 @@ format-done g img d o bs n e f b c z =
     let m : n ≡ blocksOf g img = c ∙ rw good refl in
     let i : o ≡ applyAll g (erasures (blocksOf g img) ++ (program 0 (built g 1 1 (λ j. [])) ∷ [])) img
     = e ∙ program-cut g 0 bs d ∙ rw (b, f, m) (sym (all-append g (erasures (blocksOf g img)) (program 0 (built g 1 1 (λ j. [])) ∷ []) img)) in
-    rw good (λ k. record { answer = 0; address = 0; programmed = 1; erased = m k; image = i k })
+    rw good (λ k. gives 0 0 1 (m k) (i k))
 
 pub ruleset format-laws = (erased-none, erased-more, erased-done, erased-same, empty-is, format-length, format-done)

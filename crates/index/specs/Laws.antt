@@ -23,46 +23,47 @@ module _ (kind : ℕ) (c : Chosen) (ec : c ≡ chosenOf kind) (g : Geometry) (e 
   pub of-page : pageBytes g ≤ 2112
   of-page = page-most g known
 
-  called : (call : Geometry → Outcome) (img : List ℕ) (o : Outcome) → o ≡ call g → o ≡ chosenCall (chosenOf kind) call img
+  -- a call of any kind
+  called : {A : Type 0} (call : Geometry → A) (other o : A) → o ≡ call g → o ≡ chosenCall (chosenOf kind) call other
   unfolding chosenCall
-  called call img o h = h ∙ ap (λ (x : Chosen). chosenCall x call img) (sym e ∙ ec)
+  called call other o h = h ∙ ap (λ (x : Chosen). chosenCall x call other) (sym e ∙ ec)
 
   pub of-format : (img : List ℕ) (o : Outcome) → o ≡ format g img → o ≡ formatOf kind img
   unfolding formatOf
-  of-format img o h = called (λ x. format x img) img o h
+  of-format img o h = called (λ x. format x img) (refused 1 img) o h
 
   pub of-lookup : (img : List ℕ) (k : ℕ) (o : Outcome) → o ≡ lookup g img k → o ≡ lookupOf kind img k
   unfolding lookupOf
-  of-lookup img k o h = called (λ x. lookup x img k) img o h
+  of-lookup img k o h = called (λ x. lookup x img k) (refused 1 img) o h
 
   pub of-insert : (img : List ℕ) (k a al : ℕ) (o : Outcome) → o ≡ insert g img k a al → o ≡ insertOf kind img k a al
   unfolding insertOf
-  of-insert img k a al o h = called (λ x. insert x img k a al) img o h
+  of-insert img k a al o h = called (λ x. insert x img k a al) (refused 1 img) o h
 
   pub of-delete : (img : List ℕ) (k al : ℕ) (o : Outcome) → o ≡ delete g img k al → o ≡ deleteOf kind img k al
   unfolding deleteOf
-  of-delete img k al o h = called (λ x. delete x img k al) img o h
+  of-delete img k al o h = called (λ x. delete x img k al) (refused 1 img) o h
 
 -- no such geometry. A `let .. else` leaves that the choice is no Of, whatever geometry
 module _ (kind : ℕ) (c : Chosen) (ec : c ≡ chosenOf kind) (e : c ≡ Unknown) (img : List ℕ) where
-  unknown : (call : Geometry → Outcome) → told Length img ≡ chosenCall (chosenOf kind) call img
+  unknown : {A : Type 0} (call : Geometry → A) (other : A) → other ≡ chosenCall (chosenOf kind) call other
   unfolding chosenCall
-  unknown call = ap (λ (x : Chosen). chosenCall x call img) (sym e ∙ ec)
+  unknown call other = ap (λ (x : Chosen). chosenCall x call other) (sym e ∙ ec)
 
   pub no-format : told Length img ≡ formatOf kind img
   unfolding formatOf
-  no-format = unknown (λ x. format x img)
+  no-format = unknown (λ x. format x img) (refused 1 img)
 
   pub no-lookup : (k : ℕ) → told Length img ≡ lookupOf kind img k
   unfolding lookupOf
-  no-lookup k = unknown (λ x. lookup x img k)
+  no-lookup k = unknown (λ x. lookup x img k) (refused 1 img)
 
   pub no-insert : (k a al : ℕ) → told Length img ≡ insertOf kind img k a al
   unfolding insertOf
-  no-insert k a al = unknown (λ x. insert x img k a al)
+  no-insert k a al = unknown (λ x. insert x img k a al) (refused 1 img)
 
   pub no-delete : (k al : ℕ) → told Length img ≡ deleteOf kind img k al
   unfolding deleteOf
-  no-delete k al = unknown (λ x. delete x img k al)
+  no-delete k al = unknown (λ x. delete x img k al) (refused 1 img)
 
 pub ruleset index-laws = (of-pages, of-page, of-format, of-lookup, of-insert, of-delete, no-format, no-lookup, no-insert, no-delete)

@@ -8,7 +8,8 @@ use native.Mathlib.Numerals.{add-one}
 use Rattle.geometry.specs.declared.Geometry.{Geometry}
 use Rattle.model.specs.Image.{chipOf, blocksOf, maxSeq}
 use Rattle.model.specs.Count.{count}
-use Rattle.model.specs.Calls.{worn, roomless, freePages, insertRest, insert}
+use Rattle.model.specs.Rules.{verdict}
+use Rattle.model.specs.Calls.{refused, damaged, byVerdict, worn, roomless, freePages, insertRest, insert}
 use Rattle.model.specs.Collect.{collectStores}
 use Rattle.model.specs.Stores.{Store, applyAll}
 use Rattle.model.specs.Update.{needs, ownStores, insertStores}
@@ -20,13 +21,12 @@ use Rattle.chip.specs.Blocks.{some-blocks}
 use Rattle.stores.specs.declared.Budget.{Budget}
 use Rattle.stores.specs.Run.{Ran}
 use Rattle.survey.specs.declared.Survey.{Survey}
-use Rattle.survey.specs.Survey.{surveyOf}
+use Rattle.survey.specs.Laws.{chip-is}
 use Rattle.walk.specs.Table.{liveIn}
 use Rattle.victim.specs.Victim.{Looked}
-use Rattle.victim.specs.Laws.{chip-is}
 use Rattle.plan.specs.declared.Plan.{Plan}
 use Rattle.plan.specs.Plan.{Plans}
-use Rattle.judging.specs.Judging.{judgedIn, judged-damaged, judged-rest, judged-looked, judged-room, judged-length, judged-blocks}
+use Rattle.judging.specs.Judging.{judged-broken, judged-rest, judged-looked, judged-room, judged-length, judged-blocks}
 use Rattle.account.specs.Account.{freshOf, answerBy}
 use Rattle.account.specs.Laws.{told-made}
 use Rattle.account.specs.Rest.{worn-is, fresh-is, roomless-is, first-halt, first-then}
@@ -46,12 +46,9 @@ module _ (g : Geometry) (n k a m x : ℕ) (i : List ℕ) (em : m ≡ needs g (ch
   pub insert-halt : (r : Budget) (o : List ℕ) → Ran g (collectStores g n m (m + 1) i) b r i o → r .stopped ≡ true → Ran g (insertStores g n i k a) (freshOf x) r i o
   insert-halt r o run t = rw stores-are (first-halt g first own x b eb r i o run t)
 
-  pub insert-on : (r u : Budget) (s : Survey) (h o : List ℕ) → Ran g (ownStores g n (s .most) (chipWith g h (s .level) (s .root)) m k a) r u h o → s ≡ surveyOf g n h
+  pub insert-on : (r u : Budget) (h o : List ℕ) → Ran g (ownStores g n (maxSeq g n h) (chipOf g n h) m k a) r u h o
       → Ran g (collectStores g n m (m + 1) i) b r i h → r .stopped ≡ false → Ran g (insertStores g n i k a) (freshOf x) u i o
-  unfolding surveyOf
-  insert-on r u s h o mine es run t =
-      let e : ownStores g n (s .most) (chipWith g h (s .level) (s .root)) m k a ≡ own h = (λ z. ownStores g n (es z .most) (chipWith g h (es z .level) (es z .root)) m k a) in
-      rw stores-are (first-then g first own x b eb r i h run u o t (rw e at mine))
+  insert-on r u h o mine run t = rw stores-are (first-then g first own x b eb r i h run u o t mine)
 
 -- ---- the answers
 module _ (g : Geometry) (n k a x : ℕ) (i : List ℕ) (s : Survey) (tbl : List ℕ) (lk : Looked g n i s tbl) where
@@ -88,11 +85,11 @@ module _ (g : Geometry) (n k a x : ℕ) (i : List ℕ) (s : Survey) (tbl : List 
 module _ (g : Geometry) (img : List ℕ) (k a x n : ℕ) (en : n ≡ goodBlocks g img) where
   pub insert-length : n ≡ 0 → told Length img ≡ insert g img k a x
   unfolding insert
-  insert-length z = judged-length g img (insertRest g (blocksOf g img) img k a x) n en z
+  insert-length z = judged-length g img (refused 1 img) (damaged img) (insertRest g (blocksOf g img) img k a x) n en z
 
-  pub insert-judged : (c : Answer) (o : List ℕ) → (n ≡ 0 → ⊥) → told c o ≡ judgedIn g n img (insertRest g n img k a x) → told c o ≡ insert g img k a x
+  pub insert-judged : (c : Answer) (o : List ℕ) → (n ≡ 0 → ⊥) → told c o ≡ byVerdict (verdict g n img) (damaged img) (insertRest g n img k a x) → told c o ≡ insert g img k a x
   unfolding insert
   insert-judged c o h e =
-      judged-blocks g img (insertRest g (blocksOf g img) img k a x) n en (told c o) h (e ∙ ap (λ m. judgedIn g n img (insertRest g m img k a x)) (some-blocks g img n en h))
+      judged-blocks g img (refused 1 img) (damaged img) (insertRest g (blocksOf g img) img k a x) n en (told c o) h (e ∙ ap (λ m. byVerdict (verdict g n img) (damaged img) (insertRest g m img k a x)) (some-blocks g img n en h))
 
-pub ruleset insert-laws = (insert-halt, insert-on, rest-worn, rest-high, rest-room, rest-made, needs-is, judged-damaged, judged-rest, judged-looked, judged-room, insert-length, insert-judged)
+pub ruleset insert-laws = (insert-halt, insert-on, rest-worn, rest-high, rest-room, rest-made, needs-is, judged-broken, judged-rest, judged-looked, judged-room, insert-length, insert-judged)

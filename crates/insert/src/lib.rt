@@ -3,14 +3,14 @@ ghost use mathlib.Core.Path.{_≡_};
 ghost use Prim.Native.Nat.{ℕ, _+_, _*_, _-_, _≤_, _<_};
 ghost use lib.ListN.{length};
 ghost use Rattle.geometry.specs.Geometry.{small, pageBytes};
-ghost use Rattle.model.specs.Calls.{insertRest, insert};
+ghost use Rattle.model.specs.Rules.{verdict};
+ghost use Rattle.model.specs.Calls.{damaged, byVerdict, insertRest, insert};
 ghost use Rattle.model.specs.Image.{chipOf};
 ghost use Rattle.model.specs.Update.{needs, insertStores};
 ghost use Rattle.answers.specs.Answers.{told};
 ghost use Rattle.stores.specs.Run.{Ran};
 ghost use Rattle.account.specs.Account.{freshOf};
 ghost use Rattle.victim.specs.Victim.{Looked};
-ghost use Rattle.judging.specs.Judging.{judgedIn};
 use answers::Answer;
 use geometry::Geometry;
 use geometry::Verdict;
@@ -37,19 +37,7 @@ fn make_stores(
         return r;
     }
     let s = survey::take_survey(g, &*img, n);
-    insertion::insert_own(
-        g,
-        &mut *img,
-        n,
-        r,
-        s.most,
-        s.last,
-        s.level,
-        s.root,
-        m,
-        key,
-        addr,
-    )
+    insertion::insert_own(g, &mut *img, n, r, s, m, key, addr)
 }
 
 // The rest on a judged image of n blocks.
@@ -92,13 +80,13 @@ fn insert_blocks(
     allowance: u32,
 ) -> Answer
     requires { ⌜ (g .pages ≤ 64) × (n ≤ 1024) × (65536 ≤ length (now table)) × (pageBytes g ≤ 2112) ⌝ }
-    ensures { λ r. ⌜ told r (now (img .exit)) ≡ judgedIn g n (now (img .entry)) (insertRest g n (now (img .entry)) key addr allowance) ⌝ }
+    ensures { λ r. ⌜ told r (now (img .exit)) ≡ byVerdict (verdict g n (now (img .entry))) (damaged (now (img .entry))) (insertRest g n (now (img .entry)) key addr allowance) ⌝ }
 {
     let judgement = verdict::judge_image(g, &*img, &mut *table, n);
     let verdict = judgement.verdict;
     let survey = judgement.survey;
     match verdict {
-        Verdict::Broken(_, _) => Answer::Damaged,
+        Verdict::Broken(rule, page) => Answer::Damaged(rule, page),
         Verdict::Sound => insert_rest(g, &mut *img, &mut *table, n, survey, key, addr, allowance),
     }
 }

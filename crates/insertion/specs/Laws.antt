@@ -13,8 +13,6 @@ use Rattle.geometry.specs.declared.Entry.{Entry}
 use Rattle.geometry.specs.Geometry.{pageBytes}
 use Rattle.geometry.specs.Tests.{pick}
 use Rattle.model.specs.Bytes.{erased}
-use Rattle.model.specs.Count.{arg}
-use Rattle.model.specs.Image.{pagesOf, seqOf}
 use Rattle.model.specs.Page.{sealed, built}
 use Rattle.model.specs.Stores.{Store, program}
 use Rattle.model.specs.Update.{fills, crownPart, crownHeight}
@@ -32,6 +30,9 @@ use Rattle.edit.specs.Edit.{changed, partsOf, Changes}
 use Rattle.crown.specs.declared.Summit.{Summit}
 use Rattle.crown.specs.Crown.{topPart, Crowned}
 use Rattle.next.specs.Coming.{seen, Coming}
+use Rattle.survey.specs.declared.Survey.{Survey}
+use Rattle.survey.specs.Survey.{surveyOf}
+use Rattle.survey.specs.Laws.{newest-is}
 use Rattle.insertion.specs.Own.{crownParts, ownBy, Climbs, Puts}
 
 append-two : (xs ys zs : List Store) → (xs ++ ys) ++ zs ≡ xs ++ (ys ++ zs)
@@ -91,15 +92,15 @@ larger-right a b h = omega arith
 pub larger-left : (a b : ℕ) → b ≤ a → a ≡ max a b
 larger-left a b h = omega arith
 
-pub puts : (g : Geometry) (n : ℕ) (i : List ℕ) (seq l m k a : ℕ) (ps : List ℕ) (c x y s z : ℕ) → Coming (g .pages) n (seen (erased g i) z) c ps → z ≡ arg (pagesOf g n) (seqOf g i) → c ≡ max x (y + 1) → x ≡ m → y ≡ l → s ≡ seq + 0 → 1 ≤ m
-    → Puts g n i seq l m k a (record { key = k; page = getD ps (x - 1) 0; seq = s; sides = ps; change = Put a })
+pub puts : (g : Geometry) (n : ℕ) (i : List ℕ) (s : Survey) (m k a : ℕ) (ps : List ℕ) (c x y z : ℕ) → Coming (g .pages) n (seen (erased g i) (s .last)) c ps → s ≡ surveyOf g n i → c ≡ max x (y + 1) → x ≡ m → y ≡ s .level → z ≡ s .most + 0 → 1 ≤ m
+    → Puts g n i (s .most) (s .level) m k a (record { key = k; page = getD ps (x - 1) 0; seq = z; sides = ps; change = Put a })
 unfolding sideOf
-puts g n i seq l m k a ps c x y s z cm ez ec ex ey es h = record {
+puts g n i s m k a ps c x y z cm es ec ex ey ez h = record {
   key = refl;
   change = refl;
-  number = es ∙ omega arith;
-  page = cm .at (x - 1) (omega arith) ∙ rw (ex, ez);
-  sides = λ v lo hi. cm .at (v - 1) (omega arith) ∙ rw ez;
+  number = ez ∙ omega arith;
+  page = cm .at (x - 1) (omega arith) ∙ rw (ex, newest-is g n i s es);
+  sides = λ v lo hi. cm .at (v - 1) (omega arith) ∙ rw (newest-is g n i s es);
 }
 
 pub ruleset insertion-laws = (climbs, inserts, larger-right, larger-left, puts)

@@ -23,8 +23,12 @@ use Rattle.step.specs.Step.{sideOf, leafOf, nameOf, partOf, storesOf}
 use Rattle.edit.specs.Edit.{changed, pathOf, partsOf, sidesUp}
 use Rattle.edit.specs.Paths.{path-top, path-agree}
 use Rattle.crown.specs.Crown.{topPart}
+use Rattle.model.specs.Image.{chipOf, maxSeq}
 use Rattle.chip.specs.Chip.{chipWith}
 use Rattle.next.specs.Coming.{onImage}
+use Rattle.survey.specs.declared.Survey.{Survey}
+use Rattle.survey.specs.Survey.{surveyOf}
+use Rattle.survey.specs.Laws.{makes}
 use Rattle.insertion.specs.Own.{rootAt, crownParts, ownBy, Puts}
 
 -- what is made of a level depends on the page of that level's other half alone
@@ -110,7 +114,12 @@ module _ (g : Geometry) (n : ℕ) (i : List ℕ) (seq l p m k a : ℕ) (j : Job)
       ++ (crown-agree g (j .seq) seq (j .key) k (suc l) (sideOf j) (side g n i l p) (changed g j i l (rootAt p)) (lists g n i l p m k a (suc l)) (pj .number) (pj .key) top-is (sides (suc l) (omega arith) (omega arith)) z
       ++ (program (page z) (built g (seq + m) (crownHeight g (suc l) (top-is z)) (λ x. part-is x z)) ∷ []))
 
-  pub inserted : (b r : Budget) (o : List ℕ) (last : ℕ) → Ran g (ownBy g j i last l (rootAt p)) b r i o → last ≡ seq + m → Ran g (ownStores g n seq (chipWith g i l p) m k a) b r i o
-  inserted b r o last run e = rw own-is at (rw e at run)
+-- with the survey of the image
+pub inserted : (g : Geometry) (n : ℕ) (i : List ℕ) (s : Survey) (m k a : ℕ) (j : Job) (b r : Budget) (o : List ℕ) (last : ℕ) → Ran g (ownBy g j i last (s .level) (rootAt (s .root))) b r i o
+    → last ≡ s .most + m → Puts g n i (s .most) (s .level) m k a j → s ≡ surveyOf g n i → 1 ≤ m → Ran g (ownStores g n (maxSeq g n i) (chipOf g n i) m k a) b r i o
+inserted g n i s m k a j b r o last run el pj es some =
+    let e : ownBy g j i (s .most + m) (s .level) (rootAt (s .root)) ≡ ownStores g n (maxSeq g n i) (chipOf g n i) m k a =
+    own-is g n i (s .most) (s .level) (s .root) m k a j pj some ∙ makes g n i s es (λ y c. ownStores g n y c m k a) in
+    rw e at (rw el at run)
 
 pub ruleset tie-laws = (inserted)

@@ -2,11 +2,10 @@
 ghost use mathlib.Core.Path.{_≡_};
 ghost use Prim.Native.Nat.{ℕ, _+_, _*_, _-_, _≤_, _<_, max};
 ghost use Rattle.geometry.specs.Geometry.{pageBytes};
-ghost use Rattle.model.specs.Count.{arg};
-ghost use Rattle.model.specs.Image.{pagesOf, seqOf};
+ghost use Rattle.model.specs.Image.{chipOf, maxSeq};
 ghost use Rattle.model.specs.Update.{ownStores};
-ghost use Rattle.chip.specs.Chip.{chipWith};
 ghost use Rattle.stores.specs.Run.{Ran};
+ghost use Rattle.survey.specs.Survey.{surveyOf};
 ghost use Rattle.insertion.specs.Own.{Climbs, ownBy, rootAt, Puts};
 use crown::Summit;
 use geometry::Entry;
@@ -14,6 +13,7 @@ use geometry::Geometry;
 use step::Change;
 use step::Job;
 use stores::Budget;
+use survey::Survey;
 
 // The path changed and laid on page N, the other halves stored.
 fn climb(
@@ -85,26 +85,16 @@ fn number(seq: u32, more: u32) -> u64
     (seq as u64) + (more as u64)
 }
 
-// The job of putting a key at an address, with m pages of the image to come; `newest` is the page with the largest number.
-fn insert_job(
-    g: Geometry,
-    img: &[u8],
-    n: u16,
-    seq: u32,
-    newest: u32,
-    level: u32,
-    m: u32,
-    key: u32,
-    addr: u32,
-) -> Job
-    requires { ⌜ (level < 255) × (1 ≤ m) × (m ≤ 256) × (newest ≡ arg (pagesOf g n) (seqOf g (now img))) ⌝ }
-    ensures { λ r. ⌜ Puts g n (now (img .entry)) seq level m key addr r ⌝ }
+// The job of putting a key at an address, with m pages of the image to come.
+fn insert_job(g: Geometry, img: &[u8], n: u16, s: Survey, m: u32, key: u32, addr: u32) -> Job
+    requires { ⌜ (s ≡ surveyOf g n (now img)) × (s .level < 255) × (1 ≤ m) × (m ≤ 256) ⌝ }
+    ensures { λ r. ⌜ Puts g n (now (img .entry)) (s .most) (s .level) m key addr r ⌝ }
 {
     let k = geometry::index(m);
-    let count = larger(k, geometry::index(level) + 1);
-    let sides = next::coming(g, img, n, newest, count);
+    let count = larger(k, geometry::index(s.level) + 1);
+    let sides = next::coming(g, img, n, s.last, count);
     let page = sides[k - 1];
-    let seq = number(seq, 0);
+    let seq = number(s.most, 0);
     Job {
         key: key,
         page: page,
@@ -114,23 +104,20 @@ fn insert_job(
     }
 }
 
-// The stores of an insert of m pages on an image of n blocks, its largest number and that number's page, root and levels given.
+// The stores of an insert of m pages on an image of n blocks, with its survey given.
 pub fn insert_own(
     g: Geometry,
     img: &mut [u8],
     n: u16,
     b: Budget,
-    seq: u32,
-    newest: u32,
-    level: u32,
-    root: u32,
+    s: Survey,
     m: u32,
     key: u32,
     addr: u32,
 ) -> Budget
-    requires { ⌜ (level < 255) × (1 ≤ m) × (m ≤ 256) × (newest ≡ arg (pagesOf g n) (seqOf g (now img))) × (pageBytes g ≤ 2112) × (b .left + b .programmed + b .erased < 4294967296) ⌝ }
-    ensures { λ r. ⌜ Ran g (ownStores g n seq (chipWith g (now (img .entry)) level root) m key addr) b r (now (img .entry)) (now (img .exit)) ⌝ }
+    requires { ⌜ (s ≡ surveyOf g n (now img)) × (s .level < 255) × (1 ≤ m) × (m ≤ 256) × (pageBytes g ≤ 2112) × (b .left + b .programmed + b .erased < 4294967296) ⌝ }
+    ensures { λ r. ⌜ Ran g (ownStores g n (maxSeq g n (now (img .entry))) (chipOf g n (now (img .entry))) m key addr) b r (now (img .entry)) (now (img .exit)) ⌝ }
 {
-    let job = insert_job(g, &*img, n, seq, newest, level, m, key, addr);
-    insert_with(g, &mut *img, b, job, number(seq, m), level, root)
+    let job = insert_job(g, &*img, n, s, m, key, addr);
+    insert_with(g, &mut *img, b, job, number(s.most, m), s.level, s.root)
 }

@@ -1,36 +1,29 @@
 -- A call that is judged first, in the form in which the code has the premises: `rest` is what a sound image gives.
 -- Assumes nothing.
 use Prim.Native.Nat.{ℕ, _*_, _≤_}
-use mathlib.Core.Path.{_≡_, sym, subst, _∙_}
+use mathlib.Core.Path.{_≡_, sym, _∙_}
 use mathlib.Core.List.{List}
 use native.Mathlib.Omega.{arith}
 use native.Mathlib.Nat.{mul-le-mul-left, mul-le-mul-right}
 use lib.ListN.{length}
 use Rattle.geometry.specs.declared.Geometry.{Geometry}
 use Rattle.geometry.specs.declared.Verdict.the-variants.{Sound, Broken}
-use Rattle.geometry.specs.Geometry.{small, pageBytes}
-use Rattle.geometry.specs.Tests.{pick}
-use Rattle.model.specs.Rules.{verdict, isSound}
-use Rattle.model.specs.Calls.{Outcome, refused, judged}
-use Rattle.answers.specs.declared.Answer.the-variants.{Length, Damaged}
-use Rattle.answers.specs.Answers.{told}
+use Rattle.model.specs.Rules.{verdict}
+use Rattle.model.specs.Calls.{byVerdict, judged}
 use Rattle.chip.specs.Chip.{goodBlocks}
 use Rattle.chip.specs.Blocks.{none-good, some-good, some-blocks}
 use Rattle.verdict.specs.declared.Judgement.{Judgement}
 use Rattle.verdict.specs.Verdict.{Judged}
 use Rattle.victim.specs.Victim.{Looked}
 
--- the rest on an image of n blocks, if it is sound
-unfoldable pub judgedIn : Geometry → ℕ → List ℕ → Outcome → Outcome
-judgedIn g n img rest = pick (isSound (verdict g n img)) rest (refused 2 img)
+-- an image of n blocks, in a call of any kind
+module _ {A : Type 0} (g : Geometry) (n : ℕ) (img : List ℕ) (broken : ℕ → ℕ → A) (rest : A) (j : Judgement) (t u : List ℕ) (x : Judged g n img j t u) where
+  pub judged-broken : (o : A) (r p : ℕ) → j .verdict ≡ Broken r p → o ≡ broken r p → o ≡ byVerdict (verdict g n img) broken rest
+  unfolding byVerdict
+  judged-broken o r p e h = h ∙ sym (simp (← (x .verdict), e))
 
-module _ (g : Geometry) (n : ℕ) (img : List ℕ) (rest : Outcome) (j : Judgement) (t u : List ℕ) (x : Judged g n img j t u) where
-  pub judged-damaged : (r p : ℕ) → j .verdict ≡ Broken r p → told Damaged img ≡ judgedIn g n img rest
-  unfolding judgedIn
-  judged-damaged r p e = sym (simp (← (x .verdict), e))
-
-  pub judged-rest : (o : Outcome) → o ≡ rest → j .verdict ≡ Sound → o ≡ judgedIn g n img rest
-  unfolding judgedIn
+  pub judged-rest : (o : A) → o ≡ rest → j .verdict ≡ Sound → o ≡ byVerdict (verdict g n img) broken rest
+  unfolding byVerdict
   judged-rest o h e = h ∙ sym (simp (← (x .verdict), e))
 
 -- a sound image's judgement tells what an update looks at, and the table has a place for each page
@@ -40,18 +33,11 @@ judged-looked g n img j t u x e = record { survey = x .survey; marked = x .table
 pub judged-room : (g : Geometry) (n : ℕ) (img : List ℕ) (j : Judgement) (t u : List ℕ) → Judged g n img j t u → g .pages ≤ 64 → n ≤ 1024 → 65536 ≤ length t → g .pages * n ≤ length u
 judged-room g n img j t u x p b h = let y = mul-le-mul-left (g .pages) b in let z = mul-le-mul-right 1024 p in omega (arith, y, z, h, x .same)
 
-module _ (g : Geometry) (img : List ℕ) (rest : Outcome) (n : ℕ) (en : n ≡ goodBlocks g img) where
-  pub judged-length : n ≡ 0 → told Length img ≡ judged g img rest
+module _ {A : Type 0} (g : Geometry) (img : List ℕ) (short : A) (broken : ℕ → ℕ → A) (rest : A) (n : ℕ) (en : n ≡ goodBlocks g img) where
+  pub judged-length : n ≡ 0 → short ≡ judged g img short broken rest
   unfolding judged
   judged-length z = sym (simp (none-good g img n en z))
 
-  pub judged-blocks : (o : Outcome) → (n ≡ 0 → ⊥) → o ≡ judgedIn g n img rest → o ≡ judged g img rest
-  unfolding judged judgedIn
+  pub judged-blocks : (o : A) → (n ≡ 0 → ⊥) → o ≡ byVerdict (verdict g n img) broken rest → o ≡ judged g img short broken rest
+  unfolding judged
   judged-blocks o h e = e ∙ sym (simp (some-good g img n en h, ← (some-blocks g img n en h)))
-
--- the small geometry
-pub small-pages : (g : Geometry) → g ≡ small → g .pages ≤ 64
-small-pages g e = rw e (omega arith)
-
-pub small-page : (g : Geometry) → g ≡ small → pageBytes g ≤ 2112
-small-page g e = subst (λ (x : Geometry). pageBytes x ≤ 2112) (sym e) (omega arith)

@@ -1,27 +1,26 @@
 -- Lookup, in the form in which the code has the premises. Assumes nothing.
-use Prim.Native.Nat.{ℕ, _-_, _≤_}
+use Prim.Native.Nat.{ℕ, _-_}
 use mathlib.Core.Path.{_≡_, refl, sym, ap, _∙_}
 use mathlib.Core.List.{List}
-use native.Mathlib.Omega.{arith}
+use mathlib.Core.Option.{Option}
 use Rattle.geometry.specs.declared.Geometry.{Geometry}
-use Rattle.geometry.specs.declared.Verdict.the-variants.{Sound, Broken}
-use Rattle.geometry.specs.Geometry.{small}
-use Rattle.geometry.specs.Tests.{pick}
+use Rattle.geometry.specs.declared.Verdict.the-variants.{Sound}
 use Rattle.model.specs.Image.{Chip, chipOf}
 use Rattle.model.specs.Tree.{sought}
-use Rattle.model.specs.Rules.{verdict, isSound}
-use Rattle.model.specs.Calls.{Outcome, refused, judged, answered, lookup}
+use Rattle.model.specs.Rules.{verdict}
+use Rattle.model.specs.Calls.{refused, damaged, byVerdict, answered, lookup}
 use Rattle.answers.specs.declared.Answer.{Answer}
-use Rattle.answers.specs.declared.Answer.the-variants.{Done, Length, Damaged, Absent}
+use Rattle.answers.specs.declared.Answer.the-variants.{Done, Length, Absent}
 use Rattle.answers.specs.Answers.{told}
 use Rattle.chip.specs.Chip.{goodBlocks, chipWith}
-use Rattle.chip.specs.Blocks.{none-good, some-good, some-blocks}
+use Rattle.chip.specs.Blocks.{some-blocks}
 use Rattle.search.specs.declared.Found.{Found}
 use Rattle.search.specs.declared.Found.the-variants.{At, Nothing}
 use Rattle.search.specs.Search.{found}
 use Rattle.verdict.specs.declared.Judgement.{Judgement}
 use Rattle.verdict.specs.Verdict.{Judged}
-use Rattle.verdict.specs.Laws.{chip-is}
+use Rattle.survey.specs.Laws.{chip-is}
+use Rattle.judging.specs.Judging.{judged-broken, judged-rest, judged-length, judged-blocks}
 
 unfoldable pub answerOf : Found → Answer
 answerOf (At a) = Done a 0 0
@@ -40,35 +39,22 @@ unfolding answerOf answered found
 answer-tells (At a) img = refl
 answer-tells Nothing img = refl
 
--- the rest of a lookup on an image of n blocks
-unfoldable pub lookupIn : Geometry → ℕ → List ℕ → ℕ → Outcome
-lookupIn g n img k = pick (isSound (verdict g n img)) (answered (sought (chipOf g n img) k) img) (refused 2 img)
-
 module _ (g : Geometry) (n : ℕ) (img : List ℕ) (k : ℕ) (j : Judgement) (t u : List ℕ) (x : Judged g n img j t u) where
-  pub lookup-damaged : (r p : ℕ) → j .verdict ≡ Broken r p → told Damaged img ≡ lookupIn g n img k
-  unfolding lookupIn
-  lookup-damaged r p e = sym (simp (← (x .verdict), e))
-
   pub lookup-done : (f : Found) (a : Answer) → j .verdict ≡ Sound → found f ≡ sought (chipWith g img (j .survey .level) (j .survey .root)) k
-      → a ≡ answerOf f → told a img ≡ lookupIn g n img k
-  unfolding lookupIn
+      → a ≡ answerOf f → told a img ≡ byVerdict (verdict g n img) (damaged img) (answered (sought (chipOf g n img) k) img)
   lookup-done f a e ef ea =
       let c : found f ≡ sought (chipOf g n img) k = ef ∙ ap (λ (y : Chip). sought y k) (chip-is g n img (j .survey) (x .survey)) in
-      ap (λ (y : Answer). told y img) ea ∙ answer-tells f img ∙ sym (simp (← (x .verdict), e, ← c))
+      judged-rest g n img (damaged img) _ j t u x (told a img)
+      (ap (λ (y : Answer). told y img) ea ∙ answer-tells f img ∙ ap (λ (y : Option ℕ). answered y img) c) e
 
 module _ (g : Geometry) (img : List ℕ) (k n : ℕ) (en : n ≡ goodBlocks g img) where
   pub lookup-length : n ≡ 0 → told Length img ≡ lookup g img k
-  unfolding lookup judged
-  lookup-length z = sym (simp (none-good g img n en z))
+  unfolding lookup
+  lookup-length z = judged-length g img (refused 1 img) (damaged img) _ n en z
 
-  pub lookup-blocks : (a : Answer) → (n ≡ 0 → ⊥) → told a img ≡ lookupIn g n img k → told a img ≡ lookup g img k
-  unfolding lookup judged lookupIn
-  lookup-blocks a h e = e ∙ sym (simp (some-good g img n en h, ← (some-blocks g img n en h)))
+  pub lookup-blocks : (a : Answer) → (n ≡ 0 → ⊥) → told a img ≡ byVerdict (verdict g n img) (damaged img) (answered (sought (chipOf g n img) k) img) → told a img ≡ lookup g img k
+  unfolding lookup
+  lookup-blocks a h e =
+      judged-blocks g img (refused 1 img) (damaged img) _ n en (told a img) h (e ∙ ap (λ (m : ℕ). byVerdict (verdict g n img) (damaged img) (answered (sought (chipOf g m img) k) img)) (some-blocks g img n en h))
 
-pub lookup-small : (g : Geometry) (img : List ℕ) (k : ℕ) (a : Answer) → g ≡ small → told a img ≡ lookup g img k → told a img ≡ lookup small img k
-lookup-small g img k a e h = h ∙ rw e refl
-
-pub small-pages : (g : Geometry) → g ≡ small → g .pages ≤ 64
-small-pages g e = rw e (omega arith)
-
-pub ruleset lookup-laws = (answer-at, answer-none, lookup-length, lookup-damaged, lookup-done, lookup-blocks, lookup-small, small-pages)
+pub ruleset lookup-laws = (answer-at, answer-none, judged-broken, lookup-length, lookup-done, lookup-blocks)

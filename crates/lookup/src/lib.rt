@@ -2,10 +2,12 @@
 ghost use mathlib.Core.Path.{_≡_};
 ghost use Prim.Native.Nat.{ℕ, _≤_};
 ghost use lib.ListN.{length};
-ghost use Rattle.geometry.specs.Geometry.{small};
-ghost use Rattle.model.specs.Calls.{lookup};
+ghost use Rattle.model.specs.Image.{chipOf};
+ghost use Rattle.model.specs.Tree.{sought};
+ghost use Rattle.model.specs.Rules.{verdict};
+ghost use Rattle.model.specs.Calls.{damaged, byVerdict, answered, lookup};
 ghost use Rattle.answers.specs.Answers.{told};
-ghost use Rattle.lookup.specs.Lookup.{answerOf, lookupIn};
+ghost use Rattle.lookup.specs.Lookup.{answerOf};
 use answers::Answer;
 use geometry::Geometry;
 use geometry::Verdict;
@@ -24,13 +26,13 @@ fn answer(found: Found) -> Answer
 // Lookup on n blocks, with a lent table for the judge.
 fn lookup_blocks(g: Geometry, img: &[u8], table: &mut [u8], n: u16, key: u32) -> Answer
     requires { ⌜ (g .pages ≤ 64) × (n ≤ 1024) × (65536 ≤ length (now table)) ⌝ }
-    ensures { λ r. ⌜ told r (now (img .entry)) ≡ lookupIn g n (now (img .entry)) key ⌝ }
+    ensures { λ r. ⌜ told r (now (img .entry)) ≡ byVerdict (verdict g n (now (img .entry))) (damaged (now (img .entry))) (answered (sought (chipOf g n (now (img .entry))) key) (now (img .entry))) ⌝ }
 {
     let judgement = verdict::judge_image(g, img, &mut *table, n);
     let verdict = judgement.verdict;
     let survey = judgement.survey;
     match verdict {
-        Verdict::Broken(_, _) => Answer::Damaged,
+        Verdict::Broken(rule, page) => Answer::Damaged(rule, page),
         Verdict::Sound => answer(descent::find_key(g, img, survey.level, survey.root, key)),
     }
 }
@@ -46,11 +48,4 @@ pub fn lookup_on(g: Geometry, img: &[u8], key: u32) -> Answer
     }
     let mut table: [u8; 65536] = [0; 65536];
     lookup_blocks(g, img, &mut table, n, key)
-}
-
-// Lookup on the small-block chip.
-pub fn lookup_small(img: &[u8], key: u32) -> Answer
-    ensures { λ r. ⌜ told r (now (img .entry)) ≡ lookup small (now (img .entry)) key ⌝ }
-{
-    lookup_on(Geometry::small(), img, key)
 }

@@ -1,4 +1,4 @@
--- "Answer numbers": the four calls on every image. Each gives its answer, address, counts and the image afterwards.
+-- "Answer numbers": the four calls on every image. Each gives its answer, address, counts, rule, page and the image afterwards.
 -- Definitions alone; assumes nothing.
 use Prim.Native.Nat.{ℕ, zero, suc, _+_, _-_, _*_}
 use mathlib.Core.Bool.{Bool, true, false}
@@ -9,11 +9,13 @@ use lib.ListN.{length, take}
 use Rattle.geometry.specs.declared.Geometry.{Geometry}
 use Rattle.geometry.specs.declared.Chosen.{Chosen}
 use Rattle.geometry.specs.declared.Chosen.the-variants.{Of, Unknown}
+use Rattle.geometry.specs.declared.Verdict.{Verdict}
+use Rattle.geometry.specs.declared.Verdict.the-variants.{Sound, Broken}
 use Rattle.geometry.specs.Geometry.{chosenOf}
 use Rattle.geometry.specs.Tests.{pick}
 use Rattle.model.specs.Image.{Chip, chipOf, pagesOf, blocksOf, goodLength, maxSeq}
 use Rattle.model.specs.Tree.{sought, livePages}
-use Rattle.model.specs.Rules.{verdict, isSound}
+use Rattle.model.specs.Rules.{verdict}
 use Rattle.model.specs.Stores.{Store, applyAll, programs, erases}
 use Rattle.model.specs.Update.{isNone, needs, tooHigh, insertStores, deleteStores, formatStores}
 
@@ -22,34 +24,49 @@ pub record Outcome : Type 0 where
   pub address : ℕ
   pub programmed : ℕ
   pub erased : ℕ
+  pub rule : ℕ
+  pub page : ℕ
   pub image : List ℕ
+
+-- an answer with an address and counts; rule and page are "0 in other answers" than DAMAGED
+abbrev pub gives : ℕ → ℕ → ℕ → ℕ → List ℕ → Outcome
+gives answer address programmed erased img =
+    record { answer = answer; address = address; programmed = programmed; erased = erased; rule = 0; page = 0; image = img }
 
 -- DONE 0, LENGTH 1, DAMAGED 2, WORN 3, ABSENT 4, HEIGHT 5, ROOM 6, STOPPED 7.
 -- "Numbers 1 to 6 leave the image untouched"
 abbrev pub refused : ℕ → List ℕ → Outcome
-refused answer img = record { answer = answer; address = 0; programmed = 0; erased = 0; image = img }
+refused answer img = gives answer 0 0 0 img
+
+-- DAMAGED: "name the first broken rule .. and the page"
+abbrev pub damaged : List ℕ → ℕ → ℕ → Outcome
+damaged img rule page = record { answer = 2; address = 0; programmed = 0; erased = 0; rule = rule; page = page; image = img }
 
 -- 0 with all stores made, or 7 with exactly the first `allowance` of them
 unfoldable pub made : Geometry → List Store → ℕ → List ℕ → Outcome
-made g stores allowance img = record {
-  answer = pick (leb (length stores) allowance) 0 7;
-  address = 0;
-  programmed = programs (take allowance stores);
-  erased = erases (take allowance stores);
-  image = applyAll g (take allowance stores) img;
-}
+made g stores allowance img =
+    gives (pick (leb (length stores) allowance) 0 7) 0 (programs (take allowance stores)) (erases (take allowance stores))
+    (applyAll g (take allowance stores) img)
 
--- LENGTH and DAMAGED come first
-unfoldable pub judged : Geometry → List ℕ → Outcome → Outcome
-judged g img rest =
-    pick (goodLength g img) (pick (isSound (verdict g (blocksOf g img) img)) rest (refused 2 img)) (refused 1 img)
+-- a verdict, for a call of any kind: what it gives for a broken rule with its page, and what on a sound image
+unfoldable pub byVerdict : {A : Type 0} → Verdict → (ℕ → ℕ → A) → A → A
+byVerdict Sound broken rest = rest
+byVerdict (Broken rule page) broken rest = broken rule page
+
+-- LENGTH and DAMAGED come first, in a call of any kind
+unfoldable pub judged : {A : Type 0} → Geometry → List ℕ → A → (ℕ → ℕ → A) → A → A
+judged g img short broken rest = pick (goodLength g img) (byVerdict (verdict g (blocksOf g img) img) broken rest) short
 
 unfoldable pub answered : Option ℕ → List ℕ → Outcome
 answered none img = refused 4 img
-answered (some a) img = record { answer = 0; address = a; programmed = 0; erased = 0; image = img }
+answered (some a) img = gives 0 a 0 0 img
+
+-- one of the four calls, judged first
+abbrev pub judgedCall : Geometry → List ℕ → Outcome → Outcome
+judgedCall g img rest = judged g img (refused 1 img) (damaged img) rest
 
 unfoldable pub lookup : Geometry → List ℕ → ℕ → Outcome
-lookup g img k = judged g img (answered (sought (chipOf g (blocksOf g img) img) k) img)
+lookup g img k = judgedCall g img (answered (sought (chipOf g (blocksOf g img) img) k) img)
 
 -- WORN: "largest sequence number above 4,294,967,000"
 unfoldable pub worn : Geometry → ℕ → List ℕ → Bool
@@ -72,7 +89,7 @@ insertRest g n img k a allowance =
     (made g (insertStores g n img k a) allowance img)))
 
 unfoldable pub insert : Geometry → List ℕ → ℕ → ℕ → ℕ → Outcome
-insert g img k a allowance = judged g img (insertRest g (blocksOf g img) img k a allowance)
+insert g img k a allowance = judgedCall g img (insertRest g (blocksOf g img) img k a allowance)
 
 unfoldable pub deleteRest : Geometry → ℕ → List ℕ → ℕ → ℕ → Outcome
 deleteRest g n img k allowance =
@@ -81,33 +98,27 @@ deleteRest g n img k allowance =
     (made g (deleteStores g n img k) allowance img))
 
 unfoldable pub delete : Geometry → List ℕ → ℕ → ℕ → Outcome
-delete g img k allowance = judged g img (deleteRest g (blocksOf g img) img k allowance)
+delete g img k allowance = judgedCall g img (deleteRest g (blocksOf g img) img k allowance)
 
 -- "Format gives 1 for a bad length; else its answer is 0 .. and reports 1 and B"
 unfoldable pub format : Geometry → List ℕ → Outcome
 format g img = pick (goodLength g img)
-    (record {
-      answer = 0;
-      address = 0;
-      programmed = 1;
-      erased = blocksOf g img;
-      image = applyAll g (formatStores g (blocksOf g img)) img;
-    })
+    (gives 0 0 1 (blocksOf g img) (applyAll g (formatStores g (blocksOf g img)) img))
     (refused 1 img)
 
--- "The caller says which geometry by a number, 0 or 1; another gives LENGTH"
-unfoldable pub chosenCall : Chosen → (Geometry → Outcome) → List ℕ → Outcome
-chosenCall (Of g) call img = call g
-chosenCall Unknown call img = refused 1 img
+-- "The caller says which geometry by a number, 0 or 1; another gives LENGTH", in a call of any kind
+unfoldable pub chosenCall : {A : Type 0} → Chosen → (Geometry → A) → A → A
+chosenCall (Of g) call short = call g
+chosenCall Unknown call short = short
 
 unfoldable pub formatOf : ℕ → List ℕ → Outcome
-formatOf kind img = chosenCall (chosenOf kind) (λ g. format g img) img
+formatOf kind img = chosenCall (chosenOf kind) (λ g. format g img) (refused 1 img)
 
 unfoldable pub lookupOf : ℕ → List ℕ → ℕ → Outcome
-lookupOf kind img k = chosenCall (chosenOf kind) (λ g. lookup g img k) img
+lookupOf kind img k = chosenCall (chosenOf kind) (λ g. lookup g img k) (refused 1 img)
 
 unfoldable pub insertOf : ℕ → List ℕ → ℕ → ℕ → ℕ → Outcome
-insertOf kind img k a allowance = chosenCall (chosenOf kind) (λ g. insert g img k a allowance) img
+insertOf kind img k a allowance = chosenCall (chosenOf kind) (λ g. insert g img k a allowance) (refused 1 img)
 
 unfoldable pub deleteOf : ℕ → List ℕ → ℕ → ℕ → Outcome
-deleteOf kind img k allowance = chosenCall (chosenOf kind) (λ g. delete g img k allowance) img
+deleteOf kind img k allowance = chosenCall (chosenOf kind) (λ g. delete g img k allowance) (refused 1 img)

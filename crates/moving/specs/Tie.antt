@@ -10,7 +10,8 @@ use Rattle.geometry.specs.declared.Entry.{Entry}
 use Rattle.geometry.specs.Geometry.{pageBytes}
 use Rattle.geometry.specs.Tests.{pick}
 use Rattle.model.specs.Bytes.{nodeAt}
-use Rattle.model.specs.Collect.{moveKey, movePart}
+use Rattle.model.specs.Collect.{moveKey, movePart, moveStore}
+use Rattle.model.specs.Image.{Chip, chipOf}
 use Rattle.model.specs.Next.{nextPage}
 use Rattle.model.specs.Page.{built, sealed}
 use Rattle.model.specs.Stores.{program}
@@ -28,6 +29,9 @@ use Rattle.edit.specs.Edit.{changed, pathOf, partsOf}
 use Rattle.edit.specs.Paths.{path-top, path-above}
 use Rattle.crown.specs.Crown.{pathStore}
 use Rattle.next.specs.Coming.{onImage}
+use Rattle.survey.specs.declared.Survey.{Survey}
+use Rattle.survey.specs.Survey.{surveyOf}
+use Rattle.survey.specs.Laws.{chip-is, makes}
 use Rattle.moving.specs.Own.{rootAt, storeBy, moveBy, Moves}
 
 -- the path of a move from level low up to page m
@@ -83,8 +87,14 @@ module _ (g : Geometry) (n : ℕ) (i : List ℕ) (seq l p low q : ℕ) (j : Job)
     unfolding moveBy
     store-is le = bytes-is le ∙ (λ z. program (pj .page z) (built g (suc seq) (suc l) (λ x. parts-is x z)))
 
-  pub was-moved : (b r : Budget) (o : List ℕ) → Ran g (storeBy g j low l (rootAt p) i ∷ []) b r i o → low ≡ lowLevel (placesOf (chipWith g i l p)) q → pageBytes g ≤ 2112
-      → Ran g (moveBy g n q seq (chipWith g i l p) ∷ []) b r i o
-  was-moved b r o run el le = rw (store-is el le) at run
+-- with the survey of the image
+pub was-moved : (g : Geometry) (n : ℕ) (i : List ℕ) (s : Survey) (low q : ℕ) (j : Job) (b r : Budget) (o : List ℕ) → Ran g (storeBy g j low (s .level) (rootAt (s .root)) i ∷ []) b r i o
+    → Moves g n i (s .most) low q j → s ≡ surveyOf g n i → low ≡ lowLevel (placesOf (chipOf g n i)) q → pageBytes g ≤ 2112 → Ran g (moveStore g n q i ∷ []) b r i o
+unfolding moveStore moveBy
+was-moved g n i s low q j b r o run pj es el le =
+    let lowest = el ∙ ap (λ (c : Chip). lowLevel (placesOf c) q) (sym (chip-is g n i s es)) in
+    let e : storeBy g j low (s .level) (rootAt (s .root)) i ≡ moveStore g n q i =
+    store-is g n i (s .most) (s .level) (s .root) low q j pj lowest le ∙ makes g n i s es (moveBy g n q) in
+    rw e at run
 
 pub ruleset tie-laws = (was-moved)

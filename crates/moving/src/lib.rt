@@ -6,13 +6,13 @@ ghost use lib.Dec.{leb};
 ghost use Rattle.geometry.specs.Geometry.{pageBytes};
 ghost use Rattle.geometry.specs.Tests.{pick};
 ghost use Rattle.model.specs.Bytes.{nodeAt};
-ghost use Rattle.model.specs.Count.{arg};
-ghost use Rattle.model.specs.Image.{pagesOf, seqOf};
+ghost use Rattle.model.specs.Collect.{moveStore};
+ghost use Rattle.model.specs.Image.{chipOf};
 ghost use Rattle.model.specs.Tree.{next, placesOf, lowLevel};
-ghost use Rattle.chip.specs.Chip.{chipWith};
 ghost use Rattle.node.specs.Node.{entries};
 ghost use Rattle.stores.specs.Run.{Ran};
-ghost use Rattle.moving.specs.Own.{Moves, storeBy, moveBy, rootAt};
+ghost use Rattle.survey.specs.Survey.{surveyOf};
+ghost use Rattle.moving.specs.Own.{Moves, storeBy, rootAt};
 ghost use Rattle.step.specs.declared.Change.{Change};
 use geometry::Entry;
 use geometry::Geometry;
@@ -20,6 +20,7 @@ use node::Node;
 use step::Change;
 use step::Job;
 use stores::Budget;
+use survey::Survey;
 
 // The key by which descent comes to the node at a level of a page: its first.
 fn first_key(g: Geometry, img: &[u8], page: u32, level: u32) -> u32
@@ -35,15 +36,15 @@ fn long(x: u32) -> u64
     x as u64
 }
 
-// The job of moving a page from level `low` up; `newest` is the page with the largest number.
-fn move_job(g: Geometry, img: &[u8], n: u16, seq: u32, newest: u32, low: u32, page: u32) -> Job
-    requires { ⌜ newest ≡ arg (pagesOf g n) (seqOf g (now img)) ⌝ }
-    ensures { λ r. ⌜ Moves g n (now (img .entry)) seq low page r ⌝ }
+// The job of moving a page from level `low` up.
+fn move_job(g: Geometry, img: &[u8], n: u16, s: Survey, low: u32, page: u32) -> Job
+    requires { ⌜ s ≡ surveyOf g n (now img) ⌝ }
+    ensures { λ r. ⌜ Moves g n (now (img .entry)) (s .most) low page r ⌝ }
 {
     let key = first_key(g, img, page, low);
-    let to = next::next_page(g, img, n, newest);
+    let to = next::next_page(g, img, n, s.last);
     let none = next::no_pages();
-    let last = long(seq);
+    let last = long(s.most);
     Job {
         key: key,
         page: to,
@@ -102,24 +103,20 @@ fn move_with(
     )
 }
 
-// Moves a page of an image of n blocks; its lowest live level and the image's largest number, that number's page, root and
-// levels given.
+// Moves a page of an image of n blocks, with the image's survey and the page's lowest live level given.
 pub fn move_page(
     g: Geometry,
     img: &mut [u8],
     n: u16,
     b: Budget,
-    seq: u32,
-    newest: u32,
-    level: u32,
-    root: u32,
+    s: Survey,
     low: u32,
     page: u32,
 ) -> Budget
-    requires { ⌜ (level < 255) × (newest ≡ arg (pagesOf g n) (seqOf g (now img))) × (pageBytes g ≤ 2112) × (b .left + b .programmed + b .erased < 4294967296) ⌝ }
-    requires { ⌜ low ≡ lowLevel (placesOf (chipWith g (now img) level root)) page ⌝ }
-    ensures { λ r. ⌜ Ran g (moveBy g n page seq (chipWith g (now (img .entry)) level root) ∷ []) b r (now (img .entry)) (now (img .exit)) ⌝ }
+    requires { ⌜ (s ≡ surveyOf g n (now img)) × (s .level < 255) × (pageBytes g ≤ 2112) × (b .left + b .programmed + b .erased < 4294967296) ⌝ }
+    requires { ⌜ low ≡ lowLevel (placesOf (chipOf g n (now img))) page ⌝ }
+    ensures { λ r. ⌜ Ran g (moveStore g n page (now (img .entry)) ∷ []) b r (now (img .entry)) (now (img .exit)) ⌝ }
 {
-    let job = move_job(g, &*img, n, seq, newest, low, page);
-    move_with(g, &mut *img, b, job, low, level, root)
+    let job = move_job(g, &*img, n, s, low, page);
+    move_with(g, &mut *img, b, job, low, s.level, s.root)
 }

@@ -11,40 +11,44 @@ use Rattle.geometry.specs.declared.Entry.{Entry}
 use Rattle.geometry.specs.declared.Geometry.{Geometry}
 use Rattle.geometry.specs.declared.Chosen.{Chosen}
 use Rattle.geometry.specs.declared.Chosen.the-variants.{Of, Unknown}
+use Rattle.geometry.specs.declared.Verdict.the-variants.{Sound, Broken}
 use Rattle.geometry.specs.Tests.{pick}
 use lib.ListN.{length, take}
 use Rattle.geometry.specs.Geometry.{chosenOf}
 use Rattle.geometry.specs.Shape.{Known, is-small, is-large, Shape, shape, chosen-known}
-use Rattle.model.specs.Image.{blocksOf, goodLength}
+use Rattle.model.specs.Image.{blocksOf, pagesOf, goodLength}
 use Rattle.model.specs.Tree.{find}
-use Rattle.model.specs.Rules.{verdict, isSound}
+use Rattle.model.specs.Rules.{verdict}
 use Rattle.model.specs.Edit.{put, remove}
 use Rattle.model.specs.Stores.{Store, program, erase, programs, erases}
 use Rattle.model.specs.Update.{insertStores, deleteStores}
-use Rattle.model.specs.Calls.{Outcome, refused, made, answered, lookup, insert, delete, chosenCall, lookupOf, insertOf, deleteOf}
+use Rattle.model.specs.Calls.{Outcome, refused, damaged, made, answered, lookup, insert, delete, chosenCall, lookupOf, insertOf, deleteOf}
 use Rattle.demands.specs.Words.{Ready, mapAt, Holds, programmedMost, erasedMost, Began, OneOf}
 use Rattle.demands.specs.Refusals.{Refuses, lookup-refuses, insert-refuses, delete-refuses}
 use Rattle.demands.specs.Demands.{lookup-reads, insert-refused, delete-refused, lookup-answers, insert-answers, delete-answers, insert-done, delete-done, insert-stopped, delete-stopped, insert-made, delete-made, insert-bounds, delete-bounds}
+use Rattle.demands.specs.Named.{first-broken}
+use Rattle.demands.specs.Inside.{page-inside}
+use Rattle.images.specs.Lengths.{good-blocks, few-pages}
 use Rattle.camera.specs.Camera.{Left, returned}
-use Rattle.service.specs.Left.{looksUp, inserts, deletes, other-unknown, on, programmedIn, erasedIn, short, whole, told-whole, told-short, programmed-read, erased-read}
+use Rattle.service.specs.Left.{looksUp, inserts, deletes, other-unknown, on, answerIn, programmedIn, erasedIn, ruleIn, pageIn, short, whole, told-whole, told-short, told-number}
 
 -- ---- Demand 1: a result buffer that is too short gives 1, and nothing changes. Else a number that is no geometry's or a bad length
--- gives 1, an image that is not sound 2, and nothing else gives these. Answers 1 to 6 leave the image
+-- gives 1, an image that is not sound 2 with the verdict's rule and page, and nothing else gives these. Answers 1 to 6 leave the image
 pub record Refused (kind : ℕ) (image result : List ℕ) (l : Left) : Type 0 where
-  pub short-buffer : length result < 16 → l ≡ short image result
-  pub no-geometry : 16 ≤ length result → 2 ≤ kind → l ≡ whole (refused 1 image) result
-  pub bad-length : (g : Geometry) → chosenOf kind ≡ Of g → 16 ≤ length result → goodLength g image ≡ false → l ≡ whole (refused 1 image) result
-  pub damaged : (g : Geometry) → chosenOf kind ≡ Of g → 16 ≤ length result → goodLength g image ≡ true
-      → isSound (verdict g (blocksOf g image) image) ≡ false → l ≡ whole (refused 2 image) result
-  pub neither : (g : Geometry) → chosenOf kind ≡ Of g → 16 ≤ length result → goodLength g image ≡ true
-      → isSound (verdict g (blocksOf g image) image) ≡ true → 1 ≤ l .answer → 3 ≤ l .answer
+  pub short-buffer : length result < 24 → l ≡ short image result
+  pub no-geometry : 24 ≤ length result → 2 ≤ kind → l ≡ whole (refused 1 image) result
+  pub bad-length : (g : Geometry) → chosenOf kind ≡ Of g → 24 ≤ length result → goodLength g image ≡ false → l ≡ whole (refused 1 image) result
+  pub not-sound : (g : Geometry) → chosenOf kind ≡ Of g → 24 ≤ length result → goodLength g image ≡ true
+      → (rule page : ℕ) → verdict g (blocksOf g image) image ≡ Broken rule page → l ≡ whole (damaged image rule page) result
+  pub neither : (g : Geometry) → chosenOf kind ≡ Of g → 24 ≤ length result → goodLength g image ≡ true
+      → verdict g (blocksOf g image) image ≡ Sound → 1 ≤ l .answer → 3 ≤ l .answer
   pub untouched : 1 ≤ l .answer → l .answer ≤ 6 → l .image ≡ image
 
 module _ (image result : List ℕ) (o : Outcome) where
   untouched-call : (1 ≤ o .answer → o .answer ≤ 6 → o .image ≡ image) → 1 ≤ returned o image result .answer → returned o image result .answer ≤ 6
       → returned o image result .image ≡ image
   unfolding returned
-  untouched-call same = go (ltb (length result) 16)
+  untouched-call same = go (ltb (length result) 24)
     where
       go : (t : Bool) → 1 ≤ pick {A = Left} t (short image result) (whole o result) .answer → pick {A = Left} t (short image result) (whole o result) .answer ≤ 6
           → pick {A = Left} t (short image result) (whole o result) .image ≡ image
@@ -55,27 +59,31 @@ module _ (image result : List ℕ) (o : Outcome) where
 module _ (kind : ℕ) (image result : List ℕ) (call : Geometry → Outcome) (refuses : (g : Geometry) → Refuses g image (call g))
     (same : (g : Geometry) → 1 ≤ call g .answer → call g .answer ≤ 6 → call g .image ≡ image) where
   abbrev chosen : Outcome
-  chosen = chosenCall (chosenOf kind) call image
+  chosen = chosenCall (chosenOf kind) call (refused 1 image)
 
-  stays : (c : Chosen) → 1 ≤ chosenCall c call image .answer → chosenCall c call image .answer ≤ 6 → chosenCall c call image .image ≡ image
+  stays : (c : Chosen) → 1 ≤ chosenCall c call (refused 1 image) .answer → chosenCall c call (refused 1 image) .answer ≤ 6
+      → chosenCall c call (refused 1 image) .image ≡ image
   unfolding chosenCall
   stays (Of g) p q = same g p q
   stays Unknown p q = refl
 
   nowhere : 2 ≤ kind → chosen ≡ refused 1 image
   unfolding chosenCall
-  nowhere h = ap (λ (c : Chosen). chosenCall c call image) (other-unknown kind h)
+  nowhere h = ap (λ (c : Chosen). chosenCall c call (refused 1 image)) (other-unknown kind h)
 
-  leaves : 16 ≤ length result → (o : Outcome) → chosen ≡ o → returned chosen image result ≡ whole o result
+  at : (g : Geometry) → chosenOf kind ≡ Of g → chosen ≡ call g
+  at g is = on kind g is call (refused 1 image)
+
+  leaves : 24 ≤ length result → (o : Outcome) → chosen ≡ o → returned chosen image result ≡ whole o result
   leaves room o e = told-whole chosen image result room ∙ ap (λ (x : Outcome). whole x result) e
 
   refused-call : Refused kind image result (returned chosen image result)
   refused-call = record {
     short-buffer = λ s. told-short chosen image result s;
     no-geometry = λ r h. leaves r (refused 1 image) (nowhere h);
-    bad-length = λ g is r e. leaves r (refused 1 image) (on kind g is call image ∙ refuses g .bad-length e);
-    damaged = λ g is r e d. leaves r (refused 2 image) (on kind g is call image ∙ refuses g .damaged e d);
-    neither = λ g is r e d. subst (λ (l : Left). 1 ≤ l .answer → 3 ≤ l .answer) (sym (leaves r (call g) (on kind g is call image)))
+    bad-length = λ g is r e. leaves r (refused 1 image) (at g is ∙ refuses g .bad-length e);
+    not-sound = λ g is r e rule page d. leaves r (damaged image rule page) (at g is ∙ refuses g .not-sound rule page e d);
+    neither = λ g is r e d. subst (λ (l : Left). 1 ≤ l .answer → 3 ≤ l .answer) (sym (leaves r (call g) (at g is)))
         (refuses g .neither e d);
     untouched = untouched-call image result chosen (stays (chosenOf kind));
   }
@@ -96,7 +104,33 @@ module _ (kind : ℕ) (image result : List ℕ) (key : ℕ) where
   delete-refused-call allowance = refused-call kind image result (λ g. delete g image key allowance)
       (λ g. delete-refuses g image key allowance) (λ g. delete-refused g image key allowance)
 
--- ---- Demands 2 and 3: on a sound image, with a result buffer of 16 bytes or more
+-- ---- Request 5: what is read in the result buffer of a call on an image that is not sound: 2, the first broken rule and its page
+module _ (kind : ℕ) (g : Geometry) (is : chosenOf kind ≡ Of g) (image result : List ℕ) (room : 24 ≤ length result) (good : goodLength g image ≡ true)
+    (rule page : ℕ) (broken : verdict g (blocksOf g image) image ≡ Broken rule page) where
+  formed-by : Shape g
+  formed-by = shape g (chosen-known kind g is)
+
+  -- a page of the image
+  pub page-in : page < pagesOf g (blocksOf g image)
+  page-in = page-inside g formed-by image good rule page broken
+
+  page-low : page < 4294967296
+  page-low = omega (arith, few-pages g formed-by (blocksOf g image) (good-blocks g image good .most), page-in)
+
+  pub damaged-call : (l : Left) → Refused kind image result l
+      → (l .answer ≡ 2) × (l .image ≡ image) × (answerIn (l .result) ≡ 2) × (ruleIn (l .result) ≡ rule) × (pageIn (l .result) ≡ page)
+  damaged-call l h =
+      let o = damaged image rule page in
+      let e = h .not-sound g is room good rule page broken in
+      let low = first-broken g (blocksOf g image) image rule page broken .most in (
+        ap (λ (x : Left). x .answer) e,
+        ap (λ (x : Left). x .image) e,
+        ap (λ (x : Left). answerIn (x .result)) e ∙ told-number o result room 0 (omega arith) (omega arith),
+        ap (λ (x : Left). ruleIn (x .result)) e ∙ told-number o result room 4 (omega arith) (omega (arith, low)),
+        ap (λ (x : Left). pageIn (x .result)) e ∙ told-number o result room 5 (omega arith) (omega (arith, page-low)),
+      )
+
+-- ---- Demands 2 and 3: on a sound image, with a result buffer of 24 bytes or more
 -- the answer of an update, its image, and the counts of its stores, as many as are allowed
 pub record Updates (g : Geometry) (old new : List Entry) (answers : List ℕ) (stores : List Store) (allowance : ℕ) (l : Left) : Type 0 where
   pub answer : OneOf (l .answer) answers
@@ -125,25 +159,23 @@ most-low _ is-small = omega arith
 most-low _ is-large = omega arith
 
 -- the counts of an outcome that is made of a list of stores
-module _ (g : Geometry) (known : Known g) (image result : List ℕ) (room : 16 ≤ length result) (stores : List Store) (allowance : ℕ) (o : Outcome)
+module _ (g : Geometry) (known : Known g) (image result : List ℕ) (room : 24 ≤ length result) (stores : List Store) (allowance : ℕ) (o : Outcome)
     (is : o ≡ made g stores allowance image) (few : (programs stores ≤ programmedMost g) × (erases stores ≤ erasedMost g)) where
   made-programmed : programmedIn (returned o image result .result) ≡ programs (take allowance stores)
   unfolding made
   made-programmed =
       let q = ap (λ (x : Outcome). x .programmed) is in
       ap (λ (l : Left). programmedIn (l .result)) (told-whole o image result room)
-      ∙ programmed-read (o .answer) (o .address) (o .programmed) (o .erased) result room
-      (omega (arith, q, programs-fewer allowance stores, few .0, most-low g known)) ∙ q
+      ∙ told-number o result room 2 (omega arith) (omega (arith, q, programs-fewer allowance stores, few .0, most-low g known)) ∙ q
 
   made-erased : erasedIn (returned o image result .result) ≡ erases (take allowance stores)
   unfolding made
   made-erased =
       let q = ap (λ (x : Outcome). x .erased) is in
       ap (λ (l : Left). erasedIn (l .result)) (told-whole o image result room)
-      ∙ erased-read (o .answer) (o .address) (o .programmed) (o .erased) result room
-      (omega (arith, q, erases-fewer allowance stores, few .1, shape g known .top-high)) ∙ q
+      ∙ told-number o result room 3 (omega arith) (omega (arith, q, erases-fewer allowance stores, few .1, shape g known .top-high)) ∙ q
 
-module _ (kind : ℕ) (g : Geometry) (is : chosenOf kind ≡ Of g) (image result : List ℕ) (ready : Ready g image) (room : 16 ≤ length result)
+module _ (kind : ℕ) (g : Geometry) (is : chosenOf kind ≡ Of g) (image result : List ℕ) (ready : Ready g image) (room : 24 ≤ length result)
     (key : ℕ) (key-low : key < 4294967296) where
   abbrev n : ℕ
   n = blocksOf g image
@@ -157,7 +189,7 @@ module _ (kind : ℕ) (g : Geometry) (is : chosenOf kind ≡ Of g) (image result
   -- mutree_lookup: 0 and the address that the map has for the key, or 4
   pub lookup-call : looksUp kind image key result ≡ whole (answered (find key (mapAt g image)) image) result
   unfolding lookupOf
-  lookup-call = ap (λ (o : Outcome). returned o image result) (on kind g is (λ x. lookup x image key) image)
+  lookup-call = ap (λ (o : Outcome). returned o image result) (on kind g is (λ x. lookup x image key) (refused 1 image))
       ∙ told-whole (lookup g image key) image result room
       ∙ ap (λ (o : Outcome). whole o result) (lookup-answers g formed image ready key key-low)
 
@@ -183,9 +215,9 @@ module _ (kind : ℕ) (g : Geometry) (is : chosenOf kind ≡ Of g) (image result
               made-erased g known image result room stores allowance o (made-is h) (few h);
         }
 
-    update-call : Updates g old new answers stores allowance (returned (chosenCall (chosenOf kind) call image) image result)
+    update-call : Updates g old new answers stores allowance (returned (chosenCall (chosenOf kind) call (refused 1 image)) image result)
     update-call = subst (λ (o : Outcome). Updates g old new answers stores allowance (returned o image result))
-        (sym (on kind g is call image)) on-geometry
+        (sym (on kind g is call (refused 1 image))) on-geometry
 
   -- mutree_insert
   pub insert-call : (address allowance : ℕ) → address < 4294967296 → Updates g (mapAt g image) (put key address (mapAt g image))

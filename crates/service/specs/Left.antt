@@ -1,13 +1,13 @@
 -- What the calls of the C library leave, by their contracts in crates/camera/src/lib.rt: the number returned, the image and the
--- result buffer. And how the four numbers of a result are read. Assumes nothing.
+-- result buffer. And how the numbers of a result are read. Assumes nothing.
 use mathlib.Core.Path.{_≡_, refl, ap, _∙_}
-use mathlib.Core.List.{List}
+use mathlib.Core.List.{List, [], _∷_}
 use mathlib.Core.Bool.{Bool, true, false}
-use Prim.Native.Nat.{ℕ, zero, suc, _+_, _<_, _≤_}
+use Prim.Native.Nat.{ℕ, zero, suc, _+_, _*_, _<_, _≤_}
 use mathlib.Core.Logic.{inl}
 use native.Mathlib.Omega.{arith}
 use lib.Dec.{ltb}
-use lib.ListN.{length}
+use lib.ListN.{length, getD}
 use borrow.Author.Tests.{ltb-false, le-ltb, lt-ltb}
 use Rattle.geometry.specs.declared.Geometry.{Geometry}
 use Rattle.geometry.specs.declared.Chosen.{Chosen}
@@ -18,7 +18,7 @@ use Rattle.model.specs.Bytes.{u32At}
 use Rattle.model.specs.Page.{putU32}
 use Rattle.model.specs.Calls.{Outcome, chosenCall, formatOf, lookupOf, insertOf, deleteOf}
 use Rattle.images.specs.Bytes.{copy-u32, length-word, word-off, word-same}
-use Rattle.camera.specs.Camera.{Left, fourNumbers, returned}
+use Rattle.camera.specs.Camera.{Left, putNumbers, numbersOf, returned}
 
 -- mutree_format, mutree_lookup, mutree_insert, mutree_delete; `kind` is the number of the geometry
 abbrev pub formats : ℕ → List ℕ → List ℕ → Left
@@ -45,93 +45,87 @@ other-unknown zero h = absurd (omega (arith, h))
 other-unknown (suc zero) h = absurd (omega (arith, h))
 other-unknown (suc (suc kind)) h = refl
 
--- a call with the number of a geometry is the call on that geometry
-pub on : (kind : ℕ) (g : Geometry) → chosenOf kind ≡ Of g → (call : Geometry → Outcome) (image : List ℕ)
-    → chosenCall (chosenOf kind) call image ≡ call g
+-- a call of any kind with the number of a geometry is the call on that geometry
+pub on : {A : Type 0} (kind : ℕ) (g : Geometry) → chosenOf kind ≡ Of g → (call : Geometry → A) (other : A) → chosenCall (chosenOf kind) call other ≡ call g
 unfolding chosenCall
-on kind g is call image = ap (λ (c : Chosen). chosenCall c call image) is
+on kind g is call other = ap (λ (c : Chosen). chosenCall c call other) is
 
--- the numbers of a result
+-- the numbers of a result, by their places
+abbrev pub numberIn : ℕ → List ℕ → ℕ
+numberIn i result = u32At result (4 * i)
+
 abbrev pub answerIn : List ℕ → ℕ
-answerIn result = u32At result 0
+answerIn result = numberIn 0 result
 
 abbrev pub addressIn : List ℕ → ℕ
-addressIn result = u32At result 4
+addressIn result = numberIn 1 result
 
 abbrev pub programmedIn : List ℕ → ℕ
-programmedIn result = u32At result 8
+programmedIn result = numberIn 2 result
 
 abbrev pub erasedIn : List ℕ → ℕ
-erasedIn result = u32At result 12
+erasedIn result = numberIn 3 result
+
+abbrev pub ruleIn : List ℕ → ℕ
+ruleIn result = numberIn 4 result
+
+abbrev pub pageIn : List ℕ → ℕ
+pageIn result = numberIn 5 result
 
 -- what is left where the result buffer is too short, and where it is not
 abbrev pub short : List ℕ → List ℕ → Left
 short image result = record { answer = 1; image = image; result = result }
 
 abbrev pub whole : Outcome → List ℕ → Left
-whole o result = record {
-  answer = o .answer;
-  image = o .image;
-  result = fourNumbers (o .answer) (o .address) (o .programmed) (o .erased) result;
-}
+whole o result = record { answer = o .answer; image = o .image; result = putNumbers result 0 (numbersOf o) }
 
--- a call that does not answer 1 had a result buffer of 16 bytes or more, and leaves the outcome
+-- a call that does not answer 1 had a result buffer of 24 bytes or more, and leaves the outcome
 pub record Told (o : Outcome) (result : List ℕ) (l : Left) : Type 0 where
-  pub room : 16 ≤ length result
+  pub room : 24 ≤ length result
   pub answer-is : l .answer ≡ o .answer
   pub image-is : l .image ≡ o .image
-  pub result-is : l .result ≡ fourNumbers (o .answer) (o .address) (o .programmed) (o .erased) result
+  pub result-is : l .result ≡ putNumbers result 0 (numbersOf o)
 
 pub told : (o : Outcome) (image result : List ℕ) → (returned o image result .answer ≡ 1 → ⊥) → Told o result (returned o image result)
 unfolding returned
-told o image result n = go (ltb (length result) 16) refl n
+told o image result n = go (ltb (length result) 24) refl n
   where
-    go : (t : Bool) → ltb (length result) 16 ≡ t → (pick {A = Left} t (short image result) (whole o result) .answer ≡ 1 → ⊥)
+    go : (t : Bool) → ltb (length result) 24 ≡ t → (pick {A = Left} t (short image result) (whole o result) .answer ≡ 1 → ⊥)
         → Told o result (pick t (short image result) (whole o result))
     go true e m = absurd (m refl)
-    go false e m = record { room = ltb-false (length result) 16 e; answer-is = refl; image-is = refl; result-is = refl }
+    go false e m = record { room = ltb-false (length result) 24 e; answer-is = refl; image-is = refl; result-is = refl }
 
--- a result buffer of 16 bytes or more takes the outcome; a shorter one gives 1, and nothing changes
-pub told-whole : (o : Outcome) (image result : List ℕ) → 16 ≤ length result → returned o image result ≡ whole o result
+-- a result buffer of 24 bytes or more takes the outcome; a shorter one gives 1, and nothing changes
+pub told-whole : (o : Outcome) (image result : List ℕ) → 24 ≤ length result → returned o image result ≡ whole o result
 unfolding returned
-told-whole o image result h = rw (le-ltb (length result) 16 h)
+told-whole o image result h = rw (le-ltb (length result) 24 h)
 
-pub told-short : (o : Outcome) (image result : List ℕ) → length result < 16 → returned o image result ≡ short image result
+pub told-short : (o : Outcome) (image result : List ℕ) → length result < 24 → returned o image result ≡ short image result
 unfolding returned
-told-short o image result h = rw (lt-ltb (length result) 16 h)
+told-short o image result h = rw (lt-ltb (length result) 24 h)
 
 -- a number is not touched by those written behind it
 word-before : (b : List ℕ) (i j v : ℕ) → i + 4 ≤ j → u32At (putU32 b j v) i ≡ u32At b i
 word-before b i j v h = copy-u32 b i (putU32 b j v) i 4 (λ k q. word-off b j v (i + k) (inl (omega (arith, h, q)))) 0 i i (omega arith) (omega arith) (omega arith)
 
--- each number is read as it was written
-module _ (a b c d : ℕ) (result : List ℕ) (room : 16 ≤ length result) where
-  abbrev one : List ℕ
-  one = putU32 result 0 a
+numbers-before : (b vs : List ℕ) (i at : ℕ) → i + 4 ≤ at → u32At (putNumbers b at vs) i ≡ u32At b i
+unfolding putNumbers
+numbers-before b [] i at h = refl
+numbers-before b (v ∷ vs) i at h = numbers-before (putU32 b at v) vs i (at + 4) (omega (arith, h)) ∙ word-before b i at v h
 
-  abbrev two : List ℕ
-  two = putU32 one 4 b
+-- each number of a list is read as it was put
+pub number-read : (b vs : List ℕ) (at i : ℕ) → at + 4 * length vs ≤ length b → i < length vs → getD vs i 0 < 4294967296
+    → u32At (putNumbers b at vs) (at + 4 * i) ≡ getD vs i 0
+unfolding putNumbers
+number-read b [] at i room h low = absurd (omega (arith, h))
+number-read b (v ∷ vs) at zero room h low =
+    let q : at + 4 * 0 ≡ at = omega arith in
+    rw q (numbers-before (putU32 b at v) vs at (at + 4) (omega arith) ∙ word-same b at v (omega (arith, room)) low)
+number-read b (v ∷ vs) at (suc i) room h low =
+    let q : at + 4 * suc i ≡ at + 4 + 4 * i = omega arith in
+    rw q (number-read (putU32 b at v) vs (at + 4) i (omega (arith, room, length-word b at v)) (omega (arith, h)) low)
 
-  abbrev three : List ℕ
-  three = putU32 two 8 c
-
-  size-two : length two ≡ length result
-  size-two = length-word one 4 b ∙ length-word result 0 a
-
-  pub answer-read : a < 4294967296 → answerIn (fourNumbers a b c d result) ≡ a
-  unfolding fourNumbers
-  answer-read low = word-before three 0 12 d (omega arith) ∙ word-before two 0 8 c (omega arith) ∙ word-before one 0 4 b (omega arith)
-      ∙ word-same result 0 a (omega arith) low
-
-  pub address-read : b < 4294967296 → addressIn (fourNumbers a b c d result) ≡ b
-  unfolding fourNumbers
-  address-read low = word-before three 4 12 d (omega arith) ∙ word-before two 4 8 c (omega arith)
-      ∙ word-same one 4 b (omega (arith, length-word result 0 a)) low
-
-  pub programmed-read : c < 4294967296 → programmedIn (fourNumbers a b c d result) ≡ c
-  unfolding fourNumbers
-  programmed-read low = word-before three 8 12 d (omega arith) ∙ word-same two 8 c (omega (arith, size-two)) low
-
-  pub erased-read : d < 4294967296 → erasedIn (fourNumbers a b c d result) ≡ d
-  unfolding fourNumbers
-  erased-read low = word-same three 12 d (omega (arith, size-two, length-word two 8 c)) low
+-- so is each number of an outcome
+pub told-number : (o : Outcome) (result : List ℕ) → 24 ≤ length result → (i : ℕ) → i < 6 → getD (numbersOf o) i 0 < 4294967296
+    → numberIn i (whole o result .result) ≡ getD (numbersOf o) i 0
+told-number o result room i h low = let q : 4 * i ≡ 0 + 4 * i = omega arith in rw q (number-read result (numbersOf o) 0 i room h low)

@@ -16,7 +16,7 @@ use Rattle.model.specs.Image.{blocksOf, goodLength}
 use Rattle.model.specs.Tree.{find}
 use Rattle.model.specs.Update.{insertStores, formatStores}
 use Rattle.model.specs.Stores.{Store, applyAll, programs}
-use Rattle.model.specs.Calls.{Outcome, refused, answered, format, lookup, insert, chosenCall, formatOf, lookupOf, insertOf}
+use Rattle.model.specs.Calls.{Outcome, gives, refused, answered, format, lookup, insert, chosenCall, formatOf, lookupOf, insertOf}
 use Rattle.demands.specs.Words.{Ready, mapAt}
 use Rattle.demands.specs.Calls.{made-counts}
 use Rattle.demands.specs.Demands.{lookup-answers, insert-done, insert-made, insert-bounds}
@@ -24,7 +24,7 @@ use Rattle.demands.specs.Builds.{format-holds}
 use Rattle.demands.specs.Inserts.{Item, moves, Finished, beyond, splitsAndGrowths}
 use Rattle.demands.specs.Many.{many-inserts, many-inserts-are}
 use Rattle.camera.specs.Camera.{Left}
-use Rattle.service.specs.Left.{formats, looksUp, inserts, programmedIn, Told, told, programmed-read}
+use Rattle.service.specs.Left.{formats, looksUp, inserts, programmedIn, Told, told, told-number}
 
 -- a call of mutree_insert, with the result buffer that it is lent
 pub record Call : Type 0 where
@@ -88,7 +88,7 @@ module _ (image : List ℕ) (ready : Ready small image) (x : Call) (k-low : x .k
     reported : programmedIn (leaves image x .result) ≡ programs stores
     reported =
         let b = insert-bounds small small-shape image ready (x .key) k-low (x .address) (x .allowance) a-low (inl done) in
-        ap programmedIn (tells .result-is) ∙ programmed-read (outcome .answer) (outcome .address) (outcome .programmed) (outcome .erased) (x .result) (tells .room) (omega (arith, counted, b .1)) ∙ counted
+        ap programmedIn (tells .result-is) ∙ told-number outcome (x .result) (tells .room) 2 (omega arith) (omega (arith, counted, b .1)) ∙ counted
 
 -- the calls as insertions
 finished : (xs : List Call) (image : List ℕ) → Ready small image → Done xs image → Finished small (map item xs) image
@@ -120,13 +120,7 @@ good-format : (image : List ℕ) → format small image .answer ≡ 0 → goodLe
 unfolding format
 good-format image q = go (goodLength small image) q
   where
-    go : (b : Bool) → pick {A = Outcome} b (record {
-      answer = 0;
-      address = 0;
-      programmed = 1;
-      erased = blocksOf small image;
-      image = applyAll small (formatStores small (blocksOf small image)) image;
-    }) (refused 1 image) .answer ≡ 0 → b ≡ true
+    go : (b : Bool) → pick {A = Outcome} b (gives 0 0 1 (blocksOf small image) (applyAll small (formatStores small (blocksOf small image)) image)) (refused 1 image) .answer ≡ 0 → b ≡ true
     go true h = refl
     go false h = absurd (omega (arith, h))
 

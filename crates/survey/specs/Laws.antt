@@ -12,8 +12,9 @@ use Rattle.geometry.specs.declared.Finding.the-variants.{Good, Bad}
 use Rattle.geometry.specs.Tests.{pick}
 use Rattle.model.specs.Bytes.{erased, seqAt, heightAt}
 use Rattle.model.specs.Count.{count, peak, arg}
-use Rattle.model.specs.Image.{seqOf, heightOf, maxSeq, rootScore, rootOf}
+use Rattle.model.specs.Image.{Chip, chipOf, pagesOf, seqOf, heightOf, maxSeq, rootScore, rootOf}
 use Rattle.model.specs.Rules.{r4}
+use Rattle.chip.specs.Chip.{chipWith}
 use Rattle.counts.specs.Tally.{count-more}
 use Rattle.counts.specs.Peak.{peak-more, arg-higher, arg-stays, peak-higher, peak-stays}
 use Rattle.counts.specs.Lowest.{unless-true, unless-false}
@@ -168,5 +169,19 @@ root-missing g img n s e z = sym (rw (← (height-field g img n s e), z) (unless
 pub root-there : (g : Geometry) (img : List ℕ) (n : ℕ) (s : Survey) → s ≡ surveyOf g n img → (s .height ≡ 0 → ⊥) → Good ≡ r4 g n img
 unfolding r4
 root-there g img n s e z = sym (rw (← (height-field g img n s e), le-leb 1 (s .height) (omega arith)) (unless-true 0 Good))
+
+-- what a survey tells of its image: the chip, the page with the largest number, and what is made of largest number and chip
+module _ (g : Geometry) (n : ℕ) (img : List ℕ) (s : Survey) (e : s ≡ surveyOf g n img) where
+  pub chip-is : chipWith g img (s .level) (s .root) ≡ chipOf g n img
+  unfolding surveyOf
+  chip-is = λ i. chipWith g img (e i .level) (e i .root)
+
+  pub newest-is : s .last ≡ arg (pagesOf g n) (seqOf g img)
+  unfolding surveyOf
+  newest-is = ap (λ (x : Survey). x .last) e
+
+  pub makes : {A : Type 0} (f : ℕ → Chip → A) → f (s .most) (chipWith g img (s .level) (s .root)) ≡ f (maxSeq g n img) (chipOf g n img)
+  unfolding surveyOf
+  makes f = λ i. f (e i .most) (chipWith g img (e i .level) (e i .root))
 
 pub ruleset survey-laws = (larger-right, larger-left, holder-new, holder-old, seen-start, seen-end, see-erased, see-flat, see-older, see-newer, height-none, height-some, survey-is, root-missing, root-there)

@@ -26,17 +26,13 @@ use Rattle.counts.specs.Lowest.{unless-true, unless-false}
 use Rattle.counts.specs.Peak.{arg-most, arg-less}
 use Rattle.survey.specs.declared.Survey.{Survey}
 use Rattle.survey.specs.Survey.{surveyOf}
+use Rattle.survey.specs.Laws.{chip-is}
 use Rattle.walk.specs.Table.{liveIn, Marked}
 use Rattle.walk.specs.Lows.{marked-block, marked-pages}
 use Rattle.loose.specs.Loose.{Inside}
 use Rattle.loose.specs.Judged.{r5-inside}
 use Rattle.verdict.specs.declared.Judgement.{Judgement}
 use Rattle.verdict.specs.Verdict.{clearable, from2, from3, from4, from5, from6, from7, from8, Ready, Tells, Judged}
-
--- the survey's chip is the image's
-pub chip-is : (g : Geometry) (n : ℕ) (img : List ℕ) (s : Survey) → s ≡ surveyOf g n img → chipWith g img (s .level) (s .root) ≡ chipOf g n img
-unfolding surveyOf
-chip-is g n img s e = λ i. chipWith g img (e i .level) (e i .root)
 
 -- R7
 module _ (p : ℕ) (er : ℕ → Bool) (tbl : List ℕ) (free b : ℕ) where

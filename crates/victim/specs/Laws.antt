@@ -19,15 +19,11 @@ use Rattle.model.specs.Next.{full, inBlock}
 use Rattle.chip.specs.Chip.{chipWith}
 use Rattle.survey.specs.declared.Survey.{Survey}
 use Rattle.survey.specs.Survey.{surveyOf}
+use Rattle.survey.specs.Laws.{chip-is}
 use Rattle.walk.specs.Table.{Marked, liveIn}
 use Rattle.walk.specs.Lows.{marked-block}
 use Rattle.victim.specs.declared.Best.{Best}
 use Rattle.victim.specs.Victim.{fullIn, livesBy, bestOf, Bests, Looked}
-
--- the chip that a survey tells of
-pub chip-is : (g : Geometry) (n : ℕ) (img : List ℕ) (s : Survey) → s ≡ surveyOf g n img → chipWith g img (s .level) (s .root) ≡ chipOf g n img
-unfolding surveyOf
-chip-is g n img s e = λ z. chipWith g img (e z .level) (e z .root)
 
 pub looked : (g : Geometry) (n : ℕ) (img : List ℕ) (s : Survey) (tbl : List ℕ) → Marked (chipWith g img (s .level) (s .root)) tbl → s ≡ surveyOf g n img → s .level < 255 → Looked g n img s tbl
 looked g n img s tbl m e h = record { survey = e; marked = rw (chip-is g n img s e) at m; low = h }

@@ -1,5 +1,5 @@
 use borrow.Author.Needs.{needs}
-use Rattle.collect.specs.Laws.{collect-laws, newest-laws}
+use Rattle.collect.specs.Laws.{collect-laws}
 use Rattle.collect.proofs.sweep_page.Statement.{statement}
 use Rattle.collect.proofs.sweep_page.Tie as tie
 use Rattle.collect.proofs.sweep_page.Reads as reads
@@ -8,7 +8,7 @@ use Rattle.moving.proofs.move_page.Reads as move-page-reads
 use Rattle.victim.proofs.look.Reads as look-reads
 use Rattle.walk.proofs.noted.Reads as noted-reads
 
-ruleset all = (needs, collect-laws, newest-laws)
+ruleset all = (needs, collect-laws)
 
 pub sweep-page-spec : {M : Type 1} → statement M
 sweep-page-spec =

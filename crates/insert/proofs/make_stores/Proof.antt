@@ -1,4 +1,3 @@
-use Rattle.collect.specs.Laws.{survey-last}
 use Rattle.insert.specs.Insert.{insert-on}
 use borrow.Author.Needs.{needs}
 use Rattle.insert.specs.Insert.{insert-laws}
@@ -24,7 +23,7 @@ make-stores-spec =
     (λ c. search all)
     (λ c. search all)
     (λ c κs. search all)
-    (λ c κs. (search all, search all, search all, survey-last _ _ _ _ (c .before .take-survey .ensures .0), search all, search all))
+    (λ c κs. search all)
     (λ c. search all)
     (λ c. search all)
-    (λ c. insert-on _ _ _ _ _ _ _ (c .before .before .before .before .before .before .before .before .before .before .before .before .before .before .before .before .before .pre .4) _ (c .before .before .before .before .before .before .before .before .before .before .before .before .before .before .fresh .ensures .0) _ _ _ _ _ (c .before .before .insert-own .ensures) (c .before .before .before .before .take-survey .ensures .0) (c .before .before .before .before .before .before .before .before .before .before .before .collect .ensures) (c .before .before .before .before .before .before .if1 .left)))
+    (λ c. insert-on _ _ _ _ _ _ _ (c .before .before .before .before .before .before .before .before .before .before .before .before .before .before .before .before .before .pre .4) _ (c .before .before .before .before .before .before .before .before .before .before .before .before .before .before .fresh .ensures .0) _ _ _ _ (c .before .before .insert-own .ensures) (c .before .before .before .before .before .before .before .before .before .before .before .collect .ensures) (c .before .before .before .before .before .before .if1 .left)))
