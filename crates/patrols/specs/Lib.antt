@@ -1,0 +1,2 @@
+-- The patrol of one half in code: that it is the one of the definition.
+pub mod Patrols
