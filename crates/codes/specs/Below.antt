@@ -7,8 +7,8 @@ use native.Mathlib.Nat.{eq-or-lt-of-le, add-zero, add-suc, mul-zero, mul-suc}
 use native.Mathlib.Omega.{arith}
 use lib.Pow.{pow-pos}
 use Rattle.geometry.specs.Tests.{pick}
-use Rattle.codes.specs.Xor.{_⊕_, differs, self, comm, assoc, swap, four, none-left, none-right, below}
-use Rattle.codes.specs.Codes.{xorBelow}
+use Rattle.model.specs.Codes.{_⊕_, xorBelow}
+use Rattle.codes.specs.Xor.{differs, self, comm, assoc, swap, four, none-left, none-right, below}
 
 -- the same numbers give the same
 pub xor-same : (g h : ℕ → ℕ) (k : ℕ) → ((m : ℕ) → m < k → g m ≡ h m) → xorBelow g k ≡ xorBelow h k

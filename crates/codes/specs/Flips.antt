@@ -14,8 +14,8 @@ use lib.Seq.{getD-set-same, getD-set-other, set-set, set-getD}
 use Rattle.geometry.specs.Tests.{pick}
 use Rattle.geometry.specs.Table.{every, at}
 use Rattle.model.specs.Bytes.{byteAt}
-use Rattle.codes.specs.Xor.{_⊕_, odd, differs, assoc, self, none-right, cut, odd-xor}
-use Rattle.codes.specs.Codes.{isSet, xorBelow, numberE, numberG, flipBit}
+use Rattle.model.specs.Codes.{_⊕_, odd, isSet, xorBelow, numberE, numberG, flipBit}
+use Rattle.codes.specs.Xor.{differs, assoc, self, none-right, cut, odd-xor}
 use Rattle.codes.specs.Below.{xor-same, xor-turned}
 
 -- two tests that agree

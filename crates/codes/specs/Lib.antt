@@ -1,9 +1,7 @@
--- Wish 4: the codes of the halves, the patrol, and what it puts right.
+-- Request 4: what the patrol puts right, and that a code that was written fits.
 pub mod Xor
-pub mod Codes
 pub mod Below
 pub mod Flips
 pub mod Told
 pub mod Repairs
 pub mod Written
-pub mod Examples

@@ -16,13 +16,13 @@ use borrow.Author.Tests.{eq-eqb, ne-eqb, eqb-true}
 use Rattle.geometry.specs.Tests.{pick}
 use Rattle.geometry.specs.Table.{every, at}
 use Rattle.model.specs.Bytes.{byteAt}
-use Rattle.codes.specs.Xor.{_⊕_, odd, comm, self, assoc, cancel, swap, four, none-left, none-right, below, block, inverted}
-use Rattle.codes.specs.Codes.{isSet, xorBelow, numberE, numberG, freshCode, codeAt, putCode, fits, flipBit, patrol, mended, told}
+use Rattle.model.specs.Codes.{_⊕_, odd, isSet, xorBelow, numberE, numberG, freshCode, codeAt, putCode, fits, flipBit, found, mended, diagnosis}
+use Rattle.codes.specs.Xor.{comm, self, assoc, cancel, swap, four, none-left, none-right, below, block, inverted}
 use Rattle.codes.specs.Below.{xor-same, xor-below}
 use Rattle.codes.specs.Flips.{flip-apart, flip-length, flip-twice, flip-E, flip-G}
 use Rattle.codes.specs.Told.{told-clean, told-data, told-two, told-code}
-use Rattle.codes.specs.declared.Patrol.{Patrol}
-use Rattle.codes.specs.declared.Patrol.the-variants.{Clean, DataMended, CodeMended, Beyond}
+use Rattle.geometry.specs.declared.Patrol.{Patrol}
+use Rattle.geometry.specs.declared.Patrol.the-variants.{Clean, DataMended, CodeMended, Beyond}
 
 -- ---- E and G are 11 bits each and hang on the 256 bytes alone
 
@@ -174,7 +174,7 @@ put-back img other c in-list len bytes e =
 
 -- the bytes after the patrol
 abbrev pub after : List ℕ → ℕ → ℕ → List ℕ
-after img at c = mended img at c (patrol img at c)
+after img at c = mended img at c (found img at c)
 
 module _ (img : List ℕ) (at c : ℕ) (ok : fits img at c ≡ true) where
   stored : codeAt img c ≡ freshCode img at
@@ -182,10 +182,10 @@ module _ (img : List ℕ) (at c : ℕ) (ok : fits img at c ≡ true) where
   stored = eqb-true (codeAt img c) (freshCode img at) ok
 
   -- a fitting code is clean
-  pub clean : (patrol img at c ≡ Clean) × (after img at c ≡ img)
-  unfolding patrol mended
+  pub clean : (found img at c ≡ Clean) × (after img at c ≡ img)
+  unfolding found mended
   clean =
-      let e : patrol img at c ≡ Clean = ap (λ (x : ℕ). told (x ⊕ freshCode img at)) stored ∙ ap told (self (freshCode img at)) ∙ told-clean in
+      let e : found img at c ≡ Clean = ap (λ (x : ℕ). diagnosis (x ⊕ freshCode img at)) stored ∙ ap diagnosis (self (freshCode img at)) ∙ told-clean in
       (e, rw e)
 
   module _ (in-list : at + 256 ≤ length img) (apart : (c + 3 ≤ at) ⊎ (at + 256 ≤ c)) where
@@ -202,21 +202,21 @@ module _ (img : List ℕ) (at c : ℕ) (ok : fits img at c ≡ true) where
     outside n i h (inr l) e = omega arith
 
     -- one flipped data bit
-    pub data-bit : (n : ℕ) → n < 2048 → (patrol (flipBit img at n) at c ≡ DataMended n) × (after (flipBit img at n) at c ≡ img)
-    unfolding patrol mended
+    pub data-bit : (n : ℕ) → n < 2048 → (found (flipBit img at n) at c ≡ DataMended n) × (after (flipBit img at n) at c ≡ img)
+    unfolding found mended
     data-bit n h =
         let e : numberE img at ⊕ numberE (flipBit img at n) at ≡ n = ap (λ (x : ℕ). numberE img at ⊕ x) (flip-E img at n in-list h) ∙ cancel (numberE img at) n in
         let g : numberG img at ⊕ numberG (flipBit img at n) at ≡ 2047 - n = ap (λ (x : ℕ). numberG img at ⊕ x) (flip-G img at n in-list h) ∙ cancel (numberG img at) (2047 - n) in
         let kept : codeAt (flipBit img at n) c ≡ freshCode img at = code-kept (flipBit img at n) (λ i o. flip-apart img at n i (outside n i h o)) ∙ stored in
         let d : codeAt (flipBit img at n) c ⊕ freshCode (flipBit img at n) at ≡ (2047 - n) * 2048 + n
         = ap (λ (x : ℕ). x ⊕ freshCode (flipBit img at n) at) kept ∙ fresh-differ img (flipBit img at n) at ∙ ap₂ (λ (x y : ℕ). x * 2048 + y) g e in
-        let t : patrol (flipBit img at n) at c ≡ DataMended n = ap told d ∙ told-data n h in
+        let t : found (flipBit img at n) at c ≡ DataMended n = ap diagnosis d ∙ told-data n h in
         (t, rw t (flip-twice img at n (omega arith)))
 
     -- two flipped data bits
     pub two-data-bits : (n m : ℕ) → n < 2048 → m < 2048 → (n ≡ m → ⊥)
-        → (patrol (flipBit (flipBit img at n) at m) at c ≡ Beyond) × (after (flipBit (flipBit img at n) at m) at c ≡ flipBit (flipBit img at n) at m)
-    unfolding patrol mended
+        → (found (flipBit (flipBit img at n) at m) at c ≡ Beyond) × (after (flipBit (flipBit img at n) at m) at c ≡ flipBit (flipBit img at n) at m)
+    unfolding found mended
     two-data-bits n m h k o =
         let len : at + 256 ≤ length (flipBit img at n) = rw (flip-length img at n) in-list in
         let e : numberE img at ⊕ numberE (flipBit (flipBit img at n) at m) at ≡ n ⊕ m
@@ -229,20 +229,20 @@ module _ (img : List ℕ) (at c : ℕ) (ok : fits img at c ≡ true) where
         (λ i w. flip-apart (flipBit img at n) at m i (outside m i k w) ∙ flip-apart img at n i (outside n i h w)) ∙ stored in
         let d : codeAt (flipBit (flipBit img at n) at m) c ⊕ freshCode (flipBit (flipBit img at n) at m) at ≡ (n ⊕ m) * 2048 + (n ⊕ m)
         = ap (λ (x : ℕ). x ⊕ freshCode (flipBit (flipBit img at n) at m) at) kept ∙ fresh-differ img (flipBit (flipBit img at n) at m) at ∙ ap₂ (λ (x y : ℕ). x * 2048 + y) g e in
-        let t : patrol (flipBit (flipBit img at n) at m) at c ≡ Beyond = ap told d ∙ told-two (n ⊕ m) (two-differ n m o) (below 11 n m h k) in
+        let t : found (flipBit (flipBit img at n) at m) at c ≡ Beyond = ap diagnosis d ∙ told-two (n ⊕ m) (two-differ n m o) (below 11 n m h k) in
         (t, rw t)
 
   -- one flipped bit of the code
   pub code-bit : c + 3 ≤ length img → (c + 3 ≤ at) ⊎ (at + 256 ≤ c) → ((i : ℕ) → byteAt img i < 256) → (j : ℕ) → j < 24
-      → (patrol (flipBit img c j) at c ≡ CodeMended) × (after (flipBit img c j) at c ≡ img)
-  unfolding patrol mended
+      → (found (flipBit img c j) at c ≡ CodeMended j) × (after (flipBit img c j) at c ≡ img)
+  unfolding found mended
   code-bit in-list apart bytes j h =
       let kept : freshCode (flipBit img c j) at ≡ freshCode img at
       = fresh-same img (flipBit img c j) at at (λ i l. flip-apart img c j (at + i) (off i l apart)) in
       let d : codeAt (flipBit img c j) c ⊕ freshCode (flipBit img c j) at ≡ 2 ^ j
       = ap₂ _⊕_ (flip-code img c j h in-list bytes) (kept ∙ sym stored) ∙ swap (codeAt img c) (2 ^ j) (codeAt img c)
       ∙ ap (λ (x : ℕ). x ⊕ 2 ^ j) (self (codeAt img c)) ∙ none-left (2 ^ j) in
-      let t : patrol (flipBit img c j) at c ≡ CodeMended = ap told d ∙ told-code j h in
+      let t : found (flipBit img c j) at c ≡ CodeMended j = ap diagnosis d ∙ told-code j h in
       (t, rw (t, kept, ← stored) (put-back img (flipBit img c j) c in-list (flip-length img c j) bytes (λ i w. flip-apart img c j i (off-code i w))))
     where
       off : (i : ℕ) → i < 256 → (c + 3 ≤ at) ⊎ (at + 256 ≤ c) → at + i ≡ c + j / 8 → ⊥

@@ -6,23 +6,23 @@ use Prim.Native.Nat.{ℕ, zero, suc, _+_, _-_, _*_, _/_, _%_, _^_, _<_, _≤_}
 use native.Mathlib.Nat.{pow-suc, mod-eq-of-lt, mod-lt, div-eq-of-lt}
 use native.Mathlib.Decide.{ℕ-discrete}
 use native.Mathlib.Omega.{arith}
-use lib.Dec.{T, eqb, lit<}
+use lib.Dec.{T, eqb, lit<, eqb→eq}
 use lib.Arith.{lt-one}
 use lib.Pow as powers
 use lib.Pow.{pow-pos}
 use lib.Bits.{differ}
-use lib.Count.{onesIn, ones, ones-step, ones-cat}
+use lib.Count.{onesIn, trailingZeros, ones, ones-step, ones-cat}
 use lib.ListN.{replicate}
 use borrow.Author.Tests.{eq-eqb, ne-eqb}
 use Rattle.geometry.specs.Tests.{pick, _&_, and-true, and-false}
 use Rattle.geometry.specs.Table.{every, at}
-use Rattle.codes.specs.Xor.{_⊕_, none-left, halved}
-use Rattle.codes.specs.Codes.{oneOfEach, inPairs, told}
-use Rattle.codes.specs.declared.Patrol.{Patrol}
-use Rattle.codes.specs.declared.Patrol.the-variants.{Clean, DataMended, CodeMended, Beyond}
+use Rattle.model.specs.Codes.{_⊕_, oneOfEach, inPairs, diagnosis}
+use Rattle.codes.specs.Xor.{none-left, halved}
+use Rattle.geometry.specs.declared.Patrol.{Patrol}
+use Rattle.geometry.specs.declared.Patrol.the-variants.{Clean, DataMended, CodeMended, Beyond}
 
-pub told-clean : told 0 ≡ Clean
-unfolding told
+pub told-clean : diagnosis 0 ≡ Clean
+unfolding diagnosis
 told-clean = refl
 
 each-more : (k n p : ℕ) → n < p * 2 → oneOfEach k (n / 2) ((p - 1) - n / 2) ≡ true → oneOfEach (suc k) n ((p * 2 - 1) - n) ≡ true
@@ -40,8 +40,8 @@ each (suc k) n h =
     let l : n < 2 ^ k * 2 = rw pow-suc at h in
     rw pow-suc (each-more k n (2 ^ k) l (each k (n / 2) (omega arith)))
 
-pub told-data : (n : ℕ) → n < 2048 → told ((2047 - n) * 2048 + n) ≡ DataMended n
-unfolding told inPairs
+pub told-data : (n : ℕ) → n < 2048 → diagnosis ((2047 - n) * 2048 + n) ≡ DataMended n
+unfolding diagnosis inPairs
 told-data n h =
     let some : eqb ((2047 - n) * 2048 + n) 0 ≡ false = ne-eqb ((2047 - n) * 2048 + n) 0 (λ e. omega arith) in
     let low : ((2047 - n) * 2048 + n) % 2048 ≡ n = powers.low (2047 - n) 11 h in
@@ -71,8 +71,8 @@ count-ones (suc k) n h =
 twice-not-one : (m : ℕ) → eqb (m + m) 1 ≡ false
 twice-not-one m = ne-eqb (m + m) 1 (λ e. omega arith)
 
-pub told-two : (x : ℕ) → (x ≡ 0 → ⊥) → x < 2048 → told (x * 2048 + x) ≡ Beyond
-unfolding told inPairs
+pub told-two : (x : ℕ) → (x ≡ 0 → ⊥) → x < 2048 → diagnosis (x * 2048 + x) ≡ Beyond
+unfolding diagnosis inPairs
 told-two x o h =
     let some : eqb (x * 2048 + x) 0 ≡ false = ne-eqb (x * 2048 + x) 0 (λ e. o (omega arith)) in
     let low : (x * 2048 + x) % 2048 ≡ x = powers.low x 11 h in
@@ -82,23 +82,23 @@ told-two x o h =
     let many : eqb (ones x + ones x) 1 ≡ false = twice-not-one (ones x) in
     rw (some, low, high, whole, none-each 10 x, and-false, counted, many)
 
-isCode : Patrol → Bool
-isCode Clean = false
-isCode (DataMended n) = false
-isCode CodeMended = true
-isCode Beyond = false
+isCode : ℕ → Patrol → Bool
+isCode j Clean = false
+isCode j (DataMended n) = false
+isCode j (CodeMended i) = eqb i j
+isCode j Beyond = false
 
-is-code : (p : Patrol) → T (isCode p) → p ≡ CodeMended
+is-code : (j : ℕ) (p : Patrol) → T (isCode j p) → p ≡ CodeMended j
 unfolding isCode
-is-code Clean t = absurd t
-is-code (DataMended n) t = absurd t
-is-code CodeMended t = refl
-is-code Beyond t = absurd t
+is-code j Clean t = absurd t
+is-code j (DataMended n) t = absurd t
+is-code j (CodeMended i) t = ap CodeMended (eqb→eq i j t)
+is-code j Beyond t = absurd t
 
 -- each of the 24 bits, computed
-pub told-code : (j : ℕ) → j < 24 → told (2 ^ j) ≡ CodeMended
-unfolding told inPairs isCode oneOfEach _&_ onesIn
-told-code j h = is-code _ (at (λ (m x : ℕ). isCode (told (2 ^ m))) (replicate 24 0) tt j h)
+pub told-code : (j : ℕ) → j < 24 → diagnosis (2 ^ j) ≡ CodeMended j
+unfolding diagnosis inPairs isCode oneOfEach _&_ onesIn trailingZeros
+told-code j h = is-code j _ (at (λ (m x : ℕ). isCode m (diagnosis (2 ^ m))) (replicate 24 0) tt j h)
 
 -- ---- the pairs, by exclusive or
 

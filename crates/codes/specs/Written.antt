@@ -12,7 +12,7 @@ use lib.ListN.{length, set, getD, length-set}
 use lib.Seq.{getD-set-same, getD-set-other}
 use borrow.Author.Tests.{eq-eqb}
 use Rattle.model.specs.Bytes.{byteAt}
-use Rattle.codes.specs.Codes.{freshCode, codeAt, putCode, fits}
+use Rattle.model.specs.Codes.{freshCode, codeAt, putCode, fits}
 use Rattle.codes.specs.Repairs.{fresh-same}
 
 pub fresh-below : (img : List ℕ) (at : ℕ) → freshCode img at < 16777216

@@ -1,4 +1,4 @@
--- Exclusive or of numbers under a shut name, and its algebra. Assumes nothing.
+-- The algebra of exclusive or. Assumes nothing.
 use mathlib.Core.Path.{_≡_, refl, sym, ap, ap₂, _∙_}
 use mathlib.Core.Bool.{Bool, true, false, not}
 use Prim.Native.Nat.{ℕ, zero, suc, _+_, _-_, _*_, _/_, _%_, _^_, _<_, _≤_}
@@ -7,16 +7,8 @@ use native.Mathlib.Omega.{arith}
 use lib.Arith.{bin-ind}
 use lib.Dec.{eqb, lit<}
 use lib.Pow.{pow-pos}
+use Rattle.model.specs.Codes.{_⊕_, odd}
 use lib.Bits.{bitXor, bitAnd, differ, xor-step, xor-shr, xor-comm, xor-self, xor-zero-r, xor-lt, xor-block, xor-add-and, and-mask, xor-shifted}
-
-infixl 55 _⊕_
--- exclusive or
-unfoldable pub _⊕_ : ℕ → ℕ → ℕ
-a ⊕ b = bitXor a b
-
--- the lowest bit is set
-abbrev pub odd : ℕ → Bool
-odd a = eqb (a % 2) 1
 
 -- exactly one of two
 abbrev pub differs : Bool → Bool → Bool

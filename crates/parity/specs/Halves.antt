@@ -13,8 +13,8 @@ use lib.Bits.{bitXor}
 use lib.Count.{ones}
 use Rattle.geometry.specs.Tests.{pick}
 use Rattle.model.specs.Bytes.{byteAt}
-use Rattle.codes.specs.Xor.{_⊕_, odd, xor-is, comm, none-right, none-left, below}
-use Rattle.codes.specs.Codes.{isSet, xorBelow, numberE, numberG, freshCode}
+use Rattle.model.specs.Codes.{_⊕_, odd, isSet, xorBelow, numberE, numberG, freshCode}
+use Rattle.codes.specs.Xor.{xor-is, comm, none-right, none-left, below}
 use Rattle.codes.specs.Below.{xor-below}
 use Rattle.codes.specs.Repairs.{E-below, G-below}
 use Rattle.parity.specs.Rows.{bitOf, overBits}

@@ -12,8 +12,8 @@ use mir.Syntax.{w8}
 use mir.Val.{Fits}
 use Rattle.geometry.specs.Tests.{pick}
 use Rattle.model.specs.Bytes.{byteAt}
-use Rattle.codes.specs.Xor.{_⊕_, odd, xor-is, none-right, none-left, below}
-use Rattle.codes.specs.Codes.{xorBelow, freshCode}
+use Rattle.model.specs.Codes.{_⊕_, odd, xorBelow, freshCode}
+use Rattle.codes.specs.Xor.{xor-is, none-right, none-left, below}
 use Rattle.codes.specs.Below.{xor-same, xor-both, xor-rows, xor-below}
 use Rattle.parity.specs.Rows.{bitOf, oddBelow, overBits, odd-ones, xor-const, xor-zeros, xor-times, pick-split, columns}
 use Rattle.parity.specs.Words.{wordAt, oddOnes, wordIn, allWords, oddWords, in-below}

@@ -9,8 +9,8 @@ use lib.Dec.{eqb, lit<}
 use lib.Pow.{pow-pos, mod-pow-add, split}
 use lib.Count.{ones, onesIn, ones-cat, ones-step}
 use Rattle.geometry.specs.Tests.{pick}
-use Rattle.codes.specs.Xor.{_⊕_, odd, differs, self, comm, assoc, four, none-left, none-right, below, block, shifted, cut, odd-xor}
-use Rattle.codes.specs.Codes.{xorBelow}
+use Rattle.model.specs.Codes.{_⊕_, odd, xorBelow}
+use Rattle.codes.specs.Xor.{differs, self, comm, assoc, four, none-left, none-right, below, block, shifted, cut, odd-xor}
 use Rattle.codes.specs.Below.{xor-same, xor-both, xor-rows, xor-below}
 
 -- bit j of w

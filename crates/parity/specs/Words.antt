@@ -11,8 +11,8 @@ use lib.Pow.{pow-pos, pow-add, shr-shr}
 use lib.Count.{ones}
 use Rattle.geometry.specs.Tests.{pick}
 use Rattle.model.specs.Bytes.{byteAt}
-use Rattle.codes.specs.Xor.{_⊕_, odd, comm, none-right, none-left, below, inverted}
-use Rattle.codes.specs.Codes.{isSet, xorBelow, numberE, numberG, freshCode}
+use Rattle.model.specs.Codes.{_⊕_, odd, isSet, xorBelow, numberE, numberG, freshCode}
+use Rattle.codes.specs.Xor.{comm, none-right, none-left, below, inverted}
 use Rattle.codes.specs.Below.{xor-same, xor-both, xor-below}
 use Rattle.parity.specs.Rows.{bitOf, oddBelow, overBits, row-numbers, row-const, odd-ones}
 

@@ -3,7 +3,7 @@ ghost use mathlib.Core.Path.{_≡_};
 ghost use Prim.Native.Nat.{ℕ, _+_, _*_, _-_, _≤_, _<_};
 ghost use lib.ListN.{length};
 ghost use Rattle.geometry.specs.Tests.{pick};
-ghost use Rattle.codes.specs.Codes.{freshCode};
+ghost use Rattle.model.specs.Codes.{freshCode};
 ghost use Rattle.parity.specs.Words.{wordAt, oddOnes, inWord};
 ghost use Rattle.parity.specs.Halves.{numberOf, restOf, sealed};
 ghost use Rattle.parity.specs.Quads.{allOf, rowsOf};

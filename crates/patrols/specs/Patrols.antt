@@ -13,11 +13,11 @@ use lib.ListN.{set}
 use borrow.Author.Tests.{eq-eqb, ne-eqb}
 use Rattle.geometry.specs.Tests.{pick}
 use Rattle.model.specs.Bytes.{byteAt}
-use Rattle.codes.specs.Xor.{_⊕_, xor-is}
-use Rattle.codes.specs.Codes.{codeAt, freshCode, putCode, flipBit, inPairs, told, patrol, mended}
+use Rattle.model.specs.Codes.{_⊕_, codeAt, freshCode, putCode, flipBit, inPairs, diagnosis, found, mended}
+use Rattle.codes.specs.Xor.{xor-is}
 use Rattle.codes.specs.Told.{count-ones, pairs-off, pairs-on}
-use Rattle.codes.specs.declared.Patrol.{Patrol}
-use Rattle.codes.specs.declared.Patrol.the-variants.{Clean, DataMended, CodeMended, Beyond}
+use Rattle.geometry.specs.declared.Patrol.{Patrol}
+use Rattle.geometry.specs.declared.Patrol.the-variants.{Clean, DataMended, CodeMended, Beyond}
 
 pub code-is : (img : List ℕ) (c a b d : ℕ) → a ≡ byteAt img c → b ≡ byteAt img (c + 1) → d ≡ byteAt img (c + 2) → a + 256 * b + 65536 * d ≡ codeAt img c
 unfolding codeAt

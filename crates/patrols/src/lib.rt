@@ -2,8 +2,7 @@
 ghost use mathlib.Core.Path.{_≡_};
 ghost use Prim.Native.Nat.{ℕ, _+_, _*_, _-_, _^_, _≤_, _<_};
 ghost use lib.ListN.{length};
-ghost use Rattle.codes.specs.Xor.{_⊕_};
-ghost use Rattle.codes.specs.Codes.{codeAt, putCode, flipBit, inPairs, patrol, mended};
+ghost use Rattle.model.specs.Codes.{_⊕_, codeAt, putCode, flipBit, inPairs, found, mended};
 use codes::Patrol;
 
 fn wide(b: u8) -> u32

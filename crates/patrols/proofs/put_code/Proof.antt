@@ -2,7 +2,7 @@ use borrow.Author.Needs.{needs}
 use mathlib.Core.Path.{refl}
 use native.Mathlib.Omega.{arith}
 use lib.ListN.{length-set}
-use Rattle.codes.specs.Codes.{putCode}
+use Rattle.model.specs.Codes.{putCode}
 use Rattle.patrols.proofs.put_code.Statement.{statement}
 use Rattle.patrols.proofs.put_code.Tie as tie
 use Rattle.patrols.proofs.put_code.Reads as reads

@@ -1,15 +1,26 @@
--- "Wish 4. Flipped bits": the code of 256 bytes, and the patrol. Definitions alone; assumes nothing.
+-- Request 4, "Flipped bits": the code of 256 bytes, the codes of a page, and the patrol of one half. Definitions alone; assumes nothing.
 use Prim.Native.Nat.{ℕ, zero, suc, _+_, _-_, _*_, _/_, _%_, _^_}
-use mathlib.Core.Bool.{Bool, true, false}
-use mathlib.Core.List.{List, [], _∷_}
+use mathlib.Core.Bool.{Bool, true}
+use mathlib.Core.List.{List}
+use lib.Bits.{bitXor}
+use lib.Count.{onesIn, trailingZeros}
 use lib.Dec.{eqb}
 use lib.ListN.{set}
-use lib.Count.{onesIn}
+use Rattle.geometry.specs.declared.Geometry.{Geometry}
+use Rattle.geometry.specs.declared.Patrol.{Patrol}
+use Rattle.geometry.specs.declared.Patrol.the-variants.{Clean, DataMended, CodeMended, Beyond}
+use Rattle.geometry.specs.Geometry.{codePlace}
 use Rattle.geometry.specs.Tests.{pick, _&_}
 use Rattle.model.specs.Bytes.{byteAt}
-use Rattle.codes.specs.Xor.{_⊕_, odd}
-use Rattle.codes.specs.declared.Patrol.{Patrol}
-use Rattle.codes.specs.declared.Patrol.the-variants.{Clean, DataMended, CodeMended, Beyond}
+
+infixl 55 _⊕_
+-- exclusive or
+unfoldable pub _⊕_ : ℕ → ℕ → ℕ
+a ⊕ b = bitXor a b
+
+-- the lowest bit is set
+abbrev pub odd : ℕ → Bool
+odd a = eqb (a % 2) 1
 
 -- "Number the 2,048 bits from 0, least bit of a byte first": whether bit n of the bytes from `at` is set
 unfoldable pub isSet : List ℕ → ℕ → ℕ → Bool
@@ -43,6 +54,11 @@ putCode img c v = set (set (set img c (v % 256)) (c + 1) (v / 256 % 256)) (c + 2
 unfoldable pub fits : List ℕ → ℕ → ℕ → Bool
 fits img at c = eqb (codeAt img c) (freshCode img at)
 
+-- the codes of the first k halves of the page that begins at byte b fit
+unfoldable pub codesFit : Geometry → List ℕ → ℕ → ℕ → Bool
+codesFit g img b zero = true
+codesFit g img b (suc k) = codesFit g img b k & fits img (b + 256 * k) (b + codePlace g k)
+
 -- bit n of the bytes from `at` turned over
 unfoldable pub flipBit : List ℕ → ℕ → ℕ → List ℕ
 flipBit img at n = set img (at + n / 8) (byteAt img (at + n / 8) ⊕ 2 ^ (n % 8))
@@ -57,21 +73,22 @@ unfoldable pub inPairs : ℕ → Bool
 inPairs d = oneOfEach 11 (d % 2048) (d / 2048 % 2048) & eqb (d / 4194304) 0
 
 -- what the 24 bits that differ tell: "clean if no bit differs; a data bit mended (the one that E's difference numbers) if
--- exactly one bit differs in each of the 11 pairs; code mended if one of the 24 bits differs; else beyond repair"
-unfoldable pub told : ℕ → Patrol
-told d =
+-- exactly one bit differs in each of the 11 pairs; code mended if one of the 24 bits differs; else beyond repair". The one
+-- of the 24 bits that differs is the lowest
+unfoldable pub diagnosis : ℕ → Patrol
+diagnosis d =
     pick (eqb d 0) Clean (
     pick (inPairs d) (DataMended (d % 2048)) (
-    pick (eqb (onesIn 24 d) 1) CodeMended
+    pick (eqb (onesIn 24 d) 1) (CodeMended (trailingZeros 24 d))
     Beyond))
 
 -- "It compares the stored code with a fresh one"
-unfoldable pub patrol : List ℕ → ℕ → ℕ → Patrol
-patrol img at c = told (codeAt img c ⊕ freshCode img at)
+unfoldable pub found : List ℕ → ℕ → ℕ → Patrol
+found img at c = diagnosis (codeAt img c ⊕ freshCode img at)
 
 -- the bytes after a patrol that found this: "beyond repair, nothing changed"
 unfoldable pub mended : List ℕ → ℕ → ℕ → Patrol → List ℕ
 mended img at c Clean = img
 mended img at c (DataMended n) = flipBit img at n
-mended img at c CodeMended = putCode img c (freshCode img at)
+mended img at c (CodeMended j) = putCode img c (freshCode img at)
 mended img at c Beyond = img
