@@ -3,3 +3,4 @@ pub mod Rows
 pub mod Words
 pub mod Halves
 pub mod Quads
+pub mod Parts

@@ -3,10 +3,12 @@ ghost use mathlib.Core.Path.{_≡_};
 ghost use Prim.Native.Nat.{ℕ, _+_, _*_, _-_, _≤_, _<_};
 ghost use lib.ListN.{length};
 ghost use Rattle.geometry.specs.Tests.{pick};
+ghost use Rattle.model.specs.Bytes.{byteAt};
 ghost use Rattle.model.specs.Codes.{freshCode};
 ghost use Rattle.parity.specs.Words.{wordAt, oddOnes, inWord};
 ghost use Rattle.parity.specs.Halves.{numberOf, restOf, sealed};
 ghost use Rattle.parity.specs.Quads.{allOf, rowsOf};
+ghost use Rattle.parity.specs.Parts.{Copied};
 
 fn long(b: u8) -> u64
     ensures { λ r. ⌜ (r ≡ b) × (r < 256) ⌝ }
@@ -124,8 +126,8 @@ fn rows_of(rows: u64, b: u64, c: u64, d: u64) -> u64
     4 * rows ^ (if_odd(d, 3) ^ (if_odd(c, 2) ^ if_odd(b, 1)))
 }
 
-// The code of the 256 bytes from `at`, four words at a turn.
-pub fn half_code(img: &[u8], at: usize) -> u32
+// The code of the 256 bytes from `at` inside the image, four words at a turn.
+fn half_code(img: &[u8], at: usize) -> u32
     requires { ⌜ at + 256 ≤ length (now img) ⌝ }
     ensures { λ r. ⌜ r ≡ freshCode (now (img .entry)) at ⌝ }
 {
@@ -150,4 +152,40 @@ pub fn half_code(img: &[u8], at: usize) -> u32
     let m = rows_of(rows, b, c, d);
     let n = all_of(a, b, c, d);
     seal(m, n)
+}
+
+// The byte at an index; one outside the image reads as 0.
+fn byte_at(img: &[u8], at: usize) -> u8
+    ensures { λ r. ⌜ r ≡ byteAt (now (img .entry)) at ⌝ }
+{
+    if at < img.len() {
+        return img[at];
+    }
+    0
+}
+
+// The 256 bytes from `at`.
+fn part_at(img: &[u8], at: usize) -> [u8; 256]
+    requires { ⌜ at < 1152921504606846976 ⌝ }
+    ensures { λ r. ⌜ Copied (now (img .entry)) at r 256 ⌝ }
+{
+    let mut part = [0u8; 256];
+    let mut i: usize = 0;
+    while i < 256 {
+        part[i] = byte_at(img, at + i);
+        i += 1;
+    }
+    part
+}
+
+// The code of the 256 bytes from `at`.
+pub fn fresh_code(img: &[u8], at: usize) -> u32
+    requires { ⌜ at < 1152921504606846976 ⌝ }
+    ensures { λ r. ⌜ (r ≡ freshCode (now (img .entry)) at) × (r < 16777216) ⌝ }
+{
+    if img.len() < at + 256 {
+        let part = part_at(img, at);
+        return half_code(&part, 0);
+    }
+    half_code(img, at)
 }
