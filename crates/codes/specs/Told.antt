@@ -3,7 +3,7 @@ use mathlib.Core.Path.{_≡_, refl, sym, ap, ap₂, _∙_}
 use mathlib.Core.Bool.{Bool, true, false, not}
 use mathlib.Core.List.{List, [], _∷_}
 use Prim.Native.Nat.{ℕ, zero, suc, _+_, _-_, _*_, _/_, _%_, _^_, _<_, _≤_}
-use native.Mathlib.Nat.{pow-suc, mod-eq-of-lt, mod-lt, div-eq-of-lt}
+use native.Mathlib.Nat.{pow-suc, suc-add, mod-eq-of-lt, mod-lt, div-eq-of-lt}
 use native.Mathlib.Decide.{ℕ-discrete}
 use native.Mathlib.Omega.{arith}
 use lib.Dec.{T, eqb, lit<, eqb→eq}
@@ -11,10 +11,10 @@ use lib.Arith.{lt-one}
 use lib.Pow as powers
 use lib.Pow.{pow-pos}
 use lib.Bits.{differ}
-use lib.Count.{onesIn, trailingZeros, ones, ones-step, ones-cat}
+use lib.Count.{onesIn, trailingZeros, under, ones, ones-step, ones-cat}
 use lib.ListN.{replicate}
 use borrow.Author.Tests.{eq-eqb, ne-eqb}
-use Rattle.geometry.specs.Tests.{pick, _&_, and-true, and-false}
+use Rattle.geometry.specs.Tests.{pick, _&_, and-true, and-false, and-none}
 use Rattle.geometry.specs.Table.{every, at}
 use Rattle.model.specs.Codes.{_⊕_, oneOfEach, inPairs, diagnosis}
 use Rattle.codes.specs.Xor.{none-left, halved}
@@ -100,12 +100,19 @@ pub told-code : (j : ℕ) → j < 24 → diagnosis (2 ^ j) ≡ CodeMended j
 unfolding diagnosis inPairs isCode oneOfEach _&_ onesIn trailingZeros
 told-code j h = is-code j _ (at (λ (m x : ℕ). isCode m (diagnosis (2 ^ m))) (replicate 24 0) tt j h)
 
--- ---- the pairs, by exclusive or
+under-same : (r a b : ℕ) → (r ≡ 0 → a ≡ b) → under r a ≡ under r b
+under-same zero a b e = ap suc (e refl)
+under-same (suc r) a b e = refl
 
-and-off : (a : Bool) → (a & false) ≡ false
-unfolding _&_
-and-off true = refl
-and-off false = refl
+-- the lowest set bit of a number of k bits, in a wider number
+pub trailing-more : (k m n : ℕ) → (n ≡ 0 → ⊥) → n < 2 ^ k → trailingZeros (k + m) n ≡ trailingZeros k n
+unfolding trailingZeros
+trailing-more zero m n o h = absurd (o (lt-one h))
+trailing-more (suc k) m n o h =
+    let l : n < 2 ^ k * 2 = rw pow-suc at h in
+    rw suc-add (under-same (n % 2) (trailingZeros (k + m) (n / 2)) (trailingZeros k (n / 2)) (λ e. trailing-more k m (n / 2) (λ z. o (omega arith)) (omega arith)))
+
+-- ---- the pairs, by exclusive or
 
 top-bit : (q p : ℕ) → 0 < p → eqb q (p - 1) ≡ eqb (q * 2 + 1) (p * 2 - 1)
 top-bit q p h = elim (ℕ-discrete q (p - 1)) [
@@ -140,7 +147,7 @@ pub pairs-off : (d : ℕ) → 4194304 ≤ d → false ≡ inPairs d
 unfolding inPairs
 pairs-off d h =
     let top : eqb (d / 4194304) 0 ≡ false = ne-eqb (d / 4194304) 0 (λ e. omega arith) in
-    rw top (sym (and-off (oneOfEach 11 (d % 2048) (d / 2048 % 2048))))
+    rw top (sym (and-none (oneOfEach 11 (d % 2048) (d / 2048 % 2048))))
 
 pub pairs-on : (d : ℕ) → d < 4194304 → eqb ((d % 2048) ⊕ (d / 2048 % 2048)) 2047 ≡ inPairs d
 unfolding inPairs

@@ -99,13 +99,13 @@ format g img = pick (goodLength g img)
     (refused 1 img)
 
 -- the numbers of what a patrol found, and of the bit that it mended
-unfoldable pub findingOf : Patrol → ℕ
+abbrev pub findingOf : Patrol → ℕ
 findingOf Clean = 0
 findingOf (DataMended n) = 1
 findingOf (CodeMended j) = 2
 findingOf Beyond = 3
 
-unfoldable pub bitOf : Patrol → ℕ
+abbrev pub bitOf : Patrol → ℕ
 bitOf Clean = 0
 bitOf (DataMended n) = n
 bitOf (CodeMended j) = j

@@ -9,7 +9,7 @@ use native.Mathlib.Numerals.{add-one}
 use borrow.Author.Tests.{eq-eqb, ne-eqb}
 use Rattle.geometry.specs.declared.Geometry.{Geometry}
 use Rattle.geometry.specs.Geometry.{halves, codePlace}
-use Rattle.geometry.specs.Tests.{_&_, and-true, and-false, and-both}
+use Rattle.geometry.specs.Tests.{and-false, and-none, and-both}
 use Rattle.model.specs.Codes.{codeAt, freshCode, fits, codesFit}
 
 module _ (g : Geometry) (img : List ℕ) (b : ℕ) where
@@ -31,11 +31,8 @@ module _ (g : Geometry) (img : List ℕ) (b : ℕ) where
 
     last-off : (s ≡ f → ⊥) → codesFit g img b (suc k) ≡ false
     unfolding codesFit fits
-    last-off q = rw (ne-eqb (codeAt img (b + codePlace g k)) (freshCode img (b + 256 * k)) (rw (← ec, ← es, ← ef) q)) (off (codesFit g img b k))
-      where
-        off : (x : Bool) → (x & false) ≡ false
-        off true = and-true false
-        off false = and-false false
+    last-off q =
+        rw (ne-eqb (codeAt img (b + codePlace g k)) (freshCode img (b + 256 * k)) (rw (← ec, ← es, ← ef) q)) (and-none (codesFit g img b k))
 
     pub codes-off : (n : ℕ) → n ≡ halves g → k < n → (s ≡ f → ⊥) → false ≡ codesFit g img b (halves g)
     codes-off n en h q =

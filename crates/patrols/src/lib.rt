@@ -1,29 +1,13 @@
-// The patrol of one half.
+// The patrol of one half of a page.
 ghost use mathlib.Core.Path.{_≡_};
 ghost use Prim.Native.Nat.{ℕ, _+_, _*_, _-_, _^_, _≤_, _<_};
 ghost use lib.ListN.{length};
-ghost use Rattle.model.specs.Codes.{_⊕_, codeAt, putCode, flipBit, inPairs, found, mended};
-use codes::Patrol;
-
-fn wide(b: u8) -> u32
-    ensures { λ r. ⌜ (r ≡ b) × (r < 256) ⌝ }
-{
-    b as u32
-}
-
-fn index(n: u32) -> usize
-    ensures { λ r. ⌜ r ≡ n ⌝ }
-{
-    n as usize
-}
-
-// The stored code.
-pub fn stored_code(img: &[u8], c: usize) -> u32
-    requires { ⌜ c + 3 ≤ length (now img) ⌝ }
-    ensures { λ r. ⌜ (r ≡ codeAt (now (img .entry)) c) × (r < 16777216) ⌝ }
-{
-    wide(img[c]) + 256 * wide(img[c + 1]) + 65536 * wide(img[c + 2])
-}
+ghost use Rattle.model.specs.Calls.{findingOf, bitOf, patrol};
+ghost use Rattle.model.specs.Codes.{_⊕_, flipBit, inPairs, found, mended};
+ghost use Rattle.answers.specs.Answers.{told};
+use answers::Answer;
+use geometry::Geometry;
+use geometry::Patrol;
 
 // The bits in which two codes differ.
 fn difference(x: u32, f: u32) -> u32
@@ -56,28 +40,18 @@ fn flip_bit(img: &mut [u8], at: usize, n: u32)
     ensures { λ _. ⌜ now (img .exit) ≡ flipBit (now (img .entry)) at n ⌝ }
 {
     let b = bit(n % 8);
-    let i = index(n / 8);
+    let i = geometry::index(n / 8);
     img[at + i] = img[at + i] ^ b;
 }
 
-// Writes a code, least byte first.
-pub fn put_code(img: &mut [u8], c: usize, v: u32)
-    requires { ⌜ c + 3 ≤ length (now img) ⌝ }
-    ensures { λ _. ⌜ now (img .exit) ≡ putCode (now (img .entry)) c v ⌝ }
-{
-    img[c] = (v % 256) as u8;
-    img[c + 1] = (v / 256 % 256) as u8;
-    img[c + 2] = (v / 65536 % 256) as u8;
-}
-
 // The patrol of the 256 bytes from `at` and the code at c.
-pub fn patrol_half(img: &mut [u8], at: usize, c: usize) -> Patrol
-    requires { ⌜ (at + 256 ≤ length (now img)) × (c + 3 ≤ length (now img)) ⌝ }
-    ensures found { λ r. ⌜ r ≡ patrol (now (img .entry)) at c ⌝ }
-    ensures image { λ r. ⌜ now (img .exit) ≡ mended (now (img .entry)) at c (patrol (now (img .entry)) at c) ⌝ }
+fn patrol_half(img: &mut [u8], at: usize, c: usize) -> Patrol
+    requires { ⌜ (at + 256 ≤ length (now img)) × (at < 1152921504606846976) × (c < 1152921504606846976) ⌝ }
+    ensures found { λ r. ⌜ r ≡ found (now (img .entry)) at c ⌝ }
+    ensures image { λ r. ⌜ now (img .exit) ≡ mended (now (img .entry)) at c (found (now (img .entry)) at c) ⌝ }
 {
-    let fresh = parity::half_code(&*img, at);
-    let d = difference(stored_code(&*img, c), fresh);
+    let fresh = parity::fresh_code(&*img, at);
+    let d = difference(chip::code_at(&*img, c), fresh);
     if d == 0 {
         return Patrol::Clean;
     }
@@ -86,8 +60,50 @@ pub fn patrol_half(img: &mut [u8], at: usize, c: usize) -> Patrol
         return Patrol::DataMended(d % 2048);
     }
     if u32::count_ones(d) == 1 {
-        put_code(&mut *img, c, fresh);
-        return Patrol::CodeMended;
+        page::put_code(&mut *img, c, fresh);
+        return Patrol::CodeMended(u32::trailing_zeros(d));
     }
     Patrol::Beyond
+}
+
+// The number of what was found.
+fn finding(p: Patrol) -> u32
+    ensures { λ r. ⌜ r ≡ findingOf p ⌝ }
+{
+    match p {
+        Patrol::Clean => 0,
+        Patrol::DataMended(_) => 1,
+        Patrol::CodeMended(_) => 2,
+        Patrol::Beyond => 3,
+    }
+}
+
+// The number of the bit that was mended.
+fn mended_bit(p: Patrol) -> u32
+    ensures { λ r. ⌜ r ≡ bitOf p ⌝ }
+{
+    match p {
+        Patrol::Clean => 0,
+        Patrol::DataMended(n) => n,
+        Patrol::CodeMended(j) => j,
+        Patrol::Beyond => 0,
+    }
+}
+
+// The patrol of a half of a page.
+pub fn patrol_on(g: Geometry, img: &mut [u8], page: u32, half: u32) -> Answer
+    ensures { λ r. ⌜ told r (now (img .exit)) ≡ patrol g (now (img .entry)) page half ⌝ }
+{
+    let pages = chip::first_page(g, chip::good_blocks(g, &*img));
+    if pages <= page {
+        return Answer::Length;
+    }
+    let i = geometry::index(half);
+    if geometry::halves(g) <= i {
+        return Answer::Length;
+    }
+    let base = geometry::page_base(g, page);
+    let place = geometry::code_place(g, i);
+    let p = patrol_half(&mut *img, base + 256 * i, base + place);
+    Answer::Done(finding(p), mended_bit(p), 0)
 }

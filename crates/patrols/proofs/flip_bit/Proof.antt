@@ -5,7 +5,7 @@ use Rattle.patrols.proofs.flip_bit.Tie as tie
 use Rattle.patrols.proofs.flip_bit.Reads as reads
 use Rattle.patrols.proofs.flip_bit.Lts as lts
 use Rattle.patrols.proofs.bit.Reads as bit-reads
-use Rattle.patrols.proofs.index.Reads as index-reads
+use Rattle.geometry.proofs.index.Reads as index-reads
 
 ruleset all = (needs, patrol-laws)
 
@@ -20,4 +20,4 @@ flip-bit-spec =
     (λ c. search all)
     (λ c. search all)
     (λ c. search all)
-    (λ c. flip-is _ (c .before .before .before .before .args .at) (c .before .before .before .before .args .n) _ _ (c .before .before .bit .ensures) (c .before .index .ensures)))
+    (λ c. flip-is _ (c .before .before .before .before .args .at) (c .before .before .before .before .args .n) _ _ (c .before .before .bit .ensures) (c .before .index .ensures .0)))

@@ -4,12 +4,12 @@ use Rattle.patrols.proofs.patrol_half.Statement.{statement}
 use Rattle.patrols.proofs.patrol_half.Tie as tie
 use Rattle.patrols.proofs.patrol_half.Reads as reads
 use Rattle.patrols.proofs.patrol_half.Lts as lts
-use Rattle.parity.proofs.half_code.Reads as half-code-reads
+use Rattle.parity.proofs.fresh_code.Reads as fresh-code-reads
 use Rattle.patrols.proofs.difference.Reads as difference-reads
 use Rattle.patrols.proofs.flip_bit.Reads as flip-bit-reads
 use Rattle.patrols.proofs.in_pairs.Reads as in-pairs-reads
-use Rattle.patrols.proofs.put_code.Reads as put-code-reads
-use Rattle.patrols.proofs.stored_code.Reads as stored-code-reads
+use Rattle.page.proofs.put_code.Reads as put-code-reads
+use Rattle.chip.proofs.code_at.Reads as code-at-reads
 
 ruleset all = (needs, patrol-laws)
 
@@ -26,17 +26,17 @@ patrol-half-spec =
     (λ c κs. search all)
     (λ c. search all)
     (λ c. (
-      found-data _ _ _ _ _ _ (c .before .before .before .before .before .before .before .difference .ensures .0) (c .before .before .before .before .before .before .before .before .stored-code .ensures .0) (c .before .before .before .before .before .before .before .before .before .before .half-code .ensures) _ (c .before .before .before .before .before .in-pairs .ensures) (c .before .before .before .before .if2 .taken) (c .before .before .before .before .before .before .if1 .left),
-      after-data _ _ _ _ _ _ (c .before .before .before .before .before .before .before .difference .ensures .0) (c .before .before .before .before .before .before .before .before .stored-code .ensures .0) (c .before .before .before .before .before .before .before .before .before .before .half-code .ensures) _ _ (c .before .before .before .before .before .in-pairs .ensures) (c .before .before .before .before .if2 .taken) (c .before .before .before .before .before .before .if1 .left) (c .before .before .flip-bit .ensures),
+      found-data _ _ _ _ _ _ (c .before .before .before .before .before .before .before .difference .ensures .0) (c .before .before .before .before .before .before .before .before .code-at .ensures .0) (c .before .before .before .before .before .before .before .before .before .before .fresh-code .ensures .0) _ (c .before .before .before .before .before .in-pairs .ensures) (c .before .before .before .before .if2 .taken) (c .before .before .before .before .before .before .if1 .left),
+      after-data _ _ _ _ _ _ (c .before .before .before .before .before .before .before .difference .ensures .0) (c .before .before .before .before .before .before .before .before .code-at .ensures .0) (c .before .before .before .before .before .before .before .before .before .before .fresh-code .ensures .0) _ _ (c .before .before .before .before .before .in-pairs .ensures) (c .before .before .before .before .if2 .taken) (c .before .before .before .before .before .before .if1 .left) (c .before .before .flip-bit .ensures),
     ))
     (λ c κs. search all)
     (λ c. search all)
     (λ c. (
-      found-code _ _ _ _ _ _ (c .before .before .before .before .before .before .before .before .difference .ensures .0) (c .before .before .before .before .before .before .before .before .before .stored-code .ensures .0) (c .before .before .before .before .before .before .before .before .before .before .before .half-code .ensures) _ (c .before .before .before .before .before .before .in-pairs .ensures) (c .before .before .before .before .before .if2 .left) (c .before .before .before .before .before .before .before .if1 .left) (c .before .before .before .before .before .before .before .before .difference .ensures .1) (c .before .before .before .before .if3 .taken),
-      after-code _ _ _ _ _ _ (c .before .before .before .before .before .before .before .before .difference .ensures .0) (c .before .before .before .before .before .before .before .before .before .stored-code .ensures .0) (c .before .before .before .before .before .before .before .before .before .before .before .half-code .ensures) _ _ (c .before .before .before .before .before .before .in-pairs .ensures) (c .before .before .before .before .before .if2 .left) (c .before .before .before .before .before .before .before .if1 .left) (c .before .before .before .before .before .before .before .before .difference .ensures .1) (c .before .before .before .before .if3 .taken) (c .before .before .put-code .ensures),
+      found-code _ _ _ _ _ _ (c .before .before .before .before .before .before .before .before .difference .ensures .0) (c .before .before .before .before .before .before .before .before .before .code-at .ensures .0) (c .before .before .before .before .before .before .before .before .before .before .before .fresh-code .ensures .0) _ (c .before .before .before .before .before .before .in-pairs .ensures) (c .before .before .before .before .before .if2 .left) (c .before .before .before .before .before .before .before .if1 .left) (c .before .before .before .before .before .before .before .before .difference .ensures .1) (c .before .before .before .before .if3 .taken),
+      after-code _ _ _ _ _ _ (c .before .before .before .before .before .before .before .before .difference .ensures .0) (c .before .before .before .before .before .before .before .before .before .code-at .ensures .0) (c .before .before .before .before .before .before .before .before .before .before .before .fresh-code .ensures .0) _ _ (c .before .before .before .before .before .before .in-pairs .ensures) (c .before .before .before .before .before .if2 .left) (c .before .before .before .before .before .before .before .if1 .left) (c .before .before .before .before .before .before .before .before .difference .ensures .1) (c .before .before .before .before .if3 .taken) (c .before .before .put-code .ensures),
     ))
     (λ c. search all)
     (λ c. (
-      found-beyond _ _ _ _ _ _ (c .before .before .before .before .difference .ensures .0) (c .before .before .before .before .before .stored-code .ensures .0) (c .before .before .before .before .before .before .before .half-code .ensures) _ (c .before .before .in-pairs .ensures) (c .before .if2 .left) (c .before .before .before .if1 .left) (c .before .before .before .before .difference .ensures .1) (c .if3 .left),
-      after-beyond _ _ _ _ _ _ (c .before .before .before .before .difference .ensures .0) (c .before .before .before .before .before .stored-code .ensures .0) (c .before .before .before .before .before .before .before .half-code .ensures) _ (c .before .before .in-pairs .ensures) (c .before .if2 .left) (c .before .before .before .if1 .left) (c .before .before .before .before .difference .ensures .1) (c .if3 .left),
+      found-beyond _ _ _ _ _ _ (c .before .before .before .before .difference .ensures .0) (c .before .before .before .before .before .code-at .ensures .0) (c .before .before .before .before .before .before .before .fresh-code .ensures .0) _ (c .before .before .in-pairs .ensures) (c .before .if2 .left) (c .before .before .before .if1 .left) (c .before .before .before .before .difference .ensures .1) (c .if3 .left),
+      after-beyond _ _ _ _ _ _ (c .before .before .before .before .difference .ensures .0) (c .before .before .before .before .before .code-at .ensures .0) (c .before .before .before .before .before .before .before .fresh-code .ensures .0) _ (c .before .before .in-pairs .ensures) (c .before .if2 .left) (c .before .before .before .if1 .left) (c .before .before .before .before .difference .ensures .1) (c .if3 .left),
     )))
