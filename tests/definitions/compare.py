@@ -24,6 +24,39 @@ def same(what, ours, theirs, img):
         sys.exit("%s: the definitions say %s, the reference %s; the image is in differs.img" % (what, ours[:4], theirs[:4]))
 
 
+def patrols(fuzz, d, rng, turns, met):
+    """Halves with up to four flipped bits, in the data, the code or both, and halves that no image has, on both geometries."""
+    for turn in range(turns):
+        m = fuzz.Mu(rng.choice([fuzz.SMALL, fuzz.LARGE]), reference.rules(fuzz))
+        g = m.G
+        blocks, page, half = 3, rng.randrange(3 * g.pages_per_block), rng.randrange(g.halves)
+        data = rng.choice([rng.randbytes(g.page_size), bytes(g.page_size)])
+        img = bytearray(b"\xff" * (blocks * g.block_size))
+        img[page * g.page_size:(page + 1) * g.page_size] = data
+        img = bytearray(reference.recoded(m, bytes(img)))
+        at, code = page * g.page_size + 256 * half, reference.code_place(g, page, half)
+        if turn < 8:
+            same("the code of a half", (d["plainCode"](bytes(img), at),), (d["freshCode"](bytes(img), at),), bytes(img))
+        for _ in range(rng.choice([0, 1, 1, 1, 2, 2, 3, 4])):
+            n = rng.randrange(2048 + 24) if rng.random() < .5 else rng.choice([rng.randrange(2048), 2048 + rng.randrange(24)])
+            i = at + n // 8 if n < 2048 else code + (n - 2048) // 8
+            img[i] ^= 1 << n % 8
+        img, u = bytes(img), rng.random()
+        if u < .05:
+            page = rng.choice([3 * g.pages_per_block, 2 ** 32 - 1])
+        elif u < .1:
+            half = rng.choice([g.halves, 2 ** 32 - 1])
+        elif u < .13:
+            img = img[:-1]
+        theirs = reference.patrolled(m, img, page, half)
+        ours = outcome(d["patrolOf"](g.number, img, page, half))
+        same("patrol of half %d of page %d" % (half, page), ours, theirs, img)
+        key = "patrol LENGTH" if theirs[0] else "patrol %d" % theirs[1]
+        met[key] = met.get(key, 0) + 1
+    img = b"\xff" * 50688
+    same("patrol of geometry 2", outcome(d["patrolOf"](2, img, 0, 0)), (1, 0, 0, 0, img), img)
+
+
 def compare(seconds, seed):
     fuzz = reference.load()
     if fuzz is None:
@@ -33,6 +66,7 @@ def compare(seconds, seed):
     small, calls, met = force(d["small"]), 0, {}
     rest = lambda r: (r.answer, r.address, r.programmed, r.erased, r.img)
     edges = [63, 64]  # both sides of R8 come first
+    patrols(fuzz, d, rng, 400, met)
     end = time.time() + seconds
     while time.time() < end or edges:
         img = fuzz.hand_image(rng, m, rng.choice([3, 3, 3, 4, 5]))

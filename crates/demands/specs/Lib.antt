@@ -1,5 +1,5 @@
 -- Demands 1, 2 and 3 of the definitions: read Words, then Refusals (demand 1) and Demands; Round for request 2, Reached for request 11, Inserts and Many for
--- request 10. The other files are their proofs.
+-- request 10, Patrol for request 4. The other files are their proofs.
 pub mod Words
 pub mod Maps
 pub mod Bridges
@@ -14,3 +14,4 @@ pub mod Reached
 pub mod Inserts
 pub mod Filling
 pub mod Many
+pub mod Patrol
