@@ -1,11 +1,19 @@
-// Document 01's bench cases, on a chip of three blocks: bad lengths and bytes of 255 through all four calls, format and keys
-// 1 to 63, key 64 with an allowance of 1 and in full, key 65, and a key inserted and deleted. Each call gives a line: answer,
-// address, programmed, erased. A page gives a line for each level that it counts: page, sequence number, height, level,
-// entries, then key and address, of a leaf's first and last entry and of each entry above.
+// Document 01's bench cases on three blocks, of the small chip and of the large one: bad lengths and bytes of 255 through all
+// four calls, format and as many keys as a root of level 1 stores, one key more with an allowance of 1 and in full, the next
+// key, and a key inserted and deleted. Each call gives a line: answer, address, programmed, erased. A page gives a line for
+// each level that it counts: page, sequence number, height, level, entries, then key and address, of a leaf's first and last
+// entry and of each entry above.
 ghost use Prim.Native.Nat.{_<_, _≤_};
 use answers::Answer;
 use geometry::Entry;
 use geometry::Geometry;
+
+// A chip by its number and geometry, and the entries that its root of level 1 stores.
+struct Bench {
+    kind: u32,
+    geometry: Geometry,
+    full: u32,
+}
 
 fn number(n: u32) {
     io::write_all(1, b" ");
@@ -30,20 +38,20 @@ fn entry(e: Entry) {
 }
 
 // The page on which the root is.
-fn root_page(img: &[u8; 50688]) -> u32 {
-    survey::take_survey(Geometry::small(), img, 3).root
+fn root_page(bench: Bench, img: &[u8]) -> u32 {
+    survey::take_survey(bench.geometry, img, 3).root
 }
 
-fn show_head(img: &[u8; 50688], page: u32, level: u32) {
+fn show_head(bench: Bench, img: &[u8], page: u32, level: u32) {
     io::write_all(1, b"  page");
     number(page);
-    number(chip::seq_at(Geometry::small(), img, page));
-    number(chip::height_at(Geometry::small(), img, page));
+    number(chip::seq_at(bench.geometry, img, page));
+    number(chip::height_at(bench.geometry, img, page));
     number(level);
 }
 
 // How many entries a node has, its first and its last.
-fn show_ends(img: &[u8; 50688], at: usize, n: usize)
+fn show_ends(img: &[u8], at: usize, n: usize)
     requires { ⌜ (1 ≤ n) × (n < 256) × (at < 1152921504606846976) ⌝ }
 {
     io::write_all(1, b" ");
@@ -54,7 +62,7 @@ fn show_ends(img: &[u8; 50688], at: usize, n: usize)
 }
 
 // How many entries a node has, and each of them.
-fn show_entries(img: &[u8; 50688], at: usize, n: usize)
+fn show_entries(img: &[u8], at: usize, n: usize)
     requires { ⌜ (n < 256) × (at < 1152921504606846976) ⌝ }
 {
     io::write_all(1, b" ");
@@ -67,42 +75,42 @@ fn show_entries(img: &[u8; 50688], at: usize, n: usize)
     line();
 }
 
-fn show_leaf(img: &[u8; 50688], page: u32) {
-    let n = chip::node_count(Geometry::small(), img, page, 1);
+fn show_leaf(bench: Bench, img: &[u8], page: u32) {
+    let n = chip::node_count(bench.geometry, img, page, 1);
     if n == 0 {
         return;
     }
-    show_head(img, page, 1);
-    let at = chip::node_place(Geometry::small(), page, 1);
+    show_head(bench, img, page, 1);
+    let at = chip::node_place(bench.geometry, page, 1);
     show_ends(img, at, n);
 }
 
-fn show_inner(img: &[u8; 50688], page: u32) {
-    let n = chip::node_count(Geometry::small(), img, page, 2);
+fn show_inner(bench: Bench, img: &[u8], page: u32) {
+    let n = chip::node_count(bench.geometry, img, page, 2);
     if n == 0 {
         return;
     }
-    show_head(img, page, 2);
-    let at = chip::node_place(Geometry::small(), page, 2);
+    show_head(bench, img, page, 2);
+    let at = chip::node_place(bench.geometry, page, 2);
     show_entries(img, at, n);
 }
 
-fn show_page(img: &[u8; 50688], page: u32) {
-    show_leaf(img, page);
-    show_inner(img, page);
+fn show_page(bench: Bench, img: &[u8], page: u32) {
+    show_leaf(bench, img, page);
+    show_inner(bench, img, page);
 }
 
-fn holds(img: &[u8; 50688], key: u32) -> bool {
-    answers::number(index::lookup(0, img, key)) == 0
+fn holds(bench: Bench, img: &[u8], key: u32) -> bool {
+    answers::number(index::lookup(bench.kind, img, key)) == 0
 }
 
 // How many of the keys 1 to n are found.
-fn found(img: &[u8; 50688], n: u32) {
+fn found(bench: Bench, img: &[u8], n: u32) {
     let mut key: u32 = 0;
     let mut held: u32 = 0;
     while key < n {
         key += 1;
-        if holds(img, key) {
+        if holds(bench, img, key) {
             if held < n {
                 held += 1;
             }
@@ -113,129 +121,191 @@ fn found(img: &[u8; 50688], n: u32) {
     line();
 }
 
-fn insert(img: &mut [u8; 50688], key: u32) {
+fn insert(bench: Bench, img: &mut [u8], key: u32) {
     io::write_all(1, b"insert");
     number(key);
     io::write_all(1, b":");
-    tell(index::insert(0, &mut *img, key, key, 4294967295));
+    tell(index::insert(bench.kind, &mut *img, key, key, 4294967295));
 }
 
-fn show_root(img: &[u8; 50688]) {
+fn show_root(bench: Bench, img: &[u8]) {
     io::write_all(1, b"  root on page");
-    number(root_page(img));
+    number(root_page(bench, img));
     line();
 }
 
-// Keys 1 to 63: a page each, its number the key's.
-fn fill(img: &mut [u8; 50688]) {
+// As many keys as a root of level 1 stores, from 1 on: a page each.
+fn fill(bench: Bench, img: &mut [u8]) {
     let mut key: u32 = 0;
-    while key < 63 {
+    while key < bench.full {
         key += 1;
-        insert(&mut *img, key);
-        show_root(&*img);
+        insert(bench, &mut *img, key);
+        show_root(bench, &*img);
     }
 }
 
-fn format(img: &mut [u8; 50688]) {
+fn format(bench: Bench, img: &mut [u8]) {
     io::write_all(1, b"format:");
-    tell(index::format(0, &mut *img));
+    tell(index::format(bench.kind, &mut *img));
 }
 
-fn show_erased(img: &[u8; 50688], page: u32) {
+fn show_erased(bench: Bench, img: &[u8], page: u32) {
     io::write_all(1, b"  erased page");
     number(page);
-    if chip::page_erased(Geometry::small(), img, page) {
+    if chip::page_erased(bench.geometry, img, page) {
         io::write_all(1, b" yes\n");
     } else {
         io::write_all(1, b" no\n");
     }
 }
 
-// Key 64 with an allowance of 1: block 0 is erased and no more.
-fn stopped(img: &mut [u8; 50688]) {
-    format(&mut *img);
-    fill(&mut *img);
-    io::write_all(1, b"insert 64 with allowance 1:");
-    tell(index::insert(0, &mut *img, 64, 64, 1));
-    show_erased(&*img, 0);
-    show_erased(&*img, 32);
-    found(&*img, 64);
+// Whether the first page of each of the three blocks is erased.
+fn show_blocks(bench: Bench, img: &[u8]) {
+    show_erased(bench, img, 0);
+    show_erased(bench, img, bench.geometry.pages as u32);
+    show_erased(bench, img, 2 * (bench.geometry.pages as u32));
 }
 
-// Format, keys 1 to 63, then key 64 and key 65.
-fn grows(img: &mut [u8; 50688]) {
-    format(&mut *img);
-    fill(&mut *img);
-    found(&*img, 64);
-    insert(&mut *img, 64);
-    show_page(&*img, 64);
-    show_page(&*img, 65);
+// One key more with an allowance of 1: one store and no more.
+fn stopped(bench: Bench, img: &mut [u8], key: u32) {
+    format(bench, &mut *img);
+    fill(bench, &mut *img);
+    io::write_all(1, b"insert");
+    number(key);
+    io::write_all(1, b" with allowance 1:");
+    tell(index::insert(bench.kind, &mut *img, key, key, 1));
+    show_blocks(bench, &*img);
+    found(bench, &*img, key);
 }
 
-fn splits(img: &mut [u8; 50688]) {
-    insert(&mut *img, 65);
-    show_page(&*img, 66);
-    show_page(&*img, 67);
-    found(&*img, 70);
+// The page before the root's, and the root's.
+fn show_last(bench: Bench, img: &[u8]) {
+    let root = root_page(bench, img);
+    if 0 < root {
+        show_page(bench, img, root - 1);
+    }
+    show_page(bench, img, root);
+}
+
+// Format and a full root of level 1, then one key more: the root is halved.
+fn grows(bench: Bench, img: &mut [u8], key: u32) {
+    format(bench, &mut *img);
+    fill(bench, &mut *img);
+    found(bench, &*img, key);
+    insert(bench, &mut *img, key);
+    show_last(bench, &*img);
+    found(bench, &*img, key);
+}
+
+// The next key: its leaf is full and is halved.
+fn splits(bench: Bench, img: &mut [u8], key: u32) {
+    insert(bench, &mut *img, key);
+    show_last(bench, &*img);
+    found(bench, &*img, key);
 }
 
 // The root at level 1, an empty one too.
-fn show_root_leaf(img: &[u8; 50688]) {
-    let page = root_page(img);
-    let n = chip::node_count(Geometry::small(), img, page, 1);
-    show_head(img, page, 1);
-    let at = chip::node_place(Geometry::small(), page, 1);
+fn show_root_leaf(bench: Bench, img: &[u8]) {
+    let page = root_page(bench, img);
+    let n = chip::node_count(bench.geometry, img, page, 1);
+    show_head(bench, img, page, 1);
+    let at = chip::node_place(bench.geometry, page, 1);
     show_entries(img, at, n);
 }
 
-fn delete(img: &mut [u8; 50688], key: u32) {
+fn delete(bench: Bench, img: &mut [u8], key: u32) {
     io::write_all(1, b"delete");
     number(key);
     io::write_all(1, b":");
-    tell(index::delete(0, &mut *img, key, 4294967295));
-    show_root(&*img);
-    show_root_leaf(&*img);
+    tell(index::delete(bench.kind, &mut *img, key, 4294967295));
+    show_root(bench, &*img);
+    show_root_leaf(bench, &*img);
 }
 
-fn comes_and_goes(img: &mut [u8; 50688]) {
-    format(&mut *img);
-    insert(&mut *img, 7);
-    delete(&mut *img, 7);
-    delete(&mut *img, 7);
+fn comes_and_goes(bench: Bench, img: &mut [u8]) {
+    format(bench, &mut *img);
+    insert(bench, &mut *img, 7);
+    delete(bench, &mut *img, 7);
+    delete(bench, &mut *img, 7);
 }
 
 // All four calls on bytes that are no index.
-fn refused(img: &mut [u8]) {
+fn refused(bench: Bench, img: &mut [u8]) {
     io::write_all(1, b"length ");
     io::print_decimal(1, img.len() as u64);
     line();
     io::write_all(1, b"  lookup:");
-    tell(index::lookup(&*img, 7));
+    tell(index::lookup(bench.kind, &*img, 7));
     io::write_all(1, b"  insert:");
-    tell(index::insert(&mut *img, 7, 7, 4294967295));
+    tell(index::insert(bench.kind, &mut *img, 7, 7, 4294967295));
     io::write_all(1, b"  delete:");
-    tell(index::delete(&mut *img, 7, 4294967295));
+    tell(index::delete(bench.kind, &mut *img, 7, 4294967295));
     io::write_all(1, b"  format:");
-    tell(index::format(&mut *img));
+    tell(index::format(bench.kind, &mut *img));
+}
+
+// A chip's cases on an image of three blocks.
+fn cases(bench: Bench, img: &mut [u8], more: u32, next: u32) {
+    stopped(bench, &mut *img, more);
+    grows(bench, &mut *img, more);
+    splits(bench, &mut *img, next);
+    comes_and_goes(bench, &mut *img);
 }
 
 // Lengths that are refused, and 50,688 bytes of 255.
-fn bad_images() {
+fn small_chip() {
+    let bench = Bench {
+        kind: 0,
+        geometry: Geometry::small(),
+        full: 63,
+    };
+    io::write_all(1, b"small chip\n");
     let mut none: [u8; 0] = [255; 0];
-    refused(&mut none);
+    refused(bench, &mut none);
     let mut two_blocks: [u8; 33792] = [255; 33792];
-    refused(&mut two_blocks);
+    refused(bench, &mut two_blocks);
     let mut one_short: [u8; 50687] = [255; 50687];
-    refused(&mut one_short);
+    refused(bench, &mut one_short);
     let mut blank: [u8; 50688] = [255; 50688];
-    refused(&mut blank);
+    refused(bench, &mut blank);
+    let mut image: [u8; 50688] = [0; 50688];
+    cases(bench, &mut image, 64, 65);
+}
+
+// The same of the large chip, whose three blocks have 405,504 bytes.
+fn large_chip() {
+    let bench = Bench {
+        kind: 1,
+        geometry: Geometry::large(),
+        full: 255,
+    };
+    io::write_all(1, b"large chip\n");
+    let mut two_blocks: [u8; 270336] = [255; 270336];
+    refused(bench, &mut two_blocks);
+    let mut one_short: [u8; 405503] = [255; 405503];
+    refused(bench, &mut one_short);
+    let mut blank: [u8; 405504] = [255; 405504];
+    refused(bench, &mut blank);
+    let mut image: [u8; 405504] = [0; 405504];
+    cases(bench, &mut image, 256, 257);
+}
+
+// A number that is no geometry's: LENGTH, whatever the image.
+fn no_chip() {
+    let bench = Bench {
+        kind: 2,
+        geometry: Geometry::large(),
+        full: 0,
+    };
+    io::write_all(1, b"number 2\n");
+    let mut small: [u8; 50688] = [255; 50688];
+    refused(bench, &mut small);
+    let mut large: [u8; 405504] = [255; 405504];
+    refused(bench, &mut large);
 }
 
 fn main() {
-    bad_images();
-    let mut image: [u8; 50688] = [0; 50688];
-    stopped(&mut image);
-    grows(&mut image);
-    splits(&mut image);
-    comes_and_goes(&mut image);
+    small_chip();
+    large_chip();
+    no_chip();
 }

@@ -29,7 +29,7 @@ use Rattle.images.specs.Held.{held-sound}
 use Rattle.images.specs.Lengths.{Blocks, good-blocks, blocks-same, length-same, length-all}
 use Rattle.updates.specs.Along.{Keeps}
 use Rattle.updates.specs.Format.{formatted-keeps, formatted-max, formatted-level, formatted-root, formatted-lives}
-use Rattle.demands.specs.Words.{Ready, mapAt, Holds, Began}
+use Rattle.demands.specs.Words.{Ready, mapAt, Holds, programmedMost, erasedMost, Began}
 use Rattle.demands.specs.Maps.{find-put}
 use Rattle.demands.specs.Calls.{insert-is, delete-is, made-began}
 use Rattle.demands.specs.Proofs.{found, insert-kept, delete-kept}
@@ -42,9 +42,9 @@ stores-length [] = refl
 stores-length (program p bs ∷ ss) = omega (arith, stores-length ss)
 stores-length (erase b ∷ ss) = omega (arith, stores-length ss)
 
--- the most stores of an update: 197 of the small geometry
+-- the most stores of an update: 197 on the small chip, 519 on the large one
 abbrev pub storesMost : Geometry → ℕ
-storesMost g = (g .top + 1) * (g .pages - 1) + g .top + (g .top + 1)
+storesMost g = programmedMost g + erasedMost g
 
 module _ (g : Geometry) (shape : Shape g) (img : List ℕ) (ready : Ready g img) (k : ℕ) (k-low : k < 4294967296) where
   abbrev n : ℕ
@@ -53,7 +53,7 @@ module _ (g : Geometry) (shape : Shape g) (img : List ℕ) (ready : Ready g img)
   abbrev c : Chip
   c = chipOf g n img
 
-  enough : (ss : List Store) (al : ℕ) → programs ss ≤ (g .top + 1) * (g .pages - 1) + g .top → erases ss ≤ g .top + 1 → storesMost g ≤ al
+  enough : (ss : List Store) (al : ℕ) → programs ss ≤ programmedMost g → erases ss ≤ erasedMost g → storesMost g ≤ al
       → made g ss al img .answer ≡ 0
   unfolding made
   enough ss al p e h = rw (le-leb (length ss) al (omega (arith, stores-length ss, p, e, h))) refl

@@ -1,5 +1,5 @@
 -- The demands, about the definitions `lookup`, `insert` and `delete` of crate model, whose outcome has an answer number, an
--- address, two counts and the image afterwards. g is any geometry with `Shape g`, the small chip's among them; k, the key, and
+-- address, two counts and the image afterwards. g is any geometry with `Shape g`, so the small and the large chip; k, the key, and
 -- a, the address, are below 2^32 = 4294967296; al is the store allowance. `Words` has the words: Ready, mapAt, Rising, Holds,
 -- Kept, Began, OneOf, Own. Every proof here is one citation; assumes nothing.
 use mathlib.Core.Path.{_≡_}
@@ -8,15 +8,14 @@ use mathlib.Core.Logic.{_⊎_}
 use mathlib.Core.Option.{none, some}
 use Prim.Native.Nat.{ℕ, _<_, _≤_}
 use Rattle.geometry.specs.declared.Geometry.{Geometry}
-use Rattle.geometry.specs.Geometry.{small, large}
-use Rattle.geometry.specs.Shape.{Shape, small-shape, large-shape}
+use Rattle.geometry.specs.Shape.{Shape}
 use Rattle.model.specs.Image.{blocksOf, chipOf}
 use Rattle.model.specs.Tree.{find}
 use Rattle.model.specs.Edit.{put, remove}
 use Rattle.model.specs.Stores.{programs, erases}
 use Rattle.model.specs.Update.{needs, insertStores, deleteStores}
 use Rattle.model.specs.Calls.{made, answered, lookup, insert, delete}
-use Rattle.demands.specs.Words.{Ready, mapAt, Rising, Holds, Kept, Began, OneOf, Own}
+use Rattle.demands.specs.Words.{Ready, mapAt, Rising, Holds, ownMost, programmedMost, erasedMost, Kept, Began, OneOf, Own}
 use Rattle.demands.specs.Maps.{rising, find-put, find-put-other, find-remove, find-remove-other}
 use Rattle.demands.specs.Bridges.{ready-rises}
 use Rattle.demands.specs.Calls.{insert-untouched, delete-untouched, insert-passed, delete-passed}
@@ -117,28 +116,16 @@ module _ (g : Geometry) (shape : Shape g) (img : List ℕ) (ready : Ready g img)
   pub delete-own : (al : ℕ) → Began (delete g img k al) → Own g (blocksOf g img) img 1 (deleteStores g (blocksOf g img) img k)
   delete-own al b = delete-pages g shape img ready k k-low al b
 
--- the small chip: at most 5 own pages, 191 pages programmed and 6 blocks erased
-pub small-bounds : (img : List ℕ) → Ready small img → (k a al : ℕ) → k < 4294967296 → a < 4294967296 → Began (insert small img k a al)
-    → (needs small (chipOf small (blocksOf small img) img) k ≤ 5) ×
-    (programs (insertStores small (blocksOf small img) img k a) ≤ 191) ×
-    (erases (insertStores small (blocksOf small img) img k a) ≤ 6)
-small-bounds img ready k a al k-low a-low b =
-    let o = insert-own small small-shape img ready k k-low a al a-low b in
-    let h = insert-stores small small-shape img ready k k-low a al a-low b in
-    (o .atmost, h .programmed, h .wiped)
+  -- so at most 5 own pages, 191 programmed and 6 erased on the small chip, 7, 511 and 8 on the large one: `small-most`, `large-most`
+  pub insert-bounds : (a al : ℕ) → a < 4294967296 → Began (insert g img k a al)
+      → (needs g (chipOf g (blocksOf g img) img) k ≤ ownMost g) ×
+      (programs (insertStores g (blocksOf g img) img k a) ≤ programmedMost g) ×
+      (erases (insertStores g (blocksOf g img) img k a) ≤ erasedMost g)
+  insert-bounds a al a-low b =
+      let h = insert-stores a al a-low b in
+      (insert-own a al a-low b .atmost, h .programmed, h .wiped)
 
-pub small-delete-bounds : (img : List ℕ) → Ready small img → (k al : ℕ) → k < 4294967296 → Began (delete small img k al)
-    → (programs (deleteStores small (blocksOf small img) img k) ≤ 191) × (erases (deleteStores small (blocksOf small img) img k) ≤ 6)
-small-delete-bounds img ready k al k-low b =
-    let h = delete-stores small small-shape img ready k k-low al b in
-    (h .programmed, h .wiped)
-
--- the large chip: at most 7 own pages, 511 pages programmed and 8 blocks erased
-pub large-bounds : (img : List ℕ) → Ready large img → (k a al : ℕ) → k < 4294967296 → a < 4294967296 → Began (insert large img k a al)
-    → (needs large (chipOf large (blocksOf large img) img) k ≤ 7) ×
-    (programs (insertStores large (blocksOf large img) img k a) ≤ 511) ×
-    (erases (insertStores large (blocksOf large img) img k a) ≤ 8)
-large-bounds img ready k a al k-low a-low b =
-    let o = insert-own large large-shape img ready k k-low a al a-low b in
-    let h = insert-stores large large-shape img ready k k-low a al a-low b in
-    (o .atmost, h .programmed, h .wiped)
+  pub delete-bounds : (al : ℕ) → Began (delete g img k al)
+      → (programs (deleteStores g (blocksOf g img) img k) ≤ programmedMost g) ×
+      (erases (deleteStores g (blocksOf g img) img k) ≤ erasedMost g)
+  delete-bounds al b = let h = delete-stores al b in (h .programmed, h .wiped)

@@ -1,6 +1,6 @@
 -- Images reached from format by insertions and deletions, each with any allowance, so stopped and refused ones too: they are
 -- sound by R1 to R8, so T − L is at least twice a block's pages. Assumes nothing.
-use mathlib.Core.Path.{_≡_, sym, subst}
+use mathlib.Core.Path.{_≡_, refl, sym, subst}
 use mathlib.Core.List.{List, [], _∷_}
 use mathlib.Core.Bool.{true, false}
 use mathlib.Core.Logic.{inl, inr}
@@ -9,7 +9,7 @@ use native.Mathlib.Omega.{arith}
 use borrow.Author.Tests.{le-ltb}
 use Rattle.geometry.specs.declared.Geometry.{Geometry}
 use Rattle.geometry.specs.Geometry.{small, large}
-use Rattle.geometry.specs.Shape.{Shape, small-shape, large-shape}
+use Rattle.geometry.specs.Shape.{Shape}
 use Rattle.model.specs.Bytes.{byteAt}
 use Rattle.model.specs.Image.{blocksOf, goodLength, chipOf}
 use Rattle.model.specs.Calls.{Outcome, roomless, freePages, insert, delete, format}
@@ -93,14 +93,6 @@ module _ (g : Geometry) (shape : Shape g) where
     pub reached-room : 2 * g .pages ≤ freePages g (blocksOf g after) (chipOf g (blocksOf g after) after)
     reached-room = sound-room after reached-ready
 
--- the small chip: T − L ≥ 64
-pub small-room : (img : List ℕ) → goodLength small img ≡ true → ((i : ℕ) → byteAt img i < 256) → (xs : List Call) → All Low xs
-    → 64 ≤ freePages small (blocksOf small (reached small xs (format small img .image)))
-    (chipOf small (blocksOf small (reached small xs (format small img .image))) (reached small xs (format small img .image)))
-small-room img length-good bytes xs low = reached-room small small-shape (omega arith) img length-good bytes xs low
-
--- the large chip: T − L ≥ 128
-pub large-room : (img : List ℕ) → goodLength large img ≡ true → ((i : ℕ) → byteAt img i < 256) → (xs : List Call) → All Low xs
-    → 128 ≤ freePages large (blocksOf large (reached large xs (format large img .image)))
-    (chipOf large (blocksOf large (reached large xs (format large img .image))) (reached large xs (format large img .image)))
-large-room img length-good bytes xs low = reached-room large large-shape (omega arith) img length-good bytes xs low
+-- "at least 64 (128 in the large geometry)"
+pub room-numbers : (2 * small .pages ≡ 64) × (2 * large .pages ≡ 128)
+room-numbers = (refl, refl)

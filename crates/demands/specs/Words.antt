@@ -1,5 +1,5 @@
 -- The words that the demands are stated in. Definitions alone; assumes nothing.
-use mathlib.Core.Path.{_≡_}
+use mathlib.Core.Path.{_≡_, refl}
 use mathlib.Core.List.{List, [], _∷_, _++_}
 use mathlib.Core.Bool.{true}
 use mathlib.Core.Logic.{_⊎_}
@@ -8,6 +8,7 @@ use lib.ListN.{length, take}
 use Rattle.geometry.specs.declared.Geometry.{Geometry}
 use Rattle.geometry.specs.declared.Entry.{Entry}
 use Rattle.geometry.specs.declared.Verdict.the-variants.{Sound}
+use Rattle.geometry.specs.Geometry.{small, large}
 use Rattle.model.specs.Bytes.{byteAt}
 use Rattle.model.specs.Image.{blocksOf, pagesOf, goodLength, chipOf}
 use Rattle.model.specs.Tree.{next, mapOf, erasedPages}
@@ -42,6 +43,23 @@ unfoldable pub Lawful : Geometry → ℕ → List ℕ → List Store → Type 0
 Lawful g n img [] = Unit {0}
 Lawful g n img (s ∷ ss) = Legal g n img s × Lawful g n (applyStore g s img) ss
 
+-- the three numbers of demand 3: own pages, pages programmed and blocks erased with collection
+abbrev pub ownMost : Geometry → ℕ
+ownMost g = g .top
+
+abbrev pub programmedMost : Geometry → ℕ
+programmedMost g = (g .top + 1) * (g .pages - 1) + g .top
+
+abbrev pub erasedMost : Geometry → ℕ
+erasedMost g = g .top + 1
+
+-- "exactly .. (at most 5) .. at most 191 pages and 6 erases"; "5 becomes 7, 191 becomes 511 and 6 becomes 8"
+pub small-most : (ownMost small ≡ 5) × (programmedMost small ≡ 191) × (erasedMost small ≡ 6)
+small-most = (refl, refl, refl)
+
+pub large-most : (ownMost large ≡ 7) × (programmedMost large ≡ 511) × (erasedMost large ≡ 8)
+large-most = (refl, refl, refl)
+
 -- demand 3 of a list of stores that leads from the map old to the map new
 pub record Kept (g : Geometry) (old new : List Entry) (img : List ℕ) (ss : List Store) : Type 0 where
   pub lawful : Lawful g (blocksOf g img) img ss
@@ -49,9 +67,8 @@ pub record Kept (g : Geometry) (old new : List Entry) (img : List ℕ) (ss : Lis
   pub before : (j : ℕ) → j < length ss → Holds g old (applyAll g (take j ss) img)
   -- after the whole list: sound, and the new map
   pub end : Holds g new (applyAll g ss img)
-  -- of the small chip 191 and 6: `small-bounds`
-  pub programmed : programs ss ≤ (g .top + 1) * (g .pages - 1) + g .top
-  pub wiped : erases ss ≤ g .top + 1
+  pub programmed : programs ss ≤ programmedMost g
+  pub wiped : erases ss ≤ erasedMost g
 
 -- the answer of an update that has begun
 abbrev pub Began : Outcome → Type 0
@@ -62,12 +79,12 @@ abbrev pub OneOf : ℕ → List ℕ → Type 0
 OneOf x [] = ⊥
 OneOf x (y ∷ ys) = (x ≡ y) ⊎ OneOf x ys
 
--- own pages: the list is the collection's stores, then stores with m programs and no erase, m at most `top`. The collection ends because
+-- own pages: the list is the collection's stores, then stores with m programs and no erase, m at most `ownMost`. The collection ends because
 -- it is done: a block's pages and m more are then erased
 pub record Own (g : Geometry) (n : ℕ) (img : List ℕ) (m : ℕ) (ss : List Store) : Type 0 where
   pub own : List Store
   pub list-is : ss ≡ collectStores g n m (suc m) img ++ own
   pub programs-are : programs own ≡ m
   pub no-erase : erases own ≡ 0
-  pub atmost : m ≤ g .top
+  pub atmost : m ≤ ownMost g
   pub collected : g .pages + m ≤ erasedPages (pagesOf g n) (chipOf g n (applyAll g (collectStores g n m (suc m) img) img))

@@ -2,7 +2,7 @@
 -- Assumes nothing.
 use Prim.Native.Nat.{ℕ, zero, suc, _+_, _-_, _*_, _/_, _^_, _<_, _≤_}
 use mathlib.Core.Bool.{Bool, true, false}
-use mathlib.Core.Path.{_≡_, refl, sym, ap, _∙_}
+use mathlib.Core.Path.{_≡_, refl, sym, ap, subst, _∙_}
 use mathlib.Core.List.{List, [], _∷_}
 use lib.Dec.{T, eqb, leb, ltb, eqb→eq, leb→le, ltb→lt, lit<, lit≤}
 use lib.ListN.{getD, length, List·getD-eq-default}
@@ -12,7 +12,9 @@ use native.Mathlib.Nat.{suc-mul, mul-le-mul-right}
 use Rattle.geometry.specs.Tests.{pick}
 use Rattle.geometry.specs.Table.{at, every}
 use Rattle.geometry.specs.declared.Geometry.{Geometry}
-use Rattle.geometry.specs.Geometry.{small, large, slots, pageBytes, halves, codePlace, pageBase, smallFirst, smallSlots, largeFirst, largeSlots, firstSlot, slotsOf, half, rootSlots, rootMost}
+use Rattle.geometry.specs.declared.Chosen.{Chosen}
+use Rattle.geometry.specs.declared.Chosen.the-variants.{Of, Unknown}
+use Rattle.geometry.specs.Geometry.{small, large, chosenOf, slots, pageBytes, halves, codePlace, pageBase, smallFirst, smallSlots, largeFirst, largeSlots, firstSlot, slotsOf, half, rootSlots, rootMost}
 
 -- "The first slot of level l is 64 − 64/2^(l−1)", with 256 for 64 on the large chip, over each table once
 rule : ℕ → ℕ → ℕ → Bool
@@ -220,6 +222,21 @@ large-shape = shape-by large large-numbers large-tested
 pub shape : (g : Geometry) → Known g → Shape g
 shape _ is-small = small-shape
 shape _ is-large = large-shape
+
+-- the page of the large chip is the longest
+pub page-most : (g : Geometry) → Known g → pageBytes g ≤ 2112
+page-most _ is-small = lit≤ tt
+page-most _ is-large = lit≤ tt
+
+-- a number below 2 is that of a geometry, and that geometry is known
+abbrev geometryOf : Chosen → Geometry
+geometryOf (Of g) = g
+geometryOf Unknown = small
+
+pub chosen-known : (kind : ℕ) (g : Geometry) → chosenOf kind ≡ Of g → Known g
+chosen-known zero g e = subst Known (ap geometryOf e) is-small
+chosen-known (suc zero) g e = subst Known (ap geometryOf e) is-large
+chosen-known (suc (suc kind)) g e = subst Known (ap geometryOf e) is-small
 
 -- pages do not overlap: the one place where theorems open the product
 pub base-apart : (g : Geometry) (p q : ℕ) → p < q → pageBase g p + pageBytes g ≤ pageBase g q

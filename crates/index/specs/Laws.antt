@@ -7,35 +7,21 @@ use native.Mathlib.Omega.{arith}
 use Rattle.geometry.specs.declared.Geometry.{Geometry}
 use Rattle.geometry.specs.declared.Chosen.{Chosen}
 use Rattle.geometry.specs.declared.Chosen.the-variants.{Of, Unknown}
-use Rattle.geometry.specs.Geometry.{small, large, chosenOf, pageBytes}
+use Rattle.geometry.specs.Geometry.{chosenOf, pageBytes}
+use Rattle.geometry.specs.Shape.{Known, Shape, shape, page-most, chosen-known}
 use Rattle.model.specs.Calls.{Outcome, refused, chosenCall, format, lookup, insert, delete, patrol, formatOf, lookupOf, insertOf, deleteOf, patrolOf}
 use Rattle.answers.specs.declared.Answer.the-variants.{Length}
 use Rattle.answers.specs.Answers.{told}
 
--- the geometry of a choice; the small one where there is none
-abbrev chosenG : Chosen → Geometry
-chosenG (Of g) = g
-chosenG Unknown = small
-
-known-pages : (kind : ℕ) → chosenG (chosenOf kind) .pages ≤ 64
-known-pages zero = omega arith
-known-pages (suc zero) = omega arith
-known-pages (suc (suc kind)) = omega arith
-
-known-page : (kind : ℕ) → pageBytes (chosenG (chosenOf kind)) ≤ 2112
-known-page zero = omega arith
-known-page (suc zero) = omega arith
-known-page (suc (suc kind)) = omega arith
-
 module _ (kind : ℕ) (c : Chosen) (ec : c ≡ chosenOf kind) (g : Geometry) (e : c ≡ Of g) where
-  of-is : chosenG (chosenOf kind) ≡ g
-  of-is = ap chosenG (sym ec ∙ e)
+  known : Known g
+  known = chosen-known kind g (sym ec ∙ e)
 
   pub of-pages : g .pages ≤ 64
-  of-pages = subst (λ (x : Geometry). x .pages ≤ 64) of-is (known-pages kind)
+  of-pages = shape g known .pages-high
 
   pub of-page : pageBytes g ≤ 2112
-  of-page = subst (λ (x : Geometry). pageBytes x ≤ 2112) of-is (known-page kind)
+  of-page = page-most g known
 
   called : (call : Geometry → Outcome) (img : List ℕ) (o : Outcome) → o ≡ call g → o ≡ chosenCall (chosenOf kind) call img
   unfolding chosenCall

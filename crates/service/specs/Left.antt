@@ -1,34 +1,55 @@
 -- What the calls of the C library leave, by their contracts in crates/camera/src/lib.rt: the number returned, the image and the
 -- result buffer. And how the four numbers of a result are read. Assumes nothing.
-use mathlib.Core.Path.{_≡_, refl, _∙_}
+use mathlib.Core.Path.{_≡_, refl, ap, _∙_}
 use mathlib.Core.List.{List}
 use mathlib.Core.Bool.{Bool, true, false}
-use Prim.Native.Nat.{ℕ, _+_, _<_, _≤_}
+use Prim.Native.Nat.{ℕ, zero, suc, _+_, _<_, _≤_}
 use mathlib.Core.Logic.{inl}
 use native.Mathlib.Omega.{arith}
 use lib.Dec.{ltb}
 use lib.ListN.{length}
 use borrow.Author.Tests.{ltb-false, le-ltb, lt-ltb}
-use Rattle.geometry.specs.Geometry.{small}
+use Rattle.geometry.specs.declared.Geometry.{Geometry}
+use Rattle.geometry.specs.declared.Chosen.{Chosen}
+use Rattle.geometry.specs.declared.Chosen.the-variants.{Of, Unknown}
+use Rattle.geometry.specs.Geometry.{small, large, chosenOf}
 use Rattle.geometry.specs.Tests.{pick}
 use Rattle.model.specs.Bytes.{u32At}
 use Rattle.model.specs.Page.{putU32}
-use Rattle.model.specs.Calls.{Outcome, format, lookup, insert, delete}
+use Rattle.model.specs.Calls.{Outcome, chosenCall, formatOf, lookupOf, insertOf, deleteOf}
 use Rattle.images.specs.Bytes.{copy-u32, length-word, word-off, word-same}
 use Rattle.camera.specs.Camera.{Left, fourNumbers, returned}
 
--- mutree_format, mutree_lookup, mutree_insert, mutree_delete
-abbrev pub formats : List ℕ → List ℕ → Left
-formats image result = returned (format small image) image result
+-- mutree_format, mutree_lookup, mutree_insert, mutree_delete; `kind` is the number of the geometry
+abbrev pub formats : ℕ → List ℕ → List ℕ → Left
+formats kind image result = returned (formatOf kind image) image result
 
-abbrev pub looksUp : List ℕ → ℕ → List ℕ → Left
-looksUp image key result = returned (lookup small image key) image result
+abbrev pub looksUp : ℕ → List ℕ → ℕ → List ℕ → Left
+looksUp kind image key result = returned (lookupOf kind image key) image result
 
-abbrev pub inserts : List ℕ → ℕ → ℕ → ℕ → List ℕ → Left
-inserts image key address allowance result = returned (insert small image key address allowance) image result
+abbrev pub inserts : ℕ → List ℕ → ℕ → ℕ → ℕ → List ℕ → Left
+inserts kind image key address allowance result = returned (insertOf kind image key address allowance) image result
 
-abbrev pub deletes : List ℕ → ℕ → ℕ → List ℕ → Left
-deletes image key allowance result = returned (delete small image key allowance) image result
+abbrev pub deletes : ℕ → List ℕ → ℕ → ℕ → List ℕ → Left
+deletes kind image key allowance result = returned (deleteOf kind image key allowance) image result
+
+-- 0 is the small chip, 1 the large one, and no other number is a geometry's
+pub zero-small : chosenOf 0 ≡ Of small
+zero-small = refl
+
+pub one-large : chosenOf 1 ≡ Of large
+one-large = refl
+
+pub other-unknown : (kind : ℕ) → 2 ≤ kind → chosenOf kind ≡ Unknown
+other-unknown zero h = absurd (omega (arith, h))
+other-unknown (suc zero) h = absurd (omega (arith, h))
+other-unknown (suc (suc kind)) h = refl
+
+-- a call with the number of a geometry is the call on that geometry
+pub on : (kind : ℕ) (g : Geometry) → chosenOf kind ≡ Of g → (call : Geometry → Outcome) (image : List ℕ)
+    → chosenCall (chosenOf kind) call image ≡ call g
+unfolding chosenCall
+on kind g is call image = ap (λ (c : Chosen). chosenCall c call image) is
 
 -- the numbers of a result
 abbrev pub answerIn : List ℕ → ℕ

@@ -1,4 +1,4 @@
--- Request 10 of the C calls: mutree_format, then n calls of mutree_insert, each of a key that mutree_lookup does not find and each
+-- Request 10 of the C calls on the small chip: mutree_format, then n calls of mutree_insert, each of a key that mutree_lookup does not find and each
 -- answered DONE, with nothing else between. Every image of bytes, every key, address, allowance and result buffer. Assumes nothing.
 use mathlib.Core.Path.{_≡_, refl, ap, sym, subst, _∙_}
 use mathlib.Core.List.{List, [], _∷_, map}
@@ -16,10 +16,10 @@ use Rattle.model.specs.Image.{blocksOf, goodLength}
 use Rattle.model.specs.Tree.{find}
 use Rattle.model.specs.Update.{insertStores, formatStores}
 use Rattle.model.specs.Stores.{Store, applyAll, programs}
-use Rattle.model.specs.Calls.{Outcome, refused, answered, format, lookup, insert}
+use Rattle.model.specs.Calls.{Outcome, refused, answered, format, lookup, insert, chosenCall, formatOf, lookupOf, insertOf}
 use Rattle.demands.specs.Words.{Ready, mapAt}
 use Rattle.demands.specs.Calls.{made-counts}
-use Rattle.demands.specs.Demands.{lookup-answers, insert-done, insert-made, small-bounds}
+use Rattle.demands.specs.Demands.{lookup-answers, insert-done, insert-made, insert-bounds}
 use Rattle.demands.specs.Builds.{format-holds}
 use Rattle.demands.specs.Inserts.{Item, moves, Finished, beyond, splitsAndGrowths}
 use Rattle.demands.specs.Many.{many-inserts, many-inserts-are}
@@ -34,12 +34,12 @@ pub record Call : Type 0 where
   pub result : List ℕ
 
 abbrev pub leaves : List ℕ → Call → Left
-leaves image x = inserts image (x .key) (x .address) (x .allowance) (x .result)
+leaves image x = inserts 0 image (x .key) (x .address) (x .allowance) (x .result)
 
 -- one after the other: mutree_lookup answers ABSENT (4) before, and mutree_insert DONE (0)
 unfoldable pub Done : List Call → List ℕ → Type 0
 Done [] image = Unit {0}
-Done (x ∷ xs) image = (x .key < 4294967296) × (x .address < 4294967296) × (looksUp image (x .key) (x .result) .answer ≡ 4) ×
+Done (x ∷ xs) image = (x .key < 4294967296) × (x .address < 4294967296) × (looksUp 0 image (x .key) (x .result) .answer ≡ 4) ×
     (leaves image x .answer ≡ 0) × Done xs (leaves image x .image)
 
 -- X: the pages that the calls report, less one for each call, the collector's moves left out
@@ -58,7 +58,8 @@ absent-by image none e = refl
 absent-by image (some a) e = absurd (omega (arith, e))
 
 module _ (image : List ℕ) (ready : Ready small image) (x : Call) (k-low : x .key < 4294967296) (a-low : x .address < 4294967296) where
-  absent : looksUp image (x .key) (x .result) .answer ≡ 4 → find (x .key) (mapAt small image) ≡ none
+  absent : looksUp 0 image (x .key) (x .result) .answer ≡ 4 → find (x .key) (mapAt small image) ≡ none
+  unfolding chosenCall lookupOf
   absent e =
       let t = told (lookup small image (x .key)) image (x .result) (λ z. absurd (omega (arith, z, e))) in
       absent-by image (find (x .key) (mapAt small image))
@@ -72,6 +73,7 @@ module _ (image : List ℕ) (ready : Ready small image) (x : Call) (k-low : x .k
     stores = insertStores small (blocksOf small image) image (x .key) (x .address)
 
     tells : Told outcome (x .result) (leaves image x)
+    unfolding chosenCall insertOf
     tells = told outcome image (x .result) (λ z. absurd (omega (arith, z, e)))
 
     done : outcome .answer ≡ 0
@@ -85,7 +87,7 @@ module _ (image : List ℕ) (ready : Ready small image) (x : Call) (k-low : x .k
 
     reported : programmedIn (leaves image x .result) ≡ programs stores
     reported =
-        let b = small-bounds image ready (x .key) (x .address) (x .allowance) k-low a-low (inl done) in
+        let b = insert-bounds small small-shape image ready (x .key) k-low (x .address) (x .allowance) a-low (inl done) in
         ap programmedIn (tells .result-is) ∙ programmed-read (outcome .answer) (outcome .address) (outcome .programmed) (outcome .erased) (x .result) (tells .room) (omega (arith, counted, b .1)) ∙ counted
 
 -- the calls as insertions
@@ -128,16 +130,17 @@ good-format image q = go (goodLength small image) q
     go true h = refl
     go false h = absurd (omega (arith, h))
 
-formatted : (image result : List ℕ) → formats image result .answer ≡ 0
-    → (goodLength small image ≡ true) × (formats image result .image ≡ format small image .image)
+formatted : (image result : List ℕ) → formats 0 image result .answer ≡ 0
+    → (goodLength small image ≡ true) × (formats 0 image result .image ≡ format small image .image)
+unfolding chosenCall formatOf
 formatted image result e =
     let t = told (format small image) image result (λ z. absurd (omega (arith, z, e))) in
     (good-format image (sym (t .answer-is) ∙ e), t .image-is)
 
-module _ (image result : List ℕ) (bytes : (i : ℕ) → byteAt image i < 256) (e : formats image result .answer ≡ 0) (xs : List Call)
-    (d : Done xs (formats image result .image)) where
+module _ (image result : List ℕ) (bytes : (i : ℕ) → byteAt image i < 256) (e : formats 0 image result .answer ≡ 0) (xs : List Call)
+    (d : Done xs (formats 0 image result .image)) where
   abbrev new : List ℕ
-  new = formats image result .image
+  new = formats 0 image result .image
 
   ready : Ready small new
   ready = let f = formatted image result e in

@@ -1,4 +1,6 @@
+use mathlib.Core.Path.{_≡_}
 use Prim.Native.Nat.{_-_, _≤_}
+use lib.ListN.{length}
 use borrow.Author.Needs.{needs}
 use Rattle.bench_cases.proofs.fill.Statement.{statement}
 use Rattle.bench_cases.proofs.fill.Tie as tie
@@ -8,10 +10,10 @@ use Rattle.bench_cases.proofs.insert.Reads as insert-reads
 use Rattle.bench_cases.proofs.show_root.Reads as show-root-reads
 
 abbrev Inv-loop : tie.InvT-loop
-Inv-loop img₀ key₀ img key = key ≤ 63
+Inv-loop bench img₀ key₀ img key = (key ≤ bench .full) × (length img ≡ length img₀)
 
 abbrev μ-loop : tie.MeasureT-loop
-μ-loop img₀ key₀ img key = 63 - key
+μ-loop bench img₀ key₀ img key = bench .full - key
 
 pub fill-spec : {M : Type 1} → statement M
 fill-spec =
@@ -23,6 +25,7 @@ fill-spec =
     (λ c. search needs)
     (λ c κs. search needs)
     (λ c κs. search needs)
+    (λ c. search needs)
     (λ c. search needs)
     (λ c. search needs)
     (λ c. search needs))

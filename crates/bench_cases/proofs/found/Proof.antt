@@ -10,10 +10,10 @@ use Rattle.bench_cases.proofs.number.Reads as number-reads
 use Rattle.io.proofs.write_all.Reads as write-all-reads
 
 abbrev Inv-loop : tie.InvT-loop
-Inv-loop img n key₀ held₀ t5 key held = (key ≤ n) × (held ≤ n)
+Inv-loop bench img n key₀ held₀ t5 key held = (key ≤ n) × (held ≤ n)
 
 abbrev μ-loop : tie.MeasureT-loop
-μ-loop img n key₀ held₀ t5 key held = n - key
+μ-loop bench img n key₀ held₀ t5 key held = n - key
 
 pub found-spec : {M : Type 1} → statement M
 found-spec =
