@@ -1,4 +1,4 @@
-// Images of three blocks for the bench: trees written by hand, whole and damaged.
+// Images of three blocks for the bench: trees written by hand, whole and damaged; their codes are put last.
 ghost use Prim.Native.Nat.{_<_};
 use geometry::Geometry;
 
@@ -111,4 +111,33 @@ pub fn put_full(img: &mut [u8; 50688]) {
     put_one(&mut *img, 32, 1, 20, 120);
     put_page(&mut *img, 95, 96, 2);
     put_two(&mut *img, 95, 2, 0, 32);
+}
+
+// The code of one half of a page.
+fn put_code(img: &mut [u8; 50688], page: u32, half: usize)
+    requires { ⌜ half < 2 ⌝ }
+{
+    let base = geometry::page_base(Geometry::small(), page);
+    let v = parity::fresh_code(&*img, base + 256 * half);
+    let place = geometry::code_place(Geometry::small(), half);
+    page::put_code(&mut *img, base + place, v);
+}
+
+// Fitting codes on every programmed page.
+pub fn put_codes(img: &mut [u8; 50688]) {
+    let mut page: u32 = 0;
+    while page < 96 {
+        if !chip::page_erased(Geometry::small(), &*img, page) {
+            put_code(&mut *img, page, 0);
+            put_code(&mut *img, page, 1);
+        }
+        page += 1;
+    }
+}
+
+// One bit of the image turned over.
+pub fn flip(img: &mut [u8; 50688], at: usize, bit: u8) {
+    if at < 50688 {
+        img[at] = img[at] ^ bit;
+    }
 }

@@ -34,6 +34,12 @@ fn case(img: &[u8]) {
     }
 }
 
+// The same with fitting codes.
+fn coded(img: &mut [u8; 50688]) {
+    bench_images::put_codes(&mut *img);
+    case(&*img);
+}
+
 fn lengths() {
     let image: [u8; 50688] = [255; 50688];
     io::write_all(1, b"length 0");
@@ -49,13 +55,23 @@ fn lengths() {
 fn sound(img: &mut [u8; 50688]) {
     bench_images::put_tree(&mut *img);
     io::write_all(1, b"sound");
-    case(&*img);
+    coded(&mut *img);
 }
 
 fn rule_1(img: &mut [u8; 50688]) {
     bench_images::put_tree(&mut *img);
     bench_images::put_page(&mut *img, 0, 1, 6);
     io::write_all(1, b"R1, height byte 6");
+    coded(&mut *img);
+    bench_images::put_tree(&mut *img);
+    bench_images::put_codes(&mut *img);
+    bench_images::flip(&mut *img, 528, 1);
+    io::write_all(1, b"R1, a data bit of page 1 flipped");
+    case(&*img);
+    bench_images::put_tree(&mut *img);
+    bench_images::put_codes(&mut *img);
+    bench_images::flip(&mut *img, 525, 128);
+    io::write_all(1, b"R1, a code bit of page 0 flipped");
     case(&*img);
 }
 
@@ -63,7 +79,7 @@ fn rule_1(img: &mut [u8; 50688]) {
 fn page_more(img: &mut [u8; 50688], page: u32, seq: u8) {
     bench_images::put_tree(&mut *img);
     bench_images::put_page(&mut *img, page, seq, 0);
-    case(&*img);
+    coded(&mut *img);
 }
 
 fn rules_2_and_3(img: &mut [u8; 50688]) {
@@ -79,23 +95,23 @@ fn rule_4(img: &mut [u8; 50688]) {
     bench_images::put_tree(&mut *img);
     bench_images::put_page(&mut *img, 1, 2, 0);
     io::write_all(1, b"R4, no root");
-    case(&*img);
+    coded(&mut *img);
 }
 
 fn rule_5(img: &mut [u8; 50688]) {
     bench_images::put_tree(&mut *img);
     bench_images::put_one(&mut *img, 0, 1, 20, 110);
     io::write_all(1, b"R5, a key not below the next entry's");
-    case(&*img);
+    coded(&mut *img);
 }
 
 fn rules_6_and_7(img: &mut [u8; 50688]) {
     bench_images::put_loose(&mut *img);
     io::write_all(1, b"R6, page 1 does not name itself");
-    case(&*img);
+    coded(&mut *img);
     bench_images::put_full(&mut *img);
     io::write_all(1, b"R7, no erased page, a live one in each block");
-    case(&*img);
+    coded(&mut *img);
 }
 
 fn main() {

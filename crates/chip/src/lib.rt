@@ -186,8 +186,8 @@ pub fn tail_blank(g: Geometry, img: &[u8], page: u32) -> bool
     if all < from {
         return true;
     }
-    let at = geometry::page_base(g, page);
-    all_blank(img, at + from, all - from)
+    let base = geometry::page_base(g, page);
+    all_blank(img, base + from, all - from)
 }
 
 // The entries read of the node at a level.

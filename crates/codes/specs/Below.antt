@@ -1,14 +1,14 @@
 -- The exclusive or over all numbers below a bound. Assumes nothing.
 use mathlib.Core.Path.{_≡_, refl, sym, ap, ap₂, _∙_}
-use mathlib.Core.Logic.{_⊎_, inl, inr, ⊎-elim}
+use mathlib.Core.Logic.{⊎-elim}
 use mathlib.Core.Bool.{Bool, true, false, not}
-use Prim.Native.Nat.{ℕ, zero, suc, _+_, _-_, _*_, _/_, _%_, _^_, _<_, _≤_}
+use Prim.Native.Nat.{ℕ, zero, suc, _+_, _-_, _*_, _^_, _<_}
 use native.Mathlib.Nat.{eq-or-lt-of-le, add-zero, add-suc, mul-zero, mul-suc}
 use native.Mathlib.Omega.{arith}
 use lib.Pow.{pow-pos}
 use Rattle.geometry.specs.Tests.{pick}
 use Rattle.model.specs.Codes.{_⊕_, xorBelow}
-use Rattle.codes.specs.Xor.{differs, self, comm, assoc, swap, four, none-left, none-right, below}
+use Rattle.codes.specs.Xor.{self, assoc, swap, four, none-left, below}
 
 -- the same numbers give the same
 pub xor-same : (g h : ℕ → ℕ) (k : ℕ) → ((m : ℕ) → m < k → g m ≡ h m) → xorBelow g k ≡ xorBelow h k

@@ -1,22 +1,20 @@
 -- A turned bit: what it does to the bits, to E and G, and that turning it again puts it right. Assumes nothing.
-use mathlib.Core.Path.{_≡_, refl, sym, ap, ap₂, _∙_}
-use mathlib.Core.Logic.{_⊎_, inl, inr, ⊎-elim}
+use mathlib.Core.Path.{_≡_, refl, sym, ap, _∙_}
 use mathlib.Core.Bool.{Bool, true, false, not}
 use mathlib.Core.List.{List, [], _∷_}
-use Prim.Native.Nat.{ℕ, zero, suc, _+_, _-_, _*_, _/_, _%_, _^_, _<_, _≤_}
+use Prim.Native.Nat.{ℕ, _+_, _-_, _/_, _%_, _^_, _<_, _≤_}
 use native.Mathlib.Nat.{mod-lt}
 use native.Mathlib.Decide.{ℕ-discrete}
 use native.Mathlib.Omega.{arith}
 use lib.Dec.{T, eqb, lit<}
 use borrow.Author.Tests.{eq-eqb, ne-eqb}
-use lib.ListN.{length, set, getD, length-set}
+use lib.ListN.{length, set, length-set}
 use lib.Seq.{getD-set-same, getD-set-other, set-set, set-getD}
-use Rattle.geometry.specs.Tests.{pick}
 use Rattle.geometry.specs.Table.{every, at}
 use Rattle.model.specs.Bytes.{byteAt}
-use Rattle.model.specs.Codes.{_⊕_, odd, isSet, xorBelow, numberE, numberG, flipBit}
+use Rattle.model.specs.Codes.{_⊕_, odd, isSet, numberE, numberG, flipBit}
 use Rattle.codes.specs.Xor.{differs, assoc, self, none-right, cut, odd-xor}
-use Rattle.codes.specs.Below.{xor-same, xor-turned}
+use Rattle.codes.specs.Below.{xor-turned}
 
 -- two tests that agree
 same : Bool → Bool → Bool

@@ -2,26 +2,25 @@
 -- code are told as beyond repair." Assumes nothing.
 use mathlib.Core.Path.{_≡_, refl, sym, ap, ap₂, _∙_}
 use mathlib.Core.Logic.{_⊎_, inl, inr, ⊎-elim}
-use mathlib.Core.Bool.{Bool, true, false, not}
-use mathlib.Core.List.{List, [], _∷_}
-use Prim.Native.Nat.{ℕ, zero, suc, _+_, _-_, _*_, _/_, _%_, _^_, _<_, _≤_}
-use native.Mathlib.Nat.{mod-lt, mod-eq-of-lt, zero-add, add-zero, add-comm, mul-comm}
+use mathlib.Core.Bool.{Bool, true, false}
+use mathlib.Core.List.{List}
+use Prim.Native.Nat.{ℕ, _+_, _-_, _*_, _/_, _%_, _^_, _<_, _≤_}
+use native.Mathlib.Nat.{mod-lt, add-zero}
 use native.Mathlib.Decide.{ℕ-discrete, decLt}
 use native.Mathlib.Omega.{arith}
-use lib.Dec.{T, eqb, lit<, eqb→eq}
+use lib.Dec.{eqb, lit<, eqb→eq}
 use lib.Pow.{pow-lt}
-use lib.ListN.{length, set, getD, length-set, replicate}
-use lib.Seq.{getD-set-same, getD-set-other, set-set, set-getD, set-comm, ext-getD}
+use lib.ListN.{length, set, length-set, replicate}
+use lib.Seq.{getD-set-same, getD-set-other, ext-getD}
 use borrow.Author.Tests.{eq-eqb, ne-eqb, eqb-true}
 use Rattle.geometry.specs.Tests.{pick}
-use Rattle.geometry.specs.Table.{every, at}
+use Rattle.geometry.specs.Table.{at}
 use Rattle.model.specs.Bytes.{byteAt}
-use Rattle.model.specs.Codes.{_⊕_, odd, isSet, xorBelow, numberE, numberG, freshCode, codeAt, putCode, fits, flipBit, found, mended, diagnosis}
-use Rattle.codes.specs.Xor.{comm, self, assoc, cancel, swap, four, none-left, none-right, below, block, inverted}
+use Rattle.model.specs.Codes.{_⊕_, odd, isSet, numberE, numberG, freshCode, codeAt, putCode, fits, flipBit, found, mended, diagnosis}
+use Rattle.codes.specs.Xor.{self, assoc, cancel, swap, four, none-left, none-right, below, block, inverted}
 use Rattle.codes.specs.Below.{xor-same, xor-below}
 use Rattle.codes.specs.Flips.{flip-apart, flip-length, flip-twice, flip-E, flip-G}
 use Rattle.codes.specs.Told.{told-clean, told-data, told-two, told-code}
-use Rattle.geometry.specs.declared.Patrol.{Patrol}
 use Rattle.geometry.specs.declared.Patrol.the-variants.{Clean, DataMended, CodeMended, Beyond}
 
 -- ---- E and G are 11 bits each and hang on the 256 bytes alone

@@ -1,7 +1,6 @@
 -- What the patrol tells of each difference that one or two flipped bits leave. Assumes nothing.
-use mathlib.Core.Path.{_≡_, refl, sym, ap, ap₂, _∙_}
-use mathlib.Core.Bool.{Bool, true, false, not}
-use mathlib.Core.List.{List, [], _∷_}
+use mathlib.Core.Path.{_≡_, refl, sym, ap, _∙_}
+use mathlib.Core.Bool.{Bool, true, false}
 use Prim.Native.Nat.{ℕ, zero, suc, _+_, _-_, _*_, _/_, _%_, _^_, _<_, _≤_}
 use native.Mathlib.Nat.{pow-suc, suc-add, mod-eq-of-lt, mod-lt, div-eq-of-lt}
 use native.Mathlib.Decide.{ℕ-discrete}
@@ -14,8 +13,8 @@ use lib.Bits.{differ}
 use lib.Count.{onesIn, trailingZeros, under, ones, ones-step, ones-cat}
 use lib.ListN.{replicate}
 use borrow.Author.Tests.{eq-eqb, ne-eqb}
-use Rattle.geometry.specs.Tests.{pick, _&_, and-true, and-false, and-none}
-use Rattle.geometry.specs.Table.{every, at}
+use Rattle.geometry.specs.Tests.{_&_, and-true, and-false, and-none}
+use Rattle.geometry.specs.Table.{at}
 use Rattle.model.specs.Codes.{_⊕_, oneOfEach, inPairs, diagnosis}
 use Rattle.codes.specs.Xor.{none-left, halved}
 use Rattle.geometry.specs.declared.Patrol.{Patrol}

@@ -1,12 +1,11 @@
 -- The algebra of exclusive or. Assumes nothing.
 use mathlib.Core.Path.{_≡_, refl, sym, ap, ap₂, _∙_}
 use mathlib.Core.Bool.{Bool, true, false, not}
-use Prim.Native.Nat.{ℕ, zero, suc, _+_, _-_, _*_, _/_, _%_, _^_, _<_, _≤_}
-use native.Mathlib.Nat.{mod-lt, mod-eq-of-lt, add-zero}
+use Prim.Native.Nat.{ℕ, zero, suc, _+_, _-_, _*_, _/_, _%_, _^_, _<_}
+use native.Mathlib.Nat.{mod-lt, mod-eq-of-lt}
 use native.Mathlib.Omega.{arith}
 use lib.Arith.{bin-ind}
 use lib.Dec.{eqb, lit<}
-use lib.Pow.{pow-pos}
 use Rattle.model.specs.Codes.{_⊕_, odd}
 use lib.Bits.{bitXor, bitAnd, differ, xor-step, xor-shr, xor-comm, xor-self, xor-zero-r, xor-lt, xor-block, xor-add-and, and-mask, xor-shifted}
 

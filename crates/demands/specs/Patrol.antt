@@ -1,7 +1,7 @@
 -- Request 4 of the call: "any one flipped bit in the 256 bytes or the 3 code bytes is put right; any two flipped data bits under an
 -- intact code are told as beyond repair". On each geometry, for every half that has a fitting code; on a sound image every half of
 -- every page has one (`sound-fits`). Assumes nothing.
-use mathlib.Core.Path.{_≡_, refl, sym, ap, _∙_}
+use mathlib.Core.Path.{_≡_, refl, sym, _∙_}
 use mathlib.Core.List.{List}
 use mathlib.Core.Bool.{Bool, true, false}
 use mathlib.Core.Logic.{inr}
@@ -9,7 +9,6 @@ use Prim.Native.Nat.{ℕ, zero, suc, _+_, _-_, _*_, _<_, _≤_}
 use native.Mathlib.Decide.{ℕ-discrete}
 use native.Mathlib.Nat.{zero-add}
 use native.Mathlib.Omega.{arith}
-use lib.Dec.{ltb}
 use lib.ListN.{length, replicate, getD-replicate}
 use borrow.Author.Tests.{ltb-true}
 use Rattle.geometry.specs.declared.Geometry.{Geometry}
@@ -17,9 +16,9 @@ use Rattle.geometry.specs.declared.Patrol.{Patrol}
 use Rattle.geometry.specs.declared.Patrol.the-variants.{Clean, DataMended, CodeMended, Beyond}
 use Rattle.geometry.specs.Geometry.{pageBytes, halves, codePlace, pageBase}
 use Rattle.geometry.specs.Shape.{Shape, base-apart}
-use Rattle.geometry.specs.Tests.{pick, _&_, and-left, and-right}
+use Rattle.geometry.specs.Tests.{pick, and-left, and-right}
 use Rattle.model.specs.Bytes.{byteAt, blank}
-use Rattle.model.specs.Codes.{fits, codesFit, flipBit, found, mended}
+use Rattle.model.specs.Codes.{fits, codesFit, flipBit, found}
 use Rattle.model.specs.Image.{blocksOf, goodLength, pagesOf}
 use Rattle.model.specs.Calls.{Outcome, findingOf, bitOf, isHalf, patrolled, patrol}
 use Rattle.model.specs.Examples.{erased-fits}

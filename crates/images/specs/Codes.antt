@@ -1,5 +1,5 @@
 -- The codes of a page: copied with it, and written and read back. Assumes nothing.
-use mathlib.Core.Path.{_≡_, refl, sym, _∙_}
+use mathlib.Core.Path.{_≡_, refl, _∙_}
 use mathlib.Core.List.{List}
 use mathlib.Core.Bool.{true}
 use mathlib.Core.Logic.{_⊎_, inl, inr, ⊎-elim}
@@ -11,7 +11,7 @@ use Rattle.geometry.specs.declared.Geometry.{Geometry}
 use Rattle.geometry.specs.Geometry.{halves, codePlace}
 use Rattle.geometry.specs.Tests.{and-both}
 use Rattle.model.specs.Bytes.{byteAt}
-use Rattle.model.specs.Codes.{freshCode, putCode, fits, codesFit}
+use Rattle.model.specs.Codes.{freshCode, putCode, codesFit}
 use Rattle.model.specs.Page.{coded}
 use Rattle.codes.specs.Written.{fits-same, put-other, put-fits}
 use Rattle.images.specs.Bytes.{Copy, copy-byte}

@@ -1,24 +1,20 @@
 -- A half by words, in the form in which the code has the premises. Assumes nothing.
-use mathlib.Core.Path.{_≡_, refl, sym, ap, ap₂, _∙_}
-use mathlib.Core.Bool.{Bool, true, false, not}
+use mathlib.Core.Path.{_≡_, sym, ap, ap₂, _∙_}
+use mathlib.Core.Bool.{Bool, true, false}
 use mathlib.Core.List.{List}
-use Prim.Native.Nat.{ℕ, zero, suc, _+_, _-_, _*_, _/_, _%_, _^_, _<_, _≤_}
-use native.Mathlib.Nat.{add-zero, mul-zero, mul-one, mul-comm, div-one, mod-lt, mod-eq-of-lt}
+use Prim.Native.Nat.{ℕ, _+_, _-_, _*_, _/_, _%_, _^_, _<_, _≤_}
+use native.Mathlib.Nat.{mul-zero, mul-one}
 use native.Mathlib.Omega.{arith}
-use native.Mathlib.Numerals.{add-one}
-use lib.Dec.{eqb, lit<}
 use mir.Syntax.{w8}
 use mir.Val.{Fits}
 use lib.Bits.{bitXor}
-use lib.Count.{ones}
 use Rattle.geometry.specs.Tests.{pick}
 use Rattle.model.specs.Bytes.{byteAt}
-use Rattle.model.specs.Codes.{_⊕_, odd, isSet, xorBelow, numberE, numberG, freshCode}
-use Rattle.codes.specs.Xor.{xor-is, comm, none-right, none-left, below}
+use Rattle.model.specs.Codes.{_⊕_, xorBelow, numberE, numberG, freshCode}
+use Rattle.codes.specs.Xor.{xor-is, none-right, none-left, below}
 use Rattle.codes.specs.Below.{xor-below}
-use Rattle.codes.specs.Repairs.{E-below, G-below}
 use Rattle.parity.specs.Rows.{bitOf, overBits}
-use Rattle.parity.specs.Words.{wordAt, oddOnes, wordIn, allWords, oddWords, inWord, all-below, E-by-words, G-by-words, folded}
+use Rattle.parity.specs.Words.{wordAt, oddOnes, allWords, oddWords, inWord, E-by-words, G-by-words, folded}
 
 -- E, of the exclusive or of the numbers of the words with odd ones, and of all words
 unfoldable pub numberOf : ℕ → ℕ → ℕ

@@ -1,9 +1,9 @@
 -- Four words at a turn, and one count of ones for the four. Assumes nothing.
 use mathlib.Core.Path.{_≡_, refl, sym, ap, ap₂, _∙_}
-use mathlib.Core.Bool.{Bool, true, false, not}
+use mathlib.Core.Bool.{Bool, true, false}
 use mathlib.Core.List.{List}
-use Prim.Native.Nat.{ℕ, zero, suc, _+_, _-_, _*_, _/_, _%_, _^_, _<_, _≤_}
-use native.Mathlib.Nat.{add-zero, mul-zero, mod-eq-of-lt}
+use Prim.Native.Nat.{ℕ, zero, suc, _+_, _-_, _*_, _^_, _<_, _≤_}
+use native.Mathlib.Nat.{mod-eq-of-lt}
 use lib.Count.{ones}
 use native.Mathlib.Omega.{arith}
 use native.Mathlib.Numerals.{add-one}
@@ -13,7 +13,7 @@ use mir.Val.{Fits}
 use Rattle.geometry.specs.Tests.{pick}
 use Rattle.model.specs.Bytes.{byteAt}
 use Rattle.model.specs.Codes.{_⊕_, odd, xorBelow, freshCode}
-use Rattle.codes.specs.Xor.{xor-is, none-right, none-left, below}
+use Rattle.codes.specs.Xor.{xor-is, none-right, below}
 use Rattle.codes.specs.Below.{xor-same, xor-both, xor-rows, xor-below}
 use Rattle.parity.specs.Rows.{bitOf, oddBelow, overBits, odd-ones, xor-const, xor-zeros, xor-times, pick-split, columns}
 use Rattle.parity.specs.Words.{wordAt, oddOnes, wordIn, allWords, oddWords, in-below}

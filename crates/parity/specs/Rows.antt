@@ -1,17 +1,16 @@
 -- The numbers of set bits, row by row: a row of 2 ^ p bits is one number. Assumes nothing.
 use mathlib.Core.Path.{_≡_, refl, sym, ap, ap₂, _∙_}
-use mathlib.Core.Bool.{Bool, true, false, not}
-use Prim.Native.Nat.{ℕ, zero, suc, _+_, _-_, _*_, _/_, _%_, _^_, _<_, _≤_}
+use mathlib.Core.Bool.{Bool, true, false}
+use Prim.Native.Nat.{ℕ, zero, suc, _+_, _-_, _*_, _/_, _%_, _^_, _<_}
 use native.Mathlib.Nat.{add-zero, mul-zero, mul-comm, mod-one, mod-lt, zero-div}
 use native.Mathlib.Omega.{arith}
-use native.Mathlib.Numerals.{add-one}
 use lib.Dec.{eqb, lit<}
-use lib.Pow.{pow-pos, mod-pow-add, split}
-use lib.Count.{ones, onesIn, ones-cat, ones-step}
+use lib.Pow.{pow-pos, mod-pow-add}
+use lib.Count.{ones, onesIn, ones-cat}
 use Rattle.geometry.specs.Tests.{pick}
 use Rattle.model.specs.Codes.{_⊕_, odd, xorBelow}
-use Rattle.codes.specs.Xor.{differs, self, comm, assoc, four, none-left, none-right, below, block, shifted, cut, odd-xor}
-use Rattle.codes.specs.Below.{xor-same, xor-both, xor-rows, xor-below}
+use Rattle.codes.specs.Xor.{differs, self, none-left, none-right, block, shifted, cut, odd-xor}
+use Rattle.codes.specs.Below.{xor-same, xor-both, xor-rows}
 
 -- bit j of w
 abbrev pub bitOf : ℕ → ℕ → Bool

@@ -1,18 +1,18 @@
 -- Words of eight bytes, and a half as 32 of them. Assumes nothing.
 use mathlib.Core.Path.{_≡_, refl, sym, ap, ap₂, _∙_}
-use mathlib.Core.Bool.{Bool, true, false, not}
+use mathlib.Core.Bool.{Bool, true, false}
 use mathlib.Core.List.{List}
 use Prim.Native.Nat.{ℕ, zero, suc, _+_, _-_, _*_, _/_, _%_, _^_, _<_, _≤_}
-use native.Mathlib.Nat.{add-zero, mul-zero, mul-one, mul-comm, mul-suc, div-one, mod-lt, mod-eq-of-lt}
+use native.Mathlib.Nat.{add-zero, mul-zero, mul-one, mul-suc, div-one, mod-eq-of-lt}
 use native.Mathlib.Decide.{decLt}
 use native.Mathlib.Omega.{arith}
 use lib.Dec.{eqb, lit<}
-use lib.Pow.{pow-pos, pow-add, shr-shr}
+use lib.Pow.{pow-add, shr-shr}
 use lib.Count.{ones}
 use Rattle.geometry.specs.Tests.{pick}
 use Rattle.model.specs.Bytes.{byteAt}
-use Rattle.model.specs.Codes.{_⊕_, odd, isSet, xorBelow, numberE, numberG, freshCode}
-use Rattle.codes.specs.Xor.{comm, none-right, none-left, below, inverted}
+use Rattle.model.specs.Codes.{_⊕_, odd, isSet, xorBelow, numberE, numberG}
+use Rattle.codes.specs.Xor.{comm, none-right, none-left, inverted}
 use Rattle.codes.specs.Below.{xor-same, xor-both, xor-below}
 use Rattle.parity.specs.Rows.{bitOf, oddBelow, overBits, row-numbers, row-const, odd-ones}
 

@@ -1,6 +1,6 @@
 // The code of a half, eight bytes at a time.
 ghost use mathlib.Core.Path.{_≡_};
-ghost use Prim.Native.Nat.{ℕ, _+_, _*_, _-_, _≤_, _<_};
+ghost use Prim.Native.Nat.{_+_, _*_, _-_, _≤_, _<_};
 ghost use lib.ListN.{length};
 ghost use Rattle.geometry.specs.Tests.{pick};
 ghost use Rattle.model.specs.Bytes.{byteAt};

@@ -1,8 +1,8 @@
 -- The patrol of a half of a page, in the form in which the code has the premises. Assumes nothing.
-use mathlib.Core.Path.{_≡_, refl, sym, ap, _∙_}
+use mathlib.Core.Path.{_≡_, refl, ap, _∙_}
 use mathlib.Core.Bool.{Bool, true, false}
 use mathlib.Core.List.{List}
-use Prim.Native.Nat.{ℕ, _+_, _*_, _/_, _%_, _<_, _≤_}
+use Prim.Native.Nat.{ℕ, _+_, _*_, _/_, _<_, _≤_}
 use native.Mathlib.Nat.{mul-comm, mul-assoc, div-add-mod'}
 use native.Mathlib.Omega.{arith}
 use lib.Dec.{ltb}
@@ -12,7 +12,7 @@ use Rattle.geometry.specs.declared.Geometry.{Geometry}
 use Rattle.geometry.specs.declared.Patrol.{Patrol}
 use Rattle.geometry.specs.Geometry.{pageBytes, halves, codePlace, pageBase}
 use Rattle.geometry.specs.Shape.{base-apart}
-use Rattle.geometry.specs.Tests.{pick, _&_, and-true, and-false, and-none}
+use Rattle.geometry.specs.Tests.{_&_, and-true, and-false, and-none}
 use Rattle.model.specs.Codes.{found, mended}
 use Rattle.model.specs.Image.{blockBytes, blocksOf, goodLength, pagesOf}
 use Rattle.model.specs.Calls.{findingOf, bitOf, isHalf, patrolled, patrol}

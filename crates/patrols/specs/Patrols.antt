@@ -1,8 +1,8 @@
 -- The patrol of one half, in the form in which the code has the premises. Assumes nothing.
-use mathlib.Core.Path.{_≡_, refl, sym, ap, ap₂, _∙_}
-use mathlib.Core.Bool.{Bool, true, false, not}
+use mathlib.Core.Path.{_≡_, sym, ap, ap₂, _∙_}
+use mathlib.Core.Bool.{Bool, true, false}
 use mathlib.Core.List.{List}
-use Prim.Native.Nat.{ℕ, zero, suc, _+_, _-_, _*_, _/_, _%_, _^_, _<_, _≤_}
+use Prim.Native.Nat.{ℕ, _+_, _-_, _*_, _/_, _%_, _^_, _<_}
 use native.Mathlib.Nat.{one-mul}
 use native.Mathlib.Omega.{arith}
 use lib.Dec.{eqb, lit<}
@@ -11,7 +11,6 @@ use lib.Bits.{bitXor, xor-lt}
 use lib.Count.{ones, trailingZeros}
 use lib.ListN.{set}
 use borrow.Author.Tests.{eq-eqb, ne-eqb}
-use Rattle.geometry.specs.Tests.{pick}
 use Rattle.model.specs.Bytes.{byteAt}
 use Rattle.model.specs.Codes.{_⊕_, codeAt, freshCode, putCode, flipBit, inPairs, diagnosis, found, mended}
 use Rattle.codes.specs.Xor.{xor-is}

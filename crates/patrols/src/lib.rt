@@ -1,6 +1,6 @@
 // The patrol of one half of a page.
 ghost use mathlib.Core.Path.{_≡_};
-ghost use Prim.Native.Nat.{ℕ, _+_, _*_, _-_, _^_, _≤_, _<_};
+ghost use Prim.Native.Nat.{_+_, _*_, _-_, _^_, _≤_, _<_};
 ghost use lib.ListN.{length};
 ghost use Rattle.model.specs.Calls.{findingOf, bitOf, patrol};
 ghost use Rattle.model.specs.Codes.{_⊕_, flipBit, inPairs, found, mended};
