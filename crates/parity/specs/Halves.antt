@@ -128,14 +128,13 @@ sealed-is rows all e g ee eg = rw (eg, ee)
 
 -- ---- all words
 
-pub half-is : (img : List ℕ) (at i all rows r : ℕ) → ((k : ℕ) → Fits w8 (byteAt img k)) → r ≡ sealed rows all → all ≡ allWords img at i → rows ≡ oddWords img at i
-    → i ≤ 32 → 32 ≤ i → r ≡ freshCode img at
+pub half-is : (img : List ℕ) (at all rows r : ℕ) → ((k : ℕ) → Fits w8 (byteAt img k)) → r ≡ sealed rows all → all ≡ allWords img at 32 → rows ≡ oddWords img at 32
+    → r ≡ freshCode img at
 unfolding sealed numberOf restOf freshCode
-half-is img at i all rows r bytes es ea er h l =
-    let end : i ≡ 32 = omega arith in
-    let e : numberE img at ≡ 64 * rows ⊕ inWord 64 all = E-by-words img (λ k. bytes k .fits) at ∙ rw (ea, er, end) in
+half-is img at all rows r bytes es ea er =
+    let e : numberE img at ≡ 64 * rows ⊕ inWord 64 all = E-by-words img (λ k. bytes k .fits) at ∙ rw (ea, er) in
     let g : numberG img at ≡ pick (oddOnes all) 2047 0 ⊕ (64 * rows ⊕ inWord 64 all)
-    = G-by-words img (λ k. bytes k .fits) at ∙ ap₂ _⊕_ (rw (ea, end)) e in
+    = G-by-words img (λ k. bytes k .fits) at ∙ ap₂ _⊕_ (rw ea) e in
     es ∙ sym (ap₂ (λ (x y : ℕ). 16777215 - (x + 2048 * y)) e g)
 
 pub ruleset half-laws = (
@@ -153,5 +152,4 @@ pub ruleset half-laws = (
   rest-is,
   rest-below,
   sealed-is,
-  half-is,
 )

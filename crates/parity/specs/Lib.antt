@@ -2,5 +2,5 @@
 pub mod Rows
 pub mod Words
 pub mod Halves
-pub mod Quads
+pub mod Sums
 pub mod Parts

@@ -7,7 +7,7 @@ ghost use Rattle.model.specs.Bytes.{byteAt};
 ghost use Rattle.model.specs.Codes.{freshCode};
 ghost use Rattle.parity.specs.Words.{wordAt, oddOnes, inWord};
 ghost use Rattle.parity.specs.Halves.{numberOf, restOf, sealed};
-ghost use Rattle.parity.specs.Quads.{allOf, rowsOf};
+ghost use Rattle.parity.specs.Sums.{Summed, rowsOf};
 ghost use Rattle.parity.specs.Parts.{Copied};
 
 fn long(b: u8) -> u64
@@ -111,47 +111,127 @@ fn seal(rows: u64, all: u64) -> u32
     (16777215 - (e + 2048 * g)) as u32
 }
 
-// Four words in one.
-fn all_of(a: u64, b: u64, c: u64, d: u64) -> u64
-    ensures { λ r. ⌜ r ≡ allOf a b c d ⌝ }
-{
-    d ^ (c ^ (b ^ a))
+// Some words by exclusive or: all of them, and those whose number has bit 0, bit 1, .. bit 4.
+struct Sums {
+    all: u64,
+    first: u64,
+    second: u64,
+    third: u64,
+    fourth: u64,
+    fifth: u64,
 }
 
-// The numbers of the words with odd ones, of the quads with odd ones and of the columns.
-fn rows_of(rows: u64, b: u64, c: u64, d: u64) -> u64
-    requires { ⌜ rows < 8 ⌝ }
-    ensures { λ r. ⌜ (r ≡ rowsOf rows b c d) × (r < 32) ⌝ }
+// The sums of 1, 2, 4, .. 32 words, without a loop: so all loads and sums stand in one line.
+fn words_1(img: &[u8], at: usize) -> Sums
+    requires { ⌜ at + 8 ≤ length (now img) ⌝ }
+    ensures { λ r. ⌜ Summed (now (img .entry)) at 0 r ⌝ }
 {
-    4 * rows ^ (if_odd(d, 3) ^ (if_odd(c, 2) ^ if_odd(b, 1)))
+    let w = eight(img, at);
+    Sums {
+        all: w,
+        first: 0,
+        second: 0,
+        third: 0,
+        fourth: 0,
+        fifth: 0,
+    }
 }
 
-// The code of the 256 bytes from `at` inside the image, four words at a turn.
+fn words_2(img: &[u8], at: usize) -> Sums
+    requires { ⌜ at + 16 ≤ length (now img) ⌝ }
+    ensures { λ r. ⌜ Summed (now (img .entry)) at 1 r ⌝ }
+{
+    let lo = words_1(img, at);
+    let hi = words_1(img, at + 8);
+    Sums {
+        all: hi.all ^ lo.all,
+        first: hi.all,
+        second: hi.second ^ lo.second,
+        third: hi.third ^ lo.third,
+        fourth: hi.fourth ^ lo.fourth,
+        fifth: hi.fifth ^ lo.fifth,
+    }
+}
+
+fn words_4(img: &[u8], at: usize) -> Sums
+    requires { ⌜ at + 32 ≤ length (now img) ⌝ }
+    ensures { λ r. ⌜ Summed (now (img .entry)) at 2 r ⌝ }
+{
+    let lo = words_2(img, at);
+    let hi = words_2(img, at + 16);
+    Sums {
+        all: hi.all ^ lo.all,
+        first: hi.first ^ lo.first,
+        second: hi.all,
+        third: hi.third ^ lo.third,
+        fourth: hi.fourth ^ lo.fourth,
+        fifth: hi.fifth ^ lo.fifth,
+    }
+}
+
+fn words_8(img: &[u8], at: usize) -> Sums
+    requires { ⌜ at + 64 ≤ length (now img) ⌝ }
+    ensures { λ r. ⌜ Summed (now (img .entry)) at 3 r ⌝ }
+{
+    let lo = words_4(img, at);
+    let hi = words_4(img, at + 32);
+    Sums {
+        all: hi.all ^ lo.all,
+        first: hi.first ^ lo.first,
+        second: hi.second ^ lo.second,
+        third: hi.all,
+        fourth: hi.fourth ^ lo.fourth,
+        fifth: hi.fifth ^ lo.fifth,
+    }
+}
+
+fn words_16(img: &[u8], at: usize) -> Sums
+    requires { ⌜ at + 128 ≤ length (now img) ⌝ }
+    ensures { λ r. ⌜ Summed (now (img .entry)) at 4 r ⌝ }
+{
+    let lo = words_8(img, at);
+    let hi = words_8(img, at + 64);
+    Sums {
+        all: hi.all ^ lo.all,
+        first: hi.first ^ lo.first,
+        second: hi.second ^ lo.second,
+        third: hi.third ^ lo.third,
+        fourth: hi.all,
+        fifth: hi.fifth ^ lo.fifth,
+    }
+}
+
+fn words_32(img: &[u8], at: usize) -> Sums
+    requires { ⌜ at + 256 ≤ length (now img) ⌝ }
+    ensures { λ r. ⌜ Summed (now (img .entry)) at 5 r ⌝ }
+{
+    let lo = words_16(img, at);
+    let hi = words_16(img, at + 128);
+    Sums {
+        all: hi.all ^ lo.all,
+        first: hi.first ^ lo.first,
+        second: hi.second ^ lo.second,
+        third: hi.third ^ lo.third,
+        fourth: hi.fourth ^ lo.fourth,
+        fifth: hi.all,
+    }
+}
+
+// The numbers of the words with odd ones, by their bits.
+fn rows_of(s: Sums) -> u64
+    ensures { λ r. ⌜ (r ≡ rowsOf s) × (r < 32) ⌝ }
+{
+    if_odd(s.fifth, 16)
+        ^ (if_odd(s.fourth, 8) ^ (if_odd(s.third, 4) ^ (if_odd(s.second, 2) ^ if_odd(s.first, 1))))
+}
+
+// The code of the 256 bytes from `at` inside the image.
 fn half_code(img: &[u8], at: usize) -> u32
     requires { ⌜ at + 256 ≤ length (now img) ⌝ }
     ensures { λ r. ⌜ r ≡ freshCode (now (img .entry)) at ⌝ }
 {
-    let mut a: u64 = 0;
-    let mut b: u64 = 0;
-    let mut c: u64 = 0;
-    let mut d: u64 = 0;
-    let mut rows: u64 = 0;
-    let mut q: usize = 0;
-    while q < 8 {
-        let w = eight(img, at + 32 * q);
-        let x = eight(img, at + 32 * q + 8);
-        let y = eight(img, at + 32 * q + 16);
-        let z = eight(img, at + 32 * q + 24);
-        a = w ^ a;
-        b = x ^ b;
-        c = y ^ c;
-        d = z ^ d;
-        rows = if_odd(all_of(w, x, y, z), q as u64) ^ rows;
-        q += 1;
-    }
-    let m = rows_of(rows, b, c, d);
-    let n = all_of(a, b, c, d);
-    seal(m, n)
+    let s = words_32(img, at);
+    seal(rows_of(s), s.all)
 }
 
 // The byte at an index; one outside the image reads as 0.
