@@ -1,7 +1,7 @@
-/* bench.c: how long the calls take, in one run, at 3, 64 and 1,024 blocks; beside them memcpy of the image as the
+/* bench.c: how long the calls take, in one run, at 3, 64 and 1,024 blocks of both chips; beside them memcpy of the image as the
  * yardstick, and get and put of the same keys in LMDB (built with -DWITH_LMDB -llmdb) as what a user might pick instead.
  *
- * usage: bench [--svg OUT]      prints a table; OUT takes a plot of time against blocks
+ * usage: bench [--svg OUT]      prints a table for each chip; OUT takes a plot of time against blocks
  */
 #define _POSIX_C_SOURCE 200809L
 #include "../c/mutree.h"
@@ -16,9 +16,11 @@
 #include <unistd.h>
 #endif
 
-enum { PAGE = 528, MAIN = 512, SIZES = 3, MOST_LEAVES = 2048, KEYS_A_LEAF = 24 };
+enum { CHIPS = MUTREE_GEOMETRIES, SIZES = 3 };
+enum { LEFT = 90, SPAN = 300, PANEL = 390 }; /* of the plot, in pixels */
 
 static const unsigned sizes[SIZES] = { 3, 64, 1024 };
+static const char *const chip_names[CHIPS] = { "small pages", "large pages" };
 
 enum { MEMCPY, LOOKUP, INSERT, COLLECT, DELETE, FORMAT, LMDB_GET, LMDB_PUT, KINDS };
 
@@ -27,8 +29,13 @@ static const char *const names[KINDS] = {
     "LMDB get", "LMDB put, no sync"
 };
 
-static double times[SIZES][KINDS];
-static unsigned long keys_held[SIZES];
+/* What was measured on a chip at one size. */
+struct figures {
+    unsigned long keys;
+    double time[KINDS];
+};
+
+static struct figures measured[CHIPS][SIZES];
 
 static double now(void)
 {
@@ -45,12 +52,39 @@ static void need(int ok, const char *what)
     }
 }
 
-/* ---- an image with as many leaves as fit (at most 2,048), spread over the programmed pages; an inner node stands on the
- * page of its first child, the other programmed pages are dead, and the wanted number of pages at the end is erased */
+/* ---- an image with as many leaves as fit on the chip and in a tree, each three quarters full, spread over the programmed pages; an
+ * inner node stands on the page of its first child, the other programmed pages are dead, and the wanted number of pages at the end
+ * is erased */
 struct builder {
+    const struct mutree_geometry *chip;
     uint8_t *image;
     uint32_t programmed, leaves, made, key;
 };
+
+static uint32_t most_below(const struct mutree_geometry *chip, unsigned level)
+{
+    return chip->slots >> level;
+}
+
+static uint32_t keys_a_leaf(const struct mutree_geometry *chip)
+{
+    return most_below(chip, 1) * 3 / 4;
+}
+
+/* The most leaves below a node of this level. */
+static uint32_t most_leaves(const struct mutree_geometry *chip, unsigned level)
+{
+    uint32_t product = 1;
+    for (; level > 1; level--)
+        product *= most_below(chip, level);
+    return product;
+}
+
+/* The same for a stored root: twice the slots, one fewer below the greatest height. */
+static uint32_t most_leaves_of_root(const struct mutree_geometry *chip, unsigned height)
+{
+    return ((chip->slots >> (height - 1)) - (height < chip->top)) * most_leaves(chip, height - 1);
+}
 
 static void write_number(uint8_t *at, uint32_t n)
 {
@@ -64,29 +98,33 @@ static uint32_t page_of(const struct builder *b, uint32_t leaf)
     return (uint32_t)((uint64_t)leaf * b->programmed / b->leaves);
 }
 
+static uint8_t *page_at(const struct builder *b, uint32_t page)
+{
+    return b->image + (size_t)page * b->chip->page_bytes;
+}
+
 static void add_entry(const struct builder *b, uint32_t leaf, unsigned level, uint32_t key, uint32_t address)
 {
-    uint8_t *page = b->image + (size_t)page_of(b, leaf) * PAGE;
-    uint8_t *slot = page + 8 * (64 - (64u >> (level - 1)) + page[MAIN + 4 + level]++);
+    uint8_t *page = page_at(b, page_of(b, leaf));
+    uint32_t first = b->chip->slots - (b->chip->slots >> (level - 1)), count = page[b->chip->main_bytes + 4 + level]++;
+    uint8_t *slot = page + MUTREE_SLOT_BYTES * (first + count);
     write_number(slot, key);
     write_number(slot + 4, address);
 }
 
-/* The node at a level with so many leaves below it, `most` entries of each level at most; gives its first key. */
+/* The node at a level with so many leaves below it; gives its first key. */
 static uint32_t grow(struct builder *b, unsigned level, uint32_t below)
 {
-    static const uint32_t most[6] = { 0, 0, 16, 8, 4, 4 };
-    uint32_t first = b->made, key = b->key + 16, least = 1, i, n;
+    uint32_t first = b->made, key = b->key + 16, least, i, n;
     if (level == 1) {
         b->made++;
-        for (i = 0; i < KEYS_A_LEAF; i++) {
+        for (i = 0; i < keys_a_leaf(b->chip); i++) {
             b->key += 16;
             add_entry(b, first, 1, b->key, b->key);
         }
         return key;
     }
-    for (i = 2; i < level; i++)
-        least *= most[i];
+    least = most_leaves(b->chip, level - 1);
     n = (below + least - 1) / least;
     for (i = 0; i < n; i++) {
         uint32_t child = b->made, part = (below + n - 1 - i) / n;
@@ -95,32 +133,39 @@ static uint32_t grow(struct builder *b, unsigned level, uint32_t below)
     return key;
 }
 
-static uint32_t leaves_of(unsigned blocks)
+/* Two blocks' pages and a few more stay without a live node: no insert is ROOM. */
+static uint32_t leaves_of(const struct mutree_geometry *chip, unsigned blocks)
 {
-    uint32_t room = 32 * blocks - 72;
-    return room > MOST_LEAVES ? MOST_LEAVES : room;
+    uint32_t room = chip->pages * blocks - 2 * chip->pages - 8, most = most_leaves_of_root(chip, chip->top);
+    return room > most ? most : room;
 }
 
-static uint8_t *built(unsigned blocks, uint32_t erased)
+static unsigned height_of_tree(const struct mutree_geometry *chip, uint32_t leaves)
 {
-    struct builder b;
-    uint32_t pages = 32 * blocks, p;
-    unsigned height;
-    uint8_t result[16];
-    b.leaves = leaves_of(blocks);
-    b.programmed = pages - erased;
-    b.made = b.key = 0;
-    height = b.leaves <= 31 ? 2 : b.leaves <= 15 * 16 ? 3 : b.leaves <= 7 * 8 * 16 ? 4 : 5;
-    b.image = malloc((size_t)pages * PAGE);
+    unsigned height = 2;
+    while (leaves > most_leaves_of_root(chip, height))
+        height++;
+    return height;
+}
+
+static uint8_t *built(const struct mutree_geometry *chip, unsigned blocks, uint32_t erased)
+{
+    struct builder b = { chip, NULL, chip->pages * blocks - erased, leaves_of(chip, blocks), 0, 0 };
+    size_t length = (size_t)blocks * chip->block_bytes;
+    unsigned height = height_of_tree(chip, b.leaves);
+    uint8_t result[MUTREE_RESULT_BYTES];
+    uint32_t p;
+    b.image = malloc(length);
     need(b.image != NULL, "out of memory");
-    memset(b.image, 255, (size_t)pages * PAGE);
+    memset(b.image, 255, length);
     for (p = 0; p < b.programmed; p++) {
-        write_number(b.image + (size_t)p * PAGE + MAIN, p + 1);
-        memset(b.image + (size_t)p * PAGE + MAIN + 4, 0, 6);
+        uint8_t *spare = page_at(&b, p) + chip->main_bytes;
+        write_number(spare, p + 1);
+        memset(spare + 4, 0, 1 + chip->top);
     }
     grow(&b, height, b.leaves);
-    b.image[MAIN + 4] = (uint8_t)height;
-    need(mutree_lookup(b.image, (size_t)pages * PAGE, 16, result, sizeof result) == 0, "the image built is not sound");
+    b.image[chip->main_bytes + 4] = (uint8_t)height;
+    need(mutree_lookup(chip->number, b.image, length, 16, result, sizeof result) == 0, "the image built is not sound");
     return b.image;
 }
 
@@ -133,110 +178,149 @@ static uint32_t some(uint32_t below)
 }
 
 /* ---- the calls, each on the same image again: the copy back is not counted */
-static double time_call(int kind, const uint8_t *start, uint8_t *image, size_t length, uint32_t keys)
+static uint32_t call(int kind, uint32_t chip, const uint8_t *start, uint8_t *image, size_t length, uint32_t key)
 {
-    uint8_t result[16];
+    uint8_t result[MUTREE_RESULT_BYTES];
+    switch (kind) {
+    case MEMCPY: memcpy(image, start, length); return MUTREE_DONE;
+    case LOOKUP: return mutree_lookup(chip, image, length, key, result, sizeof result);
+    case DELETE: return mutree_delete(chip, image, length, key, UINT32_MAX, result, sizeof result);
+    case FORMAT: return mutree_format(chip, image, length, result, sizeof result);
+    default: return mutree_insert(chip, image, length, key + 1, key, UINT32_MAX, result, sizeof result);
+    }
+}
+
+static double time_call(int kind, uint32_t chip, const uint8_t *start, uint8_t *image, size_t length, uint32_t keys)
+{
     double total = 0;
     int i, rounds = length > 4000000 ? 12 : 200;
     memcpy(image, start, length);
     for (i = 0; i < rounds; i++) {
-        uint32_t key = 16 * (1 + some(keys)), answer = 0;
+        uint32_t key = 16 * (1 + some(keys)), answer;
         double from;
         if (kind != LOOKUP)
             memcpy(image, start, length);
         from = now();
-        switch (kind) {
-        case MEMCPY: memcpy(image, start, length); break;
-        case LOOKUP: answer = mutree_lookup(image, length, key, result, sizeof result); break;
-        case DELETE: answer = mutree_delete(image, length, key, UINT32_MAX, result, sizeof result); break;
-        case FORMAT: answer = mutree_format(image, length, result, sizeof result); break;
-        default: answer = mutree_insert(image, length, key + 1, key, UINT32_MAX, result, sizeof result); break;
-        }
+        answer = call(kind, chip, start, image, length, key);
         total += now() - from;
         need(answer == 0, "a call was refused");
     }
     return total / rounds;
 }
 
-static void measure(int at)
+static void measure(const struct mutree_geometry *chip, int at)
 {
-    size_t length = (size_t)sizes[at] * MUTREE_BLOCK_BYTES;
-    uint8_t *image = malloc(length), *roomy = built(sizes[at], 48), *tight = built(sizes[at], 32);
-    uint32_t leaves = leaves_of(sizes[at]);
+    size_t length = (size_t)sizes[at] * chip->block_bytes;
+    uint8_t *image = malloc(length);
+    uint8_t *roomy = built(chip, sizes[at], chip->pages * 3 / 2), *tight = built(chip, sizes[at], chip->pages);
+    struct figures *f = &measured[chip->number][at];
     int kind;
     need(image != NULL, "out of memory");
-    keys_held[at] = (unsigned long)leaves * KEYS_A_LEAF;
+    f->keys = (unsigned long)leaves_of(chip, sizes[at]) * keys_a_leaf(chip);
     for (kind = MEMCPY; kind <= FORMAT; kind++)
-        times[at][kind] = time_call(kind, kind == COLLECT ? tight : roomy, image, length, leaves * KEYS_A_LEAF);
+        f->time[kind] = time_call(kind, chip->number, kind == COLLECT ? tight : roomy, image, length, (uint32_t)f->keys);
     free(image);
     free(roomy);
     free(tight);
 }
 
 #ifdef WITH_LMDB
-static void measure_lmdb(int at)
-{
-    char folder[] = "bench-lmdb-XXXXXX", file[64];
+struct store {
+    char folder[24];
     MDB_env *env;
-    MDB_txn *txn;
     MDB_dbi dbi;
-    MDB_val k, v;
-    uint32_t i, key, value, n = (uint32_t)keys_held[at];
-    double from;
-    int rounds = 2000;
-    need(mkdtemp(folder) != NULL, "no temporary folder");
-    need(!mdb_env_create(&env) && !mdb_env_set_mapsize(env, 256u << 20), "LMDB");
-    need(!mdb_env_open(env, folder, MDB_NOSYNC, 0600), "LMDB open");
-    need(!mdb_txn_begin(env, NULL, 0, &txn) && !mdb_dbi_open(txn, NULL, MDB_INTEGERKEY, &dbi), "LMDB begin");
-    k.mv_size = v.mv_size = 4;
-    k.mv_data = &key;
-    v.mv_data = &value;
-    for (i = 1; i <= n; i++) {
-        key = value = 16 * i;
-        need(!mdb_put(txn, dbi, &k, &v, 0), "LMDB fill");
-    }
-    need(!mdb_txn_commit(txn), "LMDB commit");
-    from = now();
-    for (i = 0; i < (uint32_t)rounds; i++) {
-        key = 16 * (1 + some(n));
-        need(!mdb_txn_begin(env, NULL, MDB_RDONLY, &txn) && !mdb_get(txn, dbi, &k, &v), "LMDB get");
+};
+
+/* One transaction: a get, or a put of the key as its own value. */
+static void lmdb_call(struct store *s, int puts, uint32_t key)
+{
+    uint32_t value = key;
+    MDB_val k = { sizeof key, &key }, v = { sizeof value, &value };
+    MDB_txn *txn;
+    need(!mdb_txn_begin(s->env, NULL, puts ? 0 : MDB_RDONLY, &txn), "LMDB begin");
+    if (puts) {
+        need(!mdb_put(txn, s->dbi, &k, &v, 0) && !mdb_txn_commit(txn), "LMDB put");
+    } else {
+        need(!mdb_get(txn, s->dbi, &k, &v), "LMDB get");
         mdb_txn_abort(txn);
     }
-    times[at][LMDB_GET] = (now() - from) / rounds;
-    from = now();
-    for (i = 0; i < (uint32_t)rounds; i++) {
-        key = 16 * (1 + some(n)) + 1;
-        value = key;
-        k.mv_data = &key;
-        v.mv_data = &value;
-        v.mv_size = 4;
-        need(!mdb_txn_begin(env, NULL, 0, &txn) && !mdb_put(txn, dbi, &k, &v, 0) && !mdb_txn_commit(txn), "LMDB put");
+}
+
+static void lmdb_fill(struct store *s, uint32_t keys)
+{
+    uint32_t i, key;
+    MDB_val k = { sizeof key, &key }, v = k;
+    MDB_txn *txn;
+    need(mkdtemp(strcpy(s->folder, "bench-lmdb-XXXXXX")) != NULL, "no temporary folder");
+    need(!mdb_env_create(&s->env) && !mdb_env_set_mapsize(s->env, (size_t)1 << 30), "LMDB");
+    need(!mdb_env_open(s->env, s->folder, MDB_NOSYNC, 0600), "LMDB open");
+    need(!mdb_txn_begin(s->env, NULL, 0, &txn) && !mdb_dbi_open(txn, NULL, MDB_INTEGERKEY, &s->dbi), "LMDB begin");
+    for (i = 1; i <= keys; i++) {
+        key = 16 * i;
+        need(!mdb_put(txn, s->dbi, &k, &v, 0), "LMDB fill");
     }
-    times[at][LMDB_PUT] = (now() - from) / rounds;
-    mdb_env_close(env);
-    snprintf(file, sizeof file, "%s/data.mdb", folder);
+    need(!mdb_txn_commit(txn), "LMDB commit");
+}
+
+static void lmdb_remove(struct store *s)
+{
+    char file[40];
+    mdb_env_close(s->env);
+    snprintf(file, sizeof file, "%s/data.mdb", s->folder);
     unlink(file);
-    snprintf(file, sizeof file, "%s/lock.mdb", folder);
+    snprintf(file, sizeof file, "%s/lock.mdb", s->folder);
     unlink(file);
-    rmdir(folder);
+    rmdir(s->folder);
+}
+
+static void measure_lmdb(struct figures *f)
+{
+    enum { ROUNDS = 2000 };
+    struct store s;
+    int kind, i;
+    lmdb_fill(&s, (uint32_t)f->keys);
+    for (kind = LMDB_GET; kind <= LMDB_PUT; kind++) {
+        double from = now();
+        for (i = 0; i < ROUNDS; i++)
+            lmdb_call(&s, kind == LMDB_PUT, 16 * (1 + some((uint32_t)f->keys)) + (kind == LMDB_PUT));
+        f->time[kind] = (now() - from) / ROUNDS;
+    }
+    lmdb_remove(&s);
+}
+#else
+static void measure_lmdb(struct figures *f)
+{
+    f->time[LMDB_GET] = f->time[LMDB_PUT] = 0;
 }
 #endif
 
-static void table(void)
+static void table(uint32_t chip)
 {
+    const struct figures *f = measured[chip];
     int at, kind;
-    printf("| microseconds a call (and times memcpy) |");
+    printf("| %s: microseconds a call (and times memcpy) |", chip_names[chip]);
     for (at = 0; at < SIZES; at++)
-        printf(" %u blocks, %lu keys |", sizes[at], keys_held[at]);
+        printf(" %u blocks, %lu keys |", sizes[at], f[at].keys);
     printf("\n|---|---|---|---|\n");
     for (kind = 0; kind < KINDS; kind++) {
-        if (times[0][kind] == 0)
+        if (f[0].time[kind] == 0)
             continue;
         printf("| %s |", names[kind]);
         for (at = 0; at < SIZES; at++)
-            printf(" %.1f (%.2f) |", 1e6 * times[at][kind], times[at][kind] / times[at][MEMCPY]);
+            printf(" %.1f (%.2f) |", 1e6 * f[at].time[kind], f[at].time[kind] / f[at].time[MEMCPY]);
         printf("\n");
     }
+    printf("\n");
+}
+
+/* The largest image that there is. */
+static void tell_largest(void)
+{
+    const struct mutree_geometry *chip = mutree_geometry_of(CHIPS - 1);
+    const struct figures *f = &measured[CHIPS - 1][SIZES - 1];
+    printf("Judging %u blocks with %s, %lu bytes: %.1f ms, %.2f times a memcpy of the image.\n", sizes[SIZES - 1],
+           chip_names[CHIPS - 1], (unsigned long)sizes[SIZES - 1] * chip->block_bytes, 1e3 * f->time[LOOKUP],
+           f->time[LOOKUP] / f->time[MEMCPY]);
 }
 
 /* The decimal logarithm of x >= 1, to 20 binary places: a square doubles it. */
@@ -262,58 +346,80 @@ static double height_of(double seconds)
     return 400 - 54 * (tenths < 1 ? 0 : logarithm(tenths));
 }
 
-/* The same across, from the fewest blocks to the most. */
-static double across(unsigned blocks)
+/* The same across, from the fewest blocks to the most, a panel for each chip. */
+static double across(uint32_t chip, unsigned blocks)
 {
-    return 80 + 400 * logarithm((double)blocks / sizes[0]) / logarithm((double)sizes[SIZES - 1] / sizes[0]);
+    return LEFT + PANEL * chip + SPAN * logarithm((double)blocks / sizes[0]) / logarithm((double)sizes[SIZES - 1] / sizes[0]);
 }
 
 static const char *const colours[KINDS] = { "#000000", "#1b7837", "#2166ac", "#b2182b", "#762a83", "#e08214", "#4d9221", "#8073ac" };
 
-/* One call's line through its three points, and its name. */
-static void plot_kind(FILE *f, int kind)
+/* One call's line through its three points. */
+static void plot_line(FILE *f, uint32_t chip, int kind)
 {
     int at;
     fprintf(f, "<polyline fill='none' stroke='%s' stroke-width='2' points='", colours[kind]);
     for (at = 0; at < SIZES; at++)
-        fprintf(f, "%.1f,%.1f ", across(sizes[at]), height_of(times[at][kind]));
+        fprintf(f, "%.1f,%.1f ", across(chip, sizes[at]), height_of(measured[chip][at].time[kind]));
     fprintf(f, "'/>\n");
     for (at = 0; at < SIZES; at++)
-        fprintf(f, "<circle cx='%.1f' cy='%.1f' r='3' fill='%s'/>", across(sizes[at]), height_of(times[at][kind]), colours[kind]);
-    fprintf(f, "\n<line x1='510' x2='534' y1='%d' y2='%d' stroke='%s' stroke-width='2'/><text x='540' y='%d'>%s</text>\n",
-            40 + 20 * kind, 40 + 20 * kind, colours[kind], 44 + 20 * kind, names[kind]);
+        fprintf(f, "<circle cx='%.1f' cy='%.1f' r='3' fill='%s'/>", across(chip, sizes[at]), height_of(measured[chip][at].time[kind]),
+                colours[kind]);
+    fprintf(f, "\n");
+}
+
+static void plot_panel(FILE *f, uint32_t chip)
+{
+    int at, kind;
+    fprintf(f, "<text x='%.1f' y='448' text-anchor='middle'>%s</text>\n", LEFT + PANEL * chip + SPAN / 2.0, chip_names[chip]);
+    for (at = 0; at < SIZES; at++)
+        fprintf(f, "<text x='%.1f' y='424' text-anchor='middle'>%u blocks</text>\n", across(chip, sizes[at]), sizes[at]);
+    for (kind = 0; kind < KINDS; kind++)
+        if (measured[chip][0].time[kind] > 0)
+            plot_line(f, chip, kind);
+}
+
+/* The powers of ten across both panels, and the names of the lines. */
+static void plot_frame(FILE *f)
+{
+    static const char *const powers[] = { "0.1 µs", "1 µs", "10 µs", "100 µs", "1 ms", "10 ms", "100 ms", "1 s" };
+    int line, kind, right = LEFT + PANEL * CHIPS;
+    for (line = 0; line <= 7; line++)
+        fprintf(f, "<line x1='70' x2='%d' y1='%d' y2='%d' stroke='#dddddd'/><text x='64' y='%d' text-anchor='end'>%s</text>\n",
+                right - 20, 400 - 54 * line, 400 - 54 * line, 404 - 54 * line, powers[line]);
+    for (kind = 0; kind < KINDS; kind++)
+        if (measured[0][0].time[kind] > 0)
+            fprintf(f, "<line x1='%d' x2='%d' y1='%d' y2='%d' stroke='%s' stroke-width='2'/><text x='%d' y='%d'>%s</text>\n", right,
+                    right + 24, 40 + 20 * kind, 40 + 20 * kind, colours[kind], right + 30, 44 + 20 * kind, names[kind]);
 }
 
 static void plot(const char *path)
 {
     FILE *f = fopen(path, "w");
-    int at, kind, line;
+    uint32_t chip;
     need(f != NULL, "cannot write the plot");
-    fprintf(f, "<svg xmlns='http://www.w3.org/2000/svg' width='720' height='460' font-family='sans-serif' font-size='12'>\n"
-               "<rect width='100%%' height='100%%' fill='#ffffff'/>\n<text x='70' y='14'>time of a call against blocks, both axes logarithmic</text>\n");
-    for (line = 0; line <= 7; line++)
-        fprintf(f, "<line x1='70' x2='490' y1='%d' y2='%d' stroke='#dddddd'/><text x='64' y='%d' text-anchor='end'>%s</text>\n",
-                400 - 54 * line, 400 - 54 * line, 404 - 54 * line,
-                (const char *const[]){ "0.1 µs", "1 µs", "10 µs", "100 µs", "1 ms", "10 ms", "100 ms", "1 s" }[line]);
-    for (at = 0; at < SIZES; at++)
-        fprintf(f, "<text x='%.1f' y='424' text-anchor='middle'>%u blocks</text>\n", across(sizes[at]), sizes[at]);
-    for (kind = 0; kind < KINDS; kind++)
-        if (times[0][kind] > 0)
-            plot_kind(f, kind);
+    fprintf(f, "<svg xmlns='http://www.w3.org/2000/svg' width='%d' height='460' font-family='sans-serif' font-size='12'>\n"
+               "<rect width='100%%' height='100%%' fill='#ffffff'/>\n"
+               "<text x='70' y='14'>time of a call against blocks, both axes logarithmic</text>\n", LEFT + PANEL * CHIPS + 200);
+    plot_frame(f);
+    for (chip = 0; chip < CHIPS; chip++)
+        plot_panel(f, chip);
     fputs("</svg>\n", f);
     need(fclose(f) == 0, "cannot write the plot");
 }
 
 int main(int count, char **words)
 {
+    uint32_t chip;
     int at;
-    for (at = 0; at < SIZES; at++) {
-        measure(at);
-#ifdef WITH_LMDB
-        measure_lmdb(at);
-#endif
-    }
-    table();
+    for (chip = 0; chip < CHIPS; chip++)
+        for (at = 0; at < SIZES; at++) {
+            measure(mutree_geometry_of(chip), at);
+            measure_lmdb(&measured[chip][at]);
+        }
+    for (chip = 0; chip < CHIPS; chip++)
+        table(chip);
+    tell_largest();
     if (count == 3 && strcmp(words[1], "--svg") == 0)
         plot(words[2]);
     return 0;

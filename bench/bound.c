@@ -19,7 +19,7 @@
 #include <stdlib.h>
 #include <string.h>
 
-enum { BOUND = 75, KEYS = 7456, QUICK_KEYS = 1000, NO_LIMIT = 1 << 30, JUDGED_EACH = 500, STEP = 1 << 18, ORDERS = 6, CHIPS = 3 };
+enum { BOUND = 75, KEYS = 7456, QUICK_KEYS = 1000, NO_LIMIT = 1 << 30, JUDGED_EACH = 500, STEP = 1 << 18, ORDERS = 6, SETTINGS = 3 };
 
 enum way { RISING, FALLING, RANDOM, BELOW_FULL };
 
@@ -34,7 +34,7 @@ static const struct order orders[ORDERS] = {
     { "random, seed 3", RANDOM, 3 }, { "below full nodes", BELOW_FULL, 0 },
 };
 
-struct chip {
+struct setting {
     size_t blocks;
     unsigned long most_keys;
     int collects;
@@ -67,18 +67,17 @@ static void need(int ok, const struct run *r, const char *what)
 }
 
 /* ---- the tree: its root after each insert, and the leaf that the last order chooses */
-static const unsigned first_slot[6] = { 0, 0, 32, 48, 56, 60 };
-static const unsigned most_below[6] = { 0, 32, 16, 8, 4, 0 };
-static const unsigned most_root[6] = { 0, 63, 31, 15, 7, 4 };
+#define SMALL (&chips[MUTREE_SMALL])
 
 /* The page with the largest number of those whose byte 4 is a height; of an erased page that byte is 255. */
 static void find_root(const struct run *r)
 {
     uint32_t largest = 0;
     size_t page;
-    for (page = 0; page < r->length / PAGE; page++) {
-        const uint8_t *spare = r->image + page * PAGE + MAIN;
-        if (spare[4] >= 1 && spare[4] <= 5 && number_at(spare) > largest) {
+    tree.chip = SMALL;
+    for (page = 0; page < r->length / SMALL->page; page++) {
+        const uint8_t *spare = r->image + page * SMALL->page + SMALL->main;
+        if (spare[4] >= 1 && spare[4] <= SMALL->top && number_at(spare) > largest) {
             largest = number_at(spare);
             tree.root = (uint32_t)page;
             tree.height = spare[4];
@@ -101,9 +100,9 @@ static int comes_before(const struct leaf *a, const struct leaf *b)
  * the last. */
 static void look(const uint8_t *image, uint32_t page, unsigned level, struct leaf here, struct leaf *best)
 {
-    const uint8_t *at = image + (size_t)page * PAGE, *slot = at + 8 * first_slot[level];
-    unsigned i, n = at[MAIN + 4 + level];
-    unsigned most = (level == tree.height ? most_root : most_below)[level];
+    const uint8_t *at = image + (size_t)page * SMALL->page, *slot = at + 8 * first_slot(SMALL, level);
+    unsigned i, n = at[SMALL->main + 4 + level];
+    unsigned most = level == tree.height ? most_root(SMALL, level) : most_below(SMALL, level);
     if (level == 1) {
         here.entries = n;
         here.last_key = n == 0 ? 0 : number_at(slot + 8 * (n - 1));
@@ -147,7 +146,7 @@ static uint32_t next_key(struct run *r)
 static struct mutree_result insert(uint8_t *image, size_t length, uint32_t key, uint32_t allowance)
 {
     uint8_t result[MUTREE_RESULT_BYTES];
-    mutree_insert(image, length, key, 1, allowance, result, sizeof result);
+    mutree_insert(MUTREE_SMALL, image, length, key, 1, allowance, result, sizeof result);
     return mutree_read_result(result);
 }
 
@@ -184,7 +183,7 @@ static void check_bound(struct run *r)
 
 static void check_tree(struct run *r)
 {
-    need(judge(&tree, r->image, r->length) == 0, r, "the image is not sound");
+    need(judge(&tree, SMALL, r->image, r->length) == 0, r, "the image is not sound");
     need(tree.entries == r->now.n, r, "the tree has not n keys");
     need(tree.nodes == r->now.x + tree.height, r, "the tree has not X + height nodes");
 }
@@ -201,7 +200,7 @@ static int insert_next(struct run *r, int collects)
     r->ended = made.answer;
     if (made.answer != MUTREE_DONE)
         return 0;
-    need(collects || made.erased == 0, r, "a block was erased on the large chip");
+    need(collects || made.erased == 0, r, "a block was erased where nothing should be");
     moved = made.erased > 0 ? pages_moved(r, key, made) : 0;
     r->now.n++;
     r->now.x += made.programmed - moved - 1;
@@ -223,18 +222,18 @@ static uint8_t *room(const struct run *r)
     return bytes;
 }
 
-static void begin(struct run *r, const struct order *order, const struct chip *chip)
+static void begin(struct run *r, const struct order *order, const struct setting *setting)
 {
     uint8_t result[MUTREE_RESULT_BYTES];
     memset(r, 0, sizeof *r);
     r->order = order;
-    r->length = chip->blocks * MUTREE_BLOCK_BYTES;
+    r->length = setting->blocks * MUTREE_SMALL_BLOCK_BYTES;
     r->state = order->seed;
     r->most.n = r->most_nodes.n = 1;
     r->image = room(r);
     r->before = room(r);
     r->trial = room(r);
-    need(mutree_format(r->image, r->length, result, sizeof result) == MUTREE_DONE, r, "format was refused");
+    need(mutree_format(MUTREE_SMALL, r->image, r->length, result, sizeof result) == MUTREE_DONE, r, "format was refused");
     find_root(r);
 }
 
@@ -252,10 +251,10 @@ static const char *end_of(const struct run *r)
     return r->ended == MUTREE_HEIGHT ? "HEIGHT" : r->ended == MUTREE_ROOM ? "ROOM" : "keys enough";
 }
 
-static void play(struct run *r, const struct order *order, const struct chip *chip)
+static void play(struct run *r, const struct order *order, const struct setting *setting)
 {
-    begin(r, order, chip);
-    while (r->now.n < chip->most_keys && insert_next(r, chip->collects))
+    begin(r, order, setting);
+    while (r->now.n < setting->most_keys && insert_next(r, setting->collects))
         ;
     end(r);
 }
@@ -274,15 +273,15 @@ static void print_run(const struct run *r)
 }
 
 /* ---- the chips */
-static struct ratio play_orders(const struct chip *chip, struct ratio most)
+static struct ratio play_orders(const struct setting *setting, struct ratio most)
 {
     struct run r;
     int i;
-    printf("%u blocks\n", (unsigned)chip->blocks);
+    printf("%u blocks\n", (unsigned)setting->blocks);
     printf("%-16s%7s%6s%7s%7s%6s%7s%7s%6s%7s%7s  %s\n", "order of keys", "n", "X", "ratio", "n", "nodes", "ratio", "n-end", "X-end", "moved",
            "erased", "ended by");
     for (i = 0; i < ORDERS; i++) {
-        play(&r, &orders[i], chip);
+        play(&r, &orders[i], setting);
         print_run(&r);
         most = larger(r.most, most);
     }
@@ -293,13 +292,13 @@ static struct ratio play_orders(const struct chip *chip, struct ratio most)
 /* The pages that so many inserts may program by the bound, format's own, and those that are left where collection begins. */
 static size_t blocks_without_collection(unsigned long keys)
 {
-    size_t pages = 1 + keys + BOUND * keys / 1024 + MUTREE_BLOCK_PAGES + MUTREE_MOST_OWN_PAGES;
-    return (pages + MUTREE_BLOCK_PAGES - 1) / MUTREE_BLOCK_PAGES;
+    size_t pages = 1 + keys + BOUND * keys / 1024 + MUTREE_SMALL_PAGES + SMALL->own_pages;
+    return (pages + MUTREE_SMALL_PAGES - 1) / MUTREE_SMALL_PAGES;
 }
 
 int main(int count, char **words)
 {
-    struct chip chips[CHIPS] = { { 0, KEYS, 0 }, { 40, NO_LIMIT, 1 }, { 8, NO_LIMIT, 1 } };
+    struct setting settings[SETTINGS] = { { 0, KEYS, 0 }, { 40, NO_LIMIT, 1 }, { 8, NO_LIMIT, 1 } };
     struct ratio most = { 1, 0 };
     int i, quick = count == 2 && strcmp(words[1], "--quick") == 0;
     if (count > 1 && !quick) {
@@ -307,12 +306,12 @@ int main(int count, char **words)
         return 64;
     }
     if (quick) {
-        chips[0].most_keys = QUICK_KEYS;
-        chips[1].most_keys = chips[2].most_keys = KEYS;
+        settings[0].most_keys = QUICK_KEYS;
+        settings[1].most_keys = settings[2].most_keys = KEYS;
     }
-    chips[0].blocks = blocks_without_collection(chips[0].most_keys);
-    for (i = 0; i < CHIPS; i++)
-        most = play_orders(&chips[i], most);
+    settings[0].blocks = blocks_without_collection(settings[0].most_keys);
+    for (i = 0; i < SETTINGS; i++)
+        most = play_orders(&settings[i], most);
     printf("The largest 1024 X / n: %.2f, at n = %lu and X = %lu. The bound: %d.\n", 1024.0 * (double)most.x / (double)most.n, most.n, most.x,
            BOUND);
     return 0;

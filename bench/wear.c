@@ -16,7 +16,7 @@
 
 enum { BLOCKS = 16, DAYS = 365, PATIENTS = 24, MOST_FRAMES = DAYS * 8 * 8, LIVES = 2 };
 
-#define LENGTH ((size_t)BLOCKS * MUTREE_BLOCK_BYTES)
+#define LENGTH ((size_t)BLOCKS * MUTREE_SMALL_BLOCK_BYTES)
 
 static void need(int ok, const char *what)
 {
@@ -52,16 +52,16 @@ static struct mutree_result call(uint8_t *image, struct update u, uint32_t allow
 {
     uint8_t result[MUTREE_RESULT_BYTES];
     if (u.kind == INSERT)
-        mutree_insert(image, LENGTH, u.key, u.address, allowance, result, sizeof result);
+        mutree_insert(MUTREE_SMALL, image, LENGTH, u.key, u.address, allowance, result, sizeof result);
     else
-        mutree_delete(image, LENGTH, u.key, allowance, result, sizeof result);
+        mutree_delete(MUTREE_SMALL, image, LENGTH, u.key, allowance, result, sizeof result);
     return mutree_read_result(result);
 }
 
 static int page_is_erased(const uint8_t *page)
 {
     size_t i;
-    for (i = 0; i < MUTREE_PAGE_BYTES; i++)
+    for (i = 0; i < MUTREE_SMALL_PAGE_BYTES; i++)
         if (page[i] != 255)
             return 0;
     return 1;
@@ -71,10 +71,10 @@ static int page_is_erased(const uint8_t *page)
 static unsigned block_erased(const uint8_t *last, const uint8_t *now)
 {
     size_t at = 0;
-    while (at < LENGTH && memcmp(last + at, now + at, MUTREE_PAGE_BYTES) == 0)
-        at += MUTREE_PAGE_BYTES;
+    while (at < LENGTH && memcmp(last + at, now + at, MUTREE_SMALL_PAGE_BYTES) == 0)
+        at += MUTREE_SMALL_PAGE_BYTES;
     need(at < LENGTH, "a store changed nothing");
-    return page_is_erased(now + at) ? (unsigned)(at / MUTREE_BLOCK_BYTES) : BLOCKS;
+    return page_is_erased(now + at) ? (unsigned)(at / MUTREE_SMALL_BLOCK_BYTES) : BLOCKS;
 }
 
 static void make_again(struct chip *c, struct update u, struct mutree_result made)
@@ -214,7 +214,7 @@ static unsigned long frames_left(const struct camera *c)
     unsigned at;
     for (at = 0; at < c->taken; at++)
         if (c->frames[at].there) {
-            uint32_t answer = mutree_lookup(c->chip.image, LENGTH, c->frames[at].key, result, sizeof result);
+            uint32_t answer = mutree_lookup(MUTREE_SMALL, c->chip.image, LENGTH, c->frames[at].key, result, sizeof result);
             need(answer == MUTREE_DONE, "a frame is lost");
             left++;
         }
@@ -230,7 +230,7 @@ static void play_year(struct camera *c)
     c->chip.before = room();
     c->chip.last = room();
     c->chip.now = room();
-    need(mutree_format(c->chip.image, LENGTH, result, sizeof result) == MUTREE_DONE, "format was refused");
+    need(mutree_format(MUTREE_SMALL, c->chip.image, LENGTH, result, sizeof result) == MUTREE_DONE, "format was refused");
     for (place = 0; place < PATIENTS; place++)
         meet_patient(c, place);
     for (day = 0; day < DAYS; day++)

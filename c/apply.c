@@ -20,14 +20,11 @@ struct tally {
 
 static struct mutree_result obey(struct image *image, const struct order *order)
 {
-    uint8_t result[MUTREE_RESULT_BYTES];
-    if (order->kind == ORDER_INSERT)
-        mutree_insert(image->bytes, image->length, order->key, order->address, UINT32_MAX, result, sizeof result);
-    else if (order->kind == ORDER_DELETE)
-        mutree_delete(image->bytes, image->length, order->key, UINT32_MAX, result, sizeof result);
-    else
-        mutree_lookup(image->bytes, image->length, order->key, result, sizeof result);
-    return mutree_read_result(result);
+    switch (order->kind) {
+    case ORDER_INSERT: return image_insert(image, order->key, order->address, UINT32_MAX);
+    case ORDER_DELETE: return image_delete(image, order->key, UINT32_MAX);
+    default: return image_lookup(image, order->key);
+    }
 }
 
 /* All lines, on the image in memory. The first that is not DONE ends it. */
@@ -111,7 +108,7 @@ int apply_command(const struct arguments *arguments)
         orders_free(&orders);
         return status;
     }
-    status = file_load(&file, &image);
+    status = file_load(&file, arguments->geometry, &image);
     if (status == 0) {
         status = apply_to(&file, &image, &orders);
         image_free(&image);

@@ -1,4 +1,5 @@
 #include "arguments.h"
+#include "geometry.h"
 #include "say.h"
 
 #include <stdio.h>
@@ -12,7 +13,8 @@ struct option {
 
 static const struct option options[] = {
     { "--allow", TAKES_ALLOW, 1 }, { "--force", TAKES_FORCE, 0 },     { "--no-wait", TAKES_NO_WAIT, 0 },
-    { "--pages", TAKES_PAGES, 0 }, { "--svg", TAKES_SVG, 1 },
+    { "--pages", TAKES_PAGES, 0 }, { "--svg", TAKES_SVG, 1 },         { "--small", TAKES_CHIP, 0 },
+    { "--large", TAKES_CHIP, 0 },
 };
 
 enum { OPTIONS = sizeof options / sizeof *options };
@@ -58,6 +60,15 @@ static const struct option *option_of(const struct command *command, const char 
     return NULL;
 }
 
+static int take_chip(const struct command *command, const char *option, struct arguments *arguments)
+{
+    const struct mutree_geometry *geometry = geometry_of_option(option);
+    if (arguments->geometry != NULL && arguments->geometry->number != geometry->number)
+        return usage(command, "%s contradicts the option before it", option);
+    arguments->geometry = geometry;
+    return 0;
+}
+
 static int take(const struct command *command, const struct option *option, const char *value, struct arguments *arguments)
 {
     if (option->has_value && value == NULL)
@@ -67,6 +78,7 @@ static int take(const struct command *command, const struct option *option, cons
     case TAKES_FORCE: arguments->force = 1; return 0;
     case TAKES_NO_WAIT: arguments->no_wait = 1; return 0;
     case TAKES_PAGES: arguments->pages = 1; return 0;
+    case TAKES_CHIP: return take_chip(command, option->name, arguments);
     default: arguments->svg = value; return 0;
     }
 }

@@ -22,11 +22,10 @@ struct insertion {
 /* Which map a sound image holds. Where the pair was there already, old and new are the same. */
 static void tell_map(const struct insertion *insertion, const struct image *image, uint32_t answer)
 {
-    uint8_t result[MUTREE_RESULT_BYTES];
     struct survey after = survey_image(image, 1);
     int same = same_map(&insertion->before, &after);
-    int holds = mutree_lookup(image->bytes, image->length, insertion->key, result, sizeof result) == MUTREE_DONE
-             && mutree_read_result(result).address == insertion->address;
+    struct mutree_result found = image_lookup(image, insertion->key);
+    int holds = found.answer == MUTREE_DONE && found.address == insertion->address;
     const char *map = same && answer == MUTREE_STOPPED ? "old map" : same && holds ? "new map, the same as the old"
                     : holds ? "new map" : "another map";
     printf("%s, %zu %s\n", map, after.entries, entries_word(after.entries));
@@ -37,11 +36,8 @@ static void tell_map(const struct insertion *insertion, const struct image *imag
 static uint32_t cut_once(const struct insertion *insertion, uint32_t allowance)
 {
     struct image copy = image_copy(&insertion->image);
-    uint8_t bytes[MUTREE_RESULT_BYTES];
-    struct mutree_result result;
+    struct mutree_result result = image_insert(&copy, insertion->key, insertion->address, allowance);
     uint32_t verdict;
-    mutree_insert(copy.bytes, copy.length, insertion->key, insertion->address, allowance, bytes, sizeof bytes);
-    result = mutree_read_result(bytes);
     if (result.answer == MUTREE_DONE || result.answer == MUTREE_STOPPED) {
         verdict = image_judge(&copy);
         printf("%6" PRIu32 "  %-8s %4" PRIu32 " programmed %2" PRIu32 " erased  %-8s ", allowance, answer_name(result.answer),
@@ -77,7 +73,7 @@ int cut_command(const struct arguments *arguments)
     int status;
     if (read_number(arguments->word[1], "key", &insertion.key) || read_number(arguments->word[2], "address", &insertion.address))
         return BAD_USAGE;
-    status = file_load_named(arguments->word[0], &insertion.image);
+    status = file_load_named(arguments->word[0], arguments->geometry, &insertion.image);
     if (status != 0)
         return status;
     verdict = image_judge(&insertion.image);

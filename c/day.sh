@@ -1,11 +1,13 @@
 #!/bin/sh
 # A short day with the tool: format, frames stored, one looked up, the battery lost in the middle of an update.
-# usage: day.sh TOOL
+# usage: day.sh TOOL [--small | --large]
 set -u
-tool=$1
+tool=$1 chip_option=${2:-}
 folder=$(mktemp -d) || exit 1
 trap 'rm -rf "$folder"' EXIT
 chip=$folder/chip.img
+case $chip_option in --large) last=255 ;; *) last=63 ;; esac # the frames that a root at height 1 holds
+next=$((last + 1))
 
 run() {
     printf '$ mutree'
@@ -18,11 +20,12 @@ run() {
 }
 
 echo "A chip of three blocks is formatted."
-run format "$chip" 3
+# shellcheck disable=SC2086
+run format "$chip" 3 $chip_option
 echo
-echo "63 frames are stored, keys 1 to 63, each at address 1000 + key."
+echo "$last frames are stored, keys 1 to $last, each at address 1000 + key."
 key=1
-while [ "$key" -le 63 ]; do
+while [ "$key" -le "$last" ]; do
     "$tool" insert "$chip" "$key" $((1000 + key)) > "$folder/last" || exit 1
     key=$((key + 1))
 done
@@ -30,15 +33,15 @@ echo "(the last one: $(cat "$folder/last"))"
 run lookup "$chip" 40
 run show "$chip"
 echo
-echo "Frame 64 needs a collection. What would a battery loss after each of its stores leave?"
-run cut "$chip" 64 1064
+echo "Frame $next needs a collection. What would a battery loss after each of its stores leave?"
+run cut "$chip" "$next" $((1000 + next))
 echo
 echo "The battery is lost after one store."
-run insert "$chip" 64 1064 --allow 1
+run insert "$chip" "$next" $((1000 + next)) --allow 1
 echo "The index is whole, with the old map:"
-run lookup "$chip" 63
-run lookup "$chip" 64
+run lookup "$chip" "$last"
+run lookup "$chip" "$next"
 echo "The insert is made again:"
-run insert "$chip" 64 1064
-run lookup "$chip" 64
+run insert "$chip" "$next" $((1000 + next))
+run lookup "$chip" "$next"
 run show "$chip"

@@ -1,8 +1,8 @@
 #include "posix.h"
 
 #include "file.h"
+#include "geometry.h"
 #include "lock.h"
-#include "mutree.h"
 #include "say.h"
 #include "status.h"
 #include "temporary.h"
@@ -148,6 +148,7 @@ static ssize_t read_all(int descriptor, uint8_t *bytes, size_t length)
 int file_read(const struct file *file, struct image *image)
 {
     ssize_t got;
+    image->geometry = NULL;
     image->length = (size_t)file->state.st_size;
     image->bytes = need(malloc(image->length ? image->length : 1));
     got = read_all(file->descriptor, image->bytes, image->length);
@@ -161,20 +162,28 @@ int file_read(const struct file *file, struct image *image)
     return BAD_FILE;
 }
 
-int file_load(const struct file *file, struct image *image)
+int file_load(const struct file *file, const struct mutree_geometry *geometry, struct image *image)
 {
-    if (!length_fits((uintmax_t)file->state.st_size))
-        return say_length(file->name, (uintmax_t)file->state.st_size);
-    return file_read(file, image);
+    int status;
+    if (!length_fits(geometry, (uintmax_t)file->state.st_size))
+        return say_length(file->name, geometry, (uintmax_t)file->state.st_size);
+    status = file_read(file, image);
+    if (status != 0)
+        return status;
+    image->geometry = geometry != NULL ? geometry : geometry_of_image(image);
+    if (image->geometry != NULL)
+        return 0;
+    image_free(image);
+    return say_either(file->name);
 }
 
-int file_load_named(const char *name, struct image *image)
+int file_load_named(const char *name, const struct mutree_geometry *geometry, struct image *image)
 {
     struct file file;
     int status = file_open_to_read(name, &file);
     if (status != 0)
         return status;
-    status = file_load(&file, image);
+    status = file_load(&file, geometry, image);
     file_close(&file);
     return status;
 }

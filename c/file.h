@@ -23,11 +23,12 @@ int file_open_to_change(const char *name, int may_make, int no_wait, struct file
 /* Reads the whole file, which is no longer than the largest index. Returns 0, or an exit status after a line. */
 int file_read(const struct file *file, struct image *image);
 
-/* The same where the length is an index's; another length is not read and gets its line. */
-int file_load(const struct file *file, struct image *image);
+/* The same where the length is an index's; another length is not read and gets its line. `geometry` is the chip that the user
+ * names; with NULL it is told from the file, and a file that could be of either chip is refused with a line. */
+int file_load(const struct file *file, const struct mutree_geometry *geometry, struct image *image);
 
 /* Opens, loads and closes. */
-int file_load_named(const char *name, struct image *image);
+int file_load_named(const char *name, const struct mutree_geometry *geometry, struct image *image);
 
 /* Closes the file. One that this process made and that is still empty is removed. */
 void file_close(struct file *file);

@@ -1,10 +1,23 @@
 #include "help.h"
+#include "geometry.h"
 
 static void print_commands(FILE *out, const struct command *commands, size_t count)
 {
     size_t i;
     for (i = 0; i < count; i++)
         fprintf(out, "  mutree %s %s\n        %s\n", commands[i].name, commands[i].words, commands[i].does);
+}
+
+static void print_chips(FILE *out)
+{
+    uint32_t number;
+    for (number = 0; number < MUTREE_GEOMETRIES; number++) {
+        const struct mutree_geometry *g = mutree_geometry_of(number);
+        fprintf(out, "A chip with %s has blocks of %u pages, %u main and %u spare bytes each: %u bytes a block.\n",
+                geometry_words(g), (unsigned)g->pages, (unsigned)g->main_bytes, (unsigned)g->spare_bytes, (unsigned)g->block_bytes);
+    }
+    fputs("Without --small or --large the chip is told from the file: by its length, and where that fits both by which of them\n"
+          "finds a sound index in it. A file that is sound on neither is refused until it is said. show says which it is.\n\n", out);
 }
 
 void print_help(FILE *out, const struct command *commands, size_t count)
@@ -14,8 +27,9 @@ void print_help(FILE *out, const struct command *commands, size_t count)
     fputs("  mutree help, mutree --version\n\n"
           "FILE is a raw dump with spare bytes, as nanddump --oob writes it: a regular file. KEY, ADDRESS and N are\n"
           "0 to 4294967295 without leading zeros. A change holds a lock and replaces the file whole, or leaves it as it\n"
-          "was; a second change waits for the first, and with --no-wait it is refused.\n\n"
-          "apply reads a command a line: insert KEY ADDRESS, delete KEY or lookup KEY; empty lines and lines that begin\n"
+          "was; a second change waits for the first, and with --no-wait it is refused.\n\n", out);
+    print_chips(out);
+    fputs("apply reads a command a line: insert KEY ADDRESS, delete KEY or lookup KEY; empty lines and lines that begin\n"
           "with # are passed over, the last line ends like the others. Every line must be understood and DONE, else\n"
           "nothing is changed and the line is named. Lookups print key and address.\n\n"
           "Exit status: 0 DONE, 1 LENGTH, 2 DAMAGED, 3 WORN, 4 ABSENT, 5 HEIGHT, 6 ROOM, 7 STOPPED; 64 the command was\n"

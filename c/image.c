@@ -1,5 +1,4 @@
 #include "image.h"
-#include "mutree.h"
 #include "status.h"
 
 #include <stdio.h>
@@ -15,19 +14,19 @@ void *need(void *pointer)
     return pointer;
 }
 
-struct image image_erased(size_t length)
+struct image image_erased(const struct mutree_geometry *geometry, uint32_t blocks)
 {
     struct image image;
-    image.length = length;
-    image.bytes = need(malloc(length ? length : 1));
-    memset(image.bytes, 255, length);
+    image.geometry = geometry;
+    image.length = (size_t)blocks * geometry->block_bytes;
+    image.bytes = need(malloc(image.length ? image.length : 1));
+    memset(image.bytes, 255, image.length);
     return image;
 }
 
 struct image image_copy(const struct image *image)
 {
-    struct image copy;
-    copy.length = image->length;
+    struct image copy = *image;
     copy.bytes = need(malloc(image->length ? image->length : 1));
     memcpy(copy.bytes, image->bytes, image->length);
     return copy;
@@ -48,15 +47,36 @@ int all_255(const uint8_t *bytes, size_t count)
     return 1;
 }
 
-int length_fits(uintmax_t length)
+struct mutree_result image_format(struct image *image)
 {
-    return length % MUTREE_BLOCK_BYTES == 0 && length / MUTREE_BLOCK_BYTES >= MUTREE_LEAST_BLOCKS
-        && length / MUTREE_BLOCK_BYTES <= MUTREE_MOST_BLOCKS;
+    uint8_t result[MUTREE_RESULT_BYTES];
+    mutree_format(image->geometry->number, image->bytes, image->length, result, sizeof result);
+    return mutree_read_result(result);
+}
+
+struct mutree_result image_lookup(const struct image *image, uint32_t key)
+{
+    uint8_t result[MUTREE_RESULT_BYTES];
+    mutree_lookup(image->geometry->number, image->bytes, image->length, key, result, sizeof result);
+    return mutree_read_result(result);
+}
+
+struct mutree_result image_insert(struct image *image, uint32_t key, uint32_t address, uint32_t allowance)
+{
+    uint8_t result[MUTREE_RESULT_BYTES];
+    mutree_insert(image->geometry->number, image->bytes, image->length, key, address, allowance, result, sizeof result);
+    return mutree_read_result(result);
+}
+
+struct mutree_result image_delete(struct image *image, uint32_t key, uint32_t allowance)
+{
+    uint8_t result[MUTREE_RESULT_BYTES];
+    mutree_delete(image->geometry->number, image->bytes, image->length, key, allowance, result, sizeof result);
+    return mutree_read_result(result);
 }
 
 uint32_t image_judge(const struct image *image)
 {
-    uint8_t result[MUTREE_RESULT_BYTES];
-    uint32_t answer = mutree_lookup(image->bytes, image->length, 0, result, sizeof result);
+    uint32_t answer = image_lookup(image, 0).answer;
     return answer == MUTREE_ABSENT ? MUTREE_DONE : answer;
 }

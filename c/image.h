@@ -2,29 +2,35 @@
 #ifndef MUTREE_IMAGE_H
 #define MUTREE_IMAGE_H
 
+#include "mutree.h"
+
 #include <stddef.h>
 #include <stdint.h>
 
 struct image {
     uint8_t *bytes;
     size_t length;
+    const struct mutree_geometry *geometry; /* the chip; NULL where it is not known yet */
 };
 
 /* The pointer itself, or an end with status 71 where it is NULL. */
 void *need(void *pointer);
 
-/* An image whose bytes are all 255. */
-struct image image_erased(size_t length);
+/* An image of so many blocks, whose bytes are all 255. */
+struct image image_erased(const struct mutree_geometry *geometry, uint32_t blocks);
 struct image image_copy(const struct image *image);
 void image_free(struct image *image);
 
 /* Whether `count` bytes are all 255. */
 int all_255(const uint8_t *bytes, size_t count);
 
-/* 16,896 bytes times 3 to 1,024. */
-int length_fits(uintmax_t length);
-
-/* What the library says of an image: MUTREE_DONE for a sound one, MUTREE_LENGTH or MUTREE_DAMAGED. */
+/* What the library says of an image whose chip is known: MUTREE_DONE for a sound one, MUTREE_LENGTH or MUTREE_DAMAGED. */
 uint32_t image_judge(const struct image *image);
+
+/* The library's calls on an image whose chip is known. */
+struct mutree_result image_format(struct image *image);
+struct mutree_result image_lookup(const struct image *image, uint32_t key);
+struct mutree_result image_insert(struct image *image, uint32_t key, uint32_t address, uint32_t allowance);
+struct mutree_result image_delete(struct image *image, uint32_t key, uint32_t allowance);
 
 #endif

@@ -15,20 +15,24 @@
 #include <string.h>
 #include <unistd.h>
 
+#define CHIP "[--small | --large]"
+
 static const struct command commands[] = {
-    { "format", "FILE BLOCKS [--force] [--no-wait]", "an empty index of 3 to 1024 blocks; --force wipes what stands in FILE",
-      TAKES_FORCE | TAKES_NO_WAIT, 2, format_command },
-    { "insert", "FILE KEY ADDRESS [--allow N] [--no-wait]", "give KEY an address, in at most N stores",
-      TAKES_ALLOW | TAKES_NO_WAIT, 3, insert_command },
-    { "delete", "FILE KEY [--allow N] [--no-wait]", "take KEY out, in at most N stores",
-      TAKES_ALLOW | TAKES_NO_WAIT, 2, delete_command },
-    { "lookup", "FILE KEY", "print the address of KEY", 0, 2, lookup_command },
-    { "apply", "FILE [--no-wait] < COMMANDS", "many commands, the file read once and replaced once",
-      TAKES_NO_WAIT, 1, apply_command },
-    { "show", "FILE [--pages] [--svg OUT]", "numbers and a picture of the chip; --pages: of every page above 64 blocks too",
-      TAKES_PAGES | TAKES_SVG, 1, show_command },
-    { "cut", "FILE KEY ADDRESS", "what a battery loss after each store of this insert leaves; FILE stays as it is",
-      0, 3, cut_command },
+    { "format", "FILE BLOCKS " CHIP " [--force] [--no-wait]",
+      "an empty index of 3 to 1024 blocks, small pages if nothing is said; --force wipes what stands in FILE",
+      TAKES_CHIP | TAKES_FORCE | TAKES_NO_WAIT, 2, format_command },
+    { "insert", "FILE KEY ADDRESS " CHIP " [--allow N] [--no-wait]", "give KEY an address, in at most N stores",
+      TAKES_CHIP | TAKES_ALLOW | TAKES_NO_WAIT, 3, insert_command },
+    { "delete", "FILE KEY " CHIP " [--allow N] [--no-wait]", "take KEY out, in at most N stores",
+      TAKES_CHIP | TAKES_ALLOW | TAKES_NO_WAIT, 2, delete_command },
+    { "lookup", "FILE KEY " CHIP, "print the address of KEY", TAKES_CHIP, 2, lookup_command },
+    { "apply", "FILE " CHIP " [--no-wait] < COMMANDS", "many commands, the file read once and replaced once",
+      TAKES_CHIP | TAKES_NO_WAIT, 1, apply_command },
+    { "show", "FILE " CHIP " [--pages] [--svg OUT]",
+      "numbers and a picture of the chip; --pages: of every page above 64 blocks too",
+      TAKES_CHIP | TAKES_PAGES | TAKES_SVG, 1, show_command },
+    { "cut", "FILE KEY ADDRESS " CHIP, "what a battery loss after each store of this insert leaves; FILE stays as it is",
+      TAKES_CHIP, 3, cut_command },
 };
 
 enum { COMMANDS = sizeof commands / sizeof *commands };

@@ -1,8 +1,15 @@
-/* mutree.h: a proved μ-Tree index on raw NAND, for C99 and C++.
+/* mutree.h: a proved μ-Tree index on raw NAND, for C99 and C++, on two kinds of chip.
  *
- * An image is a lent byte buffer: B blocks (3 to 1,024) of 32 pages, each page 512 main bytes and then its 16 spare
- * bytes, one after another, as `nanddump --oob` writes them. The image is the whole state: the library keeps nothing
- * between calls, allocates nothing, and is safe for any bytes and any lengths.
+ *   number            pages of a block   main and spare bytes of a page   a block in bytes   heights
+ *   0 MUTREE_SMALL          32                   512 + 16                      16,896         1 to 5
+ *   1 MUTREE_LARGE          64                 2,048 + 64                     135,168         1 to 7
+ *
+ * The first argument of every call is the chip's number; another number gives MUTREE_LENGTH. mutree_geometry_of gives all
+ * numbers of a chip, so that code can be written once for both.
+ *
+ * An image is a lent byte buffer: B blocks (3 to 1,024), page after page, each page its main bytes and then its spare bytes,
+ * as `nanddump --oob` writes them. The image is the whole state: the library keeps nothing between calls, allocates nothing,
+ * and is safe for any numbers, any bytes and any lengths.
  *
  * Every call returns its answer number and writes 16 bytes to the caller's result buffer: answer, address, pages
  * programmed, blocks erased, 32 bits each, least byte first. Bytes after the 16 stay as they were. With a shorter
@@ -14,13 +21,14 @@
  * What a call needs
  *   processor   x86-64 or ARM64 with 64-bit size_t; an archive for each. Beside the four calls the archive asks the C
  *               library for memcpy and memset, nothing else. The code uses vector registers.
- *   memory      the whole image lies in RAM: 50,688 bytes (3 blocks) to 17,301,504 bytes (1,024 blocks). Any alignment
- *               will do where the processor takes unaligned reads (on ARM64: normal memory, not device memory).
- *   stack       measured, in bytes; it does not grow with the image:
+ *   memory      the whole image lies in RAM, 3 to 1,024 blocks: 50,688 to 17,301,504 bytes of a small chip, 405,504 to
+ *               138,412,032 bytes of a large one. Any alignment will do where the processor takes unaligned reads (on
+ *               ARM64: normal memory, not device memory).
+ *   stack       measured, in bytes, the larger of both chips; it does not grow with the image:
  *                              format   lookup    insert    delete
- *                     ARM64     2,192   92,656   151,532   141,916
- *                     x86-64    2,192   90,592   151,628   141,612
- *               160 KiB serve every call. Large frames are touched page by page as they are made, so a guard page
+ *                     ARM64     2,224  156,160   175,980   165,840
+ *                     x86-64    X86-64
+ *               192 KiB serve every call. Large frames are touched page by page as they are made, so a guard page
  *               below the stack catches a stack that is too small.
  *
  * Two calls at once: on different images always; on one image lookups together, but no call beside an insert, delete
@@ -28,8 +36,10 @@
  * once, and the same holds for it: no update of an image that a call was interrupted on, and no call at all on one that
  * is being updated. No call ends early or gives way; docs/BENCHMARKS.md says how long each takes.
  *
- * Capacity: rising keys answer MUTREE_HEIGHT after 7,456 keys however large the chip is; random keys did so after
- * 14,835 to 25,108 keys in ten runs (measured, tests/limits). No tree has more than 65,536 keys.
+ * Capacity, measured (tests/limits). On the small chip rising keys answer MUTREE_HEIGHT after 7,456 keys however many blocks
+ * there are; random keys did so after 14,835 to 25,108 keys in ten runs; no tree has more than 65,536 keys. On the large chip
+ * the pages end before the tree does, with MUTREE_ROOM: rising keys after 4,224 keys on 3 blocks, 24,704 on 8, 4,096 more for each
+ * block more; random keys after 6,111 on 3 blocks and 33,510 on 8 (one run each).
  *
  * No checksum: a changed byte is found only where it breaks a rule of the index. It can also leave another sound index
  * with another key or address in it. Where the chip's own error correction cannot mend a page, do not call.
@@ -40,7 +50,7 @@
 #include <stddef.h>
 #include <stdint.h>
 
-#define MUTREE_VERSION "0.2.0"
+#define MUTREE_VERSION "0.3.0"
 
 /* Lengths are 64 bits in the library. This line does not compile where size_t has another width. */
 typedef char mutree_needs_size_t_of_64_bits[sizeof(size_t) == 8 ? 1 : -1];
@@ -49,30 +59,68 @@ typedef char mutree_needs_size_t_of_64_bits[sizeof(size_t) == 8 ? 1 : -1];
 extern "C" {
 #endif
 
-#define MUTREE_PAGE_MAIN 512u
-#define MUTREE_PAGE_SPARE 16u
-#define MUTREE_PAGE_BYTES 528u
-#define MUTREE_BLOCK_PAGES 32u
-#define MUTREE_BLOCK_BYTES 16896u
 #define MUTREE_LEAST_BLOCKS 3u
 #define MUTREE_MOST_BLOCKS 1024u
 #define MUTREE_RESULT_BYTES 16u
+#define MUTREE_SLOT_BYTES 8u /* a key and an address */
 
-/* The most one update does: pages programmed besides collection, pages with it, blocks erased, both together. */
-#define MUTREE_MOST_OWN_PAGES 5u
-#define MUTREE_MOST_PAGES 191u
-#define MUTREE_MOST_ERASES 6u
-#define MUTREE_MOST_STORES 197u
+/* The chips' numbers, and what an array of a fixed size needs: uint8_t image[3 * MUTREE_LARGE_BLOCK_BYTES]. */
+#define MUTREE_SMALL 0u
+#define MUTREE_SMALL_PAGES 32u
+#define MUTREE_SMALL_MAIN_BYTES 512u
+#define MUTREE_SMALL_SPARE_BYTES 16u
+#define MUTREE_SMALL_PAGE_BYTES (MUTREE_SMALL_MAIN_BYTES + MUTREE_SMALL_SPARE_BYTES)
+#define MUTREE_SMALL_BLOCK_BYTES (MUTREE_SMALL_PAGES * MUTREE_SMALL_PAGE_BYTES)
+
+#define MUTREE_LARGE 1u
+#define MUTREE_LARGE_PAGES 64u
+#define MUTREE_LARGE_MAIN_BYTES 2048u
+#define MUTREE_LARGE_SPARE_BYTES 64u
+#define MUTREE_LARGE_PAGE_BYTES (MUTREE_LARGE_MAIN_BYTES + MUTREE_LARGE_SPARE_BYTES)
+#define MUTREE_LARGE_BLOCK_BYTES (MUTREE_LARGE_PAGES * MUTREE_LARGE_PAGE_BYTES)
+
+#define MUTREE_GEOMETRIES 2u /* their numbers are those below it */
+#define MUTREE_MOST_TOP 7u   /* the greatest height of all chips */
+
+/* The numbers of a chip. */
+struct mutree_geometry {
+    uint32_t number;                              /* the first argument of every call */
+    uint32_t pages;                               /* of a block: 32, 64 */
+    uint32_t main_bytes, spare_bytes, page_bytes; /* of a page: 512 + 16 = 528, 2,048 + 64 = 2,112 */
+    uint32_t block_bytes;                         /* 16,896, 135,168 */
+    uint32_t slots;                               /* of a page: 64, 256 */
+    uint32_t top;                                 /* the greatest height: 5, 7 */
+    uint32_t worn;                                /* a larger sequence number is WORN: 4,294,967,000, 4,294,966,000 */
+    /* the most one update does */
+    uint32_t most_own_pages; /* pages programmed besides collection: 5, 7 */
+    uint32_t most_pages;     /* pages programmed with it: 191, 511 */
+    uint32_t most_erases;    /* blocks erased: 6, 8 */
+    uint32_t most_stores;    /* both together: 197, 519 */
+};
+
+/* A chip by its number; NULL for another number. Tell chips apart by their numbers: the pointers differ between source files. */
+static inline const struct mutree_geometry *mutree_geometry_of(uint32_t number)
+{
+    static const struct mutree_geometry geometries[MUTREE_GEOMETRIES] = {
+        { MUTREE_SMALL, MUTREE_SMALL_PAGES, MUTREE_SMALL_MAIN_BYTES, MUTREE_SMALL_SPARE_BYTES, MUTREE_SMALL_PAGE_BYTES,
+          MUTREE_SMALL_BLOCK_BYTES, MUTREE_SMALL_MAIN_BYTES / MUTREE_SLOT_BYTES, 5, 4294967000u, 5, 191, 6, 191 + 6 },
+        { MUTREE_LARGE, MUTREE_LARGE_PAGES, MUTREE_LARGE_MAIN_BYTES, MUTREE_LARGE_SPARE_BYTES, MUTREE_LARGE_PAGE_BYTES,
+          MUTREE_LARGE_BLOCK_BYTES, MUTREE_LARGE_MAIN_BYTES / MUTREE_SLOT_BYTES, MUTREE_MOST_TOP, 4294966000u, 7, 511, 8, 511 + 8 },
+    };
+    return number < MUTREE_GEOMETRIES ? &geometries[number] : NULL;
+}
 
 /* The lowest number that applies is given. 1 to 6 leave the image untouched. */
 enum mutree_answer {
     MUTREE_DONE = 0,    /* it is done */
-    MUTREE_LENGTH = 1,  /* the image's length is not 16,896 times 3 to 1,024, or the result buffer is too short */
-    MUTREE_DAMAGED = 2, /* the image is not a sound index; a sound one has at least 64 pages without a live node (R8), as
-                           calls from format on always leave it */
-    MUTREE_WORN = 3,    /* insert, delete: the sequence numbers are used up */
+    MUTREE_LENGTH = 1,  /* the geometry's number is neither 0 nor 1; or the image's length is not 3 to 1,024 times the
+                           chip's block (16,896, 135,168); or the result buffer is too short. But for the short buffer the
+                           result is written */
+    MUTREE_DAMAGED = 2, /* the image is not a sound index of this chip; a sound one has at least two blocks' pages (64, 128)
+                           without a live node (R8), as calls from format on always leave it */
+    MUTREE_WORN = 3,    /* insert, delete: the sequence numbers are used up, the largest is above the chip's `worn` */
     MUTREE_ABSENT = 4,  /* lookup, delete: there is no such key */
-    MUTREE_HEIGHT = 5,  /* insert: the tree can grow no higher */
+    MUTREE_HEIGHT = 5,  /* insert: the tree can grow no higher (5, 7) */
     MUTREE_ROOM = 6,    /* insert, where it needs two pages or more: too few pages are free of live nodes */
     MUTREE_STOPPED = 7  /* insert, delete: the allowance was smaller than the stores needed; exactly that many of
                            its first stores are made, and the index holds the old map */
@@ -102,26 +150,27 @@ static inline struct mutree_result mutree_read_result(const uint8_t *bytes)
 }
 
 /* Erases every block and programs page 0 as an empty index. Answers DONE (1 page, B erases) or LENGTH. */
-uint32_t mutree_format(uint8_t *image, size_t image_len, uint8_t *result, size_t result_len);
+uint32_t mutree_format(uint32_t geometry, uint8_t *image, size_t image_len, uint8_t *result, size_t result_len);
 
 /* The address of a key. Answers DONE with the address, LENGTH, DAMAGED or ABSENT. The image is only read. */
-uint32_t mutree_lookup(const uint8_t *image, size_t image_len, uint32_t key, uint8_t *result, size_t result_len);
+uint32_t mutree_lookup(uint32_t geometry, const uint8_t *image, size_t image_len, uint32_t key, uint8_t *result,
+                       size_t result_len);
 
 /* Gives a key an address, a new one if the key is there. `allowance` is how many stores (pages programmed and blocks
  * erased together) the call may make; UINT32_MAX sets no limit. A battery loss after any store leaves a sound index
  * with the old map, and with the new one after the last store. Answers all but ABSENT; ROOM never for a present key.
  *
  * A stopped update is not gone on with: the next call begins it again on the image as it then is. Called again and
- * again with less than the stores that it needs it may never end, and it wears the chip (measured: an insert that needs
- * 3 stores, called 100,000 times with allowance 1, was STOPPED each time and programmed 96,969 pages). The least
- * allowance that is sure to end an update is the stores that it needs, at most MUTREE_MOST_STORES. */
-uint32_t mutree_insert(uint8_t *image, size_t image_len, uint32_t key, uint32_t address, uint32_t allowance,
-                       uint8_t *result, size_t result_len);
+ * again with less than the stores that it needs it may never end, and it wears the chip (measured on the small chip: an
+ * insert that needs 3 stores, called 100,000 times with allowance 1, was STOPPED each time and programmed 96,969 pages). The
+ * least allowance that is sure to end an update is the stores that it needs, at most the chip's most_stores (197, 519). */
+uint32_t mutree_insert(uint32_t geometry, uint8_t *image, size_t image_len, uint32_t key, uint32_t address,
+                       uint32_t allowance, uint8_t *result, size_t result_len);
 
 /* Takes a key out; allowance as for insert. It is never short of room: answers DONE, LENGTH, DAMAGED, WORN, ABSENT or
  * STOPPED. */
-uint32_t mutree_delete(uint8_t *image, size_t image_len, uint32_t key, uint32_t allowance, uint8_t *result,
-                       size_t result_len);
+uint32_t mutree_delete(uint32_t geometry, uint8_t *image, size_t image_len, uint32_t key, uint32_t allowance,
+                       uint8_t *result, size_t result_len);
 
 #ifdef __cplusplus
 }

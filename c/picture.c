@@ -1,5 +1,4 @@
 #include "picture.h"
-#include "mutree.h"
 
 #include <stdio.h>
 
@@ -18,29 +17,32 @@ static char page_mark(const struct survey *s, size_t page)
 
 void picture_of_pages(const struct survey *s)
 {
-    size_t page;
+    size_t page, row = s->geometry->pages;
     for (page = 0; page < s->pages; page++) {
-        if (page % MUTREE_BLOCK_PAGES == 0)
-            printf("%5zu  ", page / MUTREE_BLOCK_PAGES);
+        if (page % row == 0)
+            printf("%5zu  ", page / row);
         putchar(page_mark(s, page));
-        if (page % MUTREE_BLOCK_PAGES == MUTREE_BLOCK_PAGES - 1)
+        if (page % row == row - 1)
             putchar('\n');
     }
-    puts(s->sound ? "       . erased   - dead   1 to 5 lowest live level   R the root's page" : "       . erased   ? programmed");
+    if (s->sound)
+        printf("       . erased   - dead   1 to %u lowest live level   R the root's page\n", (unsigned)s->geometry->top);
+    else
+        puts("       . erased   ? programmed");
 }
 
 /* The share of live pages in ninths, rounded up. */
 static char block_mark(const struct survey *s, size_t block)
 {
-    unsigned live, erased;
+    unsigned live, erased, pages = s->geometry->pages;
     survey_block(s, block, &live, &erased);
-    if (erased == MUTREE_BLOCK_PAGES)
+    if (erased == pages)
         return '.';
     if (!s->sound)
         return '?';
-    if (s->root / MUTREE_BLOCK_PAGES == block)
+    if (s->root / pages == block)
         return 'R';
-    return live == 0 ? '-' : (char)('0' + (live * NINTHS + MUTREE_BLOCK_PAGES - 1) / MUTREE_BLOCK_PAGES);
+    return live == 0 ? '-' : (char)('0' + (live * NINTHS + pages - 1) / pages);
 }
 
 void picture_of_blocks(const struct survey *s)

@@ -1,4 +1,5 @@
 #include "say.h"
+#include "geometry.h"
 #include "status.h"
 
 #include <errno.h>
@@ -19,7 +20,7 @@ const char *answer_meaning(uint32_t answer)
 {
     static const char *const meanings[] = {
         "",
-        "the file's length is not 16,896 bytes times 3 to 1,024 blocks",
+        "the file's length is no index's",
         "the file is not a sound index",
         "the sequence numbers are used up",
         "there is no such key",
@@ -65,12 +66,35 @@ int say_result(struct mutree_result result)
     return result.answer == MUTREE_DONE ? 0 : say_refused(result.answer);
 }
 
-int say_length(const char *path, uintmax_t length)
+/* Whether this may be a dump of the chip without its spare bytes. */
+static int looks_bare(const struct mutree_geometry *geometry, uintmax_t length)
 {
-    int bare = length > 0 && length % MUTREE_PAGE_MAIN == 0 && length % MUTREE_PAGE_BYTES != 0;
-    complain("LENGTH: %s has %" PRIuMAX " bytes; an index has 16,896 bytes times 3 to 1,024 blocks%s", path, length,
+    return length > 0 && length % geometry->main_bytes == 0 && length % geometry->page_bytes != 0;
+}
+
+int say_length(const char *path, const struct mutree_geometry *geometry, uintmax_t length)
+{
+    char sizes[MUTREE_GEOMETRIES * 64] = "";
+    uint32_t number;
+    int bare = 0;
+    for (number = 0; number < MUTREE_GEOMETRIES; number++) {
+        const struct mutree_geometry *g = mutree_geometry_of(number);
+        size_t used = strlen(sizes);
+        if (geometry != NULL && geometry->number != g->number)
+            continue;
+        bare |= looks_bare(g, length);
+        snprintf(sizes + used, sizeof sizes - used, "%s%" PRIu32 " (%s)", used ? " or " : "", g->block_bytes, geometry_words(g));
+    }
+    complain("LENGTH: %s has %" PRIuMAX " bytes; an index has 3 to 1024 blocks of %s bytes%s", path, length, sizes,
              bare ? "; a dump without spare bytes? Read the chip with nanddump --oob" : "");
     return MUTREE_LENGTH;
+}
+
+int say_either(const char *path)
+{
+    complain("DAMAGED: %s has the length of a chip with small pages and of one with large pages, and is a sound index of neither; "
+             "say --small or --large", path);
+    return MUTREE_DAMAGED;
 }
 
 void say_changed(void)

@@ -27,8 +27,11 @@ int say_refused(uint32_t answer);
 /* Prints the answer of a format, an insert or a delete. Returns it as an exit status. */
 int say_result(struct mutree_result result);
 
-/* Prints LENGTH for a file of this length. Returns it as an exit status. */
-int say_length(const char *path, uintmax_t length);
+/* Prints LENGTH for a file of this length, which is not the chip's; with NULL no chip's. Returns it as an exit status. */
+int say_length(const char *path, const struct mutree_geometry *geometry, uintmax_t length);
+
+/* Prints that a file has the length of both chips and is sound on neither. Returns DAMAGED as an exit status. */
+int say_either(const char *path);
 
 /* Remembers that the file is changed, for a report that can't be printed. */
 void say_changed(void);

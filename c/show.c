@@ -2,7 +2,7 @@
 
 #include "commands.h"
 #include "drawing.h"
-#include "mutree.h"
+#include "geometry.h"
 #include "picture.h"
 #include "replace.h"
 #include "say.h"
@@ -19,13 +19,14 @@ enum { MOST_BLOCKS_BY_PAGE = 64 };
 static void tell_counts(const struct survey *s)
 {
     if (s->sound)
-        printf("%zu blocks, sound; height %u, %zu %s, root on page %" PRIu32 "\n"
+        printf("%zu blocks, %s, sound; height %u, %zu %s, root on page %" PRIu32 "\n"
                "pages: %zu live, %zu dead, %zu erased; largest sequence number %" PRIu32 "\n",
-               s->blocks, s->height, s->entries, entries_word(s->entries), s->root, s->live, s->dead, s->erased, s->largest);
+               s->blocks, geometry_words(s->geometry), s->height, s->entries, entries_word(s->entries), s->root, s->live, s->dead,
+               s->erased, s->largest);
     else
-        printf("%zu blocks, DAMAGED: live and dead pages can't be told apart\n"
+        printf("%zu blocks, %s, DAMAGED: live and dead pages can't be told apart\n"
                "pages: %zu programmed, %zu erased; largest sequence number %" PRIu32 "\n",
-               s->blocks, s->pages - s->erased, s->erased, s->largest);
+               s->blocks, geometry_words(s->geometry), s->pages - s->erased, s->erased, s->largest);
 }
 
 /* Nonzero, after a line, where a drawing would wipe the index itself. */
@@ -99,7 +100,7 @@ int show_command(const struct arguments *arguments)
     int status = file_open_to_read(arguments->word[0], &file);
     if (status != 0)
         return status;
-    status = file_load(&file, &image);
+    status = file_load(&file, arguments->geometry, &image);
     file_close(&file);
     if (status != 0)
         return status;

@@ -1,5 +1,4 @@
 #include "survey.h"
-#include "mutree.h"
 
 #include <stdlib.h>
 #include <string.h>
@@ -11,7 +10,7 @@ static uint32_t number(const uint8_t *at)
 
 static const uint8_t *page_at(const struct image *image, uint32_t page)
 {
-    return image->bytes + (size_t)page * MUTREE_PAGE_BYTES;
+    return image->bytes + (size_t)page * image->geometry->page_bytes;
 }
 
 static void add_pair(struct survey *s, uint32_t key, uint32_t address)
@@ -28,12 +27,13 @@ static void add_pair(struct survey *s, uint32_t key, uint32_t address)
 /* The live nodes from one down, in key order. The image is sound: levels fall, and page numbers are in range. */
 static void walk(struct survey *s, const struct image *image, uint32_t page, unsigned level)
 {
+    const struct mutree_geometry *g = s->geometry;
     const uint8_t *at = page_at(image, page);
-    const uint8_t *slot = at + 8 * (64 - (64u >> (level - 1)));
-    unsigned count = at[MUTREE_PAGE_MAIN + 4 + level], i;
+    const uint8_t *slot = at + MUTREE_SLOT_BYTES * (g->slots - (g->slots >> (level - 1)));
+    unsigned count = at[g->main_bytes + 4 + level], i;
     if (s->page[page] == PAGE_DEAD || s->page[page] > (int)level)
         s->page[page] = (signed char)level;
-    for (i = 0; i < count; i++, slot += 8) {
+    for (i = 0; i < count; i++, slot += MUTREE_SLOT_BYTES) {
         if (level == 1)
             add_pair(s, number(slot), number(slot + 4));
         else
@@ -44,10 +44,10 @@ static void walk(struct survey *s, const struct image *image, uint32_t page, uns
 /* Erased or not; and the root, where this page carries the newest one so far. */
 static void look_at_page(struct survey *s, const struct image *image, uint32_t page, uint32_t *newest)
 {
-    const uint8_t *at = page_at(image, page);
-    uint32_t sequence = number(at + MUTREE_PAGE_MAIN);
-    unsigned height = at[MUTREE_PAGE_MAIN + 4];
-    if (all_255(at, MUTREE_PAGE_BYTES)) {
+    const uint8_t *at = page_at(image, page), *spare = at + s->geometry->main_bytes;
+    uint32_t sequence = number(spare);
+    unsigned height = spare[4];
+    if (all_255(at, s->geometry->page_bytes)) {
         s->page[page] = PAGE_ERASED;
         s->erased++;
         return;
@@ -65,9 +65,10 @@ static void count_levels(struct survey *s)
 {
     size_t page;
     for (page = 0; page < s->pages; page++)
-        if (s->page[page] > PAGE_DEAD)
+        if (s->page[page] > PAGE_DEAD) {
             s->level[(int)s->page[page]]++;
-    s->live = s->level[1] + s->level[2] + s->level[3] + s->level[4] + s->level[5];
+            s->live++;
+        }
     s->dead = s->pages - s->erased - s->live;
 }
 
@@ -76,9 +77,10 @@ struct survey survey_image(const struct image *image, int sound)
     struct survey s;
     uint32_t page, newest = 0;
     memset(&s, 0, sizeof s);
+    s.geometry = image->geometry;
     s.sound = sound;
-    s.blocks = image->length / MUTREE_BLOCK_BYTES;
-    s.pages = s.blocks * MUTREE_BLOCK_PAGES;
+    s.blocks = image->length / s.geometry->block_bytes;
+    s.pages = s.blocks * s.geometry->pages;
     s.page = need(calloc(s.pages ? s.pages : 1, 1));
     for (page = 0; page < s.pages; page++)
         look_at_page(&s, image, page, &newest);
@@ -110,10 +112,10 @@ int survey_is_root(const struct survey *s, size_t page)
 
 void survey_block(const struct survey *s, size_t block, unsigned *live, unsigned *erased)
 {
-    const signed char *page = s->page + block * MUTREE_BLOCK_PAGES;
+    const signed char *page = s->page + block * s->geometry->pages;
     unsigned i;
     *live = *erased = 0;
-    for (i = 0; i < MUTREE_BLOCK_PAGES; i++) {
+    for (i = 0; i < s->geometry->pages; i++) {
         *live += page[i] > PAGE_DEAD;
         *erased += page[i] == PAGE_ERASED;
     }

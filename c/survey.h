@@ -4,9 +4,7 @@
 
 #include "image.h"
 
-enum { LEVELS = 5 };
-
-/* What stands on a page: PAGE_ERASED, PAGE_DEAD, or the lowest live level (1 to 5). */
+/* What stands on a page: PAGE_ERASED, PAGE_DEAD, or the lowest live level (1 to the chip's top). */
 enum { PAGE_ERASED = -1, PAGE_DEAD = 0 };
 
 struct pair {
@@ -15,6 +13,7 @@ struct pair {
 };
 
 struct survey {
+    const struct mutree_geometry *geometry;
     int sound;               /* where it is not, PAGE_DEAD says no more than programmed */
     size_t blocks, pages;
     signed char *page;       /* one for each page */
@@ -22,7 +21,7 @@ struct survey {
     unsigned height;         /* 0: no page carries a root */
     uint32_t largest;        /* the largest sequence number */
     size_t live, dead, erased;
-    size_t level[LEVELS + 1]; /* pages by their lowest live level */
+    size_t level[MUTREE_MOST_TOP + 1]; /* pages by their lowest live level */
     struct pair *pairs;      /* the map, in rising order */
     size_t entries, room;
 };

@@ -25,9 +25,17 @@ def rules(fuzz):
     return fuzz.Rules(wish2=True, wish4=True, wish11=True)
 
 
-def mu(fuzz):
-    """The model of the rules as they stand here."""
-    return fuzz.Mu(fuzz.SMALL, rules(fuzz))
+def geometries(fuzz):
+    """The chips, in the order of their numbers."""
+    return [fuzz.SMALL, fuzz.LARGE]
+
+
+def mu(fuzz, geometry, with_r7=True):
+    """The model of the rules as they stand here, on a chip."""
+    class WithoutR7(fuzz.Mu):
+        def R7(self, img):
+            return None
+    return (fuzz.Mu if with_r7 else WithoutR7)(geometry, rules(fuzz))
 
 
 def code_place(g, page, half):
@@ -75,9 +83,9 @@ def damaged(rng, m, img):
                 y = rng.choice([x + 1, x - 1, rng.randrange(m.T(img)), rng.randrange(2 ** 32)]) % 2 ** 32
                 b[j:j + 4] = y.to_bytes(4, "little")
         elif u < .5:
-            b[at + g.main + 4 + l] = rng.choice([0, 1, 2, 16, 17, 32, 33, 63, 64, 255])
+            b[at + g.main + 4 + l] = rng.choice([0, 1, 2, 16, 17, 32, 33, 63, 64, 127, 128, 129, 255])
         elif u < .6:
-            b[at + g.main + 4] = rng.randrange(8)
+            b[at + g.main + 4] = rng.randrange(g.max_height + 3)
         elif u < .7:
             b[at + g.main + rng.randrange(4)] = rng.randrange(256)
         elif u < .8:
@@ -91,19 +99,15 @@ def damaged(rng, m, img):
     return bytes(b) if rng.random() < .2 else recoded(m, bytes(b))
 
 
-def loose(rng, fuzz, blocks=None):
+def loose(rng, m, fuzz, blocks=None):
     """An image that breaks R6, R7 or R8, or nothing."""
-    class WithoutR7(fuzz.Mu):
-        def R7(self, img):
-            return None
     if rng.random() < .5:
-        return fuzz.hand_image(rng, mu(fuzz), blocks, wild=True)
-    return fuzz.hand_image(rng, WithoutR7(fuzz.SMALL, rules(fuzz)), blocks)
+        return fuzz.hand_image(rng, m, blocks, wild=True)
+    return fuzz.hand_image(rng, mu(fuzz, m.G, with_r7=False), blocks)
 
 
-def with_free(rng, fuzz, free, blocks=3):
-    """An image that keeps R1 to R7, with T - L as given: one with 64 is sound, one with less breaks R8 alone."""
-    m = mu(fuzz)
+def with_free(rng, m, fuzz, free, blocks=3):
+    """An image that keeps R1 to R7, with T - L as given: one with 64 (128) is sound, one with less breaks R8 alone."""
     live = m.G.pages_per_block * blocks - free
     while True:
         root = fuzz.build(rng, m, rng.randint(2, m.G.max_height), rng.randint(live // 2, 2 * live), True, 1)

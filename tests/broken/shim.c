@@ -4,27 +4,34 @@
  * 3 an insert that also flips a bit of a dead page   4 a delete that pretends   5 a lookup one address off
  * 6 an insert that makes one store more than its allowance
  * 7 a lookup that reads one byte past the image   8 an insert that reads one byte past the result buffer
- * 9 a delete that is ROOM where an insert of the next key is */
+ * 9 a delete that is ROOM where an insert of the next key is
+ * 10 every number but 0 is taken for the large chip   11 the large chip is taken for the small one */
 #include "../../c/mutree.h"
 
 #include <stdlib.h>
 #include <string.h>
 
-uint32_t real_format(uint8_t *image, size_t image_len, uint8_t *result, size_t result_len);
-uint32_t real_lookup(const uint8_t *image, size_t image_len, uint32_t key, uint8_t *result, size_t result_len);
-uint32_t real_insert(uint8_t *image, size_t image_len, uint32_t key, uint32_t address, uint32_t allowance, uint8_t *result, size_t result_len);
-uint32_t real_delete(uint8_t *image, size_t image_len, uint32_t key, uint32_t allowance, uint8_t *result, size_t result_len);
+uint32_t real_format(uint32_t geometry, uint8_t *image, size_t image_len, uint8_t *result, size_t result_len);
+uint32_t real_lookup(uint32_t geometry, const uint8_t *image, size_t image_len, uint32_t key, uint8_t *result, size_t result_len);
+uint32_t real_insert(uint32_t geometry, uint8_t *image, size_t image_len, uint32_t key, uint32_t address,
+                     uint32_t allowance, uint8_t *result, size_t result_len);
+uint32_t real_delete(uint32_t geometry, uint8_t *image, size_t image_len, uint32_t key, uint32_t allowance, uint8_t *result, size_t result_len);
 
 static volatile uint8_t seen; /* what faults 7 and 8 read */
 
-uint32_t mutree_format(uint8_t *image, size_t image_len, uint8_t *result, size_t result_len)
+static uint32_t chip_of(uint32_t geometry)
 {
-    return real_format(image, image_len, result, result_len);
+    return FAULT == 10 && geometry > 1 ? 1 : FAULT == 11 && geometry == 1 ? 0 : geometry;
 }
 
-uint32_t mutree_lookup(const uint8_t *image, size_t image_len, uint32_t key, uint8_t *result, size_t result_len)
+uint32_t mutree_format(uint32_t geometry, uint8_t *image, size_t image_len, uint8_t *result, size_t result_len)
 {
-    uint32_t answer = real_lookup(image, image_len, key, result, result_len);
+    return real_format(chip_of(geometry), image, image_len, result, result_len);
+}
+
+uint32_t mutree_lookup(uint32_t geometry, const uint8_t *image, size_t image_len, uint32_t key, uint8_t *result, size_t result_len)
+{
+    uint32_t answer = real_lookup(chip_of(geometry), image, image_len, key, result, result_len);
     if (FAULT == 7)
         seen = image[image_len];
     if (FAULT == 5 && answer == MUTREE_DONE)
@@ -48,34 +55,35 @@ static uint8_t *copy_of(const uint8_t *image, size_t length)
     return copy;
 }
 
-uint32_t mutree_insert(uint8_t *image, size_t image_len, uint32_t key, uint32_t address, uint32_t allowance, uint8_t *result, size_t result_len)
+uint32_t mutree_insert(uint32_t geometry, uint8_t *image, size_t image_len, uint32_t key, uint32_t address,
+                       uint32_t allowance, uint8_t *result, size_t result_len)
 {
     uint8_t *before = FAULT == 1 ? copy_of(image, image_len) : NULL;
     uint32_t more = FAULT == 6 && allowance < UINT32_MAX;
-    uint32_t answer = real_insert(image, image_len, key, address, allowance + more, result, result_len);
+    uint32_t answer = real_insert(chip_of(geometry), image, image_len, key, address, allowance + more, result, result_len);
     undo(image, before, image_len);
     free(before);
     if (FAULT == 8)
         seen = result[result_len];
     if (FAULT == 2 && answer == MUTREE_DONE)
         result[8]++;
-    if (FAULT == 3 && answer == MUTREE_DONE && image[MUTREE_PAGE_BYTES - 1] == 255)
+    if (FAULT == 3 && answer == MUTREE_DONE && image[mutree_geometry_of(geometry)->page_bytes - 1] == 255)
         image[0] ^= 1;
     return answer;
 }
 
-static int insert_lacks_room(const uint8_t *image, size_t length, uint32_t key)
+static int insert_lacks_room(uint32_t geometry, const uint8_t *image, size_t length, uint32_t key)
 {
     uint8_t *copy = copy_of(image, length), result[MUTREE_RESULT_BYTES];
-    uint32_t answer = real_insert(copy, length, key + 1, 0, 0, result, sizeof result);
+    uint32_t answer = real_insert(chip_of(geometry), copy, length, key + 1, 0, 0, result, sizeof result);
     free(copy);
     return answer == MUTREE_ROOM;
 }
 
-uint32_t mutree_delete(uint8_t *image, size_t image_len, uint32_t key, uint32_t allowance, uint8_t *result, size_t result_len)
+uint32_t mutree_delete(uint32_t geometry, uint8_t *image, size_t image_len, uint32_t key, uint32_t allowance, uint8_t *result, size_t result_len)
 {
-    uint8_t *before = FAULT == 4 || (FAULT == 9 && insert_lacks_room(image, image_len, key)) ? copy_of(image, image_len) : NULL;
-    uint32_t answer = real_delete(image, image_len, key, allowance, result, result_len);
+    uint8_t *before = FAULT == 4 || (FAULT == 9 && insert_lacks_room(geometry, image, image_len, key)) ? copy_of(image, image_len) : NULL;
+    uint32_t answer = real_delete(chip_of(geometry), image, image_len, key, allowance, result, result_len);
     undo(image, before, image_len);
     if (FAULT == 9 && before != NULL && (answer == MUTREE_DONE || answer == MUTREE_STOPPED)) {
         memset(result, 0, MUTREE_RESULT_BYTES);

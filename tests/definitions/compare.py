@@ -1,6 +1,6 @@
 """The definitions of crates/model, run as they stand, against the reference model: answers, counts, whole images, verdicts.
 
-usage: compare.py [seconds] [seed]
+usage: compare.py [seconds] [seed] [small|large]
 """
 import os
 import random
@@ -24,15 +24,13 @@ def same(what, ours, theirs, img):
         sys.exit("%s: the definitions say %s, the reference %s; the image is in differs.img" % (what, ours[:4], theirs[:4]))
 
 
-def patrols(fuzz, d, rng, turns, met):
-    """Halves with up to four flipped bits, in the data, the code or both, and halves that no image has, on both geometries."""
+def patrols(d, m, rng, turns, met):
+    """Halves with up to four flipped bits, in the data, the code or both, and halves that no image has."""
+    g = m.G
     for turn in range(turns):
-        m = fuzz.Mu(rng.choice([fuzz.SMALL, fuzz.LARGE]), reference.rules(fuzz))
-        g = m.G
-        blocks, page, half = 3, rng.randrange(3 * g.pages_per_block), rng.randrange(g.halves)
-        data = rng.choice([rng.randbytes(g.page_size), bytes(g.page_size)])
-        img = bytearray(b"\xff" * (blocks * g.block_size))
-        img[page * g.page_size:(page + 1) * g.page_size] = data
+        page, half = rng.randrange(3 * g.pages_per_block), rng.randrange(g.halves)
+        img = bytearray(b"\xff" * (3 * g.block_size))
+        img[page * g.page_size:(page + 1) * g.page_size] = rng.choice([rng.randbytes(g.page_size), bytes(g.page_size)])
         img = bytearray(reference.recoded(m, bytes(img)))
         at, code = page * g.page_size + 256 * half, reference.code_place(g, page, half)
         if turn < 8:
@@ -57,53 +55,56 @@ def patrols(fuzz, d, rng, turns, met):
     same("patrol of geometry 2", outcome(d["patrolOf"](2, img, 0, 0)), (1, 0, 0, 0, img), img)
 
 
-def compare(seconds, seed):
+def compare(seconds, seed, name):
     fuzz = reference.load()
     if fuzz is None:
         print("definitions: skipped, the reference model is not here")
         return
-    d, m, rng = Definitions(reference.ROOT), reference.mu(fuzz), random.Random(seed)
-    small, calls, met = force(d["small"]), 0, {}
+    geometry = next(g for g in reference.geometries(fuzz) if g.name == name)
+    d, m, rng = Definitions(reference.ROOT), reference.mu(fuzz, geometry), random.Random(seed)
+    chip, calls, met = force(d[name]), 0, {}
     rest = lambda r: (r.answer, r.address, r.programmed, r.erased, r.img)
-    edges = [63, 64]  # both sides of R8 come first
-    patrols(fuzz, d, rng, 400, met)
+    edges = [geometry.r8_least - 1, geometry.r8_least]  # both sides of R8 come first
+    patrols(d, m, rng, 300, met)
     end = time.time() + seconds
     while time.time() < end or edges:
         img = fuzz.hand_image(rng, m, rng.choice([3, 3, 3, 4, 5]))
         u = rng.random()
         if edges or u > .9:
-            img = reference.with_free(rng, fuzz, edges.pop() if edges else rng.choice([63, 64]))
+            img = reference.with_free(rng, m, fuzz, edges.pop() if edges else geometry.r8_least - rng.randrange(2))
         elif u < .4:
-            img = reference.damaged(rng, m, img) if u < .3 else reference.loose(rng, fuzz, 3)
-        verdict = tuple(force(x) for x in d["verdict"](small, m.B(img), img))
+            img = reference.damaged(rng, m, img) if u < .3 else reference.loose(rng, m, fuzz, 3)
+        verdict = tuple(force(x) for x in d["verdict"](chip, m.B(img), img))
         damage = m.first_damage(img)
         same("verdict", verdict, ("Broken",) + damage if damage else ("Sound",), img)
         key = "sound" if damage is None else "R%d" % damage[0]
         met[key] = met.get(key, 0) + 1
-        if damage is None and m.T(img) - m.L(img) == 64:
-            met["T - L = 64"] = met.get("T - L = 64", 0) + 1
+        if damage is None and m.T(img) - m.L(img) == geometry.r8_least:
+            met["at the edge"] = met.get("at the edge", 0) + 1
         model = dict(m.map_of(img)) if damage is None else {}
         for _ in range(3 if damage is None else 1):
             call = fuzz.some_call(rng, m, img, model) if damage is None else ("insert", 5, 5)
             needed = len(m.plan(img, call)[1]) if damage is None else 0
             allowance = reference.allowances(rng, needed)
             if call[0] == "insert":
-                ours, theirs = d["insert"](small, img, call[1], call[2], allowance), m.insert(img, call[1], call[2], allowance)
+                ours, theirs = d["insert"](chip, img, call[1], call[2], allowance), m.insert(img, call[1], call[2], allowance)
             else:
-                ours, theirs = d["delete"](small, img, call[1], allowance), m.delete(img, call[1], allowance)
+                ours, theirs = d["delete"](chip, img, call[1], allowance), m.delete(img, call[1], allowance)
             same("%s allowance %d" % (call, allowance), outcome(ours), rest(theirs), img)
-            same("lookup", outcome(d["lookup"](small, img, call[1])), rest(m.lookup(img, call[1])), img)
+            same("lookup", outcome(d["lookup"](chip, img, call[1])), rest(m.lookup(img, call[1])), img)
             calls += 2
             met["answer %d" % theirs.answer] = met.get("answer %d" % theirs.answer, 0) + 1
             if theirs.answer in (0, 7):
                 img = theirs.img
                 model = dict(m.map_of(img))
-    for cut in (0, 33792, 50687, 50688):
+    three = 3 * geometry.block_size
+    for cut in (0, 2 * geometry.block_size, three - 1, three):
         img = b"\xff" * cut
-        same("format of %d" % cut, outcome(d["format"](small, img)), rest(m.format(img)), img)
-        same("lookup in %d" % cut, outcome(d["lookup"](small, img, 1)), rest(m.lookup(img, 1)), img)
-    print("definitions: %d calls agree with the reference model; met: %s" % (calls, " ".join("%s %d" % x for x in sorted(met.items()))))
+        same("format of %d" % cut, outcome(d["format"](chip, img)), rest(m.format(img)), img)
+        same("lookup in %d" % cut, outcome(d["lookup"](chip, img, 1)), rest(m.lookup(img, 1)), img)
+    print("definitions: %s chip: %d calls agree with the reference model; met: %s" % (name, calls, " ".join("%s %d" % x for x in sorted(met.items()))))
 
 
 if __name__ == "__main__":
-    compare(float(sys.argv[1]) if len(sys.argv) > 1 else 60, int(sys.argv[2]) if len(sys.argv) > 2 else 1)
+    compare(float(sys.argv[1]) if len(sys.argv) > 1 else 60, int(sys.argv[2]) if len(sys.argv) > 2 else 1,
+            sys.argv[3] if len(sys.argv) > 3 else "small")

@@ -1,6 +1,6 @@
-"""The compiled library against the reference model of the documents: returned numbers, result buffers and whole images.
+"""The compiled library against the reference model of the documents, on both chips: returned numbers, result buffers and whole images.
 
-usage: compare.py DRIVER [calls] [seed]
+usage: compare.py DRIVER [calls] [seed] [small|large]       both chips if none is named; on the large one a quarter of the calls
 
 The reference model is no part of this repository (see tests/reference.py); where it is missing the test is skipped.
 """
@@ -19,14 +19,16 @@ LARGEST = 2 ** 32 - 1
 
 
 class Library:
-    def __init__(self, driver):
+    def __init__(self, driver, geometry):
         self.process = subprocess.Popen([driver], stdin=subprocess.PIPE, stdout=subprocess.PIPE)
+        self.geometry = geometry
         self.calls, self.met = 0, {}
-        self.edges, self.beyond = 0, 0  # sound images with T - L = 64, and images that break R8 alone
+        self.edges, self.beyond = 0, 0  # sound images with T - L = 64 (128), and images that break R8 alone
 
-    def call(self, name, img, buf, key=0, address=0, allowance=LARGEST):
+    def call(self, name, img, buf, key=0, address=0, allowance=LARGEST, number=None):
         p = self.process
-        p.stdin.write(struct.pack("<6I", CALLS[name], key, address, allowance, len(img), len(buf)) + img + buf)
+        number = self.geometry.number if number is None else number
+        p.stdin.write(struct.pack("<7I", CALLS[name], number, key, address, allowance, len(img), len(buf)) + img + buf)
         p.stdin.flush()
         out = p.stdout.read(4 + len(img) + len(buf))
         if len(out) != 4 + len(img) + len(buf):
@@ -41,8 +43,8 @@ class Library:
         if got != wanted:
             with open("build/differs.img", "wb") as f:
                 f.write(img)
-            sys.exit("differential: %s %s: returned %d, wanted %d; image %s, buffer %s; the image is in build/differs.img" % (
-                name, args, got[0], wanted[0], "alike" if got[1] == wanted[1] else "differs", "alike" if got[2] == wanted[2] else "differs"))
+            sys.exit("differential: %s chip: %s %s: returned %d, wanted %d; image %s, buffer %s; the image is in build/differs.img" % (
+                self.geometry.name, name, args, got[0], wanted[0], "alike" if got[1] == wanted[1] else "differs", "alike" if got[2] == wanted[2] else "differs"))
 
 
 def buffer(rng):
@@ -116,12 +118,13 @@ def hand_made(library, m, fuzz, rng):
 
 
 def highest(rng, m, fuzz):
-    """A sound image of height 5 whose root has 4 entries, and the keys of a leaf with nothing but full nodes above it."""
+    """A sound image of the greatest height whose root has 4 entries, and the keys of a leaf with nothing but full nodes above it."""
+    row = m.G.pages_per_block
     while True:
-        root = fuzz.build_full(rng, m, 5, True, 4)
+        root = fuzz.build_full(rng, m, m.G.max_height, True, 4)
         if not fuzz.assign_keys(rng, root):
             continue
-        erased = rng.choice([0, 1, 31, 32, 33, 40])
+        erased = rng.choice([0, 1, row - 1, row, row + 1, row + 8])
         img = fuzz.lay_out(rng, m, rng.choice([3, 3, 4, 5]), fuzz.place(rng, root, rng.choice([0, .5, 1])), root, erased, False)
         if img is None or m.first_damage(img):
             continue
@@ -142,15 +145,21 @@ def full_path(library, m, fuzz, rng):
     every_update(library, m, rng, img, ("insert", gone, 5))
 
 
+def roomless(m, rng, img, known):
+    """A present key that is deleted where an insert beside it is ROOM, if some are tried and one is found."""
+    some = rng.sample(known, min(40, len(known))) if m.first_damage(img) is None else []
+    return [pair for pair in some if m.plan(img, ("insert", min(pair[0] + 1, LARGEST), 5))[0] == ANSWERS.index("ROOM")][:1]
+
+
 def scarce(library, m, fuzz, rng):
-    """T - L of 64, where deletes end and some inserts are ROOM, and of 63, where all is DAMAGED (request 11)."""
+    """T - L of 64 (128), where deletes end and some inserts are ROOM, and one less, where all is DAMAGED (request 11)."""
     blocks = rng.choice([3, 3, 4])
-    for free in (64, 63):
-        img = reference.with_free(rng, fuzz, free, blocks)
+    for free in (m.G.r8_least, m.G.r8_least - 1):
+        img = reference.with_free(rng, m, fuzz, free, blocks)
         known = m.map_of(img)
         library.edges += m.first_damage(img) is None
         library.beyond += m.first_damage(img) == reference.BREAKS_R8
-        for key in rng.sample(known, 3):
+        for key in rng.sample(known, 3) + roomless(m, rng, img, known):
             lookups(library, m, rng, img, [key[0]])
             every_update(library, m, rng, img, ("delete", key[0]))
             every_update(library, m, rng, img, ("insert", key[0], 5))
@@ -161,7 +170,7 @@ def scarce(library, m, fuzz, rng):
 def broken(library, m, fuzz, rng):
     """Damaged trees, random bytes, bad lengths."""
     img = fuzz.hand_image(rng, m, 3)
-    kinds = [reference.damaged(rng, m, img) for _ in range(6)] + [reference.loose(rng, fuzz, 3) for _ in range(2)]
+    kinds = [reference.damaged(rng, m, img) for _ in range(6)] + [reference.loose(rng, m, fuzz, 3) for _ in range(2)]
     at = rng.randrange(len(img))
     kinds.append(img[:at] + bytes([img[at] ^ 1 << rng.randrange(8)]) + img[at + 1:])
     kinds.append(rng.randbytes(m.G.block_size * rng.choice([2, 3])))
@@ -177,16 +186,37 @@ def broken(library, m, fuzz, rng):
         library.hold(m.c_call("format", x, buf), "format", x, buf)
 
 
+def no_chip(library, m, fuzz, rng):
+    """Numbers that are no chip's: LENGTH, the result is written, the image stays. Its length fits both chips."""
+    img = m.format(b"\xff" * (3 * fuzz.LARGE.block_size)).img
+    for name in CALLS:
+        buf = buffer(rng)
+        number = rng.choice([2, 3, 256, 2 ** 31, LARGEST, rng.randrange(2, 2 ** 32)])
+        library.hold(result(1, 0, 0, img, buf) or (1, img, buf), name, img, buf, key=rng.randrange(2 ** 32), number=number)
+
+
 def tell_met(library, wanted):
-    """The count of each answer. A run of 20,000 calls must have met all of them."""
+    """The count of each answer. A run of 5,000 calls must have met all of them."""
     counts = [sum(n for (_, answer), n in library.met.items() if answer == a) for a in range(8)]
     print("  answers: " + ", ".join("%s %d" % x for x in zip(ANSWERS, counts)))
     print("  by call: " + ", ".join("%s %s: %d" % (call, ANSWERS[a], n) for (call, a), n in sorted(library.met.items())))
-    print("  T - L = 64 on %d sound images; %d images refused by R8 alone" % (library.edges, library.beyond))
-    if wanted >= 20000 and 0 in counts:
+    print("  T - L = %d on %d sound images; %d images refused by R8 alone" % (
+        library.geometry.r8_least, library.edges, library.beyond))
+    if wanted >= 5000 and 0 in counts:
         sys.exit("differential: never met " + ", ".join(name for name, n in zip(ANSWERS, counts) if n == 0))
-    if wanted >= 20000 and 0 in (library.edges, library.beyond):
+    if wanted >= 5000 and 0 in (library.edges, library.beyond):
         sys.exit("differential: one side of R8's edge was never met")
+
+
+def compare(fuzz, geometry, wanted, rng):
+    library, m = Library(sys.argv[1], geometry), reference.mu(fuzz, geometry)
+    kinds = [no_chip, full_path, scarce, hand_made, broken, a_log, hand_made]
+    for kind in kinds:
+        kind(library, m, fuzz, rng)
+    while library.calls < wanted:
+        rng.choice(kinds)(library, m, fuzz, rng)
+    print("differential: %s chip: %d calls agree with the reference model" % (geometry.name, library.calls))
+    tell_met(library, wanted)
 
 
 def main():
@@ -195,11 +225,10 @@ def main():
         print("differential: skipped, the reference model is not here")
         return
     wanted = int(sys.argv[2]) if len(sys.argv) > 2 else 20000
-    rng, library, m = random.Random(int(sys.argv[3]) if len(sys.argv) > 3 else 1), Library(sys.argv[1]), reference.mu(fuzz)
-    while library.calls < wanted:
-        rng.choice([a_log, hand_made, hand_made, broken, full_path, scarce])(library, m, fuzz, rng)
-    print("differential: %d calls agree with the reference model" % library.calls)
-    tell_met(library, wanted)
+    seed = int(sys.argv[3]) if len(sys.argv) > 3 else 1
+    for geometry in reference.geometries(fuzz):
+        if len(sys.argv) < 5 or sys.argv[4] == geometry.name:
+            compare(fuzz, geometry, wanted if geometry is fuzz.SMALL else wanted // 4, random.Random(seed))
 
 
 main()

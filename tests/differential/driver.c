@@ -1,7 +1,7 @@
 /* driver.c: calls the library on what standard input says, so that a script can hold it against another implementation.
  *
- * A request: six 32-bit numbers (call 0 to 3: format, lookup, insert, delete; key; address; allowance; image length;
- * result length), least byte first, then the image and the result buffer. The reply: the returned number, then the
+ * A request: seven 32-bit numbers (call 0 to 3: format, lookup, insert, delete; geometry; key; address; allowance; image
+ * length; result length), least byte first, then the image and the result buffer. The reply: the returned number, then the
  * image and the result buffer as the call left them. Both stand against a guard page (guarded.h), so that a byte read too
  * far ends the driver: with an even key the one behind them, with an odd key the one before. */
 #define _DEFAULT_SOURCE
@@ -15,8 +15,8 @@ static uint32_t number(const uint8_t *at)
     return (uint32_t)at[0] | (uint32_t)at[1] << 8 | (uint32_t)at[2] << 16 | (uint32_t)at[3] << 24;
 }
 
-/* The six numbers of a request. */
-enum { CALL, KEY, ADDRESS, ALLOWANCE, IMAGE_LENGTH, RESULT_LENGTH, NUMBERS };
+/* The seven numbers of a request. */
+enum { CALL, GEOMETRY, KEY, ADDRESS, ALLOWANCE, IMAGE_LENGTH, RESULT_LENGTH, NUMBERS };
 
 static int read_request(uint32_t *n)
 {
@@ -32,10 +32,11 @@ static int read_request(uint32_t *n)
 static uint32_t call(const uint32_t *n, uint8_t *image, uint8_t *result)
 {
     switch (n[CALL]) {
-    case 0: return mutree_format(image, n[IMAGE_LENGTH], result, n[RESULT_LENGTH]);
-    case 1: return mutree_lookup(image, n[IMAGE_LENGTH], n[KEY], result, n[RESULT_LENGTH]);
-    case 2: return mutree_insert(image, n[IMAGE_LENGTH], n[KEY], n[ADDRESS], n[ALLOWANCE], result, n[RESULT_LENGTH]);
-    default: return mutree_delete(image, n[IMAGE_LENGTH], n[KEY], n[ALLOWANCE], result, n[RESULT_LENGTH]);
+    case 0: return mutree_format(n[GEOMETRY], image, n[IMAGE_LENGTH], result, n[RESULT_LENGTH]);
+    case 1: return mutree_lookup(n[GEOMETRY], image, n[IMAGE_LENGTH], n[KEY], result, n[RESULT_LENGTH]);
+    case 2:
+        return mutree_insert(n[GEOMETRY], image, n[IMAGE_LENGTH], n[KEY], n[ADDRESS], n[ALLOWANCE], result, n[RESULT_LENGTH]);
+    default: return mutree_delete(n[GEOMETRY], image, n[IMAGE_LENGTH], n[KEY], n[ALLOWANCE], result, n[RESULT_LENGTH]);
     }
 }
 

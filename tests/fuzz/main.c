@@ -1,5 +1,5 @@
 /* main.c: drives target.c without libFuzzer, with inputs from a counter. So any C compiler can run it; it is no search, but
- * it meets all four calls, sound and broken images, good and bad lengths, and both guard pages.
+ * it meets all four calls on both chips, sound and broken images, good and bad lengths, and both guard pages.
  *
  * usage: fuzz [ROUNDS]
  */
@@ -11,7 +11,7 @@
 
 int LLVMFuzzerTestOneInput(const uint8_t *data, size_t size);
 
-enum { MOST = 60000 };
+enum { MOST = 420000 };
 
 static uint64_t seed = 1;
 
@@ -27,11 +27,26 @@ static void fill(uint8_t *bytes, size_t count)
         bytes[--count] = (uint8_t)some(256);
 }
 
-/* The first bytes at random, then lengths that matter: short ones, an index's, and one byte beside it. */
+/* A length that matters: a short one, a page, a block, an index's, and one byte beside it. */
+static size_t some_length(const struct mutree_geometry *chip)
+{
+    size_t least = MUTREE_LEAST_BLOCKS * (size_t)chip->block_bytes;
+    size_t lengths[8];
+    lengths[0] = 0;
+    lengths[1] = 1;
+    lengths[2] = chip->page_bytes;
+    lengths[3] = chip->block_bytes;
+    lengths[4] = least - 1;
+    lengths[5] = least;
+    lengths[6] = least + 1;
+    lengths[7] = least + 3 * chip->page_bytes;
+    return lengths[some(8)];
+}
+
+/* The first bytes at random, then the image. */
 static size_t input(uint8_t *data)
 {
-    static const uint32_t lengths[] = { 0, 1, 528, 16896, 50687, 50688, 50689, 59000 };
-    size_t size = data[7] & 1 ? some(400) : lengths[some(8)];
+    size_t size = data[7] & 1 ? some(400) : some_length(mutree_geometry_of(data[0] >> 2 & 1));
     if (data[7] & 1)
         fill(data + 8, size);
     else

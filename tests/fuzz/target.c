@@ -1,11 +1,11 @@
 /* target.c: any bytes, any lengths, small buffers, through the four calls; for libFuzzer with sanitizers, or for main.c.
  *
- * The first bytes choose the call, the key, the allowance, the result buffer's length and which guard page the buffers stand
- * against; the rest is the image. Where the input says so the image is a formatted one with the rest laid over it, so that
- * sound and nearly sound images are met. The library itself has no sanitizers in it. So the image and the result buffer lie
- * in mapped memory before a guard page, or after one: a byte read or written past their ends ends the run. Checked
- * besides: refused calls leave the image, a finished call leaves one that is not DAMAGED, a short result buffer stays as
- * it was, and so do the bytes after the 16. */
+ * The first bytes choose the call, the chip or a number that is none's, the key, the allowance, the result buffer's length and
+ * which guard page the buffers stand against; the rest is the image. Where the input says so the image is a formatted one with
+ * the rest laid over it, so that sound and nearly sound images are met. The library itself has no sanitizers in it. So the
+ * image and the result buffer lie in mapped memory before a guard page, or after one: a byte read or written past their ends
+ * ends the run. Checked besides: a number that is no chip's gives LENGTH, refused calls leave the image, a finished call leaves
+ * one that is not DAMAGED, a short result buffer stays as it was, and so do the bytes after the 16. */
 #define _DEFAULT_SOURCE
 #include "../../c/mutree.h"
 #include "../guarded.h"
@@ -15,6 +15,7 @@
 
 /* The first bytes of an input. */
 struct head {
+    uint32_t geometry;
     int kind, over_format, at_end;
     size_t room;
     uint32_t key, allowance;
@@ -31,6 +32,9 @@ static struct head head_of(const uint8_t *data)
 {
     struct head head;
     head.kind = data[0] & 3;
+    head.geometry = data[0] >> 2 & 1;
+    if (data[0] >> 3 == 31) /* now and then no chip */
+        head.geometry = data[1] + MUTREE_GEOMETRIES;
     head.room = data[1] % 33;
     head.key = number(data + 2) % 1024;
     head.allowance = data[6] == 255 ? UINT32_MAX : data[6];
@@ -40,14 +44,14 @@ static struct head head_of(const uint8_t *data)
 }
 
 /* Five bytes a change: an insert, or one byte of the image. */
-static void lay_over(struct guarded image, const uint8_t *data, size_t size)
+static void lay_over(struct guarded image, uint32_t geometry, const uint8_t *data, size_t size)
 {
     uint8_t result[MUTREE_RESULT_BYTES];
     size_t i;
     for (i = 0; i + 5 <= size; i += 5) {
         uint32_t n = number(data + i + 1);
         if (data[i] & 1)
-            mutree_insert(image.bytes, image.length, n % 512, n, UINT32_MAX, result, sizeof result);
+            mutree_insert(geometry, image.bytes, image.length, n % 512, n, UINT32_MAX, result, sizeof result);
         else
             image.bytes[n % image.length] = data[i];
     }
@@ -56,24 +60,27 @@ static void lay_over(struct guarded image, const uint8_t *data, size_t size)
 static struct guarded make_image(const uint8_t *data, size_t size, struct head head)
 {
     uint8_t result[MUTREE_RESULT_BYTES];
-    struct guarded image = guarded_make(head.over_format ? MUTREE_LEAST_BLOCKS * MUTREE_BLOCK_BYTES : size, head.at_end);
+    const struct mutree_geometry *chip = mutree_geometry_of(head.geometry % MUTREE_GEOMETRIES);
+    struct guarded image = guarded_make(head.over_format ? MUTREE_LEAST_BLOCKS * chip->block_bytes : size, head.at_end);
     if (!head.over_format) {
         memcpy(image.bytes, data, size);
         return image;
     }
     memset(image.bytes, 255, image.length);
-    mutree_format(image.bytes, image.length, result, sizeof result);
-    lay_over(image, data, size);
+    mutree_format(chip->number, image.bytes, image.length, result, sizeof result);
+    lay_over(image, chip->number, data, size);
     return image;
 }
 
 static uint32_t call(struct head head, struct guarded image, struct guarded result)
 {
     switch (head.kind) {
-    case 0: return mutree_format(image.bytes, image.length, result.bytes, result.length);
-    case 1: return mutree_lookup(image.bytes, image.length, head.key, result.bytes, result.length);
-    case 2: return mutree_insert(image.bytes, image.length, head.key, ~head.key, head.allowance, result.bytes, result.length);
-    default: return mutree_delete(image.bytes, image.length, head.key, head.allowance, result.bytes, result.length);
+    case 0: return mutree_format(head.geometry, image.bytes, image.length, result.bytes, result.length);
+    case 1: return mutree_lookup(head.geometry, image.bytes, image.length, head.key, result.bytes, result.length);
+    case 2:
+        return mutree_insert(head.geometry, image.bytes, image.length, head.key, ~head.key, head.allowance, result.bytes,
+                             result.length);
+    default: return mutree_delete(head.geometry, image.bytes, image.length, head.key, head.allowance, result.bytes, result.length);
     }
 }
 
@@ -86,13 +93,15 @@ static void check_result(struct guarded result)
             abort();
 }
 
-static void check_image(uint32_t answer, struct guarded image, const uint8_t *before)
+static void check_image(uint32_t geometry, uint32_t answer, struct guarded image, const uint8_t *before)
 {
     uint8_t judged[MUTREE_RESULT_BYTES];
+    if (geometry >= MUTREE_GEOMETRIES && answer != MUTREE_LENGTH)
+        abort();
     if (answer >= MUTREE_LENGTH && answer <= MUTREE_ROOM && memcmp(before, image.bytes, image.length) != 0)
         abort();
     if ((answer == MUTREE_DONE || answer == MUTREE_STOPPED)
-        && mutree_lookup(image.bytes, image.length, 0, judged, sizeof judged) == MUTREE_DAMAGED)
+        && mutree_lookup(geometry, image.bytes, image.length, 0, judged, sizeof judged) == MUTREE_DAMAGED)
         abort();
 }
 
@@ -113,7 +122,7 @@ int LLVMFuzzerTestOneInput(const uint8_t *data, size_t size)
         abort();
     memcpy(before, image.bytes, image.length);
     memset(result.bytes, 7, result.length);
-    check_image(call(head, image, result), image, before);
+    check_image(head.geometry, call(head, image, result), image, before);
     check_result(result);
     free(before);
     guarded_free(&image);

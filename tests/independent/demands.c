@@ -1,10 +1,11 @@
-/* demands.c: holds the library's own outputs against document 01's demands, with a plain sorted array for the map and
- * the judge of judge.c. After every allowance the image must be sound and hold the old map, or the new one after the
+/* demands.c: holds the library's own outputs against the documents' demands, on both chips, with a plain sorted array for the map
+ * and the judge of judge.c. After every allowance the image must be sound and hold the old map, or the new one after the
  * last store; only erased pages are programmed and only blocks without live pages erased; the counts are the stores made.
  * Where a page is programmed on a wholly erased block, that block is the one that request 2 names. An insert is ROOM exactly
- * where T - L < 63 + k, and a delete never (request 11).
+ * where T - L < 63 + k (127 + k), and a delete never (request 11).
  *
- * usage: demands [ROUNDS] [SEED]
+ * usage: demands [ROUNDS] [SEED] [small|large|both] [quick]
+ *        quick: of an update of over 60 stores only the last three allowances are tried
  */
 #include "built.h"
 #include "demands.h"
@@ -13,19 +14,47 @@
 #include <stdlib.h>
 #include <string.h>
 
+const struct chip *chip;
+
 static struct tree before, state;
 static struct entry oracle[200000];
 static size_t entries;
-static unsigned long updates, prefixes;
-static uint32_t most_own, most_programmed, most_erased;
-static unsigned long choices, from_several, past_the_end;
-static unsigned long deletes, rooms;
-static size_t least_spare = MOST_PAGES;
+
+enum { LONG = 60, LAST_ONES = 3 };
+static int quick;
+
+/* What was met on one chip. */
+static struct {
+    unsigned long updates, prefixes;
+    uint32_t own, programmed, erased;
+    unsigned height;
+    unsigned long choices, from_several, past_the_end;
+    unsigned long deletes, rooms;
+    size_t least_spare;
+} met;
 
 void fail(const char *what)
 {
-    printf("independent: %s (update %lu)\n", what, updates);
+    printf("independent: %s chip: %s (update %lu)\n", chip->name, what, met.updates);
     exit(1);
+}
+
+uint8_t *room_for(size_t length)
+{
+    uint8_t *bytes = malloc(length);
+    if (bytes == NULL)
+        exit(71);
+    return bytes;
+}
+
+uint8_t *copy_of(const uint8_t *image, size_t length)
+{
+    return memcpy(room_for(length), image, length);
+}
+
+unsigned greatest_height(void)
+{
+    return met.height;
 }
 
 static uint64_t seed;
@@ -92,25 +121,30 @@ struct mutree_result run(struct update u, uint8_t *image, size_t length, uint32_
     uint8_t result[24];
     uint32_t answer;
     memset(result, 77, sizeof result);
-    answer = u.adds ? mutree_insert(image, length, u.key, u.address, allowance, result, sizeof result)
-                    : mutree_delete(image, length, u.key, allowance, result, sizeof result);
+    answer = u.adds ? mutree_insert(chip->number, image, length, u.key, u.address, allowance, result, sizeof result)
+                    : mutree_delete(chip->number, image, length, u.key, allowance, result, sizeof result);
     if (answer != mutree_read_result(result).answer || mutree_read_result(result).address != 0)
         fail("the result buffer differs from the answer");
     if (result[16] != 77 || result[23] != 77)
         fail("bytes after the 16 changed");
-    deletes += !u.adds;
+    met.deletes += !u.adds;
     if (!u.adds && answer == MUTREE_ROOM)
         fail("a delete was refused for room");
     return mutree_read_result(result);
 }
 
-static int page_is(const uint8_t *page, int value)
+static int is_erased(const uint8_t *page)
 {
-    int i;
-    for (i = 0; i < PAGE; i++)
-        if (page[i] != value)
+    unsigned i;
+    for (i = 0; i < chip->page; i++)
+        if (page[i] != 255)
             return 0;
     return 1;
+}
+
+static int differs(const uint8_t *old, const uint8_t *new, size_t page)
+{
+    return memcmp(old + page * chip->page, new + page * chip->page, chip->page) != 0;
 }
 
 /* ---- request 2: "the choice starts after the block that holds the page with the largest sequence number and goes round past
@@ -118,7 +152,7 @@ static int page_is(const uint8_t *page, int value)
 static int wholly_erased(const struct tree *t, size_t block)
 {
     size_t p;
-    for (p = block * BLOCK_PAGES; p < (block + 1) * BLOCK_PAGES; p++)
+    for (p = block * chip->block_pages; p < (block + 1) * chip->block_pages; p++)
         if (!t->erased[p])
             return 0;
     return 1;
@@ -129,38 +163,40 @@ static size_t block_of_largest(const struct tree *t, const uint8_t *image)
 {
     size_t p, found = 0;
     uint32_t largest = 0;
-    for (p = 0; p < t->pages; p++)
-        if (!t->erased[p] && number_at(image + p * PAGE + MAIN) > largest) {
-            largest = number_at(image + p * PAGE + MAIN);
+    for (p = 0; p < t->pages; p++) {
+        uint32_t number = number_at(image + p * chip->page + chip->main);
+        if (!t->erased[p] && number > largest) {
+            largest = number;
             found = p;
         }
-    return found / BLOCK_PAGES;
+    }
+    return found / chip->block_pages;
 }
 
 /* The page that a store programs on this image. That a partly programmed block comes first is R2 of the image after it. */
 static void goes_round(const struct tree *t, const uint8_t *image, size_t page)
 {
-    size_t blocks = t->pages / BLOCK_PAGES, start = block_of_largest(t, image), met = start, several = 0, b;
-    if (!wholly_erased(t, page / BLOCK_PAGES))
+    size_t blocks = t->pages / chip->block_pages, start = block_of_largest(t, image), taken = start, several = 0, b;
+    if (!wholly_erased(t, page / chip->block_pages))
         return;
     do
-        met = (met + 1) % blocks;
-    while (!wholly_erased(t, met));
-    if (met != page / BLOCK_PAGES)
+        taken = (taken + 1) % blocks;
+    while (!wholly_erased(t, taken));
+    if (taken != page / chip->block_pages)
         fail("the block taken is not the first wholly erased one after that of the largest number, going round");
     for (b = 0; b < blocks; b++)
         several += (size_t)wholly_erased(t, b);
-    choices++;
-    from_several += several > 1;
-    past_the_end += met < start;
+    met.choices++;
+    met.from_several += several > 1;
+    met.past_the_end += taken < start;
 }
 
 /* Exactly one store leads from old to new. The tree is the old image's. Returns 1 for a page programmed, 2 for a block erased. */
 static int one_store(const struct tree *old_tree, const uint8_t *old, const uint8_t *new)
 {
-    size_t p, changed = 0, which = 0;
+    size_t p, from, changed = 0, which = 0;
     for (p = 0; p < old_tree->pages; p++)
-        if (memcmp(old + p * PAGE, new + p * PAGE, PAGE)) {
+        if (differs(old, new, p)) {
             changed++;
             which = p;
         }
@@ -170,9 +206,10 @@ static int one_store(const struct tree *old_tree, const uint8_t *old, const uint
         goes_round(old_tree, old, which);
         return 1;
     }
-    for (p = which - which % BLOCK_PAGES; p < which - which % BLOCK_PAGES + BLOCK_PAGES; p++) {
-        changed -= memcmp(old + p * PAGE, new + p * PAGE, PAGE) != 0;
-        if (!page_is(new + p * PAGE, 255))
+    from = which - which % chip->block_pages;
+    for (p = from; p < from + chip->block_pages; p++) {
+        changed -= (size_t)differs(old, new, p);
+        if (!is_erased(new + p * chip->page))
             fail("a page was programmed that was not erased");
         if (old_tree->levels[p])
             fail("a block with a live page was erased");
@@ -190,93 +227,155 @@ static void note(uint32_t n, uint32_t most, uint32_t *seen, const char *what)
         *seen = n;
 }
 
-/* ROOM exactly where T - L < 63 + k, and with R8 not where k is 1. */
+/* ROOM exactly where T - L < 63 + k (127 + k), and with R8 not where k is 1. */
 static void room_is(uint32_t answer, size_t spare, unsigned k)
 {
-    if (answer == MUTREE_ROOM ? spare >= 63 + k : answer == MUTREE_DONE && spare < 63 + k)
-        fail("an insert is ROOM exactly where T - L < 63 + k");
+    size_t least = chip->room + k;
+    if (answer == MUTREE_ROOM ? spare >= least : answer == MUTREE_DONE && spare < least)
+        fail("an insert is ROOM exactly where T - L < 63 + k, on the large chip 127 + k");
     if (answer == MUTREE_ROOM && k < 2)
         fail("an insert that needs one page was refused for room");
-    rooms += answer == MUTREE_ROOM;
+    met.rooms += answer == MUTREE_ROOM;
+}
+
+/* An update under way: the image as called, the one after the last store looked at, and the stores so far. */
+struct trial {
+    struct update u;
+    const uint8_t *image;
+    uint8_t *last, *now;
+    size_t length;
+    uint32_t programmed, erased;
+    size_t nodes, spare;
+    unsigned height, k;
+};
+
+static struct trial begin(struct update u, const uint8_t *image, size_t length)
+{
+    struct trial t = { u, image, copy_of(image, length), room_for(length), length, 0, 0, 0, 0, 0, 0 };
+    met.updates++;
+    if (judge(&before, chip, image, length))
+        fail("the image to start from is not sound");
+    t.nodes = before.nodes;
+    t.height = before.height;
+    t.spare = before.pages - before.live;
+    t.k = pages_needed(&before, image, u.key);
+    return t;
+}
+
+/* The allowance to begin with: 0, or for a quick look at a long update one of the last. */
+static uint32_t first_allowance(const struct trial *t)
+{
+    struct mutree_result r;
+    if (!quick)
+        return 0;
+    memcpy(t->now, t->image, t->length);
+    r = run(t->u, t->now, t->length, UINT32_MAX);
+    return r.programmed + r.erased > LONG ? r.programmed + r.erased + 1 - LAST_ONES : 0;
+}
+
+/* The stores that led to the image: one more than to the last one that was looked at, or, at first, as many as were allowed. */
+static void count_stores(struct trial *t, int is_first, uint32_t allowance, struct mutree_result r)
+{
+    if (!is_first) {
+        int kind = one_store(&before, t->last, t->now);
+        t->programmed += kind == 1;
+        t->erased += kind == 2;
+    } else if (allowance == 0 && memcmp(t->now, t->image, t->length)) {
+        fail("an update without an allowance wrote");
+    } else if (r.programmed + r.erased == allowance) {
+        t->programmed = r.programmed;
+        t->erased = r.erased;
+    }
+}
+
+/* The image that so many stores left: `before` is judged from it. */
+static void look_at_store(struct trial *t, int is_first, uint32_t allowance, struct mutree_result r)
+{
+    met.prefixes++;
+    count_stores(t, is_first, allowance, r);
+    if (r.programmed != t->programmed || r.erased != t->erased)
+        fail("the counts are not the stores made");
+    if (judge(&before, chip, t->now, t->length))
+        fail("not sound after a store");
+    if (before.pages - before.live < met.least_spare)
+        met.least_spare = before.pages - before.live;
+    if (r.answer == MUTREE_STOPPED && !holds_oracle(&before))
+        fail("a stopped update changed the map");
+}
+
+/* A finished insert: 1 + splits + growth, by the nodes of the tree before and after. */
+static void count_own_pages(const struct trial *t)
+{
+    uint32_t grown = before.height - t->height;
+    uint32_t pages = 1 + (uint32_t)(before.nodes - t->nodes) - grown;
+    if (pages != t->k || (t->erased == 0 && t->programmed != pages))
+        fail("pages programmed are not 1 + splits + growth");
+    note(pages, chip->own_pages, &met.own, "more than 5 (7) pages besides collection");
+}
+
+/* A finished update: `before` is the tree it left. */
+static void look_at_end(const struct trial *t)
+{
+    if (t->u.adds)
+        put(t->u.key, t->u.address);
+    else
+        drop(t->u.key);
+    if (!holds_oracle(&before))
+        fail("a finished update left another map");
+    if (t->u.adds)
+        count_own_pages(t);
+    else if (t->erased == 0 && t->programmed != 1)
+        fail("a delete programs one page");
+    note(t->programmed, chip->all_pages, &met.programmed, "more than 191 (511) pages");
+    note(t->erased, chip->erases, &met.erased, "more than 6 (8) erases");
+    if (before.height > met.height)
+        met.height = before.height;
 }
 
 uint32_t every_allowance(struct update u, uint8_t *image, size_t length)
 {
-    uint8_t *last = malloc(length), *now = malloc(length);
-    uint32_t allowance, programmed = 0, erased = 0, own = 0;
-    size_t nodes, spare;
-    unsigned height, k;
+    struct trial t = begin(u, image, length);
     struct mutree_result r;
-    if (last == NULL || now == NULL)
-        exit(71);
-    updates++;
-    if (judge(&before, image, length))
-        fail("the image to start from is not sound");
-    nodes = before.nodes;
-    height = before.height;
-    spare = before.pages - before.live;
-    k = pages_needed(&before, image, u.key);
-    memcpy(last, image, length);
-    for (allowance = 0;; allowance++) {
-        memcpy(now, image, length);
-        r = run(u, now, length, allowance);
-        if (r.answer != 0 && r.answer != 7) {
-            if (memcmp(now, image, length) || r.programmed || r.erased)
-                fail("a refused update wrote");
-            break;
-        }
-        prefixes++;
-        if (allowance > 0) {
-            int kind = one_store(&before, last, now);
-            programmed += kind == 1;
-            erased += kind == 2;
-            own = kind == 1 ? own + 1 : 0;
-        } else if (memcmp(now, image, length)) {
-            fail("an update without an allowance wrote");
-        }
-        if (r.programmed != programmed || r.erased != erased)
-            fail("the counts are not the stores made");
-        if (judge(&before, now, length))
-            fail("not sound after a store");
-        if (before.pages - before.live < least_spare)
-            least_spare = before.pages - before.live;
-        if (r.answer == 0)
-            break;
-        if (!holds_oracle(&before))
-            fail("a stopped update changed the map");
-        memcpy(last, now, length);
-    }
+    uint32_t first = first_allowance(&t), allowance = first;
+    do {
+        uint8_t *free_one = t.last;
+        t.last = t.now;
+        t.now = free_one;
+        memcpy(t.now, image, length);
+        r = run(u, t.now, length, allowance);
+        if (r.answer == MUTREE_DONE || r.answer == MUTREE_STOPPED)
+            look_at_store(&t, allowance == first, allowance, r);
+        else if (memcmp(t.now, image, length) || r.programmed || r.erased)
+            fail("a refused update wrote");
+        allowance++;
+    } while (r.answer == MUTREE_STOPPED);
     if (u.adds)
-        room_is(r.answer, spare, k);
-    if (r.answer == 0) {
-        if (u.adds)
-            put(u.key, u.address);
-        else
-            drop(u.key);
-        if (!holds_oracle(&before))
-            fail("a finished update left another map");
-        if (u.adds) {
-            uint32_t grown = before.height - height;
-            uint32_t pages = 1 + (uint32_t)(before.nodes - nodes) - grown;
-            if (erased == 0 && programmed != pages)
-                fail("pages programmed are not 1 + splits + growth");
-            note(pages, MUTREE_MOST_OWN_PAGES, &most_own, "more than 5 pages besides collection");
-        } else if (erased == 0 && programmed != 1) {
-            fail("a delete programs one page");
-        }
-        note(programmed, MUTREE_MOST_PAGES, &most_programmed, "more than 191 pages");
-        note(erased, MUTREE_MOST_ERASES, &most_erased, "more than 6 erases");
-        memcpy(image, now, length);
+        room_is(r.answer, t.spare, t.k);
+    if (r.answer == MUTREE_DONE) {
+        look_at_end(&t);
+        memcpy(image, t.now, length);
     }
-    free(last);
-    free(now);
+    free(t.last);
+    free(t.now);
     return r.answer;
+}
+
+uint32_t tried(struct update u, const uint8_t *image, size_t length)
+{
+    uint8_t *copy = copy_of(image, length);
+    uint32_t answer;
+    if (judge(&state, chip, copy, length))
+        fail("the image to try is not sound");
+    take_map(&state);
+    answer = every_allowance(u, copy, length);
+    free(copy);
+    return answer;
 }
 
 static void look(const uint8_t *image, size_t length, uint32_t key)
 {
     uint8_t result[16];
-    uint32_t answer = mutree_lookup(image, length, key, result, sizeof result);
+    uint32_t answer = mutree_lookup(chip->number, image, length, key, result, sizeof result);
     if (has(key) ? answer != 0 || mutree_read_result(result).address != oracle[place_of(key)].address : answer != 4)
         fail("lookup differs from the map");
 }
@@ -295,85 +394,109 @@ static uint32_t a_key(int way, uint32_t step)
 /* The battery is lost after a store or two, and the day goes on from there: the page with the largest number may be dead. */
 static void stop(struct update u, uint8_t *image, size_t length)
 {
-    uint8_t *copy = malloc(length);
-    if (copy == NULL)
-        exit(71);
-    memcpy(copy, image, length);
-    if (run(u, copy, length, 1 + some(2)).answer == 7)
+    uint8_t *copy = copy_of(image, length);
+    if (run(u, copy, length, 1 + some(2)).answer == MUTREE_STOPPED)
         memcpy(image, copy, length);
     free(copy);
 }
 
+static struct update some_update(int way, uint32_t step)
+{
+    struct update u;
+    u.adds = entries == 0 || some(10) < (way == 2 ? 6u : 8u);
+    u.key = u.adds || some(20) == 0 ? a_key(way, step) : oracle[some((uint32_t)entries)].key;
+    u.address = some(4294967295u);
+    return u;
+}
+
+static void one_step(struct update u, uint8_t *image, size_t length)
+{
+    int there = has(u.key);
+    uint32_t answer;
+    if (some(8) == 0)
+        stop(u, image, length);
+    answer = every_allowance(u, image, length);
+    if (answer == MUTREE_DAMAGED || answer == MUTREE_LENGTH)
+        fail("a sound image was refused");
+    if (u.adds ? answer == MUTREE_ABSENT : answer != (there ? MUTREE_DONE : MUTREE_ABSENT))
+        fail("an answer that the map does not allow");
+    look(image, length, u.key);
+    look(image, length, some(4294967295u));
+    if (entries)
+        look(image, length, oracle[some((uint32_t)entries)].key);
+}
+
 static void day(unsigned blocks, int way, unsigned steps)
 {
-    size_t length = (size_t)blocks * MUTREE_BLOCK_BYTES;
-    uint8_t *image = malloc(length), result[16];
+    size_t length = length_of(chip, blocks);
+    uint8_t *image = room_for(length), result[16];
     unsigned step;
-    if (image == NULL)
-        exit(71);
     memset(image, (int)some(256), length);
-    if (mutree_format(image, length, result, sizeof result) || mutree_read_result(result).erased != blocks
+    if (mutree_format(chip->number, image, length, result, sizeof result) || mutree_read_result(result).erased != blocks
         || mutree_read_result(result).programmed != 1)
         fail("format");
     entries = 0;
-    for (step = 1; step <= steps; step++) {
-        struct update u;
-        uint32_t answer;
-        u.adds = entries == 0 || some(10) < (way == 2 ? 6u : 8u);
-        u.key = u.adds || some(20) == 0 ? a_key(way, step) : oracle[some((uint32_t)entries)].key;
-        u.address = some(4294967295u);
-        if (some(8) == 0)
-            stop(u, image, length);
-        answer = every_allowance(u, image, length);
-        if (u.adds ? answer == 4 : answer == 5 || (answer == 4) != !has(u.key))
-            if (answer != 0)
-                fail("an answer that the map does not allow");
-        if (answer == 2 || answer == 1)
-            fail("a sound image was refused");
-        look(image, length, u.key);
-        look(image, length, some(4294967295u));
-        if (entries)
-            look(image, length, oracle[some((uint32_t)entries)].key);
-    }
+    for (step = 1; step <= steps; step++)
+        one_step(some_update(way, step), image, length);
     free(image);
 }
 
-/* ---- an image that reaches all three bounds: 37 blocks, 31 live pages and a dead one in each of the first 36, one dead
- * page and 31 erased ones in the last. The path of the smallest key is full below the root, so an insert there needs 5
- * pages, and each of 6 victims gives back one. */
+/* ---- an image that reaches all three bounds: 37 blocks (71), in each but the last all pages live but one, which is dead; in the
+ * last one dead page, the rest erased. The path of the smallest key is full below the root, so an insert there needs 5 pages
+ * (7), and each of 6 victims (8) gives back one. */
 static void reach_bounds(void)
 {
-    struct built plan = { 37, 5, 1116, 36 * 32 + 1 };
+    uint32_t row = chip->block_pages, blocks = row + chip->own_pages, live = (blocks - 1) * (row - 1);
+    struct built plan = { chip, blocks, chip->top, 3, FIRST_PATH, live, (blocks - 1) * row + 1 };
     struct update u = { 1, 3, 99 };
-    size_t length = 37 * MUTREE_BLOCK_BYTES;
+    size_t length = length_of(chip, blocks);
     uint8_t *image = build(plan);
-    if (judge(&state, image, length) || state.live != 1116 || state.free_pages != 31)
+    if (judge(&state, chip, image, length) || state.live != live || state.free_pages != row - 1 || state.height != chip->top)
         fail("the image for the bounds is not as planned");
-    take_map(&state);
-    if (every_allowance(u, image, length) != 0)
+    if (tried(u, image, length) != MUTREE_DONE)
         fail("the update for the bounds was refused");
+    if (met.own != chip->own_pages || met.programmed != chip->all_pages || met.erased != chip->erases)
+        fail("a bound was not reached");
     free(image);
+}
+
+static void report(void)
+{
+    printf("independent: %s chip: %lu updates, %lu images after a store, all sound, old or new map; reached %u own pages, %u pages, "
+           "%u erases, height %u\n", chip->name, met.updates, met.prefixes, (unsigned)met.own, (unsigned)met.programmed,
+           (unsigned)met.erased, met.height);
+    printf("independent: %s chip: %lu times a wholly erased block was taken, %lu times one of several, %lu times past the end\n",
+           chip->name, met.choices, met.from_several, met.past_the_end);
+    printf("independent: %s chip: least T - L %lu; %lu inserts were ROOM, each with k of 2 or more; %lu calls of delete, none was "
+           "ROOM\n", chip->name, (unsigned long)met.least_spare, met.rooms, met.deletes);
+}
+
+static void test_chip(unsigned rounds)
+{
+    unsigned i;
+    memset(&met, 0, sizeof met);
+    met.least_spare = MOST_PAGES;
+    reach_bounds();
+    roots_grow();
+    delete_is_never_short_of_room();
+    if (met.least_spare != chip->room + 1 || met.rooms == 0)
+        fail("T - L of 64 (128), or ROOM, was not met");
+    for (i = 0; i < rounds; i++)
+        day(3 + some(4), (int)(i % 4), 400);
+    if (met.from_several == 0 || met.past_the_end == 0)
+        fail("a choice among several wholly erased blocks, or one past the end, was not met");
+    report();
 }
 
 int main(int count, char **words)
 {
-    unsigned rounds = count > 1 ? (unsigned)strtoul(words[1], NULL, 10) : 8, i;
+    unsigned rounds = count > 1 ? (unsigned)strtoul(words[1], NULL, 10) : 8;
     seed = count > 2 ? strtoull(words[2], NULL, 10) : 1;
-    reach_bounds();
-    if (most_own != MUTREE_MOST_OWN_PAGES || most_programmed != MUTREE_MOST_PAGES || most_erased != MUTREE_MOST_ERASES)
-        fail("a bound was not reached");
-    delete_is_never_short_of_room();
-    if (least_spare != 64 || rooms == 0)
-        fail("T - L of 64, or ROOM, was not met");
-    for (i = 0; i < rounds; i++)
-        day(3 + some(4), (int)(i % 4), 400);
-    if (from_several == 0 || past_the_end == 0)
-        fail("a choice among several wholly erased blocks, or one past the end, was not met");
-    printf("independent: %lu updates, %lu images after a store, all sound, old or new map; reached %u own pages, %u pages, %u erases\n",
-           updates, prefixes, (unsigned)most_own, (unsigned)most_programmed, (unsigned)most_erased);
-    printf("independent: %lu times a wholly erased block was taken, %lu times one of several, %lu times past the end\n", choices,
-           from_several, past_the_end);
-    printf("independent: least T - L %lu; %lu inserts were ROOM, each with k of 2 or more; %lu calls of delete, none was ROOM\n",
-           (unsigned long)least_spare, rooms, deletes);
+    quick = count > 4 && strcmp(words[4], "quick") == 0;
+    for (chip = chips; chip < chips + CHIPS; chip++)
+        if (count < 4 || strcmp(words[3], "both") == 0 || strcmp(words[3], chip->name) == 0) {
+            numbers_are_the_documents();
+            test_chip(rounds);
+        }
     return 0;
 }

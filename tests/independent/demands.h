@@ -10,8 +10,15 @@ struct update {
     uint32_t key, address;
 };
 
+/* The chip that is tested now. */
+extern const struct chip *chip;
+
 /* Ends the program with a line. */
 void fail(const char *what);
+
+/* Memory, or the end of the program. */
+uint8_t *room_for(size_t length);
+uint8_t *copy_of(const uint8_t *image, size_t length);
 
 /* The map that the image must hold is from now on the tree's. */
 void take_map(const struct tree *tree);
@@ -22,7 +29,19 @@ struct mutree_result run(struct update u, uint8_t *image, size_t length, uint32_
 /* The update with every allowance from 0 on; leaves the image as the last one does. Returns the answer. */
 uint32_t every_allowance(struct update u, uint8_t *image, size_t length);
 
+/* The same on a copy, and whatever map the image holds. */
+uint32_t tried(struct update u, const uint8_t *image, size_t length);
+
+/* The largest height after an update so far. */
+unsigned greatest_height(void);
+
 /* Request 11 (room.c). */
 void delete_is_never_short_of_room(void);
+
+/* Roots that are full, at every height (growth.c). */
+void roots_grow(void);
+
+/* The geometry's number, and what c/mutree.h says of each chip (numbers.c). */
+void numbers_are_the_documents(void);
 
 #endif

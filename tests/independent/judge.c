@@ -4,9 +4,31 @@
 #include <stdlib.h>
 #include <string.h>
 
-static const unsigned first_slot[6] = { 0, 0, 32, 48, 56, 60 };
-static const unsigned most_below[6] = { 0, 32, 16, 8, 4, 0 };
-static const unsigned most_root[6] = { 0, 63, 31, 15, 7, 4 };
+const struct chip chips[CHIPS] = {
+    { "small", 0, 32, 512, 528, 64, 5, 63, 4294967000u, 5, 191, 6 },
+    { "large", 1, 64, 2048, 2112, 256, 7, 127, 4294966000u, 7, 511, 8 },
+};
+
+unsigned first_slot(const struct chip *c, unsigned level)
+{
+    return c->slots - (c->slots >> (level - 1));
+}
+
+unsigned most_below(const struct chip *c, unsigned level)
+{
+    return level < c->top ? c->slots >> level : 0;
+}
+
+/* "A root below the greatest height stores one fewer" than its slots. */
+unsigned most_root(const struct chip *c, unsigned level)
+{
+    return (c->slots >> (level - 1)) - (level < c->top);
+}
+
+size_t length_of(const struct chip *c, size_t blocks)
+{
+    return blocks * c->block_pages * c->page;
+}
 
 uint32_t number_at(const uint8_t *at)
 {
@@ -22,13 +44,25 @@ static int all_255(const uint8_t *at, size_t n)
     return 1;
 }
 
+static const uint8_t *page_of(const struct tree *t, const uint8_t *image, size_t page)
+{
+    return image + page * t->chip->page;
+}
+
+static const uint8_t *spare_of(const struct tree *t, const uint8_t *image, size_t page)
+{
+    return page_of(t, image, page) + t->chip->main;
+}
+
+/* Spare bytes 0 to 3 the number, 4 the height, then a count for each level, then 255. */
 static int rule_1(struct tree *t, const uint8_t *image)
 {
+    unsigned counts = 5 + t->chip->top, rest = t->chip->page - t->chip->main - counts;
     size_t p;
     for (p = 0; p < t->pages; p++) {
-        const uint8_t *spare = image + p * PAGE + MAIN;
-        t->erased[p] = (unsigned char)all_255(image + p * PAGE, PAGE);
-        if (!t->erased[p] && (spare[4] > 5 || !all_255(spare + 10, 6) || number_at(spare) == 0))
+        const uint8_t *spare = spare_of(t, image, p);
+        t->erased[p] = (unsigned char)all_255(page_of(t, image, p), t->chip->page);
+        if (!t->erased[p] && (spare[4] > t->chip->top || !all_255(spare + counts, rest) || number_at(spare) == 0))
             return 1;
     }
     return 0;
@@ -36,16 +70,16 @@ static int rule_1(struct tree *t, const uint8_t *image)
 
 static int rule_2(const struct tree *t)
 {
-    size_t b, mixed = 0;
-    for (b = 0; b < t->pages / BLOCK_PAGES; b++) {
-        const unsigned char *e = t->erased + b * BLOCK_PAGES;
-        int i, programmed = 0;
-        for (i = 0; i < BLOCK_PAGES; i++) {
+    size_t b, mixed = 0, row = t->chip->block_pages;
+    for (b = 0; b < t->pages / row; b++) {
+        const unsigned char *e = t->erased + b * row;
+        size_t i, programmed = 0;
+        for (i = 0; i < row; i++) {
             programmed += !e[i];
             if (i > 0 && e[i - 1] && !e[i])
                 return 2;
         }
-        mixed += programmed > 0 && programmed < BLOCK_PAGES;
+        mixed += programmed > 0 && programmed < row;
     }
     return mixed > 1 ? 2 : 0;
 }
@@ -62,7 +96,7 @@ static int rule_3(const struct tree *t, const uint8_t *image)
     size_t n = 0, p;
     for (p = 0; p < t->pages; p++)
         if (!t->erased[p])
-            seen[n++] = number_at(image + p * PAGE + MAIN);
+            seen[n++] = number_at(spare_of(t, image, p));
     qsort(seen, n, sizeof *seen, by_size);
     for (p = 1; p < n; p++)
         if (seen[p] == seen[p - 1])
@@ -76,7 +110,7 @@ static int rule_4(struct tree *t, const uint8_t *image)
     size_t p;
     t->height = 0;
     for (p = 0; p < t->pages; p++) {
-        const uint8_t *spare = image + p * PAGE + MAIN;
+        const uint8_t *spare = spare_of(t, image, p);
         if (!t->erased[p] && spare[4] >= 1 && number_at(spare) > best) {
             best = number_at(spare);
             t->root = (uint32_t)p;
@@ -98,14 +132,28 @@ static void add(struct tree *t, uint32_t key, uint32_t address)
     t->map[t->entries++].address = address;
 }
 
+static const uint8_t *slots_of(const struct tree *t, const uint8_t *image, size_t page, unsigned level)
+{
+    return page_of(t, image, page) + 8 * first_slot(t->chip, level);
+}
+
+static unsigned count_of(const struct tree *t, const uint8_t *image, size_t page, unsigned level)
+{
+    return spare_of(t, image, page)[4 + level];
+}
+
+static unsigned most_of(const struct tree *t, unsigned level, int is_root)
+{
+    return is_root ? most_root(t->chip, level) : most_below(t->chip, level);
+}
+
 /* R5 of a node and all below it, keys from `low` on and below `high`; marks what is live and gathers the map. */
 static int node(struct tree *t, const uint8_t *image, uint32_t page, unsigned level, int is_root, uint64_t low, uint64_t high)
 {
-    const uint8_t *at = image + (size_t)page * PAGE;
-    const uint8_t *slot = at + 8 * first_slot[level];
-    unsigned n = at[MAIN + 4 + level], i;
+    const uint8_t *slot = slots_of(t, image, page, level);
+    unsigned n = count_of(t, image, page, level), i;
     unsigned least = is_root ? (level == 1 ? 0 : 2) : 1;
-    if (n < least || n > (is_root ? most_root : most_below)[level])
+    if (n < least || n > most_of(t, level, is_root))
         return 5;
     for (i = 0; i < n; i++) {
         uint64_t key = number_at(slot + 8 * i);
@@ -128,12 +176,12 @@ static int node(struct tree *t, const uint8_t *image, uint32_t page, unsigned le
     return 0;
 }
 
-static int names(const uint8_t *image, size_t page, unsigned level)
+static int names(const struct tree *t, const uint8_t *image, size_t page, unsigned level)
 {
-    const uint8_t *at = image + page * PAGE;
+    const uint8_t *slot = slots_of(t, image, page, level);
     unsigned i;
-    for (i = 0; i < at[MAIN + 4 + level]; i++)
-        if (number_at(at + 8 * (first_slot[level] + i) + 4) == page)
+    for (i = 0; i < count_of(t, image, page, level); i++)
+        if (number_at(slot + 8 * i + 4) == page)
             return 1;
     return 0;
 }
@@ -143,13 +191,13 @@ static int rule_6(const struct tree *t, const uint8_t *image)
     size_t p;
     for (p = 0; p < t->pages; p++) {
         unsigned level, low = 0, high = 0;
-        for (level = 1; level <= 5; level++)
+        for (level = 1; level <= t->chip->top; level++)
             if (t->levels[p] >> (level - 1) & 1) {
                 low = low ? low : level;
                 high = level;
             }
         for (level = low + 1; low > 0 && level <= high; level++)
-            if (!(t->levels[p] >> (level - 1) & 1) || !names(image, p, level))
+            if (!(t->levels[p] >> (level - 1) & 1) || !names(t, image, p, level))
                 return 6;
     }
     return 0;
@@ -157,17 +205,17 @@ static int rule_6(const struct tree *t, const uint8_t *image)
 
 static int rule_7(struct tree *t)
 {
-    size_t p, b;
+    size_t p, b, row = t->chip->block_pages;
     t->free_pages = t->live = 0;
     for (p = 0; p < t->pages; p++) {
         t->free_pages += t->erased[p];
         t->live += t->levels[p] != 0;
     }
-    if (t->free_pages >= 32)
+    if (t->free_pages >= row)
         return 0;
-    for (b = 0; b < t->pages / BLOCK_PAGES; b++) {
+    for (b = 0; b < t->pages / row; b++) {
         size_t live = 0, erased = 0;
-        for (p = b * BLOCK_PAGES; p < (b + 1) * BLOCK_PAGES; p++) {
+        for (p = b * row; p < (b + 1) * row; p++) {
             live += t->levels[p] != 0;
             erased += t->erased[p];
         }
@@ -177,18 +225,19 @@ static int rule_7(struct tree *t)
     return 7;
 }
 
-/* Request 11: "always has T - L of at least 64"; rule_7 has counted L. */
+/* Request 11: "always has T - L of at least 64 (128 in the large geometry)"; rule_7 has counted L. */
 static int rule_8(const struct tree *t)
 {
-    return t->pages - t->live < 64 ? 8 : 0;
+    return t->pages - t->live < t->chip->room + 1 ? 8 : 0;
 }
 
-int judge(struct tree *t, const uint8_t *image, size_t length)
+int judge(struct tree *t, const struct chip *chip, const uint8_t *image, size_t length)
 {
     int rule;
-    if (length % (PAGE * BLOCK_PAGES) || length < 3 * PAGE * BLOCK_PAGES || length > (size_t)MOST_PAGES * PAGE)
+    if (length % length_of(chip, 1) || length < length_of(chip, 3) || length > length_of(chip, 1024))
         return -1;
-    t->pages = length / PAGE;
+    t->chip = chip;
+    t->pages = length / chip->page;
     t->nodes = t->entries = 0;
     memset(t->levels, 0, t->pages);
     if ((rule = rule_1(t, image)) || (rule = rule_2(t)) || (rule = rule_3(t, image)) || (rule = rule_4(t, image))
@@ -199,16 +248,16 @@ int judge(struct tree *t, const uint8_t *image, size_t length)
 }
 
 /* Whether the node gains an entry for the one above; adds to k what it needs for itself. */
-static int gains(const uint8_t *image, uint32_t page, unsigned level, int is_root, uint32_t key, unsigned *k)
+static int gains(const struct tree *t, const uint8_t *image, uint32_t page, unsigned level, uint32_t key, unsigned *k)
 {
-    const uint8_t *at = image + (size_t)page * PAGE, *slot = at + 8 * first_slot[level];
-    unsigned n = at[MAIN + 4 + level], i = n;
+    const uint8_t *slot = slots_of(t, image, page, level);
+    unsigned n = count_of(t, image, page, level), i = n;
     while (i > 1 && number_at(slot + 8 * (i - 1)) > key)
         i--;
     if (level == 1 ? n > 0 && number_at(slot + 8 * (i - 1)) == key
-                   : !gains(image, number_at(slot + 8 * (i - 1) + 4), level - 1, 0, key, k))
+                   : !gains(t, image, number_at(slot + 8 * (i - 1) + 4), level - 1, key, k))
         return 0;
-    if (n < (is_root ? most_root : most_below)[level])
+    if (n < most_of(t, level, level == t->height))
         return 0;
     *k += 1;
     return 1;
@@ -217,6 +266,6 @@ static int gains(const uint8_t *image, uint32_t page, unsigned level, int is_roo
 unsigned pages_needed(const struct tree *t, const uint8_t *image, uint32_t key)
 {
     unsigned k = 1;
-    gains(image, t->root, t->height, 1, key, &k);
+    gains(t, image, t->root, t->height, key, &k);
     return k;
 }

@@ -15,17 +15,24 @@ cat > "$folder/user.c" <<'END'
 
 #include <stdio.h>
 
-static uint8_t image[MUTREE_LEAST_BLOCKS * MUTREE_BLOCK_BYTES], result[MUTREE_RESULT_BYTES];
+static uint8_t image[MUTREE_LEAST_BLOCKS * MUTREE_LARGE_BLOCK_BYTES], result[MUTREE_RESULT_BYTES];
+
+/* An address stored and read again on a chip of three blocks, or 0. */
+static unsigned address_on(const struct mutree_geometry *chip, uint32_t key)
+{
+    size_t length = MUTREE_LEAST_BLOCKS * (size_t)chip->block_bytes;
+    if (mutree_format(chip->number, image, length, result, sizeof result) != MUTREE_DONE
+        || mutree_insert(chip->number, image, length, key, 1000 + key, UINT32_MAX, result, sizeof result) != MUTREE_DONE
+        || mutree_lookup(chip->number, image, length, key, result, sizeof result) != MUTREE_DONE)
+        return 0;
+    return (unsigned)mutree_read_result(result).address;
+}
 
 int main(void)
 {
-    if (mutree_format(image, sizeof image, result, sizeof result) != MUTREE_DONE)
+    if (mutree_geometry_of(MUTREE_GEOMETRIES) != NULL)
         return 1;
-    if (mutree_insert(image, sizeof image, 7, 1007, UINT32_MAX, result, sizeof result) != MUTREE_DONE)
-        return 1;
-    if (mutree_lookup(image, sizeof image, 7, result, sizeof result) != MUTREE_DONE)
-        return 1;
-    printf("%s %u\n", MUTREE_VERSION, (unsigned)mutree_read_result(result).address);
+    printf("%s %u %u\n", MUTREE_VERSION, address_on(mutree_geometry_of(MUTREE_SMALL), 7), address_on(mutree_geometry_of(MUTREE_LARGE), 8));
     return 0;
 }
 END
@@ -36,7 +43,7 @@ version=$(sed -n 's/^Version: //p' "$folder/usr/lib/pkgconfig/mutree.pc")
 for standard in c99 c11; do
     # shellcheck disable=SC2046
     $compiler -std=$standard -Wall -Wextra -Werror -pedantic $(flags Cflags) "$folder/user.c" $(flags Libs) -o "$folder/user"
-    [ "$("$folder/user")" = "$version 1007" ]
+    [ "$("$folder/user")" = "$version 1007 1008" ]
 done
 if echo 'int main() {}' | $compiler -x c++ -fsyntax-only - 2> /dev/null; then
     # shellcheck disable=SC2046
@@ -47,4 +54,4 @@ fi
 make -s uninstall TARGET="$host" PREFIX="$folder/usr"
 left=$(find "$folder/usr" -type f)
 [ -z "$left" ] || { echo "install: make uninstall left $left"; exit 1; }
-echo "install: a user's program links -lmutree $version, and uninstall leaves nothing"
+echo "install: a user's program links -lmutree $version and uses both chips, and uninstall leaves nothing"

@@ -8,11 +8,11 @@
 #include <string.h>
 #include <ucontext.h>
 
-uint32_t __real_mutree_format(uint8_t *image, size_t image_len, uint8_t *result, size_t result_len);
-uint32_t __real_mutree_lookup(const uint8_t *image, size_t image_len, uint32_t key, uint8_t *result, size_t result_len);
-uint32_t __real_mutree_insert(uint8_t *image, size_t image_len, uint32_t key, uint32_t address, uint32_t allowance,
+uint32_t __real_mutree_format(uint32_t geometry, uint8_t *image, size_t image_len, uint8_t *result, size_t result_len);
+uint32_t __real_mutree_lookup(uint32_t geometry, const uint8_t *image, size_t image_len, uint32_t key, uint8_t *result, size_t result_len);
+uint32_t __real_mutree_insert(uint32_t geometry, uint8_t *image, size_t image_len, uint32_t key, uint32_t address, uint32_t allowance,
                               uint8_t *result, size_t result_len);
-uint32_t __real_mutree_delete(uint8_t *image, size_t image_len, uint32_t key, uint32_t allowance, uint8_t *result,
+uint32_t __real_mutree_delete(uint32_t geometry, uint8_t *image, size_t image_len, uint32_t key, uint32_t allowance, uint8_t *result,
                               size_t result_len);
 
 enum { FORMAT, LOOKUP, INSERT, DELETE, NOTHING, CALLS };
@@ -28,23 +28,23 @@ static struct {
     int which;
     uint8_t *image, *result;
     size_t image_len, result_len;
-    uint32_t key, address, allowance, answer;
+    uint32_t geometry, key, address, allowance, answer;
 } now;
 
 static void make_call(void)
 {
     switch (now.which) {
     case FORMAT:
-        now.answer = __real_mutree_format(now.image, now.image_len, now.result, now.result_len);
+        now.answer = __real_mutree_format(now.geometry, now.image, now.image_len, now.result, now.result_len);
         break;
     case LOOKUP:
-        now.answer = __real_mutree_lookup(now.image, now.image_len, now.key, now.result, now.result_len);
+        now.answer = __real_mutree_lookup(now.geometry, now.image, now.image_len, now.key, now.result, now.result_len);
         break;
     case INSERT:
-        now.answer = __real_mutree_insert(now.image, now.image_len, now.key, now.address, now.allowance, now.result, now.result_len);
+        now.answer = __real_mutree_insert(now.geometry, now.image, now.image_len, now.key, now.address, now.allowance, now.result, now.result_len);
         break;
     case DELETE:
-        now.answer = __real_mutree_delete(now.image, now.image_len, now.key, now.allowance, now.result, now.result_len);
+        now.answer = __real_mutree_delete(now.geometry, now.image, now.image_len, now.key, now.allowance, now.result, now.result_len);
         break;
     }
 }
@@ -94,58 +94,62 @@ static void prepare(void)
     atexit(print_most);
 }
 
-static void set_buffers(const uint8_t *image, size_t image_len, uint8_t *result, size_t result_len)
+static void set_buffers(uint32_t geometry, const uint8_t *image, size_t image_len, uint8_t *result, size_t result_len)
 {
     prepare();
+    now.geometry = geometry;
     now.image = (uint8_t *)image;
     now.image_len = image_len;
     now.result = result;
     now.result_len = result_len;
 }
 
-uint32_t __wrap_mutree_format(uint8_t *image, size_t image_len, uint8_t *result, size_t result_len)
+uint32_t __wrap_mutree_format(uint32_t geometry, uint8_t *image, size_t image_len, uint8_t *result, size_t result_len)
 {
-    set_buffers(image, image_len, result, result_len);
+    set_buffers(geometry, image, image_len, result, result_len);
     return on_painted_stack(FORMAT);
 }
 
-uint32_t __wrap_mutree_lookup(const uint8_t *image, size_t image_len, uint32_t key, uint8_t *result, size_t result_len)
+uint32_t __wrap_mutree_lookup(uint32_t geometry, const uint8_t *image, size_t image_len, uint32_t key, uint8_t *result, size_t result_len)
 {
-    set_buffers(image, image_len, result, result_len);
+    set_buffers(geometry, image, image_len, result, result_len);
     now.key = key;
     return on_painted_stack(LOOKUP);
 }
 
-uint32_t __wrap_mutree_delete(uint8_t *image, size_t image_len, uint32_t key, uint32_t allowance, uint8_t *result,
+uint32_t __wrap_mutree_delete(uint32_t geometry, uint8_t *image, size_t image_len, uint32_t key, uint32_t allowance, uint8_t *result,
                               size_t result_len)
 {
-    set_buffers(image, image_len, result, result_len);
+    set_buffers(geometry, image, image_len, result, result_len);
     now.key = key;
     now.allowance = allowance;
     return on_painted_stack(DELETE);
 }
 
-/* A finished insert is also undone, on a copy, so that delete meets the trees on which insert needs the most. */
-static void undo_on_copy(const uint8_t *image, size_t image_len, uint32_t key)
+/* A finished insert is also undone, on a copy, and its key looked up before, so that the other calls meet the trees on which insert
+ * needs the most. */
+static void undo_on_copy(uint32_t geometry, const uint8_t *image, size_t image_len, uint32_t key)
 {
     uint8_t ignored[MUTREE_RESULT_BYTES], *copy = malloc(image_len);
     if (copy == NULL)
         exit(71);
     memcpy(copy, image, image_len);
-    __wrap_mutree_delete(copy, image_len, key, UINT32_MAX, ignored, sizeof ignored);
+    __wrap_mutree_delete(geometry, copy, image_len, key, UINT32_MAX, ignored, sizeof ignored);
     free(copy);
 }
 
-uint32_t __wrap_mutree_insert(uint8_t *image, size_t image_len, uint32_t key, uint32_t address, uint32_t allowance,
+uint32_t __wrap_mutree_insert(uint32_t geometry, uint8_t *image, size_t image_len, uint32_t key, uint32_t address, uint32_t allowance,
                               uint8_t *result, size_t result_len)
 {
+    uint8_t ignored[MUTREE_RESULT_BYTES];
     uint32_t answer;
-    set_buffers(image, image_len, result, result_len);
+    __wrap_mutree_lookup(geometry, image, image_len, key, ignored, sizeof ignored);
+    set_buffers(geometry, image, image_len, result, result_len);
     now.key = key;
     now.address = address;
     now.allowance = allowance;
     answer = on_painted_stack(INSERT);
     if (answer == MUTREE_DONE)
-        undo_on_copy(image, image_len, key);
+        undo_on_copy(geometry, image, image_len, key);
     return answer;
 }

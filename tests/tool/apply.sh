@@ -69,7 +69,7 @@ out=$(limited apply none.img < commands 2>&1)
 [ $? -eq 66 ] || fail "apply to a file that is not there: $out"
 
 # over a second on a terminal: a line says how far it is
-fresh "$chip" 1024
+fresh "$chip" "$many"
 key=1
 while [ "$key" -le 600 ]; do
     echo "insert $key $key"

@@ -39,7 +39,7 @@ fresh "$chip" 1024
 interrupted INT 2
 interrupted TERM 15
 interrupted HUP 1
-want 0 "1024 blocks, sound" show "$chip"
+want 0 "1024 blocks, small pages, sound" show "$chip"
 rm -f "$chip" out over number
 
 # a file that a killed process left beside the chip disturbs nobody

@@ -55,10 +55,27 @@ want() {
     has "$out" "$text" || fail "'mutree $*' printed '$out', wanted '$text'"
 }
 
+# use_chip small|large: the chip of the parts that follow: its option for format, the bytes of a block, of three blocks and of
+# a page, a page's main bytes, the pages of a block, the greatest height, and so many blocks that a change of them takes a while
+use_chip() {
+    case $1 in
+    small) option='' block=16896 page=528 main=512 row=32 top=5 many=1024 ;;
+    large) option=--large block=135168 page=2112 main=2048 row=64 top=7 many=128 ;;
+    esac
+    kind="$1 pages" said=--$1
+    three=$((3 * block))
+}
+
 # fresh [FILE] [BLOCKS]: a formatted chip
 fresh() {
     rm -f "${1:-$chip}"
-    "$tool" format "${1:-$chip}" "${2:-3}" > /dev/null || fail "format ${1:-$chip} ${2:-3}"
+    # shellcheck disable=SC2086
+    "$tool" format "${1:-$chip}" "${2:-3}" $option > /dev/null || fail "format ${1:-$chip} ${2:-3} $option"
+}
+
+# filled FILE COUNT BYTE: a file of so many bytes, all of this octal value
+filled() {
+    head -c "$2" /dev/zero | tr '\0' "\\$3" > "$1"
 }
 
 # keep FILE and same FILE WHAT: that a file did not change in between
@@ -79,9 +96,18 @@ no_leftover() {
     done
 }
 
-for part in words overwriting links kinds writers interrupts printing lengths apply pictures documents; do
-    . "$here/$part.sh"
-    rm -rf "$folder"/*
+parts() {
+    for part in "$@"; do
+        . "$here/$part.sh"
+        rm -rf "$folder"/*
+    done
+}
+
+for chip_name in small large; do
+    use_chip "$chip_name"
+    parts words overwriting lengths apply pictures
 done
+use_chip small
+parts chips links kinds writers interrupts printing documents
 [ "$bad" -eq 0 ] && echo "tool: all as it should be"
 exit "$bad"

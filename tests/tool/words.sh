@@ -1,4 +1,5 @@
 # Commands, numbers and answers.
+# shellcheck disable=SC2086
 want 64 "usage:"
 want 64 "nonsense" nonsense "$chip"
 want 64 "'insert'" inset "$chip" 1 2
@@ -11,12 +12,12 @@ want 66 "cannot open" insert "$chip" 1 1
 want 1 "3 to 1024 blocks" format "$chip" 2
 want 1 "3 to 1024 blocks" format "$chip" 1025
 want 64 "is no number" format "$chip" three
-want 0 "DONE: 1 programmed, 3 erased" format "$chip" 3
+want 0 "DONE: 1 programmed, 3 erased; a chip with $kind, $three bytes" format "$chip" 3 $option
 want 4 "ABSENT" lookup "$chip" 7
 want 4 "ABSENT" delete "$chip" 7
 want 0 "DONE: 1 programmed, 0 erased" insert "$chip" 7 1000
 want 0 "1000" lookup "$chip" 7
-want 0 "height 1, 1 entry, root" show "$chip"
+want 0 "3 blocks, $kind, sound; height 1, 1 entry, root" show "$chip"
 want 7 "STOPPED: 0 programmed, 0 erased" insert "$chip" 8 1001 --allow 0
 want 4 "ABSENT" lookup "$chip" 8
 want 64 "is no number" insert "$chip" 4294967296 1
@@ -49,8 +50,8 @@ want 0 "DONE" insert "$chip" 5 50
 out=$("$tool" cut "$chip" 5 50 2>&1 | tail -n 1)
 has "$out" "new map, the same as the old, 1 entry" || fail "cut on a pair that is there printed '$out'"
 
-head -c 50688 /dev/zero > zeros.img
-want 2 "DAMAGED" insert zeros.img 1 1
-want 2 "DAMAGED" show zeros.img
-want 2 "DAMAGED" cut zeros.img 1 1
-want 2 "DAMAGED" lookup zeros.img 1
+head -c "$three" /dev/zero > zeros.img
+want 2 "DAMAGED" insert zeros.img 1 1 "$said"
+want 2 "DAMAGED" show zeros.img "$said"
+want 2 "DAMAGED" cut zeros.img 1 1 "$said"
+want 2 "DAMAGED" lookup zeros.img 1 "$said"

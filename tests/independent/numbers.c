@@ -1,0 +1,65 @@
+/* numbers.c: the geometry's number. 0 and 1 are the two chips, another gives LENGTH, and its result is written all the same. What
+ * c/mutree.h says of a chip is what the documents say. */
+#include "demands.h"
+
+#include <stdlib.h>
+#include <string.h>
+
+static void header_is_the_documents(void)
+{
+    const struct mutree_geometry *g = mutree_geometry_of(chip->number);
+    if (g == NULL || g->number != chip->number || g->pages != chip->block_pages || g->main_bytes != chip->main
+        || g->page_bytes != chip->page || g->main_bytes + g->spare_bytes != chip->page || g->block_bytes != length_of(chip, 1)
+        || g->slots != chip->slots || g->top != chip->top || g->worn != chip->worn)
+        fail("c/mutree.h gives the chip another geometry");
+    if (g->most_own_pages != chip->own_pages || g->most_pages != chip->all_pages || g->most_erases != chip->erases
+        || g->most_stores != chip->all_pages + chip->erases)
+        fail("c/mutree.h gives the chip other bounds");
+}
+
+/* One call with a number that is no chip's: 0 format, 1 lookup, 2 insert, 3 delete. */
+static uint32_t call(int which, uint32_t number, uint8_t *image, size_t length, uint8_t *result, size_t room)
+{
+    switch (which) {
+    case 0: return mutree_format(number, image, length, result, room);
+    case 1: return mutree_lookup(number, image, length, 1, result, room);
+    case 2: return mutree_insert(number, image, length, 1, 1, UINT32_MAX, result, room);
+    default: return mutree_delete(number, image, length, 1, UINT32_MAX, result, room);
+    }
+}
+
+static void is_no_chip(uint32_t number, const uint8_t *image, size_t length)
+{
+    static const uint8_t written[20] = { MUTREE_LENGTH, 0, 0, 0, 0, 0, 0, 0, 0, 0, 0, 0, 0, 0, 0, 0, 9, 9, 9, 9 };
+    uint8_t *copy = copy_of(image, length), result[20], untouched[20];
+    int which;
+    memset(untouched, 9, sizeof untouched);
+    for (which = 0; which < 4; which++) {
+        memset(result, 9, sizeof result);
+        if (call(which, number, copy, length, result, 15) != MUTREE_LENGTH || memcmp(result, untouched, sizeof result))
+            fail("a number that is no chip's, with a short buffer, is LENGTH and writes nothing");
+        if (call(which, number, copy, length, result, 20) != MUTREE_LENGTH || memcmp(result, written, sizeof result))
+            fail("a number that is no chip's is LENGTH, and the result says so");
+        if (memcmp(copy, image, length))
+            fail("a call with a number that is no chip's wrote to the image");
+    }
+    if (mutree_geometry_of(number) != NULL)
+        fail("c/mutree.h has a chip that the documents have not");
+    free(copy);
+}
+
+void numbers_are_the_documents(void)
+{
+    static const uint32_t others[] = { 2, 3, 255, 256, 257, 65536, 2147483648u, 4294967295u };
+    size_t length = length_of(&chips[CHIPS - 1], 3), i; /* which fits both chips */
+    uint8_t *image = room_for(length), result[16];
+    header_is_the_documents();
+    memset(image, 255, length);
+    if (mutree_format(chip->number, image, length, result, sizeof result) != MUTREE_DONE)
+        fail("format was refused");
+    for (i = 0; i < sizeof others / sizeof *others; i++)
+        is_no_chip(others[i], image, length);
+    if (mutree_lookup(1 - chip->number, image, length, 1, result, sizeof result) != MUTREE_DAMAGED)
+        fail("an index of one chip is none of the other");
+    free(image);
+}
