@@ -245,30 +245,36 @@ fn patrol(bench: Bench, img: &mut [u8], page: u32, half: u32) {
     tell(index::patrol(bench.kind, &mut *img, page, half));
 }
 
-// Half 1 of page 1 whole, with bit 356 flipped, with bit 19 of its code flipped, and with bits 356 and 357 flipped.
-fn flipped(bench: Bench, img: &mut [u8]) {
-    let base = geometry::page_base(bench.geometry, 1);
-    let code = geometry::code_place(bench.geometry, 1);
-    patrol(bench, &mut *img, 1, 1);
-    flip(&mut *img, base + 300, 16);
+// Bits of one byte flipped, and half 1 of page 1 patrolled: the keys held before it and after.
+fn mends(bench: Bench, img: &mut [u8], at: usize, bits: u8) {
+    flip(&mut *img, at, bits);
     found(bench, &*img, 7);
-    patrol(bench, &mut *img, 1, 1);
-    found(bench, &*img, 7);
-    flip(&mut *img, base + code + 2, 8);
-    patrol(bench, &mut *img, 1, 1);
-    flip(&mut *img, base + 300, 48);
     patrol(bench, &mut *img, 1, 1);
     found(bench, &*img, 7);
 }
 
-// The same half after an insert, and an erased page; then a page and a half that the image has not.
-fn patrols(bench: Bench, img: &mut [u8], pages: u32, halves: u32) {
-    format(bench, &mut *img);
-    insert(bench, &mut *img, 7);
-    flipped(bench, &mut *img);
+// The half with bit 356 flipped, with bit 19 of its code flipped, and with bits 356 and 357 flipped.
+fn flipped(bench: Bench, img: &mut [u8]) {
+    let base = geometry::page_base(bench.geometry, 1);
+    let code = geometry::code_place(bench.geometry, 1);
+    mends(bench, &mut *img, base + 300, 16);
+    mends(bench, &mut *img, base + code + 2, 8);
+    mends(bench, &mut *img, base + 300, 48);
+}
+
+// A whole half, an erased one, and a page and a half that the image has not.
+fn clean(bench: Bench, img: &mut [u8], pages: u32, halves: u32) {
+    patrol(bench, &mut *img, 1, 1);
     patrol(bench, &mut *img, 2, 0);
     patrol(bench, &mut *img, pages, 0);
     patrol(bench, &mut *img, 1, halves);
+}
+
+fn patrols(bench: Bench, img: &mut [u8], pages: u32, halves: u32) {
+    format(bench, &mut *img);
+    insert(bench, &mut *img, 7);
+    clean(bench, &mut *img, pages, halves);
+    flipped(bench, &mut *img);
 }
 
 // All calls on bytes that are no index.
