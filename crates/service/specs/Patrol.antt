@@ -3,17 +3,17 @@
 use mathlib.Core.Path.{_≡_, ap, _∙_}
 use mathlib.Core.List.{List}
 use mathlib.Core.Bool.{true, false}
-use Prim.Native.Nat.{ℕ, _<_, _≤_}
+use Prim.Native.Nat.{ℕ, _+_, _*_, _<_, _≤_}
 use lib.ListN.{length}
 use Rattle.geometry.specs.declared.Geometry.{Geometry}
 use Rattle.geometry.specs.declared.Chosen.{Chosen}
 use Rattle.geometry.specs.declared.Chosen.the-variants.{Of}
-use Rattle.geometry.specs.Geometry.{chosenOf}
+use Rattle.geometry.specs.Geometry.{chosenOf, codePlace, pageBase}
 use Rattle.geometry.specs.Shape.{Shape, shape, chosen-known}
 use Rattle.model.specs.Bytes.{byteAt}
 use Rattle.model.specs.Codes.{fits, flipBit}
 use Rattle.model.specs.Calls.{Outcome, refused, isHalf, patrol, chosenCall, patrolOf}
-use Rattle.demands.specs.Patrol.{finds, from, code, clean-half, data-bit-mended, code-bit-mended, two-bits-told}
+use Rattle.demands.specs.Patrol.{finds, clean-half, data-bit-mended, code-bit-mended, two-bits-told}
 use Rattle.camera.specs.Camera.{Left, returned}
 use Rattle.service.specs.Left.{on, other-unknown, whole, told-whole}
 
@@ -43,13 +43,20 @@ module _ (kind : ℕ) (g : Geometry) (is : chosenOf kind ≡ Of g) (page half : 
   formed : Shape g
   formed = shape g (chosen-known kind g is)
 
+  -- the first byte of the half, and of its code
+  abbrev from : ℕ
+  from = pageBase g page + 256 * half
+
+  abbrev code : ℕ
+  code = pageBase g page + codePlace g half
+
   module _ (image : List ℕ) (asked : isHalf g image page half ≡ true)
-      (ok : fits image (from g formed image page half asked) (code g formed image page half asked) ≡ true) where
+      (ok : fits image from code ≡ true) where
     abbrev one : ℕ → List ℕ
-    one n = flipBit image (from g formed image page half asked) n
+    one n = flipBit image from n
 
     abbrev two : ℕ → ℕ → List ℕ
-    two n m = flipBit (one n) (from g formed image page half asked) m
+    two n m = flipBit (one n) from m
 
     pub clean-patrol : patrols kind image page half result ≡ whole (finds 0 0 image) result
     clean-patrol = patrol-call image ∙ ap (λ (o : Outcome). whole o result) (clean-half g formed image page half asked ok)
@@ -59,8 +66,8 @@ module _ (kind : ℕ) (g : Geometry) (is : chosenOf kind ≡ Of g) (page half : 
     data-bit-patrol n h = patrol-call (one n) ∙ ap (λ (o : Outcome). whole o result) (data-bit-mended g formed image page half asked ok n h)
 
     pub code-bit-patrol : ((i : ℕ) → byteAt image i < 256) → (j : ℕ) → j < 24
-        → patrols kind (flipBit image (code g formed image page half asked) j) page half result ≡ whole (finds 2 j image) result
-    code-bit-patrol bytes j h = patrol-call (flipBit image (code g formed image page half asked) j)
+        → patrols kind (flipBit image code j) page half result ≡ whole (finds 2 j image) result
+    code-bit-patrol bytes j h = patrol-call (flipBit image code j)
         ∙ ap (λ (o : Outcome). whole o result) (code-bit-mended g formed image page half asked ok bytes j h)
 
     -- two flipped data bits are told, and nothing changes
