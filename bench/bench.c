@@ -62,14 +62,14 @@ struct builder {
     uint32_t programmed, leaves, made, key;
 };
 
-static uint32_t most_below(const struct mutree_geometry *chip, unsigned level)
+static uint32_t node_slots(const struct mutree_geometry *chip, unsigned level)
 {
     return chip->slots >> level;
 }
 
 static uint32_t keys_a_leaf(const struct mutree_geometry *chip)
 {
-    return most_below(chip, 1) * 3 / 4;
+    return node_slots(chip, 1) * 3 / 4;
 }
 
 /* The most leaves below a node of this level. */
@@ -77,7 +77,7 @@ static uint32_t most_leaves(const struct mutree_geometry *chip, unsigned level)
 {
     uint32_t product = 1;
     for (; level > 1; level--)
-        product *= most_below(chip, level);
+        product *= node_slots(chip, level);
     return product;
 }
 
@@ -179,10 +179,11 @@ static uint32_t some(uint32_t below)
     return (uint32_t)((seed >> 33) % below);
 }
 
+static volatile uint64_t sum; /* what read_all read */
+
 /* All words of the image, added up: what reading alone costs. */
 static uint32_t read_all(const uint8_t *image, size_t length)
 {
-    static volatile uint64_t sum;
     uint64_t word, all = 0;
     size_t at;
     for (at = 0; at + sizeof word <= length; at += sizeof word) {
