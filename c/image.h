@@ -35,5 +35,6 @@ struct mutree_result image_format(struct image *image);
 struct mutree_result image_lookup(const struct image *image, uint32_t key);
 struct mutree_result image_insert(struct image *image, uint32_t key, uint32_t address, uint32_t allowance);
 struct mutree_result image_delete(struct image *image, uint32_t key, uint32_t allowance);
+struct mutree_result image_patrol(struct image *image, uint32_t page, uint32_t half);
 
 #endif

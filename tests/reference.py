@@ -3,7 +3,6 @@
 The model is no part of this repository: it stands in the folder `shared/model` beside it, or where the variable
 MUTREE_MODEL says. `load` gives None where it is missing; run as a program this file then ends with 3.
 """
-import dataclasses
 import importlib
 import os
 import random
@@ -23,7 +22,7 @@ def load():
 
 def rules(fuzz):
     """The requests that have landed and that the model tells apart."""
-    return fuzz.Rules(wish2=True, wish5=True, wish11=True)
+    return fuzz.Rules(wish2=True, wish4=True, wish5=True, wish11=True)
 
 
 def geometries(fuzz):
@@ -32,27 +31,46 @@ def geometries(fuzz):
 
 
 def mu(fuzz, geometry, with_r7=True):
-    """The model of the rules as they stand here, on a chip.
-
-    The model makes large chips with the codes of request 4 alone. These have not landed: all spare bytes after the counts are 255.
-    """
-    landed = rules(fuzz)
-
-    class Here(fuzz.Mu):
-        def well_formed(self, page):
-            spare = page[self.G.main:]
-            return page == self.ERASED or (spare[4] <= self.G.max_height and spare[:4] != bytes(4)
-                                           and set(spare[5 + self.G.max_height:]) == {255})
-
+    """The model of the rules as they stand here, on a chip."""
+    class WithoutR7(fuzz.Mu):
         def R7(self, img):
-            return super().R7(img) if with_r7 else None
-    m = Here(geometry, dataclasses.replace(landed, wish4=True))
-    m.rules = landed
-    return m
+            return None
+    return (fuzz.Mu if with_r7 else WithoutR7)(geometry, rules(fuzz))
+
+
+def code_place(g, page, half):
+    """The first byte of a half's code."""
+    return page * g.page_size + g.main + g.code_at + 3 * half
+
+
+def recoded(m, img):
+    """The image with fitting codes on every programmed page."""
+    g, b, code = m.G, bytearray(img), sys.modules["mutree_model"].code
+    for p in range(len(b) // g.page_size):
+        at = p * g.page_size
+        if b[at:at + g.page_size] != m.ERASED:
+            for h in range(g.halves):
+                c = code_place(g, p, h)
+                b[c:c + 3] = code(bytes(b[at + 256 * h:at + 256 * h + 256]))
+    return bytes(b)
+
+
+def patrolled(m, img, page, half):
+    """The model's patrol by numbers: answer, what was found, the bit mended, three times 0, the image
+    afterwards."""
+    answer, what, after = m.patrol(img, page, half)
+    found = (m.CLEAN, m.DATA_MENDED, m.CODE_MENDED, m.BEYOND).index(what) if what else 0
+    bit = 0
+    if found in (1, 2):
+        at = page * m.G.page_size + 256 * half if found == 1 else code_place(m.G, page, half)
+        size = 256 if found == 1 else 3
+        bit = (int.from_bytes(img[at:at + size], "little") ^ int.from_bytes(after[at:at + size], "little")).bit_length() - 1
+    return answer, found, bit, 0, 0, 0, after
 
 
 def damaged(rng, m, img):
-    """The image with one to three things broken: keys, counts, numbers, erased or exchanged pages, single bits."""
+    """The image with one to three things broken: keys, counts, numbers, erased or exchanged pages, single bits. Mostly the
+    codes are made to fit again, so that other rules than R1 show."""
     g, b, live = m.G, bytearray(img), m.live_nodes(img)
     size = g.page_size
     for _ in range(rng.choice([1, 1, 2, 3])):
@@ -79,7 +97,7 @@ def damaged(rng, m, img):
             b[q * size:(q + 1) * size], b[r * size:(r + 1) * size] = b[r * size:(r + 1) * size], b[q * size:(q + 1) * size]
         else:
             b[rng.randrange(len(b))] ^= 1 << rng.randrange(8)
-    return bytes(b)
+    return bytes(b) if rng.random() < .2 else recoded(m, bytes(b))
 
 
 def loose(rng, m, fuzz, blocks=None):

@@ -1,8 +1,9 @@
 """Runs the definitions of crates/geometry/specs and crates/model/specs as they stand.
 
 A small translator for the part of antt that these files use: clauses by patterns, records, data, `pick`, `let`, `λ`.
-Arguments are worked out only where they are needed, as in mathematics. `blank`, `written`, `least` and `arg`, and the
-library's `getD`, `set`, `replicate`, are replaced by quick Python of the same meaning; a few values are kept once known.
+Arguments are worked out only where they are needed, as in mathematics. `blank`, `written`, `least`, `arg` and `freshCode`,
+and the library's `getD`, `set`, `replicate`, `bitXor`, `onesIn`, `trailingZeros`, are replaced by quick Python of the same
+meaning (`plainCode` is `freshCode` as it stands); a few values are kept once known.
 """
 import re
 import sys
@@ -80,7 +81,7 @@ class Function:
 
 CONSTRUCTORS = {"zero": 0, "suc": 1, "true": 0, "false": 0, "[]": 0, "none": 0, "some": 1}
 OPS = {"+": lambda a, b: a + b, "-": lambda a, b: max(a - b, 0), "*": lambda a, b: a * b,
-       "/": lambda a, b: a // b if b else 0, "%": lambda a, b: a % b if b else a, "^": lambda a, b: a ** b}
+       "/": lambda a, b: a // b if b else 0, "%": lambda a, b: a % b if b else a, "^": lambda a, b: a ** b, "⊕": lambda a, b: a ^ b}
 
 
 class Parser:
@@ -119,7 +120,7 @@ class Parser:
             return lambda env: body({**env, name: Thunk(lambda: value(env))})
         return self.binary(0)
 
-    LEVELS = [["&"], ["∷", "++"], ["+", "-"], ["*", "/", "%"], ["^"]]
+    LEVELS = [["&"], ["∷", "++"], ["⊕"], ["+", "-"], ["*", "/", "%"], ["^"]]
 
     def binary(self, level):
         if level == len(self.LEVELS):
@@ -151,7 +152,7 @@ class Parser:
             if w is not None and w.startswith(".") and len(w) > 1:
                 self.take()
                 head, args = self.field(self.apply(head, args), w[1:]), []
-            elif w is None or w in (")", "}", ";", "in", "=", ".", "&", "∷", "++", "+", "-", "*", "/", "%", "^"):
+            elif w is None or w in (")", "}", ";", "in", "=", ".", "&", "∷", "++", "⊕", "+", "-", "*", "/", "%", "^"):
                 return self.apply(head, args)
             else:
                 args.append(self.atom())
@@ -254,7 +255,7 @@ class Definitions:
     def __init__(self, root):
         self.names = dict(self.library())
         for crate, files in (("geometry", ["Tests", "Geometry"]),
-                             ("model", ["Bytes", "Count", "Image", "Tree", "Next", "Rules", "Page", "Stores", "Edit", "Collect", "Update", "Calls"])):
+                             ("model", ["Bytes", "Codes", "Count", "Image", "Tree", "Next", "Rules", "Page", "Stores", "Edit", "Collect", "Update", "Calls"])):
             for f in files:
                 self.read("%s/crates/%s/specs/%s.antt" % (root, crate, f))
         self.names.update(self.quick())
@@ -270,6 +271,8 @@ class Definitions:
         yield "ltb", number(lambda a, b: a < b)
         yield "min", number(min)
         yield "max", number(max)
+        yield "onesIn", number(lambda k, n: bin(n % 2 ** k).count("1"))
+        yield "trailingZeros", number(lambda k, n: next((i for i in range(k) if n >> i & 1), k))
         yield "not", Function(1, lambda b: not force(b))
         yield "length", Function(1, lambda l: len(force(l)))
         yield "take", Function(2, lambda n, l: force(l)[:force(n)])
@@ -282,7 +285,8 @@ class Definitions:
         yield "zero", 0
         yield "suc", Function(1, lambda n: force(n) + 1)
         yield "[]", ()
-        for name, arity in (("none", 0), ("some", 1), ("Good", 0), ("Bad", 1), ("Sound", 0), ("Broken", 2), ("program", 2), ("erase", 1)):
+        for name, arity in (("none", 0), ("some", 1), ("Good", 0), ("Bad", 1), ("Sound", 0), ("Broken", 2), ("program", 2), ("erase", 1),
+                            ("Of", 1), ("Unknown", 0), ("Clean", 0), ("DataMended", 1), ("CodeMended", 1), ("Beyond", 0)):
             CONSTRUCTORS[name] = arity
             yield name, Function(arity, lambda *a, name=name: (name,) + a) if arity else (name,)
 
@@ -304,6 +308,10 @@ class Definitions:
         def arg(n, f):
             values = [force(f)(i) for i in range(force(n))]
             return values.index(max(values)) if values else 0
+        def fresh(img, at):
+            img, at = force(img), force(at)
+            half = bytes(img[at:at + 256])
+            return quick_code(half + bytes(256 - len(half)))
         once = {}
 
         def taken(p, n, er, i):
@@ -317,6 +325,8 @@ class Definitions:
         yield "least", Function(2, least)
         yield "arg", Function(2, arg)
         yield "taken", Function(4, taken)
+        yield "plainCode", self.names["freshCode"]
+        yield "freshCode", Function(2, fresh)
         for name in ("erased", "seqAt", "heightAt", "nodeAt", "rootOf", "maxSeq"):
             yield name, self.kept(self.names[name])
 
@@ -352,6 +362,16 @@ class Definitions:
                     return body(env)
             raise ValueError("no clause of " + name)
         return Function(arity, run) if arity else Thunk(run)
+
+
+@lru_cache(maxsize=100000)
+def quick_code(half):
+    e = g = 0
+    for i, b in enumerate(half):
+        while b:
+            n = 8 * i + (b & -b).bit_length() - 1
+            e, g, b = e ^ n, g ^ (2047 - n), b & (b - 1)
+    return 16777215 - (e + 2048 * g)
 
 
 GEOMETRIES = []

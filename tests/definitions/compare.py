@@ -28,6 +28,37 @@ def same(what, ours, theirs, img):
         sys.exit("%s: the definitions say %s, the reference %s; the image is in differs.img" % (what, ours[:6], theirs[:6]))
 
 
+def patrols(d, m, rng, turns, met):
+    """Halves with up to four flipped bits, in the data, the code or both, and halves that no image has."""
+    g = m.G
+    for turn in range(turns):
+        page, half = rng.randrange(3 * g.pages_per_block), rng.randrange(g.halves)
+        img = bytearray(b"\xff" * (3 * g.block_size))
+        img[page * g.page_size:(page + 1) * g.page_size] = rng.choice([rng.randbytes(g.page_size), bytes(g.page_size)])
+        img = bytearray(reference.recoded(m, bytes(img)))
+        at, code = page * g.page_size + 256 * half, reference.code_place(g, page, half)
+        if turn < 8:
+            same("the code of a half", (d["plainCode"](bytes(img), at),), (d["freshCode"](bytes(img), at),), bytes(img))
+        for _ in range(rng.choice([0, 1, 1, 1, 2, 2, 3, 4])):
+            n = rng.randrange(2048 + 24) if rng.random() < .5 else rng.choice([rng.randrange(2048), 2048 + rng.randrange(24)])
+            i = at + n // 8 if n < 2048 else code + (n - 2048) // 8
+            img[i] ^= 1 << n % 8
+        img, u = bytes(img), rng.random()
+        if u < .05:
+            page = rng.choice([3 * g.pages_per_block, 2 ** 32 - 1])
+        elif u < .1:
+            half = rng.choice([g.halves, 2 ** 32 - 1])
+        elif u < .13:
+            img = img[:-1]
+        theirs = reference.patrolled(m, img, page, half)
+        ours = outcome(d["patrolOf"](g.number, img, page, half))
+        same("patrol of half %d of page %d" % (half, page), ours, theirs, img)
+        key = "patrol LENGTH" if theirs[0] else "patrol %d" % theirs[1]
+        met[key] = met.get(key, 0) + 1
+    img = b"\xff" * 50688
+    same("patrol of geometry 2", outcome(d["patrolOf"](2, img, 0, 0)), (1, 0, 0, 0, 0, 0, img), img)
+
+
 def compare(seconds, seed, name):
     fuzz = reference.load()
     if fuzz is None:
@@ -39,6 +70,7 @@ def compare(seconds, seed, name):
     rest = lambda r: (r.answer, r.address, r.programmed, r.erased, r.rule, r.page, r.img)
     broken = damage.images(rng, fuzz, m)  # each clause of request 5 comes first
     edges = [geometry.r8_least - 1, geometry.r8_least]  # both sides of R8 come first
+    patrols(d, m, rng, 300, met)
     end = time.time() + seconds
     while time.time() < end or edges or broken:
         img = broken.pop() if broken else fuzz.hand_image(rng, m, rng.choice([3, 3, 3, 4, 5]))

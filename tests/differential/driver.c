@@ -1,7 +1,8 @@
 /* driver.c: calls the library on what standard input says, so that a script can hold it against another implementation.
  *
- * A request: seven 32-bit numbers (call 0 to 3: format, lookup, insert, delete; geometry; key; address; allowance; image
- * length; result length), least byte first, then the image and the result buffer. The reply: the returned number, then the
+ * A request: seven 32-bit numbers (call 0 to 4: format, lookup, insert, delete, patrol; geometry; key; address; allowance; image
+ * length; result length), least byte first, then the image and the result buffer. A patrol's page and half stand for key and
+ * address. The reply: the returned number, then the
  * image and the result buffer as the call left them. Both stand against a guard page (guarded.h), so that a byte read too
  * far ends the driver: with an even key the one behind them, with an odd key the one before. */
 #define _DEFAULT_SOURCE
@@ -36,6 +37,7 @@ static uint32_t call(const uint32_t *n, uint8_t *image, uint8_t *result)
     case 1: return mutree_lookup(n[GEOMETRY], image, n[IMAGE_LENGTH], n[KEY], result, n[RESULT_LENGTH]);
     case 2:
         return mutree_insert(n[GEOMETRY], image, n[IMAGE_LENGTH], n[KEY], n[ADDRESS], n[ALLOWANCE], result, n[RESULT_LENGTH]);
+    case 4: return mutree_patrol(n[GEOMETRY], image, n[IMAGE_LENGTH], n[KEY], n[ADDRESS], result, n[RESULT_LENGTH]);
     default: return mutree_delete(n[GEOMETRY], image, n[IMAGE_LENGTH], n[KEY], n[ALLOWANCE], result, n[RESULT_LENGTH]);
     }
 }

@@ -1,8 +1,9 @@
 // Document 01's bench cases on three blocks, of the small chip and of the large one: bad lengths and bytes of 255 through all
-// four calls, format and as many keys as a root of level 1 stores, one key more with an allowance of 1 and in full, the next
-// key, and a key inserted and deleted. Each call gives a line: answer, address, programmed, erased. A page gives a line for
-// each level that it counts: page, sequence number, height, level, entries, then key and address, of a leaf's first and last
-// entry and of each entry above.
+// calls, format and as many keys as a root of level 1 stores, one key more with an allowance of 1 and in full, the next
+// key, a key inserted and deleted, and patrols of a half with no, one and two flipped bits. Each call gives a line: answer,
+// address (of a patrol what it found), programmed (of a patrol the bit), erased. A page gives a line for each level that it
+// counts: page, sequence number, height, level, entries, then key and address, of a leaf's first and last entry and of each
+// entry above.
 ghost use Prim.Native.Nat.{_<_, _≤_};
 use answers::Answer;
 use geometry::Entry;
@@ -231,7 +232,54 @@ fn comes_and_goes(bench: Bench, img: &mut [u8]) {
     delete(bench, &mut *img, 7);
 }
 
-// All four calls on bytes that are no index.
+fn flip(img: &mut [u8], at: usize, bit: u8) {
+    if at < img.len() {
+        img[at] = img[at] ^ bit;
+    }
+}
+
+fn patrol(bench: Bench, img: &mut [u8], page: u32, half: u32) {
+    io::write_all(1, b"patrol of page");
+    number(page);
+    io::write_all(1, b" half");
+    number(half);
+    io::write_all(1, b":");
+    tell(index::patrol(bench.kind, &mut *img, page, half));
+}
+
+// Bits of one byte flipped, and half 1 of page 1 patrolled: the keys held before it and after.
+fn mends(bench: Bench, img: &mut [u8], at: usize, bits: u8) {
+    flip(&mut *img, at, bits);
+    found(bench, &*img, 7);
+    patrol(bench, &mut *img, 1, 1);
+    found(bench, &*img, 7);
+}
+
+// The half with bit 356 flipped, with bit 19 of its code flipped, and with bits 356 and 357 flipped.
+fn flipped(bench: Bench, img: &mut [u8]) {
+    let base = geometry::page_base(bench.geometry, 1);
+    let code = geometry::code_place(bench.geometry, 1);
+    mends(bench, &mut *img, base + 300, 16);
+    mends(bench, &mut *img, base + code + 2, 8);
+    mends(bench, &mut *img, base + 300, 48);
+}
+
+// A whole half, an erased one, and a page and a half that the image has not.
+fn clean(bench: Bench, img: &mut [u8], pages: u32, halves: u32) {
+    patrol(bench, &mut *img, 1, 1);
+    patrol(bench, &mut *img, 2, 0);
+    patrol(bench, &mut *img, pages, 0);
+    patrol(bench, &mut *img, 1, halves);
+}
+
+fn patrols(bench: Bench, img: &mut [u8], pages: u32, halves: u32) {
+    format(bench, &mut *img);
+    insert(bench, &mut *img, 7);
+    clean(bench, &mut *img, pages, halves);
+    flipped(bench, &mut *img);
+}
+
+// All calls on bytes that are no index.
 fn refused(bench: Bench, img: &mut [u8]) {
     io::write_all(1, b"length ");
     io::print_decimal(1, img.len() as u64);
@@ -242,6 +290,8 @@ fn refused(bench: Bench, img: &mut [u8]) {
     tell(index::insert(bench.kind, &mut *img, 7, 7, 4294967295));
     io::write_all(1, b"  delete:");
     tell(index::delete(bench.kind, &mut *img, 7, 4294967295));
+    io::write_all(1, b"  patrol:");
+    tell(index::patrol(bench.kind, &mut *img, 0, 0));
     io::write_all(1, b"  format:");
     tell(index::format(bench.kind, &mut *img));
 }
@@ -272,6 +322,7 @@ fn small_chip() {
     refused(bench, &mut blank);
     let mut image: [u8; 50688] = [0; 50688];
     cases(bench, &mut image, 64, 65);
+    patrols(bench, &mut image, 96, 2);
 }
 
 // The same of the large chip, whose three blocks have 405,504 bytes.
@@ -290,6 +341,7 @@ fn large_chip() {
     refused(bench, &mut blank);
     let mut image: [u8; 405504] = [0; 405504];
     cases(bench, &mut image, 256, 257);
+    patrols(bench, &mut image, 192, 8);
 }
 
 // A number that is no geometry's: LENGTH, whatever the image.

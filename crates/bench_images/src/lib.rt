@@ -1,4 +1,4 @@
-// Images of three blocks for the bench: trees written by hand, whole and damaged.
+// Images of three blocks for the bench: trees written by hand, whole and damaged; their codes are put last.
 ghost use Prim.Native.Nat.{_<_};
 use geometry::Geometry;
 
@@ -144,4 +144,33 @@ pub fn put_crowded(img: &mut [u8; 50688]) {
     put_count(&mut *img, 34, 3, 2);
     put_entry(&mut *img, 34, 3, 0, 0, 32);
     put_entry(&mut *img, 34, 3, 1, 16, 33);
+}
+
+// The code of one half of a page.
+fn put_code(img: &mut [u8; 50688], page: u32, half: usize)
+    requires { ⌜ half < 2 ⌝ }
+{
+    let base = geometry::page_base(Geometry::small(), page);
+    let v = parity::fresh_code(&*img, base + 256 * half);
+    let place = geometry::code_place(Geometry::small(), half);
+    page::put_code(&mut *img, base + place, v);
+}
+
+// Fitting codes on every programmed page.
+pub fn put_codes(img: &mut [u8; 50688]) {
+    let mut page: u32 = 0;
+    while page < 96 {
+        if !chip::page_erased(Geometry::small(), &*img, page) {
+            put_code(&mut *img, page, 0);
+            put_code(&mut *img, page, 1);
+        }
+        page += 1;
+    }
+}
+
+// One bit of the image turned over.
+pub fn flip(img: &mut [u8; 50688], at: usize, bit: u8) {
+    if at < 50688 {
+        img[at] = img[at] ^ bit;
+    }
 }

@@ -1,6 +1,6 @@
-// The four calls as a camera service in C makes them: the geometry's number, numbers, the lent image, and a lent result buffer.
+// The calls as a camera service in C makes them: the geometry's number, numbers, the lent image, and a lent result buffer.
 ghost use mathlib.Core.Path.{_≡_};
-ghost use Rattle.model.specs.Calls.{formatOf, lookupOf, insertOf, deleteOf};
+ghost use Rattle.model.specs.Calls.{formatOf, lookupOf, insertOf, deleteOf, patrolOf};
 ghost use Rattle.answers.specs.Answers.{rowOf};
 ghost use Rattle.camera.specs.Camera.{putNumbers, reportOf, returned};
 use answers::Answer;
@@ -96,5 +96,24 @@ pub extern "C" fn mutree_delete(
         return 1;
     }
     let a = index::delete(kind, &mut *image, key, allowance);
+    report(&mut *result, a)
+}
+
+#[no_mangle]
+pub extern "C" fn mutree_patrol(
+    kind: u32,
+    image: &mut [u8],
+    page: u32,
+    half: u32,
+    result: &mut [u8],
+) -> u32
+    ensures answer { λ r. ⌜ r ≡ returned (patrolOf kind (now (image .entry)) page half) (now (image .entry)) (now (result .entry)) .answer ⌝ }
+    ensures image { λ _. ⌜ now (image .exit) ≡ returned (patrolOf kind (now (image .entry)) page half) (now (image .entry)) (now (result .entry)) .image ⌝ }
+    ensures result { λ _. ⌜ now (result .exit) ≡ returned (patrolOf kind (now (image .entry)) page half) (now (image .entry)) (now (result .entry)) .result ⌝ }
+{
+    if result.len() < 24 {
+        return 1;
+    }
+    let a = index::patrol(kind, &mut *image, page, half);
     report(&mut *result, a)
 }

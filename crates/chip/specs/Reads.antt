@@ -1,16 +1,17 @@
 -- Bytes, numbers and the fields of a page, in the form in which the code has the premises. Assumes nothing.
-use Prim.Native.Nat.{ℕ, _+_, _-_, _*_, _<_, _≤_}
+use Prim.Native.Nat.{ℕ, _+_, _-_, _*_, _%_, _<_, _≤_}
 use mathlib.Core.Bool.{Bool, true}
 use mathlib.Core.Path.{_≡_, sym, _∙_}
 use mathlib.Core.List.{List}
-use mir.Syntax.{w32}
+use mir.Syntax.{w8, w32}
 use mir.Val.{Fits}
 use lib.ListN.{length, List·getD-eq-default}
 use native.Mathlib.Omega.{arith}
 use native.Mathlib.Nat.{mul-le-mul, lt-of-le-of-lt}
 use Rattle.geometry.specs.declared.Geometry.{Geometry}
-use Rattle.geometry.specs.Geometry.{pageBytes, pageBase, firstSlot}
+use Rattle.geometry.specs.Geometry.{pageBytes, halves, codePlace, pageBase, firstSlot}
 use Rattle.model.specs.Bytes.{byteAt, u32At, blank, erased, seqAt, heightAt, countAt, tailAt, nodePlace}
+use Rattle.model.specs.Codes.{codeAt}
 use Rattle.chip.specs.Chip.{entryAt}
 
 pub byte-past : (img : List ℕ) (at : ℕ) → length img ≤ at → 0 ≡ byteAt img at
@@ -25,6 +26,14 @@ pub u32-is : (img : List ℕ) (at a b c d : ℕ) → a ≡ byteAt img at → b �
     → a + 256 * b + 65536 * c + 16777216 * d ≡ u32At img at
 unfolding u32At
 u32-is img at a b c d ea eb ec ed = rw (ea, eb, ec, ed)
+
+-- the low 24 bits of a number are the code
+pub code-is : (img : List ℕ) (c w : ℕ) → ((k : ℕ) → Fits w8 (byteAt img k)) → w ≡ u32At img c → w % 16777216 ≡ codeAt img c
+unfolding u32At codeAt
+code-is img c w bytes e = rw e (low (byteAt img c) (byteAt img (c + 1)) (byteAt img (c + 2)) (byteAt img (c + 3)) (bytes c .fits) (bytes (c + 1) .fits) (bytes (c + 2) .fits))
+  where
+    low : (x y z t : ℕ) → x < 256 → y < 256 → z < 256 → (x + 256 * y + 65536 * z + 16777216 * t) % 16777216 ≡ x + 256 * y + 65536 * z
+    low x y z t hx hy hz = omega arith
 
 pub entry-past : (img : List ℕ) (at : ℕ) → length img ≤ at → record { key = 0; addr = 0 } ≡ entryAt img at
 unfolding entryAt
@@ -55,16 +64,17 @@ pub count-is : (g : Geometry) (img : List ℕ) (p l s k b r : ℕ) → s ≡ pag
 unfolding countAt
 count-is g img p l s k b r e ek eb er = er ∙ eb ∙ rw (e, ek)
 
-pub tail-none : (g : Geometry) (img : List ℕ) (p a t : ℕ) → a ≡ g .spare → t ≡ g .top → a < 5 + t → true ≡ tailAt g img p
-unfolding tailAt blank
-tail-none g img p a t ea et h =
-    let z : g .spare - 5 - g .top ≡ 0 = omega (arith, ea, et) in
-    sym (rw z)
+-- n: the halves of a page, f: the place after their codes
+module _ (g : Geometry) (img : List ℕ) (p a n f : ℕ) (ea : a ≡ pageBytes g) (en : n ≡ halves g) (ef : f ≡ codePlace g n) where
+  pub tail-none : a < f → true ≡ tailAt g img p
+  unfolding tailAt blank
+  tail-none h =
+      let z : pageBytes g - codePlace g (halves g) ≡ 0 = rw (← ea, ← en, ← ef) (omega arith) in
+      sym (rw z)
 
-pub tail-is : (g : Geometry) (img : List ℕ) (p s a t : ℕ) (r : Bool) → a ≡ g .spare → t ≡ g .top → s ≡ pageBase g p + g .main
-    → r ≡ blank img (s + 5 + t) (a - 5 - t) → r ≡ tailAt g img p
-unfolding tailAt
-tail-is g img p s a t r ea et es er = er ∙ rw (ea, et, es)
+  pub tail-is : (b : ℕ) (r : Bool) → b ≡ pageBase g p → r ≡ blank img (b + f) (a - f) → r ≡ tailAt g img p
+  unfolding tailAt
+  tail-is b r eb er = er ∙ rw (eb, ea, ef, en)
 
 pub place-is : (g : Geometry) (p l b f : ℕ) → b ≡ pageBase g p → f ≡ firstSlot g l → b + 8 * f ≡ nodePlace g p l
 unfolding nodePlace
@@ -85,4 +95,4 @@ pub last-is : (g : Geometry) (img : List ℕ) (b w : ℕ) (r : Bool) → w ≡ g
     → r ≡ erased g img (g .pages * b + (g .pages - 1))
 last-is g img b w r e er = er ∙ rw e
 
-pub ruleset read-laws = (byte-past, u32-past, u32-is, entry-past, entry-is, erased-is, spare-is, seq-is, height-is, count-is, tail-none, tail-is, place-is, pages-are, pages-below, pages-fit, last-is)
+pub ruleset read-laws = (byte-past, u32-past, u32-is, code-is, entry-past, entry-is, erased-is, spare-is, seq-is, height-is, count-is, tail-none, tail-is, place-is, pages-are, pages-below, pages-fit, last-is)

@@ -4,6 +4,7 @@ ghost use Prim.Native.Nat.{ℕ, _+_, _*_, _-_, _≤_, _<_};
 ghost use lib.Dec.{eqb};
 ghost use lib.ListN.{length};
 ghost use Rattle.model.specs.Bytes.{byteAt, u32At, blank, erased, seqAt, heightAt, countAt, tailAt, nodePlace, nodeCount};
+ghost use Rattle.model.specs.Codes.{codeAt};
 ghost use Rattle.model.specs.Image.{blockBytes, blocksOf, goodLength};
 ghost use Rattle.chip.specs.Chip.{entryAt, goodBlocks};
 ghost use Rattle.geometry.specs.Geometry.{pageBase};
@@ -73,6 +74,13 @@ pub fn read_u32(img: &[u8], at: usize) -> u32
         return edge_u32(img, at);
     }
     raw_u32(img, at)
+}
+
+// The code at an index, least byte first.
+pub fn code_at(img: &[u8], at: usize) -> u32
+    ensures { λ r. ⌜ (r ≡ codeAt (now (img .entry)) at) × (r < 16777216) ⌝ }
+{
+    read_u32(img, at) % 16777216
 }
 
 // The slot at an index: key, then address.
@@ -169,17 +177,17 @@ fn count_at(g: Geometry, img: &[u8], page: u32, level: u32) -> usize
     geometry::index(wide_at(img, spare + 4 + geometry::index(level)))
 }
 
-// Whether the spare bytes after the counts are all 255.
+// Whether the spare bytes after the codes are all 255.
 pub fn tail_blank(g: Geometry, img: &[u8], page: u32) -> bool
     ensures { λ r. ⌜ r ≡ tailAt g (now (img .entry)) page ⌝ }
 {
-    let spare = geometry::wide(g.spare);
-    let top = geometry::wide(g.top);
-    if spare < 5 + top {
+    let all = geometry::page_bytes(g);
+    let from = geometry::code_place(g, geometry::halves(g));
+    if all < from {
         return true;
     }
-    let at = spare_base(g, page);
-    all_blank(img, at + 5 + top, spare - 5 - top)
+    let base = geometry::page_base(g, page);
+    all_blank(img, base + from, all - from)
 }
 
 // The entries read of the node at a level.

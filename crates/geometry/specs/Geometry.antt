@@ -26,6 +26,14 @@ chosenOf (suc (suc kind)) = Unknown
 abbrev pub pageBytes : Geometry → ℕ
 pageBytes g = g .main + g .spare
 
+-- the 256-byte halves of a page's main area (request 4): two, and eight on the large chip
+abbrev pub halves : Geometry → ℕ
+halves g = g .main / 256
+
+-- the byte of a page at which the code of half i stands: spare bytes 10 to 12 and 13 to 15, and 12 to 35 on the large chip
+abbrev pub codePlace : Geometry → ℕ → ℕ
+codePlace g i = g .main + 5 + g .top + 3 * i
+
 -- the byte at which page p begins
 unfoldable pub pageBase : Geometry → ℕ → ℕ
 pageBase g p = p * pageBytes g

@@ -14,7 +14,7 @@ use Rattle.geometry.specs.Table.{at, every}
 use Rattle.geometry.specs.declared.Geometry.{Geometry}
 use Rattle.geometry.specs.declared.Chosen.{Chosen}
 use Rattle.geometry.specs.declared.Chosen.the-variants.{Of, Unknown}
-use Rattle.geometry.specs.Geometry.{small, large, chosenOf, slots, pageBytes, pageBase, smallFirst, smallSlots, largeFirst, largeSlots, firstSlot, slotsOf, half, rootSlots, rootMost}
+use Rattle.geometry.specs.Geometry.{small, large, chosenOf, slots, pageBytes, halves, codePlace, pageBase, smallFirst, smallSlots, largeFirst, largeSlots, firstSlot, slotsOf, half, rootSlots, rootMost}
 
 -- "The first slot of level l is 64 − 64/2^(l−1)", with 256 for 64 on the large chip, over each table once
 rule : ℕ → ℕ → ℕ → Bool
@@ -42,6 +42,8 @@ pub record Shape (g : Geometry) : Type 0 where
   pub pages-low : 2 ≤ g .pages
   pub pages-high : g .pages ≤ 64
   pub spare-low : 4 + g .top < g .spare
+  -- the codes end within the page
+  pub code-room : codePlace g (halves g) ≤ pageBytes g
   pub top-low : 5 ≤ g .top
   pub top-high : g .top ≤ 7
   pub main-is : g .main ≡ 8 * slots g
@@ -119,6 +121,7 @@ record Numbers (g : Geometry) : Type 0 where
   pages-low : 2 ≤ g .pages
   pages-high : g .pages ≤ 64
   spare-low : 4 + g .top < g .spare
+  code-room : codePlace g (halves g) ≤ pageBytes g
   top-low : 5 ≤ g .top
   top-high : g .top ≤ 7
   main-is : g .main ≡ 8 * slots g
@@ -145,6 +148,7 @@ module _ (g : Geometry) (x : Numbers g) (t : Tested g) where
     pages-low = x .pages-low;
     pages-high = x .pages-high;
     spare-low = x .spare-low;
+    code-room = x .code-room;
     top-low = x .top-low;
     top-high = x .top-high;
     main-is = x .main-is;
@@ -167,6 +171,7 @@ small-numbers = record {
   pages-low = lit≤ tt;
   pages-high = lit≤ tt;
   spare-low = lit< tt;
+  code-room = lit≤ tt;
   top-low = lit≤ tt;
   top-high = lit≤ tt;
   main-is = refl;
@@ -193,6 +198,7 @@ large-numbers = record {
   pages-low = lit≤ tt;
   pages-high = lit≤ tt;
   spare-low = lit< tt;
+  code-room = lit≤ tt;
   top-low = lit≤ tt;
   top-high = lit≤ tt;
   main-is = refl;

@@ -28,6 +28,11 @@ pub and-false : (b : Bool) → (false & b) ≡ false
 unfolding _&_
 and-false b = refl
 
+pub and-none : (b : Bool) → (b & false) ≡ false
+unfolding _&_
+and-none true = refl
+and-none false = refl
+
 pub and-left : (a b : Bool) → (a & b) ≡ true → a ≡ true
 unfolding _&_
 and-left true b e = refl

@@ -1,7 +1,7 @@
 // The geometry of a chip as a value, what is read off it, and the types that every layer shares.
 ghost use mathlib.Core.Path.{_≡_};
-ghost use Prim.Native.Nat.{_<_};
-ghost use Rattle.geometry.specs.Geometry.{small, large, chosenOf, pageBytes, pageBase, slots, firstSlot, slotsOf, half, rootSlots, rootMost, inTable};
+ghost use Prim.Native.Nat.{_<_, _≤_};
+ghost use Rattle.geometry.specs.Geometry.{small, large, chosenOf, pageBytes, halves, codePlace, pageBase, slots, firstSlot, slotsOf, half, rootSlots, rootMost, inTable};
 
 // A block's pages, a page's main and spare bytes, the greatest height, the number above which the chip is WORN, and the
 // number of its table of levels: 0 the small chip's, 1 the large one's.
@@ -105,6 +105,14 @@ pub enum Verdict {
     Broken(u32, u32),
 }
 
+// What a patrol of one half finds: nothing, the number of the data bit or of the code's bit that it mended, or more than it can mend.
+pub enum Patrol {
+    Clean,
+    DataMended(u32),
+    CodeMended(u32),
+    Beyond,
+}
+
 pub fn wide(x: u16) -> usize
     ensures { λ r. ⌜ (r ≡ x) × (r < 65536) ⌝ }
 {
@@ -122,6 +130,21 @@ pub fn page_bytes(g: Geometry) -> usize
     ensures { λ r. ⌜ (r ≡ pageBytes g) × (r < 131072) ⌝ }
 {
     wide(g.main) + wide(g.spare)
+}
+
+// The 256-byte halves of a page's main bytes.
+pub fn halves(g: Geometry) -> usize
+    ensures { λ r. ⌜ (r ≡ halves g) × (r < 256) ⌝ }
+{
+    wide(g.main) / 256
+}
+
+// The byte of a page at which the code of half i stands.
+pub fn code_place(g: Geometry, i: usize) -> usize
+    requires { ⌜ i ≤ 256 ⌝ }
+    ensures { λ r. ⌜ (r ≡ codePlace g i) × (r < 132000) ⌝ }
+{
+    wide(g.main) + 5 + wide(g.top) + 3 * i
 }
 
 // The byte at which a page begins.

@@ -13,9 +13,10 @@ use Rattle.geometry.specs.declared.Finding.the-variants.{Good, Bad}
 use Rattle.geometry.specs.declared.Verdict.{Verdict}
 use Rattle.geometry.specs.declared.Verdict.the-variants.{Sound, Broken}
 use Rattle.geometry.specs.Tests.{pick, _&_, and-true, and-false, and-left, and-right, and-both}
-use Rattle.geometry.specs.Geometry.{pageBytes, pageBase, half, rootMost}
+use Rattle.geometry.specs.Geometry.{pageBytes, halves, codePlace, pageBase, half, rootMost}
 use Rattle.geometry.specs.Shape.{Shape}
 use Rattle.model.specs.Bytes.{byteAt, u32At, blank, erased, seqAt, heightAt, tailAt}
+use Rattle.model.specs.Codes.{codesFit}
 use Rattle.model.specs.Count.{any}
 use Rattle.model.specs.Image.{pagesOf, seqOf, heightOf, rootScore, rootOf, chipOf}
 use Rattle.model.specs.Tree.{placesOf}
@@ -33,7 +34,7 @@ use Rattle.chips.specs.Next.{block-in}
 use Rattle.chips.specs.Collect.{R7, R8}
 use Rattle.chips.specs.Tests.{any-one, r2-holds, holds-r2, r7-holds, holds-r7, r8-holds, holds-r8}
 use Rattle.images.specs.Views.{Views, rootAt, R1, R3, AllR1, R4, root-in}
-use Rattle.images.specs.Page.{nodeFrom, viewFrom, views}
+use Rattle.images.specs.Page.{nodeFrom, tailFrom, viewFrom, views}
 use Rattle.images.specs.Stores.{Image}
 use Rattle.images.specs.Small.{Small}
 
@@ -58,42 +59,40 @@ module _ (g : Geometry) (n : ℕ) (img : List ℕ) where
 
   -- ---- R1
   page-r1 : (p : ℕ) → wellFormed g img p ≡ true → R1 (g .top) (v p)
-  unfolding wellFormed viewFrom erased heightAt tailAt seqAt
+  unfolding wellFormed viewFrom tailFrom erased heightAt tailAt seqAt
   page-r1 p h = go (blank img (pageBase g p) (pageBytes g)) h
     where
       go : (b : Bool)
           → pick b true
-          (leb (byteAt img (pageBase g p + g .main + 4)) (g .top) & blank img (pageBase g p + g .main + 5 + g .top) (g .spare - 5 - g .top) & leb 1
-          (u32At img (pageBase g p + g .main))) ≡ true
+          (leb (byteAt img (pageBase g p + g .main + 4)) (g .top) & blank img (pageBase g p + codePlace g (halves g)) (pageBytes g - codePlace g (halves g))
+          & leb 1 (u32At img (pageBase g p + g .main)) & codesFit g img (pageBase g p) (halves g)) ≡ true
           → R1 (g .top)
           (record {
             er = b;
             seq = pick b 0 (u32At img (pageBase g p + g .main));
             height = pick b 0 (byteAt img (pageBase g p + g .main + 4));
-            tail =
-                pick b true (blank img (pageBase g p + g .main + 5 + g .top) (g .spare - 5 - g .top));
+            tail = pick b true (tailFrom g img (pageBase g p));
             node = nodeFrom g img (pageBase g p);
           })
       go true i = record { high = omega arith; rest = refl; some = λ e. absurd (true-false true refl e) }
-      go false i = let a = and-left _ _ i in record {
+      go false i = let s = and-left _ _ i in let a = and-left _ _ s in record {
         high = leb-true _ _ (and-left _ _ a);
-        rest = and-right _ _ a;
-        some = λ _. leb-true 1 _
-            (and-right _ _ i);
+        rest = and-both _ _ (and-right _ _ a) (and-right _ _ i);
+        some = λ _. leb-true 1 _ (and-right _ _ s);
       }
 
   r1-page : (p : ℕ) → R1 (g .top) (v p) → wellFormed g img p ≡ true
-  unfolding wellFormed viewFrom erased heightAt tailAt seqAt
+  unfolding wellFormed viewFrom tailFrom erased heightAt tailAt seqAt
   r1-page p h = go (blank img (pageBase g p) (pageBytes g)) (h .high) (h .rest) (h .some)
     where
       go : (b : Bool) → pick b 0 (byteAt img (pageBase g p + g .main + 4)) ≤ g .top
-          → pick b true (blank img (pageBase g p + g .main + 5 + g .top) (g .spare - 5 - g .top)) ≡ true
+          → pick b true (tailFrom g img (pageBase g p)) ≡ true
           → (b ≡ false → 1 ≤ pick b 0 (u32At img (pageBase g p + g .main)))
           → pick b true
-          (leb (byteAt img (pageBase g p + g .main + 4)) (g .top) & blank img (pageBase g p + g .main + 5 + g .top) (g .spare - 5 - g .top) & leb 1
-          (u32At img (pageBase g p + g .main))) ≡ true
+          (leb (byteAt img (pageBase g p + g .main + 4)) (g .top) & blank img (pageBase g p + codePlace g (halves g)) (pageBytes g - codePlace g (halves g))
+          & leb 1 (u32At img (pageBase g p + g .main)) & codesFit g img (pageBase g p) (halves g)) ≡ true
       go true i j k = refl
-      go false i j k = and-both _ _ (and-both _ _ (le-leb _ _ i) j) (le-leb 1 _ (k refl))
+      go false i j k = and-both _ _ (and-both _ _ (and-both _ _ (le-leb _ _ i) (and-left _ _ j)) (le-leb 1 _ (k refl))) (and-right _ _ j)
 
   -- ---- R3
   seq-at : (p : ℕ) → v p .er ≡ false → v p .seq ≡ seqAt g img p

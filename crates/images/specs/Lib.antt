@@ -1,5 +1,6 @@
 -- Theorems about images: a page built and read back, the two stores, the rules. Bytes end here.
 pub mod Bytes
+pub mod Codes
 pub mod Views
 pub mod Page
 pub mod Stores

@@ -12,16 +12,18 @@ use lib.Dec.{ltb}
 use borrow.Author.Tests.{le-leb, ltb-true, ltb-false, leb-true}
 use Rattle.geometry.specs.declared.Geometry.{Geometry}
 use Rattle.geometry.specs.declared.Entry.{Entry}
-use Rattle.geometry.specs.Tests.{pick, and-left, and-right, and-both}
-use Rattle.geometry.specs.Geometry.{pageBytes, pageBase, slots, firstSlot, slotsOf, rootSlots, inTable}
+use Rattle.geometry.specs.Tests.{pick, _&_, and-left, and-right, and-both}
+use Rattle.geometry.specs.Geometry.{pageBytes, halves, codePlace, pageBase, slots, firstSlot, slotsOf, rootSlots, inTable}
 use Rattle.geometry.specs.Shape.{Shape}
 use Rattle.model.specs.Bytes.{byteAt, u32At, blank, erased, seqAt, heightAt, countAt, entriesAt, nodePlace, nodeCount, nodeAt}
+use Rattle.model.specs.Codes.{codesFit}
 use Rattle.model.specs.Image.{pagesOf, seqOf, heightOf, maxSeq, rootScore, rootOf, chipOf}
-use Rattle.model.specs.Page.{putU32, putEntries, putLevel, putLevels, sealed, built}
+use Rattle.model.specs.Page.{putU32, putEntries, putLevel, putLevels, numbered, sealed, built}
 use Rattle.trees.specs.Tests.{by-eq}
 use Rattle.trees.specs.Lists.{All}
 use Rattle.chips.specs.Erase.{blankNode}
 use Rattle.images.specs.Bytes.{Copy, copy-byte, copy-u32, copy-blank, copy-entries, blank-all, blank-get, Off, length-word, word-off, length-entries, entries-off, word-same, Fits, entries-same}
+use Rattle.images.specs.Codes.{copy-codes, length-coded, coded-off, coded-fits}
 use Rattle.images.specs.Views.{View, noView, Views, topOf, rootAt, chip}
 
 pub table-in : (g : Geometry) (l : ℕ) → inTable g l ≡ true → (1 ≤ l) × (l ≤ g .top)
@@ -36,12 +38,16 @@ in-table g l h k = and-both _ _ (le-leb 1 l h) (le-leb l (g .top) k)
 unfoldable pub nodeFrom : Geometry → List ℕ → ℕ → ℕ → List Entry
 nodeFrom g img b l = entriesAt img (b + 8 * firstSlot g l) (pick (inTable g l) (min (byteAt img (b + g .main + 4 + l)) (suc (rootSlots g l))) 0)
 
+-- 255 after the codes, and the codes fit, of the page that begins at byte b
+unfoldable pub tailFrom : Geometry → List ℕ → ℕ → Bool
+tailFrom g img b = blank img (b + codePlace g (halves g)) (pageBytes g - codePlace g (halves g)) & codesFit g img b (halves g)
+
 unfoldable pub viewFrom : Geometry → List ℕ → ℕ → View
 viewFrom g img b = record {
   er = blank img b (pageBytes g);
   seq = pick (blank img b (pageBytes g)) 0 (u32At img (b + g .main));
   height = pick (blank img b (pageBytes g)) 0 (byteAt img (b + g .main + 4));
-  tail = pick (blank img b (pageBytes g)) true (blank img (b + g .main + 5 + g .top) (g .spare - 5 - g .top));
+  tail = pick (blank img b (pageBytes g)) true (tailFrom g img b);
   node = nodeFrom g img b;
 }
 
@@ -81,6 +87,16 @@ module _ (g : Geometry) (shape : Shape g) where
       go true e = at (table-in g l e)
       go false e = refl
 
+  copy-tail : (a : List ℕ) (p : ℕ) (b : List ℕ) (q : ℕ) → Copy a p b q (pageBytes g) → tailFrom g b q ≡ tailFrom g a p
+  unfolding tailFrom
+  copy-tail a p b q c =
+      let r = shape .code-room in
+      rw (
+        copy-blank a p b q (pageBytes g) c (pageBytes g - codePlace g (halves g)) (codePlace g (halves g)) (p + codePlace g (halves g))
+            (q + codePlace g (halves g)) refl refl (omega (arith, r)),
+        copy-codes g a p b q (pageBytes g) c (halves g) (omega arith) r,
+      )
+
   pub copy-view : (a : List ℕ) (p : ℕ) (b : List ℕ) (q : ℕ) → Copy a p b q (pageBytes g) → viewFrom g b q ≡ viewFrom g a p
   unfolding viewFrom
   copy-view a p b q c =
@@ -91,9 +107,7 @@ module _ (g : Geometry) (shape : Shape g) where
       (omega (arith, s)) in
       let e₃ : byteAt b (q + g .main + 4) ≡ byteAt a (p + g .main + 4) = copy-byte a p b q (pageBytes g) c (g .main + 4) (p + g .main + 4)
       (q + g .main + 4) (omega arith) (omega arith) (omega (arith, s)) in
-      let e₄ : blank b (q + g .main + 5 + g .top) (g .spare - 5 - g .top) ≡ blank a (p + g .main + 5 + g .top) (g .spare - 5 - g .top) =
-      copy-blank a p b q (pageBytes g) c (g .spare - 5 - g .top) (g .main + 5 + g .top) (p + g .main + 5 + g .top) (q + g .main + 5 + g .top)
-      (omega arith) (omega arith) (omega (arith, s)) in
+      let e₄ : tailFrom g b q ≡ tailFrom g a p = copy-tail a p b q c in
       λ i. record {
         er = e₁ i;
         seq = pick (e₁ i) 0 (e₂ i);
@@ -122,8 +136,7 @@ module _ (g : Geometry) (shape : Shape g) where
         er = e i;
         seq = pick (e i) 0 (u32At bare (0 + g .main));
         height = pick (e i) 0 (byteAt bare (0 + g .main + 4));
-        tail = pick
-            (e i) true (blank bare (0 + g .main + 5 + g .top) (g .spare - 5 - g .top));
+        tail = pick (e i) true (tailFrom g bare 0);
         node = λ l. bare-node l i;
       }
 
@@ -187,33 +200,54 @@ module _ (g : Geometry) (shape : Shape g) (parts : ℕ → List Entry) where
   length-levels (suc n) b = length-set (putEntries (putLevels g parts n b) (8 * firstSlot g (suc n)) (parts (suc n))) (g .main + 4 + suc n)
       (length (parts (suc n)) % 256) ∙ length-entries (putLevels g parts n b) (8 * firstSlot g (suc n)) (parts (suc n)) ∙ length-levels n b
 
+  length-numbered : (seq h : ℕ) (b : List ℕ) → length (numbered g b seq h) ≡ length b
+  unfolding numbered
+  length-numbered seq h b = length-set (putU32 b (g .main) seq) (g .main + 4) (h % 256) ∙ length-word b (g .main) seq
+
   length-sealed : (seq h : ℕ) (b : List ℕ) → length (sealed g b seq h) ≡ length b
   unfolding sealed
-  length-sealed seq h b = length-set (putU32 b (g .main) seq) (g .main + 4) (h % 256) ∙ length-word b (g .main) seq
+  length-sealed seq h b = length-coded g (halves g) (numbered g b seq h) ∙ length-numbered seq h b
 
   pub length-built : (seq h : ℕ) → length (built g seq h parts) ≡ pageBytes g
   unfolding built
   length-built seq h = length-sealed seq h _ ∙ length-levels (g .top) _ ∙ length-replicate {A = ℕ} (pageBytes g) 255
 
-  sealed-off : (seq h : ℕ) (b : List ℕ) (k : ℕ) → Off k (g .main) 5 → byteAt (sealed g b seq h) k ≡ byteAt b k
-  unfolding sealed
-  sealed-off seq h b k (inl q) = getD-set-other (putU32 b (g .main) seq) (g .main + 4) k (h % 256) 0 (omega arith) ∙ word-off b (g .main) seq k
+  numbered-off : (seq h : ℕ) (b : List ℕ) (k : ℕ) → Off k (g .main) 5 → byteAt (numbered g b seq h) k ≡ byteAt b k
+  unfolding numbered
+  numbered-off seq h b k (inl q) = getD-set-other (putU32 b (g .main) seq) (g .main + 4) k (h % 256) 0 (omega arith) ∙ word-off b (g .main) seq k
       (inl q)
-  sealed-off seq h b k (inr q) = getD-set-other (putU32 b (g .main) seq) (g .main + 4) k (h % 256) 0 (omega arith) ∙ word-off b (g .main) seq k
+  numbered-off seq h b k (inr q) = getD-set-other (putU32 b (g .main) seq) (g .main + 4) k (h % 256) 0 (omega arith) ∙ word-off b (g .main) seq k
       (inr (omega arith))
 
-  sealed-height : (seq h : ℕ) (b : List ℕ) → g .main + 5 ≤ length b → h < 256 → byteAt (sealed g b seq h) (g .main + 4) ≡ h
-  unfolding sealed
-  sealed-height seq h b q s = getD-set-same (putU32 b (g .main) seq) (g .main + 4) (h % 256) 0 (omega (arith, length-word b (g .main) seq))
+  numbered-height : (seq h : ℕ) (b : List ℕ) → g .main + 5 ≤ length b → h < 256 → byteAt (numbered g b seq h) (g .main + 4) ≡ h
+  unfolding numbered
+  numbered-height seq h b q s = getD-set-same (putU32 b (g .main) seq) (g .main + 4) (h % 256) 0 (omega (arith, length-word b (g .main) seq))
       ∙ mod-eq-of-lt s
 
-  sealed-seq : (seq h : ℕ) (b : List ℕ) → g .main + 5 ≤ length b → seq < 4294967296 → u32At (sealed g b seq h) (g .main) ≡ seq
-  unfolding sealed
-  sealed-seq seq h b q s =
+  numbered-seq : (seq h : ℕ) (b : List ℕ) → g .main + 5 ≤ length b → seq < 4294967296 → u32At (numbered g b seq h) (g .main) ≡ seq
+  unfolding numbered
+  numbered-seq seq h b q s =
       copy-u32 (putU32 b (g .main) seq) (g .main) (set (putU32 b (g .main) seq) (g .main + 4) (h % 256)) (g .main) 4
       (λ k w. getD-set-other (putU32 b (g .main) seq) (g .main + 4) (g .main + k) (h % 256) 0 (omega arith)) 0 (g .main) (g .main) (omega arith)
       (omega arith) (omega arith)
       ∙ word-same b (g .main) seq (omega arith) s
+
+  -- beside the codes a sealed page is a numbered one
+  sealed-byte : (seq h : ℕ) (b : List ℕ) (k : ℕ) → (k < codePlace g 0) ⊎ (codePlace g (halves g) ≤ k) → byteAt (sealed g b seq h) k ≡ byteAt (numbered g b seq h) k
+  unfolding sealed
+  sealed-byte seq h b k o = coded-off g (halves g) (numbered g b seq h) k o
+
+  sealed-off : (seq h : ℕ) (b : List ℕ) (k : ℕ) → Off k (g .main) 5 → (k < codePlace g 0) ⊎ (codePlace g (halves g) ≤ k) → byteAt (sealed g b seq h) k ≡ byteAt b k
+  sealed-off seq h b k q o = sealed-byte seq h b k o ∙ numbered-off seq h b k q
+
+  sealed-height : (seq h : ℕ) (b : List ℕ) → g .main + 5 ≤ length b → h < 256 → byteAt (sealed g b seq h) (g .main + 4) ≡ h
+  sealed-height seq h b q s = sealed-byte seq h b (g .main + 4) (inl (omega arith)) ∙ numbered-height seq h b q s
+
+  sealed-seq : (seq h : ℕ) (b : List ℕ) → g .main + 5 ≤ length b → seq < 4294967296 → u32At (sealed g b seq h) (g .main) ≡ seq
+  sealed-seq seq h b q s =
+      copy-u32 (numbered g b seq h) (g .main) (sealed g b seq h) (g .main) 4 (λ k w. sealed-byte seq h b (g .main + k) (inl (omega arith))) 0 (g .main)
+      (g .main) (omega arith) (omega arith) (omega arith)
+      ∙ numbered-seq seq h b q s
 
   module _ (ok : Parts g parts) where
     -- beside the counts the levels' bytes are main bytes
@@ -308,7 +342,7 @@ module _ (g : Geometry) (shape : Shape g) (parts : ℕ → List Entry) where
 
       built-count : (l : ℕ) → 1 ≤ l → l ≤ g .top → byteAt (built g seq h parts) (g .main + 4 + l) ≡ length (parts l)
       unfolding built
-      built-count l i k = let s = shape .spare-low in sealed-off seq h laidLevels (g .main + 4 + l) (inr (omega arith)) ∙ levels-count (g .top)
+      built-count l i k = let s = shape .spare-low in sealed-off seq h laidLevels (g .main + 4 + l) (inr (omega arith)) (inl (omega arith)) ∙ levels-count (g .top)
           (replicate (pageBytes g) 255) l (omega arith) (omega (arith, len-bare, s)) i k
 
       built-node : (l : ℕ) → 1 ≤ l → l ≤ g .top → entriesAt (built g seq h parts) (8 * firstSlot g l) (length (parts l)) ≡ parts l
@@ -317,17 +351,26 @@ module _ (g : Geometry) (shape : Shape g) (parts : ℕ → List Entry) where
           let m = shape .main-is in
           let w = ok .inside l i k in
           copy-entries laidLevels (8 * firstSlot g l) (sealed g laidLevels seq h) (8 * firstSlot g l) (8 * length (parts l))
-          (λ o q. sealed-off seq h laidLevels (8 * firstSlot g l + o) (inl (omega (arith, m, w, q))))
+          (λ o q. sealed-off seq h laidLevels (8 * firstSlot g l + o) (inl (omega (arith, m, w, q))) (inl (omega (arith, m, w, q))))
           (length (parts l)) 0 (8 * firstSlot g l) (8 * firstSlot g l) (omega arith) (omega arith) (omega arith)
           ∙ levels-same (g .top) (replicate (pageBytes g) 255) l (omega arith) (omega (arith, len-bare)) i k
 
-      built-tail : blank (built g seq h parts) (g .main + 5 + g .top) (g .spare - 5 - g .top) ≡ true
+      built-blank : blank (built g seq h parts) (codePlace g (halves g)) (pageBytes g - codePlace g (halves g)) ≡ true
       unfolding built
-      built-tail = let s = shape .spare-low in
-          blank-all (sealed g laidLevels seq h) (g .spare - 5 - g .top) (g .main + 5 + g .top) (λ k q.
-          sealed-off seq h laidLevels (g .main + 5 + g .top + k) (inr (omega arith))
-          ∙ levels-off (g .top) (replicate (pageBytes g) 255) (g .main + 5 + g .top + k) (omega arith) (omega arith) (inr (omega arith))
-          ∙ getD-replicate {A = ℕ} (pageBytes g) (g .main + 5 + g .top + k) 255 0 (omega (arith, s, q)))
+      built-blank =
+          blank-all (sealed g laidLevels seq h) (pageBytes g - codePlace g (halves g)) (codePlace g (halves g)) (λ k q.
+          sealed-off seq h laidLevels (codePlace g (halves g) + k) (inr (omega arith)) (inr (omega arith))
+          ∙ levels-off (g .top) (replicate (pageBytes g) 255) (codePlace g (halves g) + k) (omega arith) (omega arith) (inr (omega arith))
+          ∙ getD-replicate {A = ℕ} (pageBytes g) (codePlace g (halves g) + k) 255 0 (omega (arith, q)))
+
+      built-codes : codesFit g (built g seq h parts) 0 (halves g) ≡ true
+      unfolding built sealed
+      built-codes = coded-fits g (halves g) (numbered g laidLevels seq h) (omega arith)
+          (let r = shape .code-room in omega (arith, r, length-numbered seq h laidLevels, length-laid))
+
+      built-tail : tailFrom g (built g seq h parts) 0 ≡ true
+      unfolding tailFrom
+      built-tail = and-both _ _ (rw zero-add built-blank) built-codes
 
       -- a number below 2^32 - 1 shows
       built-er : blank (built g seq h parts) 0 (pageBytes g) ≡ false
@@ -372,8 +415,7 @@ module _ (g : Geometry) (shape : Shape g) (parts : ℕ → List Entry) where
         er = built-er i;
         seq = pick (built-er i) 0 (e₂ i);
         height = pick (built-er i) 0 (e₃ i);
-        tail = pick (built-er i) true
-            (e₄ i);
+        tail = pick (built-er i) true (built-tail i);
         node = λ l. built-read l i;
       }
         where
@@ -382,6 +424,3 @@ module _ (g : Geometry) (shape : Shape g) (parts : ℕ → List Entry) where
 
           e₃ : byteAt (built g seq h parts) (0 + g .main + 4) ≡ h
           e₃ = rw zero-add built-height
-
-          e₄ : blank (built g seq h parts) (0 + g .main + 5 + g .top) (g .spare - 5 - g .top) ≡ true
-          e₄ = rw zero-add built-tail

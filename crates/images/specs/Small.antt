@@ -10,9 +10,10 @@ use lib.Dec.{ltb}
 use borrow.Author.Tests.{ltb-true, ltb-false}
 use Rattle.geometry.specs.declared.Geometry.{Geometry}
 use Rattle.geometry.specs.declared.Entry.{Entry}
-use Rattle.geometry.specs.Geometry.{pageBytes, pageBase, firstSlot}
+use Rattle.geometry.specs.Geometry.{pageBytes, halves, codePlace, pageBase, firstSlot}
 use Rattle.model.specs.Bytes.{byteAt, u32At, entriesAt, nodePlace, nodeCount, nodeAt}
-use Rattle.model.specs.Page.{putU32, putEntry, putEntries, putLevel, putLevels, sealed, built}
+use Rattle.model.specs.Codes.{freshCode, putCode}
+use Rattle.model.specs.Page.{putU32, putEntry, putEntries, putLevel, putLevels, numbered, coded, sealed, built}
 use Rattle.model.specs.Stores.{Store, program, erase, written, applyStore}
 use Rattle.trees.specs.Tests.{by-eq}
 use Rattle.trees.specs.Lists.{All}
@@ -84,12 +85,22 @@ blank-small n i = go (ltb i n) refl
         let w : length {A = ℕ} (replicate n 255) ≤ i = omega (arith, z, ltb-false i n e) in
         rw (List·getD-eq-default {A = ℕ} (replicate n 255) 0 w) (omega arith)
 
+coded-small : (g : Geometry) (k : ℕ) (b : List ℕ) → Small b → Small (coded g k b)
+unfolding coded putCode
+coded-small g zero b s = s
+coded-small g (suc k) b s =
+    let old = coded g k b in
+    let v = freshCode old (256 * k) in
+    let c = codePlace g k in
+    set-small (set (set old c (v % 256)) (c + 1) (v / 256 % 256)) (c + 2) (v / 65536 % 256)
+    (set-small (set old c (v % 256)) (c + 1) (v / 256 % 256) (set-small old c (v % 256) (coded-small g k b s) (omega arith)) (omega arith)) (omega arith)
+
 pub built-small : (g : Geometry) (seq h : ℕ) (parts : ℕ → List Entry) → Small (built g seq h parts)
-unfolding built sealed
+unfolding built sealed numbered
 built-small g seq h parts =
     let laidLevels = putLevels g parts (g .top) (replicate (pageBytes g) 255) in
-    set-small (putU32 laidLevels (g .main) seq) (g .main + 4) (h % 256) (word-small laidLevels (g .main) seq
-    (levels-small g parts (g .top) (replicate (pageBytes g) 255) (blank-small (pageBytes g)))) (omega arith)
+    coded-small g (halves g) (numbered g laidLevels seq h) (set-small (putU32 laidLevels (g .main) seq) (g .main + 4) (h % 256) (word-small laidLevels (g .main) seq
+    (levels-small g parts (g .top) (replicate (pageBytes g) 255) (blank-small (pageBytes g)))) (omega arith))
 
 abbrev pub SmallStore : Store → Type 0
 SmallStore (program p bs) = Small bs

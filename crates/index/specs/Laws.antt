@@ -9,7 +9,7 @@ use Rattle.geometry.specs.declared.Chosen.{Chosen}
 use Rattle.geometry.specs.declared.Chosen.the-variants.{Of, Unknown}
 use Rattle.geometry.specs.Geometry.{chosenOf, pageBytes}
 use Rattle.geometry.specs.Shape.{Known, Shape, shape, page-most, chosen-known}
-use Rattle.model.specs.Calls.{Outcome, refused, chosenCall, format, lookup, insert, delete, formatOf, lookupOf, insertOf, deleteOf}
+use Rattle.model.specs.Calls.{Outcome, refused, chosenCall, format, lookup, insert, delete, patrol, formatOf, lookupOf, insertOf, deleteOf, patrolOf}
 use Rattle.answers.specs.declared.Answer.the-variants.{Length}
 use Rattle.answers.specs.Answers.{told}
 
@@ -44,6 +44,10 @@ module _ (kind : ℕ) (c : Chosen) (ec : c ≡ chosenOf kind) (g : Geometry) (e 
   unfolding deleteOf
   of-delete img k al o h = called (λ x. delete x img k al) (refused 1 img) o h
 
+  pub of-patrol : (img : List ℕ) (page half : ℕ) (o : Outcome) → o ≡ patrol g img page half → o ≡ patrolOf kind img page half
+  unfolding patrolOf
+  of-patrol img page half o h = called (λ x. patrol x img page half) (refused 1 img) o h
+
 -- no such geometry. A `let .. else` leaves that the choice is no Of, whatever geometry
 module _ (kind : ℕ) (c : Chosen) (ec : c ≡ chosenOf kind) (e : c ≡ Unknown) (img : List ℕ) where
   unknown : {A : Type 0} (call : Geometry → A) (other : A) → other ≡ chosenCall (chosenOf kind) call other
@@ -66,4 +70,8 @@ module _ (kind : ℕ) (c : Chosen) (ec : c ≡ chosenOf kind) (e : c ≡ Unknown
   unfolding deleteOf
   no-delete k al = unknown (λ x. delete x img k al) (refused 1 img)
 
-pub ruleset index-laws = (of-pages, of-page, of-format, of-lookup, of-insert, of-delete, no-format, no-lookup, no-insert, no-delete)
+  pub no-patrol : (page half : ℕ) → told Length img ≡ patrolOf kind img page half
+  unfolding patrolOf
+  no-patrol page half = unknown (λ x. patrol x img page half) (refused 1 img)
+
+pub ruleset index-laws = (of-pages, of-page, of-format, of-lookup, of-insert, of-delete, of-patrol, no-format, no-lookup, no-insert, no-delete, no-patrol)

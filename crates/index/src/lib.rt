@@ -1,7 +1,7 @@
 // The index as Rattle calls, on the small-block chip (0) or the large-page chip (1). No call asks anything of its caller, and
 // each contract is one equation: the answer, its numbers and the image afterwards are those of the definition, for every image.
 ghost use mathlib.Core.Path.{_≡_};
-ghost use Rattle.model.specs.Calls.{formatOf, lookupOf, insertOf, deleteOf};
+ghost use Rattle.model.specs.Calls.{formatOf, lookupOf, insertOf, deleteOf, patrolOf};
 ghost use Rattle.answers.specs.Answers.{told};
 use answers::Answer;
 use geometry::Chosen;
@@ -44,4 +44,14 @@ pub fn delete(kind: u32, img: &mut [u8], key: u32, allowance: u32) -> Answer
         return Answer::Length;
     };
     delete::delete_on(g, &mut *img, key, allowance)
+}
+
+pub fn patrol(kind: u32, img: &mut [u8], page: u32, half: u32) -> Answer
+    ensures { λ r. ⌜ told r (now (img .exit)) ≡ patrolOf kind (now (img .entry)) page half ⌝ }
+{
+    let chosen = geometry::choose(kind);
+    let Chosen::Of(g) = chosen else {
+        return Answer::Length;
+    };
+    patrols::patrol_on(g, &mut *img, page, half)
 }

@@ -6,7 +6,7 @@ use lib.Dec.{eqb}
 use lib.ListN.{getD}
 use Rattle.geometry.specs.declared.Geometry.{Geometry}
 use Rattle.geometry.specs.declared.Entry.{Entry}
-use Rattle.geometry.specs.Geometry.{pageBytes, pageBase, firstSlot, rootSlots, inTable}
+use Rattle.geometry.specs.Geometry.{pageBytes, halves, codePlace, pageBase, firstSlot, rootSlots, inTable}
 use Rattle.geometry.specs.Tests.{pick, _&_}
 
 abbrev pub byteAt : List ℕ → ℕ → ℕ
@@ -38,9 +38,9 @@ heightAt g img p = byteAt img (pageBase g p + g .main + 4)
 unfoldable pub countAt : Geometry → List ℕ → ℕ → ℕ → ℕ
 countAt g img p l = byteAt img (pageBase g p + g .main + 4 + l)
 
--- spare bytes 10 to 15 are 255
+-- the spare bytes after the codes of request 4 are 255
 unfoldable pub tailAt : Geometry → List ℕ → ℕ → Bool
-tailAt g img p = blank img (pageBase g p + g .main + 5 + g .top) (g .spare - 5 - g .top)
+tailAt g img p = blank img (pageBase g p + codePlace g (halves g)) (pageBytes g - codePlace g (halves g))
 
 -- n slots from the byte `at`: key, then address
 unfoldable pub entriesAt : List ℕ → ℕ → ℕ → List Entry

@@ -1,4 +1,4 @@
--- "Answer numbers": the four calls on every image. Each gives its answer, address, counts, rule, page and the image afterwards.
+-- "Answer numbers": the calls on every image. Each gives its answer, address, counts, rule, page and the image afterwards.
 -- Definitions alone; assumes nothing.
 use Prim.Native.Nat.{ℕ, zero, suc, _+_, _-_, _*_}
 use mathlib.Core.Bool.{Bool, true, false}
@@ -11,8 +11,11 @@ use Rattle.geometry.specs.declared.Chosen.{Chosen}
 use Rattle.geometry.specs.declared.Chosen.the-variants.{Of, Unknown}
 use Rattle.geometry.specs.declared.Verdict.{Verdict}
 use Rattle.geometry.specs.declared.Verdict.the-variants.{Sound, Broken}
-use Rattle.geometry.specs.Geometry.{chosenOf}
-use Rattle.geometry.specs.Tests.{pick}
+use Rattle.geometry.specs.declared.Patrol.{Patrol}
+use Rattle.geometry.specs.declared.Patrol.the-variants.{Clean, DataMended, CodeMended, Beyond}
+use Rattle.geometry.specs.Geometry.{chosenOf, halves, codePlace, pageBase}
+use Rattle.geometry.specs.Tests.{pick, _&_}
+use Rattle.model.specs.Codes.{found, mended}
 use Rattle.model.specs.Image.{Chip, chipOf, pagesOf, blocksOf, goodLength, maxSeq}
 use Rattle.model.specs.Tree.{sought, livePages}
 use Rattle.model.specs.Rules.{verdict}
@@ -106,6 +109,32 @@ format g img = pick (goodLength g img)
     (gives 0 0 1 (blocksOf g img) (applyAll g (formatStores g (blocksOf g img)) img))
     (refused 1 img)
 
+-- the numbers of what a patrol found, and of the bit that it mended
+abbrev pub findingOf : Patrol → ℕ
+findingOf Clean = 0
+findingOf (DataMended n) = 1
+findingOf (CodeMended j) = 2
+findingOf Beyond = 3
+
+abbrev pub bitOf : Patrol → ℕ
+bitOf Clean = 0
+bitOf (DataMended n) = n
+bitOf (CodeMended j) = j
+bitOf Beyond = 0
+
+-- request 4: the 256 bytes from `at` and the code at c: what was found, the bit, and the bytes afterwards
+unfoldable pub patrolled : List ℕ → ℕ → ℕ → Outcome
+patrolled img at c = gives 0 (findingOf (found img at c)) (bitOf (found img at c)) 0 (mended img at c (found img at c))
+
+-- the halves that a patrol may be asked for: "A bad length, page or half gives LENGTH"
+unfoldable pub isHalf : Geometry → List ℕ → ℕ → ℕ → Bool
+isHalf g img page half = goodLength g img & ltb page (pagesOf g (blocksOf g img)) & ltb half (halves g)
+
+-- "a patrol of one half, named by page and half"
+unfoldable pub patrol : Geometry → List ℕ → ℕ → ℕ → Outcome
+patrol g img page half = pick (isHalf g img page half)
+    (patrolled img (pageBase g page + 256 * half) (pageBase g page + codePlace g half)) (refused 1 img)
+
 -- "The caller says which geometry by a number, 0 or 1; another gives LENGTH", in a call of any kind
 unfoldable pub chosenCall : {A : Type 0} → Chosen → (Geometry → A) → A → A
 chosenCall (Of g) call short = call g
@@ -122,3 +151,6 @@ insertOf kind img k a allowance = chosenCall (chosenOf kind) (λ g. insert g img
 
 unfoldable pub deleteOf : ℕ → List ℕ → ℕ → ℕ → Outcome
 deleteOf kind img k allowance = chosenCall (chosenOf kind) (λ g. delete g img k allowance) (refused 1 img)
+
+unfoldable pub patrolOf : ℕ → List ℕ → ℕ → ℕ → Outcome
+patrolOf kind img page half = chosenCall (chosenOf kind) (λ g. patrol g img page half) (refused 1 img)

@@ -1,17 +1,19 @@
--- Worked examples of the definitions by computation: nodes, and single pages built and read back. Assumes nothing.
+-- Worked examples of the definitions by computation: nodes, single pages built and read back, and codes. Assumes nothing.
 use mathlib.Core.Path.{_≡_, refl}
 use mathlib.Core.List.{List, [], _∷_}
 use mathlib.Core.Bool.{Bool, true, false}
+use lib.ListN.{replicate}
 use Prim.Native.Nat.{ℕ, zero, suc, _+_, _-_, _*_}
 use Rattle.geometry.specs.declared.Entry.{Entry}
 use Rattle.geometry.specs.Geometry.{small, pageBase, firstSlot, slotsOf, half, rootSlots, inTable}
 use Rattle.geometry.specs.Tests.{_&_}
 use Rattle.model.specs.Bytes.{u32At, blank, erased, seqAt, heightAt, countAt, tailAt, entriesAt, nodePlace, nodeCount, nodeAt}
+use Rattle.model.specs.Codes.{_⊕_, isSet, xorBelow, numberE, numberG, freshCode, codeAt, putCode, fits}
 use Rattle.model.specs.Count.{least}
 use Rattle.model.specs.Image.{Nodes}
 use Rattle.model.specs.Tree.{gather, places, halve, place, chosen}
 use Rattle.model.specs.Next.{round, nextBlock, taken, nth}
-use Rattle.model.specs.Page.{putU32, putEntry, putEntries, putLevel, putLevels, sealed, built, only}
+use Rattle.model.specs.Page.{putU32, putEntry, putEntries, putLevel, putLevels, numbered, coded, sealed, built, only}
 use Rattle.model.specs.Edit.{splice, edited, onPath, put, putIn, pathHalf, sideHalf, two, named, pathPart, removeIn, kept, collapse, renamed, same}
 
 -- n pairs from key b on, each with its key for an address
@@ -100,5 +102,15 @@ sample = built small 66 2 (λ j. only 1 (run 33 2) j)
 
 read-back : (nodeAt small sample 0 1 ≡ run 33 2) × (nodeAt small sample 0 2 ≡ []) × (seqAt small sample 0 ≡ 66) × (heightAt small sample 0 ≡ 2)
     × (tailAt small sample 0 ≡ true) × (erased small sample 0 ≡ false)
-unfolding built sealed putLevels putLevel putEntries putEntry putU32 nodeAt nodeCount nodePlace entriesAt u32At blank seqAt heightAt countAt tailAt erased pageBase firstSlot rootSlots inTable _&_
+unfolding built sealed coded putCode numbered putLevels putLevel putEntries putEntry putU32 nodeAt nodeCount nodePlace entriesAt u32At blank seqAt heightAt countAt tailAt erased pageBase firstSlot rootSlots inTable _&_
 read-back = (refl, refl, refl, refl, refl, refl)
+
+-- an erased half and its erased code
+pub erased-fits : fits (replicate 259 255) 0 256 ≡ true
+unfolding fits codeAt freshCode numberE numberG isSet xorBelow _⊕_
+erased-fits = refl
+
+-- the bytes 7, 0, 128 and 253 times 1: an odd number of set bits, so that E and G differ
+pub four-bytes : freshCode (7 ∷ 0 ∷ 128 ∷ replicate 253 1) 0 ≡ 12609523
+unfolding freshCode numberE numberG isSet xorBelow _⊕_
+four-bytes = refl

@@ -1,6 +1,7 @@
 -- Document 01 as definitions, in its order: Bytes to Calls, and Legal, a word of demand 3. These a reader must believe; Halving, Cases
 -- and Examples are theorems about them.
 pub mod Bytes
+pub mod Codes
 pub mod Count
 pub mod Image
 pub mod Tree

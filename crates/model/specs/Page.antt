@@ -1,4 +1,4 @@
--- A page as it is built: all 255, then each level's entries and count, then number and height. A put outside the page
+-- A page as it is built: all 255, then each level's entries and count, then number and height, then the codes. A put outside the page
 -- changes nothing. Definitions alone; assumes nothing.
 use Prim.Native.Nat.{ℕ, zero, suc, _+_, _*_, _/_, _%_}
 use mathlib.Core.List.{List, [], _∷_}
@@ -6,8 +6,9 @@ use lib.Dec.{eqb}
 use lib.ListN.{set, length, replicate}
 use Rattle.geometry.specs.declared.Geometry.{Geometry}
 use Rattle.geometry.specs.declared.Entry.{Entry}
-use Rattle.geometry.specs.Geometry.{pageBytes, firstSlot}
+use Rattle.geometry.specs.Geometry.{pageBytes, halves, codePlace, firstSlot}
 use Rattle.geometry.specs.Tests.{pick}
+use Rattle.model.specs.Codes.{freshCode, putCode}
 
 -- 32 bits, least byte first
 unfoldable pub putU32 : List ℕ → ℕ → ℕ → List ℕ
@@ -31,8 +32,17 @@ putLevels g parts zero b = b
 putLevels g parts (suc l) b = putLevel g (putLevels g parts l b) (suc l) (parts (suc l))
 
 -- spare bytes 0 to 4: sequence number and height byte
+unfoldable pub numbered : Geometry → List ℕ → ℕ → ℕ → List ℕ
+numbered g b seq height = set (putU32 b (g .main) seq) (g .main + 4) (height % 256)
+
+-- the codes of the first k halves, by request 4
+unfoldable pub coded : Geometry → ℕ → List ℕ → List ℕ
+coded g zero b = b
+coded g (suc k) b = putCode (coded g k b) (codePlace g k) (freshCode (coded g k b) (256 * k))
+
+-- number, height byte and codes
 unfoldable pub sealed : Geometry → List ℕ → ℕ → ℕ → List ℕ
-sealed g b seq height = set (putU32 b (g .main) seq) (g .main + 4) (height % 256)
+sealed g b seq height = coded g (halves g) (numbered g b seq height)
 
 -- a whole page: what it holds at each level, its number, its height byte
 unfoldable pub built : Geometry → ℕ → ℕ → (ℕ → List Entry) → List ℕ

@@ -11,9 +11,10 @@ use Rattle.geometry.specs.declared.Finding.{Finding}
 use Rattle.geometry.specs.declared.Finding.the-variants.{Good, Bad}
 use Rattle.geometry.specs.declared.Verdict.{Verdict}
 use Rattle.geometry.specs.declared.Verdict.the-variants.{Sound, Broken}
-use Rattle.geometry.specs.Geometry.{slotsOf, rootMost}
+use Rattle.geometry.specs.Geometry.{halves, pageBase, slotsOf, rootMost}
 use Rattle.geometry.specs.Tests.{pick, _&_}
 use Rattle.model.specs.Bytes.{erased, seqAt, heightAt, tailAt}
+use Rattle.model.specs.Codes.{codesFit}
 use Rattle.model.specs.Count.{count, least, any}
 use Rattle.model.specs.Image.{Nodes, Chip, chipOf, pagesOf, heightOf, rootOf}
 use Rattle.model.specs.Tree.{next, Place, placesOf, live, lowLevel, livePages}
@@ -33,10 +34,10 @@ unfoldable pub first : Finding → Finding → Finding
 first Good v = v
 first (Bad p) v = Bad p
 
--- R1: erased, or byte 4 is 0 to 5, bytes 10 to 15 are 255 and the number isn't 0
+-- R1: erased, or byte 4 is 0 to 5, the bytes after the codes are 255, the number isn't 0 and, by request 4, the codes fit
 unfoldable pub wellFormed : Geometry → List ℕ → ℕ → Bool
-wellFormed g img p =
-    pick (erased g img p) true (leb (heightAt g img p) (g .top) & tailAt g img p & leb 1 (seqAt g img p))
+wellFormed g img p = pick (erased g img p) true
+    (leb (heightAt g img p) (g .top) & tailAt g img p & leb 1 (seqAt g img p) & codesFit g img (pageBase g p) (halves g))
 
 unfoldable pub r1 : Geometry → ℕ → List ℕ → Finding
 r1 g n img = lowest (pagesOf g n) (λ p. not (wellFormed g img p))

@@ -3,13 +3,15 @@ use Prim.Native.Nat.{ℕ, zero, suc, _+_, _-_, _*_, _/_, _%_, _<_, _≤_}
 use mathlib.Core.Path.{_≡_, refl, sym, ap, _∙_}
 use mathlib.Core.List.{List, [], _∷_, _++_}
 use lib.ListN.{take, length, getD, set, replicate, length-set}
-use lib.Seq.{set-out, length-take-le, take-suc}
+use lib.Seq.{set-out, length-take-le, take-suc, getD-take}
 use native.Mathlib.Omega.{arith}
 use native.Mathlib.Numerals.{add-one}
 use Rattle.geometry.specs.declared.Geometry.{Geometry}
 use Rattle.geometry.specs.declared.Entry.{Entry}
-use Rattle.geometry.specs.Geometry.{pageBytes, firstSlot}
-use Rattle.model.specs.Page.{putU32, putEntry, putEntries, putLevel, putLevels, sealed, built}
+use Rattle.geometry.specs.Geometry.{pageBytes, halves, codePlace, firstSlot}
+use Rattle.model.specs.Codes.{freshCode, putCode}
+use Rattle.model.specs.Page.{putU32, putEntry, putEntries, putLevel, putLevels, numbered, coded, sealed, built}
+use Rattle.codes.specs.Repairs.{fresh-same}
 use Rattle.lists.specs.Places.{length-mapped, take-set}
 use Rattle.node.specs.declared.Node.{Node}
 use Rattle.node.specs.Node.{entries}
@@ -56,9 +58,38 @@ pub none-is : (g : Geometry) (b d : List ℕ) (l m k : ℕ) → d ≡ set b (m +
 unfolding putLevel putEntries
 none-is g b d l m k ed em ek = ed ∙ rw (em, ek)
 
-pub sealed-is : (g : Geometry) (b c d : List ℕ) (m seq h : ℕ) → d ≡ set c (m + 4) (h % 256) → c ≡ putU32 b m seq → m ≡ g .main → d ≡ sealed g b seq h
+pub numbered-is : (g : Geometry) (b c d : List ℕ) (m seq h : ℕ) → d ≡ set c (m + 4) (h % 256) → c ≡ putU32 b m seq → m ≡ g .main → d ≡ numbered g b seq h
+unfolding numbered
+numbered-is g b c d m seq h ed ec em = ed ∙ rw (ec, em)
+
+-- ---- the codes
+pub code-is : (b b1 b2 b3 : List ℕ) (at v w : ℕ) → b3 ≡ set b2 (at + 2) (w / 65536 % 256) → b2 ≡ set b1 (at + 1) (w / 256 % 256) → b1 ≡ set b at (w % 256) → w ≡ v
+    → b3 ≡ putCode b at v
+unfolding putCode
+code-is b b1 b2 b3 at v w g f e q = g ∙ rw (f, e, q)
+
+pub coded-start : (g : Geometry) (b : List ℕ) → b ≡ coded g 0 b
+unfolding coded
+coded-start g b = refl
+
+pub coded-more : (g : Geometry) (b m d : List ℕ) (k c v : ℕ) → m ≡ coded g k b → d ≡ putCode m c v → c ≡ codePlace g k → v ≡ freshCode m (256 * k) → d ≡ coded g (k + 1) b
+unfolding coded
+coded-more g b m d k c v em ed ec ev = ed ∙ rw (ec, ev, em, add-one)
+
+pub coded-done : (g : Geometry) (b m : List ℕ) (k n : ℕ) → m ≡ coded g k b → n ≡ halves g → k ≤ n → n ≤ k → m ≡ coded g (halves g) b
+coded-done g b m k n e en h l = let q : k ≡ n = omega arith in e ∙ rw (q, en)
+
+length-coded : (g : Geometry) (k : ℕ) (b : List ℕ) → length (coded g k b) ≡ length b
+unfolding coded putCode
+length-coded g zero b = refl
+length-coded g (suc k) b = simp length-set (length-coded g k b)
+
+pub coded-same : (g : Geometry) (k : ℕ) (b d : List ℕ) → d ≡ coded g k b → length d ≡ length b
+coded-same g k b d e = rw e (length-coded g k b)
+
+pub sealed-is : (g : Geometry) (b c d : List ℕ) (seq h : ℕ) → d ≡ coded g (halves g) c → c ≡ numbered g b seq h → d ≡ sealed g b seq h
 unfolding sealed
-sealed-is g b c d m seq h ed ec em = ed ∙ rw (ec, em)
+sealed-is g b c d seq h ed ec = ed ∙ rw ec
 
 length-word : (b : List ℕ) (at v : ℕ) → length (putU32 b at v) ≡ length b
 unfolding putU32
@@ -95,9 +126,27 @@ unfolding putLevels
 take-levels m g parts zero b = refl
 take-levels m g parts (suc n) b = take-level m g (putLevels g parts n b) (suc n) (parts (suc n)) ∙ rw (take-levels m g parts n b)
 
-take-sealed : (m : ℕ) (g : Geometry) (b : List ℕ) (seq h : ℕ) → take m (sealed g b seq h) ≡ sealed g (take m b) seq h
+take-numbered : (m : ℕ) (g : Geometry) (b : List ℕ) (seq h : ℕ) → take m (numbered g b seq h) ≡ numbered g (take m b) seq h
+unfolding numbered
+take-numbered m g b seq h = rw (take-set, take-word)
+
+take-code : (m : ℕ) (b : List ℕ) (c v : ℕ) → take m (putCode b c v) ≡ putCode (take m b) c v
+unfolding putCode
+take-code m b c v = rw (take-set, take-set, take-set)
+
+take-fresh : (m : ℕ) (b : List ℕ) (at : ℕ) → at + 256 ≤ m → freshCode b at ≡ freshCode (take m b) at
+take-fresh m b at h = sym (fresh-same b (take m b) at at (λ i l. getD-take m b (at + i) 0 (omega arith)))
+
+take-coded : (m : ℕ) (g : Geometry) (k : ℕ) (b : List ℕ) → 256 * k ≤ m → take m (coded g k b) ≡ coded g k (take m b)
+unfolding coded
+take-coded m g zero b h = refl
+take-coded m g (suc k) b h =
+    take-code m (coded g k b) (codePlace g k) (freshCode (coded g k b) (256 * k))
+    ∙ rw (take-fresh m (coded g k b) (256 * k) (omega arith), take-coded m g k b (omega arith))
+
+take-sealed : (m : ℕ) (g : Geometry) (b : List ℕ) (seq h : ℕ) → g .main ≤ m → take m (sealed g b seq h) ≡ sealed g (take m b) seq h
 unfolding sealed
-take-sealed m g b seq h = rw (take-set, take-word)
+take-sealed m g b seq h le = take-coded m g (halves g) (numbered g b seq h) (omega arith) ∙ rw take-numbered
 
 take-blank : (m n : ℕ) → m ≤ n → take {A = ℕ} m (replicate n 255) ≡ replicate m 255
 take-blank zero n h = refl
@@ -108,6 +157,6 @@ take-blank (suc m) (suc n) h = ap (λ (l : List ℕ). 255 ∷ l) (take-blank m n
 pub page-cut : (g : Geometry) (n seq h : ℕ) (parts : ℕ → List Entry) → pageBytes g ≤ n
     → take (pageBytes g) (sealed g (putLevels g parts (g .top) (replicate n 255)) seq h) ≡ built g seq h parts
 unfolding built
-page-cut g n seq h parts le = take-sealed (pageBytes g) g _ seq h ∙ rw (take-levels, take-blank (pageBytes g) n le)
+page-cut g n seq h parts le = take-sealed (pageBytes g) g _ seq h (omega arith) ∙ rw (take-levels, take-blank (pageBytes g) n le)
 
-pub ruleset page-laws = (put-past, word-is, entry-put, put-start, put-more, put-done, level-is, none-is, sealed-is, length-mapped, put-same)
+pub ruleset page-laws = (put-past, word-is, entry-put, put-start, put-more, put-done, level-is, none-is, numbered-is, coded-start, coded-more, coded-done, coded-same, sealed-is, length-mapped, put-same)

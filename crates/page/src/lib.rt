@@ -3,8 +3,9 @@ ghost use mathlib.Core.Path.{_≡_};
 ghost use mathlib.Core.List.{[]};
 ghost use Prim.Native.Nat.{ℕ, _+_, _*_, _-_, _/_, _%_, _≤_, _<_};
 ghost use lib.ListN.{length, take, set};
-ghost use Rattle.geometry.specs.Geometry.{pageBytes};
-ghost use Rattle.model.specs.Page.{putU32, putEntry, putEntries, putLevel, putLevels, sealed, built, only};
+ghost use Rattle.geometry.specs.Geometry.{pageBytes, halves};
+ghost use Rattle.model.specs.Codes.{putCode};
+ghost use Rattle.model.specs.Page.{putU32, putEntry, putEntries, putLevel, putLevels, numbered, coded, sealed, built, only};
 ghost use Rattle.node.specs.Node.{entries};
 ghost use Rattle.page.specs.Page.{blanks, laidLevel, bare};
 use geometry::Entry;
@@ -111,12 +112,44 @@ fn lay_rest(g: Geometry, buf: &mut [u8], from: u32)
 }
 
 // The sequence number and the height byte.
-fn seal(g: Geometry, buf: &mut [u8], seq: u64, height: u32)
-    ensures { λ _. ⌜ now (buf .exit) ≡ sealed g (now (buf .entry)) seq height ⌝ }
+fn put_number(g: Geometry, buf: &mut [u8], seq: u64, height: u32)
+    ensures { λ _. ⌜ now (buf .exit) ≡ numbered g (now (buf .entry)) seq height ⌝ }
 {
     let at = geometry::wide(g.main);
     put_u32(&mut *buf, at, seq);
     put_byte(&mut *buf, at + 4, (height % 256) as u8);
+}
+
+// The code of one half, least byte first.
+pub fn put_code(buf: &mut [u8], at: usize, v: u32)
+    requires { ⌜ at < 1152921504606846976 ⌝ }
+    ensures { λ _. ⌜ now (buf .exit) ≡ putCode (now (buf .entry)) at v ⌝ }
+{
+    let w = long(v);
+    put_low(&mut *buf, at, w);
+    put_low(&mut *buf, at + 1, w / 256);
+    put_low(&mut *buf, at + 2, w / 65536);
+}
+
+// The codes of all halves.
+fn put_codes(g: Geometry, buf: &mut [u8])
+    ensures { λ _. ⌜ now (buf .exit) ≡ coded g (halves g) (now (buf .entry)) ⌝ }
+{
+    let n = geometry::halves(g);
+    let mut k: usize = 0;
+    while k < n {
+        let v = parity::fresh_code(&*buf, 256 * k);
+        put_code(&mut *buf, geometry::code_place(g, k), v);
+        k += 1;
+    }
+}
+
+// Number, height byte and codes.
+fn seal(g: Geometry, buf: &mut [u8], seq: u64, height: u32)
+    ensures { λ _. ⌜ now (buf .exit) ≡ sealed g (now (buf .entry)) seq height ⌝ }
+{
+    put_number(g, &mut *buf, seq, height);
+    put_codes(g, &mut *buf);
 }
 
 // A page whose levels up to `from` are laid: no node above, and sealed.

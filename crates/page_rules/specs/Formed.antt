@@ -3,13 +3,14 @@ use Prim.Native.Nat.{ℕ, _+_, _-_, _*_, _<_, _≤_}
 use mathlib.Core.Bool.{Bool, true, false, not}
 use mathlib.Core.Path.{_≡_, sym}
 use mathlib.Core.List.{List}
-use lib.Dec.{leb}
 use native.Mathlib.Omega.{arith}
 use borrow.Author.Tests.{not-true, not-false, le-leb, lt-leb}
 use Rattle.geometry.specs.declared.Geometry.{Geometry}
 use Rattle.geometry.specs.declared.Finding.the-variants.{Good, Bad}
+use Rattle.geometry.specs.Geometry.{halves, pageBase}
 use Rattle.geometry.specs.Tests.{and-true, and-false}
 use Rattle.model.specs.Bytes.{erased, seqAt, heightAt, tailAt}
+use Rattle.model.specs.Codes.{codesFit}
 use Rattle.model.specs.Count.{least}
 use Rattle.model.specs.Rules.{wellFormed, r1}
 use Rattle.counts.specs.Least.{least-zero, least-go}
@@ -30,10 +31,16 @@ module _ (g : Geometry) (img : List ℕ) (p : ℕ) (e : Bool) (ee : e ≡ erased
   formed-tail t w h b et eh ew eb q k n = simp (← ee, q, ← et, ← eh, le-leb h t (rw (← ew) k), ← eb, not-true b n, and-true, and-false)
 
   pub formed-number : (t w h s : ℕ) (b : Bool) → t ≡ g .top → h ≡ heightAt g img p → w ≡ h → b ≡ tailAt g img p → s ≡ seqAt g img p
-      → e ≡ false → w ≤ t → not b ≡ false → leb 1 s ≡ wellFormed g img p
+      → e ≡ false → w ≤ t → not b ≡ false → s ≡ 0 → false ≡ wellFormed g img p
   unfolding wellFormed
-  formed-number t w h s b et eh ew eb es q k n =
-      simp (← ee, q, ← et, ← eh, le-leb h t (rw (← ew) k), ← eb, not-false b n, ← es, and-true)
+  formed-number t w h s b et eh ew eb es q k n z =
+      simp (← ee, q, ← et, ← eh, le-leb h t (rw (← ew) k), ← eb, not-false b n, ← es, z, and-true, and-false)
+
+  pub formed-codes : (t w h s o : ℕ) (b r : Bool) → t ≡ g .top → h ≡ heightAt g img p → w ≡ h → b ≡ tailAt g img p → s ≡ seqAt g img p → o ≡ pageBase g p
+      → r ≡ codesFit g img o (halves g) → e ≡ false → w ≤ t → not b ≡ false → (s ≡ 0 → ⊥) → r ≡ wellFormed g img p
+  unfolding wellFormed
+  formed-codes t w h s o b r et eh ew eb es eo er q k n z =
+      simp (← ee, q, ← et, ← eh, le-leb h t (rw (← ew) k), ← eb, not-false b n, ← es, le-leb 1 s (omega arith), ← eo, ← er, and-true)
 
 -- R1's test, as a name
 unfoldable pub malformed : Geometry → List ℕ → ℕ → Bool
@@ -60,4 +67,4 @@ module _ (g : Geometry) (img : List ℕ) where
       let w : i ≡ g .pages * n = omega (arith, et) in
       lowest-good (malformed g img) (g .pages * n) (rw (← w) e)
 
-pub ruleset formed-laws = (formed-erased, formed-high, formed-tail, formed-number, form-start, form-go, form-bad, form-good)
+pub ruleset formed-laws = (formed-erased, formed-high, formed-tail, formed-number, formed-codes, form-start, form-go, form-bad, form-good)

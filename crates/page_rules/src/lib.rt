@@ -1,7 +1,9 @@
 // R1 and R2: what each page and each block must look like.
 ghost use mathlib.Core.Path.{_≡_};
 ghost use Prim.Native.Nat.{ℕ, _+_, _*_, _-_, _≤_, _<_};
+ghost use Rattle.geometry.specs.Geometry.{halves};
 ghost use Rattle.model.specs.Bytes.{erased};
+ghost use Rattle.model.specs.Codes.{codesFit};
 ghost use Rattle.model.specs.Count.{least};
 ghost use Rattle.model.specs.Next.{mixed, firstIn};
 ghost use Rattle.model.specs.Rules.{wellFormed, inOrder, secondMixed, r1, r2};
@@ -9,7 +11,24 @@ ghost use Rattle.page_rules.specs.Blocks.{disorder, other};
 use geometry::Finding;
 use geometry::Geometry;
 
-// Whether a page is erased, or its height, tail and number may be.
+// Whether the codes of all halves fit, of the page that begins at byte b.
+fn codes_fit(g: Geometry, img: &[u8], b: usize) -> bool
+    requires { ⌜ b < 562949953421312 ⌝ }
+    ensures { λ r. ⌜ r ≡ codesFit g (now (img .entry)) b (halves g) ⌝ }
+{
+    let n = geometry::halves(g);
+    let mut k: usize = 0;
+    while k < n {
+        let fresh = parity::fresh_code(img, b + 256 * k);
+        if chip::code_at(img, b + geometry::code_place(g, k)) != fresh {
+            return false;
+        }
+        k += 1;
+    }
+    true
+}
+
+// Whether a page is erased, or its height, tail, number and codes may be.
 fn well_formed(g: Geometry, img: &[u8], page: u32) -> bool
     ensures { λ r. ⌜ r ≡ wellFormed g (now (img .entry)) page ⌝ }
 {
@@ -22,7 +41,10 @@ fn well_formed(g: Geometry, img: &[u8], page: u32) -> bool
     if !chip::tail_blank(g, img, page) {
         return false;
     }
-    1 <= chip::seq_at(g, img, page)
+    if chip::seq_at(g, img, page) == 0 {
+        return false;
+    }
+    codes_fit(g, img, geometry::page_base(g, page))
 }
 
 // R1: the lowest page that is not well formed.

@@ -1,4 +1,5 @@
--- From the C calls to what is proved of them, with nothing in between: read Left, then Calls for the demands and Many for request 10.
+-- From the C calls to what is proved of them, with nothing in between: read Left, then Calls for the demands, Many for request 10 and Patrol for request 4.
 pub mod Left
 pub mod Calls
 pub mod Many
+pub mod Patrol

@@ -5,8 +5,10 @@ use Rattle.chip.proofs.tail_blank.Tie as tie
 use Rattle.chip.proofs.tail_blank.Reads as reads
 use Rattle.chip.proofs.tail_blank.Lts as lts
 use Rattle.chip.proofs.all_blank.Reads as all-blank-reads
-use Rattle.chip.proofs.spare_base.Reads as spare-base-reads
-use Rattle.geometry.proofs.wide.Reads as wide-reads
+use Rattle.geometry.proofs.code_place.Reads as code-place-reads
+use Rattle.geometry.proofs.halves.Reads as halves-reads
+use Rattle.geometry.proofs.page_base.Reads as page-base-reads
+use Rattle.geometry.proofs.page_bytes.Reads as page-bytes-reads
 
 ruleset all = (needs, chip-laws)
 
@@ -16,12 +18,9 @@ tail-blank-spec =
     (tie.spec
     (λ c κs. search all)
     (λ c κs. search all)
-    (λ c. search all)
-    (λ c. search all)
     (λ c κs. search all)
     (λ c. search all)
-    (λ c. search all)
-    (λ c. search all)
+    (λ c κs. search all)
     (λ c. search all)
     (λ c κs. search all)
     (λ c. search all))

@@ -1,24 +1,13 @@
-use Rattle.page.specs.Levels.{level-laws}
 use borrow.Author.Needs.{needs}
 use Rattle.page.specs.Laws.{page-laws}
 use Rattle.page.proofs.seal.Statement.{statement}
 use Rattle.page.proofs.seal.Tie as tie
 use Rattle.page.proofs.seal.Reads as reads
 use Rattle.page.proofs.seal.Lts as lts
-use Rattle.geometry.proofs.wide.Reads as wide-reads
-use Rattle.page.proofs.put_byte.Reads as put-byte-reads
-use Rattle.page.proofs.put_u32.Reads as put-u32-reads
+use Rattle.page.proofs.put_codes.Reads as put-codes-reads
+use Rattle.page.proofs.put_number.Reads as put-number-reads
 
-ruleset all = (needs, page-laws, level-laws)
+ruleset all = (needs, page-laws)
 
 pub seal-spec : {M : Type 1} → statement M
-seal-spec =
-    tie.close
-    (tie.spec
-    (λ c κs. search all)
-    (λ c κs. search all)
-    (λ c. search all)
-    (λ c. search all)
-    (λ c κs. search all)
-    (λ c. search all)
-    (λ c. search all))
+seal-spec = tie.close (tie.spec (λ c κs. search all) (λ c κs. search all) (λ c. search all) (λ c. search all))

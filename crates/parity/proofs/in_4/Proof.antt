@@ -1,0 +1,13 @@
+use borrow.Author.Needs.{needs}
+use Rattle.parity.specs.Halves.{half-laws}
+use Rattle.parity.proofs.in_4.Statement.{statement}
+use Rattle.parity.proofs.in_4.Tie as tie
+use Rattle.parity.proofs.in_4.Reads as reads
+use Rattle.parity.proofs.in_4.Lts as lts
+use Rattle.parity.proofs.if_odd.Reads as if-odd-reads
+use Rattle.parity.proofs.in_2.Reads as in-2-reads
+
+ruleset all = (needs, half-laws)
+
+pub in-4-spec : {M : Type 1} → statement M
+in-4-spec = tie.close (tie.spec (λ c κs. search all) (λ c κs. search all) (λ c. search all))
