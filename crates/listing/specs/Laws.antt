@@ -164,6 +164,14 @@ pub tree-few : (g : Geometry) (img : List ℕ) (l p low high : ℕ) → length (
     → 0 + length (ranged (nodeAt g img) low high (l + 1) (named p)) < 4294967296
 tree-few g img l p low high h = rw (add-one l) (omega (arith, h))
 
+pub tree-exist : (g : Geometry) (img : List ℕ) (l p low high x : ℕ) → x ≡ 0 + length (ranged (nodeAt g img) low high (l + 1) (named p))
+    → length (rangedOf (chipWith g img l p) low high) < 4294967296 → x < 4294967296
+tree-exist g img l p low high x e h = let q = tree-few g img l p low high h in omega (arith, e, q)
+
+pub tree-written : (g : Geometry) (img : List ℕ) (l p low high x w : ℕ) → w ≤ x → x ≡ 0 + length (ranged (nodeAt g img) low high (l + 1) (named p))
+    → length (rangedOf (chipWith g img l p) low high) < 4294967296 → w < 4294967296
+tree-written g img l p low high x w b e h = let q = tree-exist g img l p low high x e h in omega (arith, b, q)
+
 pub tree-done : (g : Geometry) (img : List ℕ) (l p low high x w x′ w′ : ℕ) (b d : List ℕ) → x ≡ 0 + length (ranged (nodeAt g img) low high (l + 1) (named p))
     → d ≡ putPairs b 0 (ranged (nodeAt g img) low high (l + 1) (named p)) → w ≡ min x (length d / 2) → x′ ≡ x → w′ ≡ w
     → told (Done x′ w′ 0) d ≡ asOutcome (lists (rangedOf (chipWith g img l p) low high) b)
@@ -202,4 +210,4 @@ module _ (g : Geometry) (img : List ℕ) (low high n : ℕ) (b : List ℕ) (en :
 pub known-pages : (g : Geometry) → Known g → g .pages ≤ 64
 known-pages g known = shape g known .pages-high
 
-pub ruleset listing-laws = (put-in, put-out, below-count, below-buffer, pair-count, pair-buffer, level-count, level-buffer, start-few, turn-few, turn-count, turn-buffer, above-count, above-buffer, past-count, past-buffer, pairs-same, tree-few, tree-done, sound-few, listed-broken, listed-sound, list-length, list-blocks, known-pages)
+pub ruleset listing-laws = (put-in, put-out, below-count, below-buffer, pair-count, pair-buffer, level-count, level-buffer, start-few, turn-few, turn-count, turn-buffer, above-count, above-buffer, past-count, past-buffer, pairs-same, tree-few, tree-exist, tree-written, tree-done, sound-few, listed-broken, listed-sound, list-length, list-blocks, known-pages)
