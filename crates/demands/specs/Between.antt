@@ -2,7 +2,7 @@
 use mathlib.Core.Path.{_≡_, refl, ap, sym, _∙_}
 use mathlib.Core.List.{List, [], _∷_, _++_}
 use mathlib.Core.Bool.{Bool, true, false}
-use mathlib.Core.Option.{none, some}
+use mathlib.Core.Option.{Option, none, some}
 use Prim.Native.Nat.{ℕ, zero, suc, _+_, _-_, _*_, _<_, _≤_}
 use native.Mathlib.Omega.{arith}
 use lib.Dec.{eqb, leb}
@@ -42,7 +42,7 @@ module _ (low high : ℕ) where
   unfolding between find
   between-finds k [] = go (leb low k & leb k high)
     where
-      go : (t : Bool) → none ≡ pick t none none
+      go : (t : Bool) → _≡_ {A = Option ℕ} none (pick t none none)
       go true = refl
       go false = refl
   between-finds k (e ∷ es) = go (eqb (e .key) k) (leb low (e .key) & leb (e .key) high) refl refl (between-finds k es)

@@ -60,20 +60,14 @@ module _ (fit : ℕ → ℕ → Type 0) (room : ℕ → ℕ) (r : Nodes) (low hi
   upto-none y (e ∷ es) h = rw (lt-leb (e .key) high h) refl
 
   -- from an entry on, where the low key lies before the next one: only that entry's range and the last one's have an end inside
-  list-few : (l top : ℕ) (e : Entry) (es : List Entry) → Rises (Ok fit room r l) top (e ∷ es) → low < next es top → Few l
+  head-few : (l top : ℕ) (e : Entry) (es : List Entry) → Rises (Ok fit room r l) top (e ∷ es) → low < next es top → Few l
+      → nodesIn l (upTo high es) ≤ l * (bit (ltb (suc high) top) + pairsIn l (upTo high es))
       → nodesIn l (upTo high (e ∷ es)) ≤ l * (ends (e .key) top + pairsIn l (upTo high (e ∷ es)))
   unfolding upTo gather
-  list-few l top e es h q step = go (leb (e .key) high) refl
+  head-few l top e es h q step tail = go (leb (e .key) high) refl
     where
       own : e .key ≤ high → length (looked r low high l e) ≤ l * (ends (e .key) (next es top) + length (ranged r low high l e))
       own c = step (next es top) e (h .0) c q (h .1)
-
-      -- the entries after it, all above the low key
-      tail : (es : List Entry) → Rises (Ok fit room r l) top es → low < next es top → nodesIn l (upTo high es) ≤ l * (bit (ltb (suc high) top) + pairsIn l (upTo high es))
-      tail [] i p = omega arith
-      tail (x ∷ es) i p =
-          let w : bit (leb (x .key) low) ≡ 0 = ap bit (lt-leb (x .key) low p) in
-          same l _ _ _ _ (list-few l top x es i (omega (arith, p, i .0)) step) (omega arith) (omega (arith, w))
 
       joined : (us : List Entry)
           → (nodesIn l (e ∷ us) ≡ length (looked r low high l e) + nodesIn l us) × (pairsIn l (e ∷ us) ≡ length (ranged r low high l e) + pairsIn l us)
@@ -93,7 +87,7 @@ module _ (fit : ℕ → ℕ → Type 0) (room : ℕ → ℕ) (r : Nodes) (low hi
           let j = joined (upTo high es) in
           let x : bit (ltb (suc high) (next es top)) ≡ 0 = ap bit (le-ltb (suc high) (next es top) z) in
           same l _ _ _ _ (both l (length (looked r low high l e)) (nodesIn l (upTo high es)) (ends (e .key) (next es top) + length (ranged r low high l e))
-          (bit (ltb (suc high) top) + pairsIn l (upTo high es)) (own c) (tail es (h .2) q)) (omega (arith, j .0)) (omega (arith, j .1, x))
+          (bit (ltb (suc high) top) + pairsIn l (upTo high es)) (own c) tail) (omega (arith, j .0)) (omega (arith, j .1, x))
 
       by-end : e .key ≤ high → (t : Bool) → ltb (suc high) (next es top) ≡ t → nodesIn l (e ∷ upTo high es) ≤ l * (ends (e .key) top + pairsIn l (e ∷ upTo high es))
       by-end c true z = last c (ltb-true (suc high) (next es top) z)
@@ -103,6 +97,20 @@ module _ (fit : ℕ → ℕ → Type 0) (room : ℕ → ℕ) (r : Nodes) (low hi
           → nodesIn l (pick t (e ∷ upTo high es) []) ≤ l * (ends (e .key) top + pairsIn l (pick t (e ∷ upTo high es) []))
       go true x = by-end (leb-true (e .key) high x) (ltb (suc high) (next es top)) refl
       go false x = omega arith
+
+  -- the entries after it are all above the low key
+  tail-few : (l top : ℕ) (es : List Entry) → Rises (Ok fit room r l) top es → low < next es top → Few l
+      → nodesIn l (upTo high es) ≤ l * (bit (ltb (suc high) top) + pairsIn l (upTo high es))
+  unfolding upTo gather
+  tail-few l top [] h q step = omega arith
+  tail-few l top (e ∷ es) h q step =
+      let w : bit (leb (e .key) low) ≡ 0 = ap bit (lt-leb (e .key) low q) in
+      let z : low < next es top = omega (arith, q, h .0) in
+      same l _ _ _ _ (head-few l top e es h z step (tail-few l top es (h .2) z step)) refl (omega (arith, w))
+
+  list-few : (l top : ℕ) (e : Entry) (es : List Entry) → Rises (Ok fit room r l) top (e ∷ es) → low < next es top → Few l
+      → nodesIn l (upTo high (e ∷ es)) ≤ l * (ends (e .key) top + pairsIn l (upTo high (e ∷ es)))
+  list-few l top e es h q step = head-few l top e es h q step (tail-few l top es (h .2) q step)
 
   -- ---- a node
   first-least : (P : ℕ → Entry → Type 0) (y i : ℕ) (es : List Entry) → Rises P y es → i < length es → next es y ≤ entryOf es i .key

@@ -1,4 +1,5 @@
--- From the C calls to what is proved of them, with nothing in between: read Left, then Calls for the demands and Many for request 10.
+-- From the C calls to what is proved of them, with nothing in between: read Left, then Calls for the demands, Listing for request 1 and Many for request 10.
 pub mod Left
 pub mod Calls
+pub mod Listing
 pub mod Many
