@@ -12,14 +12,14 @@ use lib.ListN.{length, getD}
 use Rattle.geometry.specs.declared.Geometry.{Geometry}
 use Rattle.geometry.specs.declared.Entry.{Entry}
 use Rattle.geometry.specs.declared.Verdict.the-variants.{Broken}
-use Rattle.geometry.specs.Geometry.{half, rootMost}
+use Rattle.geometry.specs.Geometry.{half}
 use Rattle.geometry.specs.Shape.{Shape}
 use Rattle.geometry.specs.Tests.{pick, _&_}
 use Rattle.model.specs.Image.{blocksOf, pagesOf, goodLength, Chip, chipOf}
 use Rattle.model.specs.Tree.{entryOf, find}
 use Rattle.model.specs.Rules.{verdict}
 use Rattle.model.specs.Calls.{byVerdict, judged}
-use Rattle.model.specs.Listing.{between, rangedOf, writtenOf, filled, Listed, lists, listsNone, listing}
+use Rattle.model.specs.Listing.{between, rangedOf, writtenOf, filled, lists, listsNone, listing}
 use Rattle.trees.specs.Nodes.{fitOf}
 use Rattle.trees.specs.Between.{ranged-root}
 use Rattle.demands.specs.Words.{Ready, mapAt, Rising}

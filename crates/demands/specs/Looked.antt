@@ -1,6 +1,6 @@
 -- Request 1's cost: the nodes that the walk between two keys looks at, and how many they are. Assumes nothing.
 use mathlib.Core.Path.{_≡_, refl, ap, sym, subst, _∙_}
-use mathlib.Core.List.{List, [], _∷_, _++_}
+use mathlib.Core.List.{List, [], _∷_}
 use mathlib.Core.Bool.{Bool, true, false}
 use Prim.Native.Nat.{ℕ, zero, suc, _+_, _*_, _<_, _≤_}
 use native.Mathlib.Omega.{arith}
@@ -8,13 +8,13 @@ use native.Mathlib.Nat.{mul-add, mul-le-mul-left, suc-mul}
 use lib.Dec.{leb, ltb}
 use lib.ListN.{length, take, drop, length-append, take-append-drop, drop-of-length-le}
 use lib.Seq.{drop-cons, drop-nil}
-use borrow.Author.Tests.{lt-leb, le-leb, leb-true, leb-false, ltb-true, ltb-false, lt-ltb, le-ltb}
+use borrow.Author.Tests.{lt-leb, leb-true, leb-false, ltb-true, ltb-false, lt-ltb, le-ltb}
 use Rattle.geometry.specs.declared.Entry.{Entry}
 use Rattle.geometry.specs.Tests.{pick, bit}
 use Rattle.model.specs.Image.{Nodes, Chip, theRoot}
 use Rattle.model.specs.Tree.{gather, under, next, Place, entryOf, place}
 use Rattle.model.specs.Halving.{Placed, place-is}
-use Rattle.model.specs.Listing.{between, upTo, reached, ranged}
+use Rattle.model.specs.Listing.{upTo, reached, ranged}
 use Rattle.counts.specs.Least.{by-lt}
 use Rattle.trees.specs.Lists.{Rises, rises-right, next-le}
 use Rattle.trees.specs.Nodes.{Ok, under-in, the}

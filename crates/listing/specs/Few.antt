@@ -1,6 +1,6 @@
 -- On a sound image of one of the two chips there are fewer than 2^32 pairs. Assumes nothing.
-use Prim.Native.Nat.{ℕ, zero, suc, _+_, _*_, _<_, _≤_}
-use mathlib.Core.Path.{_≡_, refl, ap, sym, _∙_}
+use Prim.Native.Nat.{ℕ, zero, suc, _+_, _*_, _<_}
+use mathlib.Core.Path.{_≡_, refl, ap, _∙_}
 use mathlib.Core.List.{List}
 use native.Mathlib.Omega.{arith}
 use native.Mathlib.Nat.{mul-zero, zero-mul}
@@ -11,10 +11,10 @@ use Rattle.geometry.specs.declared.Finding.the-variants.{Good}
 use Rattle.geometry.specs.declared.Verdict.the-variants.{Sound}
 use Rattle.geometry.specs.Geometry.{small, large, firstSlot, slotsOf, half, rootSlots, rootMost}
 use Rattle.geometry.specs.Shape.{Known, is-small, is-large, shape}
-use Rattle.model.specs.Image.{pagesOf, Chip, chipOf}
+use Rattle.model.specs.Image.{pagesOf, chipOf}
 use Rattle.model.specs.Tree.{mapOf}
 use Rattle.model.specs.Rules.{r5, verdict}
-use Rattle.model.specs.Listing.{between, rangedOf}
+use Rattle.model.specs.Listing.{rangedOf}
 use Rattle.counts.specs.Lowest.{or-sound}
 use Rattle.trees.specs.Nodes.{fitOf}
 use Rattle.trees.specs.Judge.{r5-most, r5-rises}

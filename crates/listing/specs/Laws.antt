@@ -1,7 +1,7 @@
 -- A listing, in the form in which the code has the premises. Assumes nothing.
 use Prim.Native.Nat.{ℕ, zero, suc, _+_, _-_, _*_, _/_, min, _<_, _≤_}
 use mathlib.Core.Path.{_≡_, refl, sym, ap, _∙_}
-use mathlib.Core.List.{List, [], _∷_, _++_}
+use mathlib.Core.List.{List, [], _++_}
 use lib.ListN.{length, drop, length-append}
 use native.Mathlib.Omega.{arith}
 use native.Mathlib.Numerals.{sub-one, add-one}
@@ -10,18 +10,17 @@ use borrow.Author.Tests.{lt-leb, le-leb}
 use Rattle.geometry.specs.declared.Geometry.{Geometry}
 use Rattle.geometry.specs.declared.Entry.{Entry}
 use Rattle.geometry.specs.declared.Verdict.the-variants.{Sound, Broken}
-use Rattle.geometry.specs.Shape.{Known, Shape, shape}
+use Rattle.geometry.specs.Shape.{Known, shape}
 use Rattle.model.specs.Bytes.{entriesAt, nodePlace, nodeCount, nodeAt}
-use Rattle.model.specs.Image.{Nodes, Chip, chipOf}
+use Rattle.model.specs.Image.{Nodes, Chip}
 use Rattle.model.specs.Tree.{gather, place}
 use Rattle.model.specs.Rules.{verdict}
 use Rattle.model.specs.Calls.{Outcome, byVerdict, judged}
-use Rattle.model.specs.Listing.{upTo, reached, ranged, rangedOf, writtenOf, filled, Listed, lists, listing, asOutcome}
-use Rattle.answers.specs.declared.Answer.{Answer}
+use Rattle.model.specs.Listing.{upTo, reached, ranged, rangedOf, writtenOf, lists, listing, asOutcome}
 use Rattle.answers.specs.declared.Answer.the-variants.{Done, Length, Damaged}
 use Rattle.answers.specs.Answers.{told}
 use Rattle.chip.specs.Chip.{entryAt, goodBlocks, chipWith, named}
-use Rattle.chip.specs.Node.{node-read, entries-none, entries-step, entries-turn, entries-past}
+use Rattle.chip.specs.Node.{node-read, entries-step, entries-turn, entries-past}
 use Rattle.chip.specs.Blocks.{none-good, some-good, some-blocks}
 use Rattle.survey.specs.Laws.{chip-is}
 use Rattle.verdict.specs.declared.Judgement.{Judgement}

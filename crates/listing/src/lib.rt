@@ -1,6 +1,6 @@
 // The pairs between two keys, in a lent buffer: judged first, then one walk that goes down nothing but what may hold such pairs.
 ghost use mathlib.Core.Path.{_≡_};
-ghost use Prim.Native.Nat.{ℕ, _+_, _*_, _/_, min, _≤_, _<_};
+ghost use Prim.Native.Nat.{_+_, _*_, _/_, min, _≤_, _<_};
 ghost use lib.ListN.{length};
 ghost use Rattle.geometry.specs.Shape.{Known};
 ghost use Rattle.model.specs.Bytes.{nodeAt};
@@ -101,10 +101,7 @@ fn list_tree(
     requires { ⌜ length (rangedOf (chipWith g (now img) level root) low high) < 4294967296 ⌝ }
     ensures { λ r. ⌜ told r (now (pairs .exit)) ≡ asOutcome (lists (rangedOf (chipWith g (now (img .entry)) level root) low high) (now (pairs .entry))) ⌝ }
 {
-    let top = Entry {
-        key: 0,
-        addr: root,
-    };
+    let top = Entry { key: 0, addr: root };
     let exist = list_under(g, img, &mut *pairs, 0, level + 1, top, low, high);
     let written = written_of(exist, pairs.len());
     Answer::Done(narrow(exist), narrow(written), 0)

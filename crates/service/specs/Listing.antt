@@ -1,6 +1,6 @@
 -- Request 1 of the C call mutree_list, for every image of bytes, every two buffers and keys of 32 bits: what it refuses, and on a sound image
 -- the map's part between the keys. `between`, `filled`, `writtenOf` are of crate model. Assumes nothing.
-use mathlib.Core.Path.{_≡_, refl, ap, sym, _∙_}
+use mathlib.Core.Path.{_≡_, ap, _∙_}
 use mathlib.Core.List.{List}
 use mathlib.Core.Bool.{true, false}
 use Prim.Native.Nat.{ℕ, _<_, _≤_}
