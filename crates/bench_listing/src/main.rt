@@ -2,7 +2,10 @@
 // pair, then keys 10, 20, .. with addresses 11, 21, .., more than a root of level 1 stores. Each listing gives a line: answer, pairs
 // that exist, pairs written, 0, rule and page, then the nine numbers of the buffer, each 7 before; as many of them are lent as the
 // case says.
+ghost use mathlib.Core.Path.{_≡_};
 ghost use Prim.Native.Nat.{_≤_};
+ghost use lib.ListN.{length};
+use answers::Answer;
 
 fn number(n: u32) {
     io::write_all(1, b" ");
@@ -19,25 +22,34 @@ fn numbers(buffer: &[u32]) {
     io::write_all(1, b"\n");
 }
 
-// A listing from low to high with `lent` numbers of the buffer.
-fn list(kind: u32, img: &[u8], low: u32, high: u32, lent: usize)
-    requires { ⌜ lent ≤ 9 ⌝ }
-{
-    let mut buffer: [u32; 9] = [7; 9];
-    let a = index::list(kind, img, low, high, &mut buffer[..lent]);
+fn tell(a: Answer) {
     let w = answers::row_of(a);
-    number(low);
-    number(high);
-    number(lent as u32);
-    io::write_all(1, b":");
     number(w.answer);
     number(w.address);
     number(w.programmed);
     number(w.erased);
     number(w.rule);
     number(w.page);
+}
+
+// A listing from low to high with the first numbers of a buffer.
+fn list_into(kind: u32, img: &[u8], low: u32, high: u32, buffer: &mut [u32], lent: usize)
+    requires { ⌜ (lent ≤ 9) × (length (now buffer) ≡ 9) ⌝ }
+{
+    number(low);
+    number(high);
+    number(lent as u32);
+    io::write_all(1, b":");
+    tell(index::list(kind, img, low, high, &mut buffer[..lent]));
     io::write_all(1, b",");
-    numbers(&buffer);
+    numbers(&*buffer);
+}
+
+fn list(kind: u32, img: &[u8], low: u32, high: u32, lent: usize)
+    requires { ⌜ lent ≤ 9 ⌝ }
+{
+    let mut buffer: [u32; 9] = [7; 9];
+    list_into(kind, img, low, high, &mut buffer, lent);
 }
 
 // Keys 10, 20, .. to 10 n.
