@@ -1,5 +1,5 @@
 /* main.c: drives target.c without libFuzzer, with inputs from a counter. So any C compiler can run it; it is no search, but
- * it meets all four calls on both chips, sound and broken images, good and bad lengths, and both guard pages.
+ * it meets all calls on both chips, sound and broken images, good and bad lengths, and both guard pages.
  *
  * usage: fuzz [ROUNDS]
  */
