@@ -206,6 +206,19 @@ static void around_every_key(void)
     parts_are_the_whole(7);
 }
 
+/* LENGTH, and neither buffer changes. */
+static void short_results_stay(void)
+{
+    static const size_t rooms[] = { 0, 1, 16, RESULT - 1 };
+    uint8_t result[RESULT], kept[RESULT];
+    size_t i;
+    memset(kept, 9, sizeof kept);
+    memset(result, 9, sizeof result);
+    for (i = 0; i < sizeof rooms / sizeof *rooms; i++)
+        if (list_of_all(chip->number, image, length, result, rooms[i]) != MUTREE_LENGTH || memcmp(result, kept, sizeof result))
+            fail("a list with a short result buffer is LENGTH and writes nothing");
+}
+
 void lists_are_the_maps_part(void)
 {
     unsigned height;
@@ -220,6 +233,7 @@ void lists_are_the_maps_part(void)
             map = state.map;
             entries = state.entries;
             around_every_key();
+            short_results_stay();
             if (memcmp(tree, kept, length))
                 fail("a list wrote to the image");
             free(tree);
