@@ -8,9 +8,12 @@
  * 10 every number but 0 is taken for the large chip   11 the large chip is taken for the small one
  * 12 a lookup that takes a result buffer of 16 bytes   13 a delete that says neither rule nor page
  * 14 R3 with the lower page of the pair   15 R2 with the last erased page in a row, not the first
- * 16 R5 with the root's page (damage.c has 14 to 16) */
+ * 16 R5 with the root's page (damage.c has 14 to 16)
+ * 17 a list without the pair at its high key   18 one pair too many where a list is cut short at an odd length
+ * 19 a list that passes over the root's subtree that low lies in (listing.c has 17 to 19) */
 #include "../../c/mutree.h"
 #include "damage.h"
+#include "listing.h"
 
 #include <stdlib.h>
 #include <string.h>
@@ -46,6 +49,14 @@ uint32_t mutree_lookup(uint32_t geometry, const uint8_t *image, size_t image_len
         seen = image[image_len];
     if (FAULT == 5 && answer == MUTREE_DONE)
         result[4]++;
+    return answer;
+}
+
+uint32_t mutree_list(uint32_t geometry, const uint8_t *image, size_t image_len, uint32_t low, uint32_t high, uint32_t *pairs,
+                     size_t pairs_len, uint8_t *result, size_t result_len)
+{
+    uint32_t answer = list_wrongly(FAULT, chip_of(geometry), image, image_len, low, high, pairs, pairs_len, result, result_len);
+    tell_wrongly(FAULT, geometry, image, image_len, answer, result);
     return answer;
 }
 

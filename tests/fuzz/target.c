@@ -1,4 +1,4 @@
-/* target.c: any bytes, any lengths, small buffers, through the four calls; for libFuzzer with sanitizers, or for main.c.
+/* target.c: any bytes, any lengths, small buffers, through the calls; for libFuzzer with sanitizers, or for main.c.
  *
  * The first bytes choose the call, the chip or a number that is none's, the key, the allowance, the result buffer's length and
  * which guard page the buffers stand against; the rest is the image. Where the input says so the image is a formatted one with
@@ -6,10 +6,11 @@
  * image and the result buffer lie in mapped memory before a guard page, or after one: a byte read or written past their ends
  * ends the run. Checked besides: a number that is no chip's gives LENGTH, refused calls leave the image, a finished call leaves
  * one that is not DAMAGED, a short result buffer stays as it was, and so do the bytes after the 24; rule and page are 0 but for
- * DAMAGED, and then a rule's number and a page of the image. */
+ * DAMAGED, and then a rule's number and a page of the image. listing.c has what is checked of a list. */
 #define _DEFAULT_SOURCE
 #include "../../c/mutree.h"
 #include "../guarded.h"
+#include "listing.h"
 
 #include <stdlib.h>
 #include <string.h>
@@ -18,6 +19,8 @@
 struct head {
     uint32_t geometry;
     int kind, over_format, at_end;
+    int lists; /* a list in place of a lookup */
+    struct wish wish;
     size_t room;
     uint32_t key, allowance;
 };
@@ -41,6 +44,10 @@ static struct head head_of(const uint8_t *data)
     head.allowance = data[6] == 255 ? UINT32_MAX : data[6];
     head.over_format = data[7] & 1;
     head.at_end = !(data[7] & 2);
+    head.lists = data[7] >> 2 & 1;
+    head.wish.low = head.key;
+    head.wish.high = data[7] >> 3 == 31 ? UINT32_MAX : number(data + 2) >> 12 & 1023;
+    head.wish.numbers = data[6];
     return head;
 }
 
@@ -77,7 +84,10 @@ static uint32_t call(struct head head, struct guarded image, struct guarded resu
 {
     switch (head.kind) {
     case 0: return mutree_format(head.geometry, image.bytes, image.length, result.bytes, result.length);
-    case 1: return mutree_lookup(head.geometry, image.bytes, image.length, head.key, result.bytes, result.length);
+    case 1:
+        if (head.lists)
+            return list_checked(head.geometry, image, head.wish, head.at_end, result);
+        return mutree_lookup(head.geometry, image.bytes, image.length, head.key, result.bytes, result.length);
     case 2:
         return mutree_insert(head.geometry, image.bytes, image.length, head.key, ~head.key, head.allowance, result.bytes,
                              result.length);

@@ -1,6 +1,7 @@
 /* numbers.c: the geometry's number. 0 and 1 are the two chips, another gives LENGTH, and its result is written all the same. What
  * c/mutree.h says of a chip is what the documents say. */
 #include "demands.h"
+#include "listing.h"
 
 #include <stdlib.h>
 #include <string.h>
@@ -29,13 +30,14 @@ static void rules_are_the_documents(void)
     }
 }
 
-/* One call with a number that is no chip's: 0 format, 1 lookup, 2 insert, 3 delete. */
+/* One call with a number that is no chip's: 0 format, 1 lookup, 2 insert, 3 list, 4 delete. */
 static uint32_t call(int which, uint32_t number, uint8_t *image, size_t length, uint8_t *result, size_t room)
 {
     switch (which) {
     case 0: return mutree_format(number, image, length, result, room);
     case 1: return mutree_lookup(number, image, length, 1, result, room);
     case 2: return mutree_insert(number, image, length, 1, 1, UINT32_MAX, result, room);
+    case 3: return list_of_all(number, image, length, result, room);
     default: return mutree_delete(number, image, length, 1, UINT32_MAX, result, room);
     }
 }
@@ -46,7 +48,7 @@ static void is_no_chip(uint32_t number, const uint8_t *image, size_t length)
     int which;
     memset(untouched, 9, sizeof untouched);
     memset(written + RESULT, 9, 4);
-    for (which = 0; which < 4; which++) {
+    for (which = 0; which < 5; which++) {
         memset(result, 9, sizeof result);
         if (call(which, number, copy, length, result, RESULT - 1) != MUTREE_LENGTH || memcmp(result, untouched, sizeof result))
             fail("a number that is no chip's, with a short buffer, is LENGTH and writes nothing");

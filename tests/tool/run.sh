@@ -105,7 +105,7 @@ parts() {
 
 for chip_name in small large; do
     use_chip "$chip_name"
-    parts words overwriting lengths apply pictures damage
+    parts words overwriting lengths apply list pictures damage
 done
 use_chip small
 parts chips links kinds writers interrupts printing documents
