@@ -97,8 +97,8 @@ wear: build/$(TARGET)/wear
 	$(RUN) $< --svg docs/wear.svg docs/wear-before.txt > docs/wear-after.txt
 
 # The tree is counted by the judge of the independent test.
-build/$(TARGET)/bound: bench/bound.c tests/independent/judge.c tests/independent/judge.h c/mutree.h $(LIBRARY)
-	$(COMPILER) $(STRICT) $(CFLAGS) $(LINK) bench/bound.c tests/independent/judge.c $(LIBRARY) -o $@
+build/$(TARGET)/bound: bench/bound.c tests/independent/judge.c tests/independent/code.c tests/independent/judge.h tests/independent/code.h c/mutree.h $(LIBRARY)
+	$(COMPILER) $(STRICT) $(CFLAGS) $(LINK) bench/bound.c tests/independent/judge.c tests/independent/code.c $(LIBRARY) -o $@
 
 bound: build/$(TARGET)/bound
 	$(RUN) $<

@@ -5,6 +5,7 @@
  */
 #define _POSIX_C_SOURCE 200809L
 #include "../c/mutree.h"
+#include "../tests/independent/code.h"
 
 #include <stdio.h>
 #include <stdlib.h>
@@ -16,17 +17,17 @@
 #include <unistd.h>
 #endif
 
-enum { CHIPS = MUTREE_GEOMETRIES, SIZES = 3 };
+enum { SIZES = 3 };
 enum { LEFT = 90, SPAN = 300, PANEL = 390 }; /* of the plot, in pixels */
 
 static const unsigned sizes[SIZES] = { 3, 64, 1024 };
 static const char *const chip_names[CHIPS] = { "small pages", "large pages" };
 
-enum { MEMCPY, LOOKUP, INSERT, COLLECT, DELETE, FORMAT, LMDB_GET, LMDB_PUT, KINDS };
+enum { MEMCPY, READ, LOOKUP, INSERT, COLLECT, DELETE, FORMAT, PATROL, LMDB_GET, LMDB_PUT, KINDS };
 
 static const char *const names[KINDS] = {
-    "memcpy of the image", "lookup, judged", "insert, no collection", "insert, with collection", "delete", "format",
-    "LMDB get", "LMDB put, no sync"
+    "memcpy of the image", "reading the image", "lookup, judged", "insert, no collection", "insert, with collection", "delete", "format",
+    "patrol of the whole image", "LMDB get", "LMDB put, no sync"
 };
 
 /* What was measured on a chip at one size. */
@@ -61,14 +62,14 @@ struct builder {
     uint32_t programmed, leaves, made, key;
 };
 
-static uint32_t most_below(const struct mutree_geometry *chip, unsigned level)
+static uint32_t node_slots(const struct mutree_geometry *chip, unsigned level)
 {
     return chip->slots >> level;
 }
 
 static uint32_t keys_a_leaf(const struct mutree_geometry *chip)
 {
-    return most_below(chip, 1) * 3 / 4;
+    return node_slots(chip, 1) * 3 / 4;
 }
 
 /* The most leaves below a node of this level. */
@@ -76,7 +77,7 @@ static uint32_t most_leaves(const struct mutree_geometry *chip, unsigned level)
 {
     uint32_t product = 1;
     for (; level > 1; level--)
-        product *= most_below(chip, level);
+        product *= node_slots(chip, level);
     return product;
 }
 
@@ -165,6 +166,7 @@ static uint8_t *built(const struct mutree_geometry *chip, unsigned blocks, uint3
     }
     grow(&b, height, b.leaves);
     b.image[chip->main_bytes + 4] = (uint8_t)height;
+    put_all_codes(&chips[chip->number], b.image, length);
     need(mutree_lookup(chip->number, b.image, length, 16, result, sizeof result) == 0, "the image built is not sound");
     return b.image;
 }
@@ -177,12 +179,42 @@ static uint32_t some(uint32_t below)
     return (uint32_t)((seed >> 33) % below);
 }
 
+static volatile uint64_t sum; /* what read_all read */
+
+/* All words of the image, added up: what reading alone costs. */
+static uint32_t read_all(const uint8_t *image, size_t length)
+{
+    uint64_t word, all = 0;
+    size_t at;
+    for (at = 0; at + sizeof word <= length; at += sizeof word) {
+        memcpy(&word, image + at, sizeof word);
+        all += word;
+    }
+    sum = all;
+    return MUTREE_DONE;
+}
+
+/* Every half of every page; all are clean. */
+static uint32_t patrol_all(const struct mutree_geometry *chip, uint8_t *image, size_t length)
+{
+    uint8_t result[MUTREE_RESULT_BYTES];
+    uint32_t page, half, found = MUTREE_CLEAN;
+    for (page = 0; page < length / chip->page_bytes; page++)
+        for (half = 0; half < chip->halves; half++) {
+            mutree_patrol(chip->number, image, length, page, half, result, sizeof result);
+            found |= (uint32_t)mutree_found(mutree_read_result(result));
+        }
+    return found;
+}
+
 /* ---- the calls, each on the same image again: the copy back is not counted */
 static uint32_t call(int kind, uint32_t chip, const uint8_t *start, uint8_t *image, size_t length, uint32_t key)
 {
     uint8_t result[MUTREE_RESULT_BYTES];
     switch (kind) {
     case MEMCPY: memcpy(image, start, length); return MUTREE_DONE;
+    case READ: return read_all(image, length);
+    case PATROL: return patrol_all(mutree_geometry_of(chip), image, length);
     case LOOKUP: return mutree_lookup(chip, image, length, key, result, sizeof result);
     case DELETE: return mutree_delete(chip, image, length, key, UINT32_MAX, result, sizeof result);
     case FORMAT: return mutree_format(chip, image, length, result, sizeof result);
@@ -217,7 +249,7 @@ static void measure(const struct mutree_geometry *chip, int at)
     int kind;
     need(image != NULL, "out of memory");
     f->keys = (unsigned long)leaves_of(chip, sizes[at]) * keys_a_leaf(chip);
-    for (kind = MEMCPY; kind <= FORMAT; kind++)
+    for (kind = MEMCPY; kind <= PATROL; kind++)
         f->time[kind] = time_call(kind, chip->number, kind == COLLECT ? tight : roomy, image, length, (uint32_t)f->keys);
     free(image);
     free(roomy);
@@ -313,14 +345,14 @@ static void table(uint32_t chip)
     printf("\n");
 }
 
-/* The largest image that there is. */
-static void tell_largest(void)
+/* The largest image of a chip. */
+static void tell_largest(uint32_t number)
 {
-    const struct mutree_geometry *chip = mutree_geometry_of(CHIPS - 1);
-    const struct figures *f = &measured[CHIPS - 1][SIZES - 1];
-    printf("Judging %u blocks with %s, %lu bytes: %.1f ms, %.2f times a memcpy of the image.\n", sizes[SIZES - 1],
-           chip_names[CHIPS - 1], (unsigned long)sizes[SIZES - 1] * chip->block_bytes, 1e3 * f->time[LOOKUP],
-           f->time[LOOKUP] / f->time[MEMCPY]);
+    const struct mutree_geometry *chip = mutree_geometry_of(number);
+    const struct figures *f = &measured[number][SIZES - 1];
+    printf("Judging %u blocks with %s, %lu bytes: %.1f ms, %.2f times a memcpy of the image, %.2f times reading it.\n", sizes[SIZES - 1],
+           chip_names[number], (unsigned long)sizes[SIZES - 1] * chip->block_bytes, 1e3 * f->time[LOOKUP],
+           f->time[LOOKUP] / f->time[MEMCPY], f->time[LOOKUP] / f->time[READ]);
 }
 
 /* The decimal logarithm of x >= 1, to 20 binary places: a square doubles it. */
@@ -352,7 +384,7 @@ static double across(uint32_t chip, unsigned blocks)
     return LEFT + PANEL * chip + SPAN * logarithm((double)blocks / sizes[0]) / logarithm((double)sizes[SIZES - 1] / sizes[0]);
 }
 
-static const char *const colours[KINDS] = { "#000000", "#1b7837", "#2166ac", "#b2182b", "#762a83", "#e08214", "#4d9221", "#8073ac" };
+static const char *const colours[KINDS] = { "#000000", "#999999", "#1b7837", "#2166ac", "#b2182b", "#762a83", "#e08214", "#c51b7d", "#4d9221", "#8073ac" };
 
 /* One call's line through its three points. */
 static void plot_line(FILE *f, uint32_t chip, int kind)
@@ -419,7 +451,8 @@ int main(int count, char **words)
         }
     for (chip = 0; chip < CHIPS; chip++)
         table(chip);
-    tell_largest();
+    for (chip = 0; chip < CHIPS; chip++)
+        tell_largest(chip);
     if (count == 3 && strcmp(words[1], "--svg") == 0)
         plot(words[2]);
     return 0;

@@ -14,7 +14,7 @@ struct option {
 static const struct option options[] = {
     { "--allow", TAKES_ALLOW, 1 }, { "--force", TAKES_FORCE, 0 },     { "--no-wait", TAKES_NO_WAIT, 0 },
     { "--pages", TAKES_PAGES, 0 }, { "--svg", TAKES_SVG, 1 },         { "--small", TAKES_CHIP, 0 },
-    { "--large", TAKES_CHIP, 0 },  { "--count", TAKES_COUNT, 0 },
+    { "--large", TAKES_CHIP, 0 },  { "--mend", TAKES_MEND, 0 },       { "--count", TAKES_COUNT, 0 },
 };
 
 enum { OPTIONS = sizeof options / sizeof *options };
@@ -79,6 +79,7 @@ static int take(const struct command *command, const struct option *option, cons
     case TAKES_NO_WAIT: arguments->no_wait = 1; return 0;
     case TAKES_PAGES: arguments->pages = 1; return 0;
     case TAKES_COUNT: arguments->count = 1; return 0;
+    case TAKES_MEND: arguments->mend = 1; return 0;
     case TAKES_CHIP: return take_chip(command, option->name, arguments);
     default: arguments->svg = value; return 0;
     }

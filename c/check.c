@@ -3,6 +3,8 @@
 
 #include "commands.h"
 #include "file.h"
+#include "flips.h"
+#include "geometry.h"
 #include "page.h"
 #include "print_page.h"
 #include "say.h"
@@ -56,6 +58,14 @@ static void print_reason(const struct image *image, struct mutree_result verdict
     }
 }
 
+/* All pages whose codes do not fit: other pages than the lowest may have flipped bits too. */
+static void print_unfit(const struct image *image)
+{
+    if (flips_print_pages(image) > 0)
+        printf("'mutree patrol %s %s' looks for flipped bits; with --mend it puts right what has one.\n", image->name,
+               geometry_option(image->geometry));
+}
+
 static void print_damage(const struct survey *s, const struct image *image)
 {
     printf("R%" PRIu32 " asks: %s.\n", s->verdict.rule, mutree_rule_words(s->verdict.rule));
@@ -67,6 +77,8 @@ static void print_damage(const struct survey *s, const struct image *image)
     }
     printf("It is broken on page %" PRIu32 ".\n", s->verdict.page);
     print_reason(image, s->verdict);
+    if (s->verdict.rule == 1)
+        print_unfit(image);
     putchar('\n');
     print_page(s, image, s->verdict.page);
 }

@@ -14,5 +14,6 @@ int show_command(const struct arguments *arguments);
 int cut_command(const struct arguments *arguments);
 int check_command(const struct arguments *arguments);
 int page_command(const struct arguments *arguments);
+int patrol_command(const struct arguments *arguments);
 
 #endif

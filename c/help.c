@@ -34,6 +34,6 @@ void print_help(FILE *out, const struct command *commands, size_t count)
           "nothing is changed and the line is named. Lookups print key and address.\n\n"
           "list prints a line for each entry: key, tab, address. LOW above HIGH gives none, and status 0 as well.\n\n"
           "Exit status: 0 DONE, 1 LENGTH, 2 DAMAGED, 3 WORN, 4 ABSENT, 5 HEIGHT, 6 ROOM, 7 STOPPED; 64 the command was\n"
-          "not understood or needs --force, 66 a file can't be read or written, 71 out of memory, 74 the output can't be\n"
-          "printed, 75 another process is changing the file.\n", out);
+          "not understood or needs --force, 65 patrol found flipped bits and not all are mended in the file, 66 a file can't\n"
+          "be read or written, 71 out of memory, 74 the output can't be printed, 75 another process is changing the file.\n", out);
 }

@@ -83,6 +83,13 @@ struct mutree_result image_delete(struct image *image, uint32_t key, uint32_t al
     return mutree_read_result(result);
 }
 
+struct mutree_result image_patrol(struct image *image, uint32_t page, uint32_t half)
+{
+    uint8_t result[MUTREE_RESULT_BYTES];
+    mutree_patrol(image->geometry->number, image->bytes, image->length, page, half, result, sizeof result);
+    return mutree_read_result(result);
+}
+
 struct mutree_result image_judge(const struct image *image)
 {
     struct mutree_result result = image_lookup(image, 0);

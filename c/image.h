@@ -36,5 +36,6 @@ struct mutree_result image_lookup(const struct image *image, uint32_t key);
 struct mutree_listed image_list(const struct image *image, uint32_t low, uint32_t high, uint32_t *pairs, size_t numbers);
 struct mutree_result image_insert(struct image *image, uint32_t key, uint32_t address, uint32_t allowance);
 struct mutree_result image_delete(struct image *image, uint32_t key, uint32_t allowance);
+struct mutree_result image_patrol(struct image *image, uint32_t page, uint32_t half);
 
 #endif

@@ -38,6 +38,9 @@ static const struct command commands[] = {
       TAKES_CHIP, 1, check_command },
     { "page", "FILE N " CHIP, "print page N: its place, numbers and entries, and whether it is live",
       TAKES_CHIP, 2, page_command },
+    { "patrol", "FILE " CHIP " [--mend] [--no-wait]",
+      "look for flipped bits by the codes of all pages; --mend writes what could be put right back to FILE",
+      TAKES_CHIP | TAKES_MEND | TAKES_NO_WAIT, 1, patrol_command },
     { "cut", "FILE KEY ADDRESS " CHIP, "what a battery loss after each store of this insert leaves; FILE stays as it is",
       TAKES_CHIP, 3, cut_command },
 };

@@ -54,8 +54,14 @@
  * the pages end before the tree does, with MUTREE_ROOM: rising keys after 4,224 keys on 3 blocks, 24,704 on 8, 4,096 more for each
  * block more; random keys after 6,111 on 3 blocks and 33,510 on 8 (one run each).
  *
- * No checksum: a changed byte is found only where it breaks a rule of the index. It can also leave another sound index
- * with another key or address in it. Where the chip's own error correction cannot mend a page, do not call.
+ * Flipped bits: each 256 bytes of a page's main bytes (a half) have a code of 3 spare bytes, and R1 asks that it fits. So an image
+ * is DAMAGED, rule 1, where one, two or three bits of a programmed page's half and its code are flipped; four can leave a code that
+ * fits, and then another index may seem sound. mutree_patrol mends a half. Proved: one flipped bit, in the 256 bytes or in the code,
+ * is put right, and two in the 256 bytes are told as beyond repair. Tested, not proved: two in the code, and one in each, are told
+ * so too. Not covered: three or more. They can be taken for one, and then a bit is turned over that was right. The other spare
+ * bytes (sequence number, height, counts) have no code: a changed one is found only where it breaks a rule. Where more than two
+ * flips of a half and its code are to be feared, do not call.
+ * Images made before version 0.5.0 have no codes: every call but mutree_format answers DAMAGED, rule 1.
  */
 #ifndef MUTREE_H
 #define MUTREE_H
@@ -63,7 +69,7 @@
 #include <stddef.h>
 #include <stdint.h>
 
-#define MUTREE_VERSION "0.4.0"
+#define MUTREE_VERSION "0.5.0"
 
 /* Lengths are 64 bits in the library. This line does not compile where size_t has another width. */
 typedef char mutree_needs_size_t_of_64_bits[sizeof(size_t) == 8 ? 1 : -1];
@@ -77,6 +83,8 @@ extern "C" {
 #define MUTREE_RESULT_BYTES 24u
 #define MUTREE_RULES 8u      /* of a sound image, numbered from 1 */
 #define MUTREE_SLOT_BYTES 8u /* a key and an address */
+#define MUTREE_HALF_BYTES 256u /* of a page's main bytes, what one code is of */
+#define MUTREE_CODE_BYTES 3u
 
 /* The chips' numbers, and what an array of a fixed size needs: uint8_t image[3 * MUTREE_LARGE_BLOCK_BYTES]. */
 #define MUTREE_SMALL 0u
@@ -105,6 +113,8 @@ struct mutree_geometry {
     uint32_t slots;                               /* of a page: 64, 256 */
     uint32_t top;                                 /* the greatest height: 5, 7 */
     uint32_t worn;                                /* a larger sequence number is WORN: 4,294,967,000, 4,294,966,000 */
+    uint32_t halves;                              /* of a page's main bytes, MUTREE_HALF_BYTES each: 2, 8 */
+    uint32_t first_code;                          /* the spare byte where their codes begin, one after another: 10, 12 */
     /* the most one update does */
     uint32_t most_own_pages; /* pages programmed besides collection: 5, 7 */
     uint32_t most_pages;     /* pages programmed with it: 191, 511 */
@@ -117,9 +127,11 @@ static inline const struct mutree_geometry *mutree_geometry_of(uint32_t number)
 {
     static const struct mutree_geometry geometries[MUTREE_GEOMETRIES] = {
         { MUTREE_SMALL, MUTREE_SMALL_PAGES, MUTREE_SMALL_MAIN_BYTES, MUTREE_SMALL_SPARE_BYTES, MUTREE_SMALL_PAGE_BYTES,
-          MUTREE_SMALL_BLOCK_BYTES, MUTREE_SMALL_MAIN_BYTES / MUTREE_SLOT_BYTES, 5, 4294967000u, 5, 191, 6, 191 + 6 },
+          MUTREE_SMALL_BLOCK_BYTES, MUTREE_SMALL_MAIN_BYTES / MUTREE_SLOT_BYTES, 5, 4294967000u,
+          MUTREE_SMALL_MAIN_BYTES / MUTREE_HALF_BYTES, 10, 5, 191, 6, 191 + 6 },
         { MUTREE_LARGE, MUTREE_LARGE_PAGES, MUTREE_LARGE_MAIN_BYTES, MUTREE_LARGE_SPARE_BYTES, MUTREE_LARGE_PAGE_BYTES,
-          MUTREE_LARGE_BLOCK_BYTES, MUTREE_LARGE_MAIN_BYTES / MUTREE_SLOT_BYTES, MUTREE_MOST_TOP, 4294966000u, 7, 511, 8, 511 + 8 },
+          MUTREE_LARGE_BLOCK_BYTES, MUTREE_LARGE_MAIN_BYTES / MUTREE_SLOT_BYTES, MUTREE_MOST_TOP, 4294966000u,
+          MUTREE_LARGE_MAIN_BYTES / MUTREE_HALF_BYTES, 12, 7, 511, 8, 511 + 8 },
     };
     return number < MUTREE_GEOMETRIES ? &geometries[number] : NULL;
 }
@@ -128,8 +140,8 @@ static inline const struct mutree_geometry *mutree_geometry_of(uint32_t number)
 enum mutree_answer {
     MUTREE_DONE = 0,    /* it is done */
     MUTREE_LENGTH = 1,  /* the geometry's number is neither 0 nor 1; or the image's length is not 3 to 1,024 times the
-                           chip's block (16,896, 135,168); or the result buffer is too short. But for the short buffer the
-                           result is written */
+                           chip's block (16,896, 135,168); or patrol's page or half is none; or the result buffer is too
+                           short. But for the short buffer the result is written */
     MUTREE_DAMAGED = 2, /* the image is not a sound index of this chip: rule and page of the result say what is broken, and
                            where. Calls from format on always leave a sound one */
     MUTREE_WORN = 3,    /* insert, delete: the sequence numbers are used up, the largest is above the chip's `worn` */
@@ -140,10 +152,18 @@ enum mutree_answer {
                            its first stores are made, and the index holds the old map */
 };
 
+/* What mutree_patrol found on a half. */
+enum mutree_finding {
+    MUTREE_CLEAN = 0,        /* the code fits */
+    MUTREE_DATA_MENDED = 1,  /* one bit of the 256 bytes was flipped, and is put right */
+    MUTREE_CODE_MENDED = 2,  /* one bit of the code was flipped, and is put right */
+    MUTREE_BEYOND_REPAIR = 3 /* more than one bit was flipped; nothing is changed */
+};
+
 struct mutree_result {
     uint32_t answer;
-    uint32_t address;
-    uint32_t programmed;
+    uint32_t address;    /* of patrol: what it found, an enum mutree_finding */
+    uint32_t programmed; /* of patrol: the bit that it put right, 0 to 2,047 of the half or 0 to 23 of the code; else 0 */
     uint32_t erased;
     uint32_t rule; /* with DAMAGED the first broken rule, 1 to MUTREE_RULES; else 0 */
     uint32_t page; /* with DAMAGED where it is broken, 0 for a rule of the whole image; else 0 */
@@ -189,13 +209,24 @@ static inline struct mutree_listed mutree_read_listed(const uint8_t *bytes)
     return listed;
 }
 
+/* What a patrol found, and the bit that it put right. */
+static inline enum mutree_finding mutree_found(struct mutree_result result)
+{
+    return (enum mutree_finding)result.address;
+}
+
+static inline uint32_t mutree_bit(struct mutree_result result)
+{
+    return result.programmed;
+}
+
 /* What a rule asks of a sound image, in words; NULL for another number. Where two numbers stand in brackets, the first is the
  * small chip's and the second the large chip's. */
 static inline const char *mutree_rule_words(uint32_t rule)
 {
     static const char *const words[MUTREE_RULES] = {
-        "each page is erased, or its height byte is at most the chip's greatest height (5, 7), its sequence number is not 0 and "
-        "the spare bytes after its counts are 255",
+        "each page is erased, or its height byte is at most the chip's greatest height (5, 7), its sequence number is not 0, "
+        "the codes of its 256-byte halves fit and the spare bytes after these are 255",
         "in a block the programmed pages come before the erased ones, and at most one block has both",
         "no two programmed pages have the same sequence number",
         "some page carries a root: its height byte is 1 or more",
@@ -255,6 +286,17 @@ uint32_t mutree_insert(uint32_t geometry, uint8_t *image, size_t image_len, uint
  * STOPPED. */
 uint32_t mutree_delete(uint32_t geometry, uint8_t *image, size_t image_len, uint32_t key, uint32_t allowance,
                        uint8_t *result, size_t result_len);
+
+/* Compares a half's stored code with a fresh one, and mends the half where one bit is flipped. Answers DONE, with what was found
+ * in place of the address and the bit in place of the pages programmed (mutree_found, mutree_bit), or LENGTH: a page that the
+ * image has not, a half that is not below the chip's `halves`, or what gives LENGTH everywhere. Bits are numbered from 0, the
+ * least bit of a byte first. It looks at this half and its code alone, on any image, damaged or not; an erased page is clean.
+ *
+ * Call it for every half of every page on the lent copy, after it was read from the chip and before the other calls judge it. It
+ * changes the copy, not the chip, and is no store: a page that was mended stays wrong on the chip until it is programmed again
+ * elsewhere. What it does with more than one flipped bit is told above. */
+uint32_t mutree_patrol(uint32_t geometry, uint8_t *image, size_t image_len, uint32_t page, uint32_t half, uint8_t *result,
+                       size_t result_len);
 
 #ifdef __cplusplus
 }

@@ -37,7 +37,7 @@ int is_erased(const struct image *image, uint32_t page)
 
 unsigned spare_rest(const struct mutree_geometry *geometry)
 {
-    return 5 + geometry->top;
+    return geometry->first_code + MUTREE_CODE_BYTES * geometry->halves;
 }
 
 unsigned slots_left(const struct mutree_geometry *geometry, unsigned level)

@@ -16,7 +16,7 @@ unsigned height_of(const struct image *image, uint32_t page);
 unsigned count_of(const struct image *image, uint32_t page, unsigned level);
 int is_erased(const struct image *image, uint32_t page);
 
-/* The first spare byte after the counts; the index writes 255 from there on. */
+/* The first spare byte after the codes; the index writes 255 from there on. */
 unsigned spare_rest(const struct mutree_geometry *geometry);
 
 /* The first slot of a level, and how many there are from it to the page's end. */

@@ -1,4 +1,5 @@
 #include "print_page.h"
+#include "flips.h"
 #include "page.h"
 #include "say.h"
 
@@ -40,7 +41,7 @@ static void print_life(const struct survey *s, uint32_t page)
     puts(survey_is_root(s, page) ? "; the root stands here" : "");
 }
 
-/* The spare bytes after the counts that are not 255. */
+/* The spare bytes after the codes that are not 255. */
 static void print_rest(const struct image *image, uint32_t page)
 {
     const uint8_t *spare = spare_at(image, page);
@@ -114,6 +115,7 @@ void print_page(const struct survey *s, const struct image *image, uint32_t page
     for (level = 1; level <= image->geometry->top; level++)
         printf(" %u", count_of(image, page, level));
     putchar('\n');
+    flips_print_page(image, page);
     print_rest(image, page);
     for (level = image->geometry->top; level >= 1; level--)
         if (has_level(image, page, level)) {

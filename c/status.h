@@ -4,6 +4,7 @@
 
 enum {
     BAD_USAGE = 64,  /* the command can't be understood, or needs --force */
+    FLIPPED = 65,    /* patrol: there are flipped bits, and not all of them are mended in the file */
     BAD_FILE = 66,   /* a file can't be read, written or replaced */
     NO_MEMORY = 71,
     BAD_OUTPUT = 74, /* what the tool prints can't be written */

@@ -57,12 +57,14 @@ class Bench:
         return bytes(b)
 
     def rule_1(self, img):
-        """One to three pages: a high height byte, a tail byte, number 0."""
+        """One to three pages: a high height byte, a flipped bit of the main bytes, of a code or of what comes after the codes, number 0."""
         pages, top = self.programmed(img), self.g.max_height
         for p in self.rng.sample(pages, min(len(pages), self.rng.choice([1, 2, 3]))):
-            tail = self.rng.randrange(5 + top, self.g.page_size - self.g.main)
-            at, values = self.rng.choice([(4, bytes([self.rng.choice([top + 1, top + 2, 255])])), (tail, b"\x00"), (0, bytes(4))])
-            img = self.put(img, p, self.g.main + at, values)
+            bits = [self.rng.randrange(self.g.main), self.rng.randrange(self.g.main + self.g.code_at, self.g.page_size)]
+            flips = [(at, bytes([self.m.page(img, p)[at] ^ 1 << self.rng.randrange(8)])) for at in bits]
+            height, zero = bytes([self.rng.choice([top + 1, top + 2, 255])]), bytes(4)
+            at, values = self.rng.choice(flips + [(self.g.main + 4, height), (self.g.main, zero)])
+            img = self.put(img, p, at, values)
         return img
 
     def erased_before(self, img):
@@ -118,7 +120,7 @@ class Bench:
             elif l > 1:
                 i = self.rng.randrange(len(entries))
                 img = self.put(img, p, 8 * (at + i) + 4, self.rng.choice([self.m.T(img), 2 ** 32 - 1]).to_bytes(4, "little"))
-        return img
+        return reference.recoded(self.m, img)
 
     def root(self, img):
         return self.put(img, self.m.root_page(img), self.g.main + 4 + self.m.height(img), b"\x01" if self.m.height(img) > 1 else b"\xff")

@@ -56,7 +56,8 @@ def recoded(m, img):
 
 
 def patrolled(m, img, page, half):
-    """The model's patrol by numbers: answer, what was found, the bit mended, 0, the image afterwards."""
+    """The model's patrol by numbers: answer, what was found, the bit mended, three times 0, the image
+    afterwards."""
     answer, what, after = m.patrol(img, page, half)
     found = (m.CLEAN, m.DATA_MENDED, m.CODE_MENDED, m.BEYOND).index(what) if what else 0
     bit = 0
@@ -64,7 +65,7 @@ def patrolled(m, img, page, half):
         at = page * m.G.page_size + 256 * half if found == 1 else code_place(m.G, page, half)
         size = 256 if found == 1 else 3
         bit = (int.from_bytes(img[at:at + size], "little") ^ int.from_bytes(after[at:at + size], "little")).bit_length() - 1
-    return answer, found, bit, 0, after
+    return answer, found, bit, 0, 0, 0, after
 
 
 def damaged(rng, m, img):

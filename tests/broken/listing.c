@@ -48,16 +48,16 @@ uint32_t list_wrongly(int fault, uint32_t geometry, const uint8_t *image, size_t
                       uint32_t *pairs, size_t pairs_len, uint8_t *result, size_t result_len)
 {
     uint32_t answer;
-    if (fault == 17 && high == 0)
+    if (fault == 20 && high == 0)
         return list_nothing(geometry, image, image_len, result, result_len);
-    if (fault == 17)
+    if (fault == 20)
         high--;
-    answer = real_list(geometry, image, image_len, low, high, pairs, fault == 19 ? 0 : pairs_len, result, result_len);
+    answer = real_list(geometry, image, image_len, low, high, pairs, fault == 22 ? 0 : pairs_len, result, result_len);
     if (answer != MUTREE_DONE)
         return answer;
-    if (fault == 18 && pairs_len % 2 == 1 && mutree_read_listed(result).exist > pairs_len / 2)
+    if (fault == 21 && pairs_len % 2 == 1 && mutree_read_listed(result).exist > pairs_len / 2)
         one_too_many(geometry, image, image_len, low, high, pairs, pairs_len, result);
-    if (fault == 19 && !begins_late(geometry, image, image_len, &low))
+    if (fault == 22 && !begins_late(geometry, image, image_len, &low))
         return list_nothing(geometry, image, image_len, result, result_len);
-    return fault == 19 ? real_list(geometry, image, image_len, low, high, pairs, pairs_len, result, result_len) : answer;
+    return fault == 22 ? real_list(geometry, image, image_len, low, high, pairs, pairs_len, result, result_len) : answer;
 }

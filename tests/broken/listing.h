@@ -7,7 +7,7 @@
 uint32_t real_list(uint32_t geometry, const uint8_t *image, size_t image_len, uint32_t low, uint32_t high, uint32_t *pairs,
                    size_t pairs_len, uint8_t *result, size_t result_len);
 
-/* The list with faults 17 to 19 (shim.c). */
+/* The list with faults 20 to 22 (shim.c). */
 uint32_t list_wrongly(int fault, uint32_t geometry, const uint8_t *image, size_t image_len, uint32_t low, uint32_t high,
                       uint32_t *pairs, size_t pairs_len, uint8_t *result, size_t result_len);
 

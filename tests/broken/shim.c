@@ -9,9 +9,12 @@
  * 12 a lookup that takes a result buffer of 16 bytes   13 a delete that says neither rule nor page
  * 14 R3 with the lower page of the pair   15 R2 with the last erased page in a row, not the first
  * 16 R5 with the root's page (damage.c has 14 to 16)
- * 17 a list without the pair at its high key   18 one pair too many where a list is cut short at an odd length
- * 19 a list that passes over the root's subtree that low lies in (listing.c has 17 to 19) */
+ * 17 a patrol that mends the bit beside   18 a patrol that takes two flips for one and turns bit 0 over
+ * 19 a lookup that passes over codes that do not fit
+ * 20 a list without the pair at its high key   21 one pair too many where a list is cut short at an odd length
+ * 22 a list that passes over the root's subtree that low lies in (listing.c has 20 to 22) */
 #include "../../c/mutree.h"
+#include "../independent/code.h"
 #include "damage.h"
 #include "listing.h"
 
@@ -23,6 +26,8 @@ uint32_t real_lookup(uint32_t geometry, const uint8_t *image, size_t image_len, 
 uint32_t real_insert(uint32_t geometry, uint8_t *image, size_t image_len, uint32_t key, uint32_t address,
                      uint32_t allowance, uint8_t *result, size_t result_len);
 uint32_t real_delete(uint32_t geometry, uint8_t *image, size_t image_len, uint32_t key, uint32_t allowance, uint8_t *result, size_t result_len);
+
+uint32_t real_patrol(uint32_t geometry, uint8_t *image, size_t image_len, uint32_t page, uint32_t half, uint8_t *result, size_t result_len);
 
 static volatile uint8_t seen; /* what faults 7 and 8 read */
 
@@ -36,6 +41,26 @@ uint32_t mutree_format(uint32_t geometry, uint8_t *image, size_t image_len, uint
     return real_format(chip_of(geometry), image, image_len, result, result_len);
 }
 
+static uint8_t *copied(const uint8_t *image, size_t length)
+{
+    uint8_t *copy = malloc(length ? length : 1);
+    if (copy == NULL)
+        abort();
+    memcpy(copy, image, length);
+    return copy;
+}
+
+/* The same lookup on a copy whose codes fit. */
+static uint32_t lookup_with_codes(uint32_t geometry, const uint8_t *image, size_t length, uint32_t key, uint8_t *result, size_t result_len)
+{
+    uint8_t *copy = copied(image, length);
+    uint32_t answer;
+    put_all_codes(&chips[geometry], copy, length);
+    answer = real_lookup(geometry, copy, length, key, result, result_len);
+    free(copy);
+    return answer;
+}
+
 uint32_t mutree_lookup(uint32_t geometry, const uint8_t *image, size_t image_len, uint32_t key, uint8_t *result, size_t result_len)
 {
     uint8_t longer[MUTREE_RESULT_BYTES];
@@ -45,6 +70,8 @@ uint32_t mutree_lookup(uint32_t geometry, const uint8_t *image, size_t image_len
     if (takes)
         memcpy(result, longer, result_len);
     tell_wrongly(FAULT, geometry, image, image_len, answer, result);
+    if (FAULT == 19 && answer == MUTREE_DAMAGED && mutree_read_result(result).rule == 1)
+        answer = lookup_with_codes(geometry, image, image_len, key, result, result_len);
     if (FAULT == 7)
         seen = image[image_len];
     if (FAULT == 5 && answer == MUTREE_DONE)
@@ -67,19 +94,10 @@ static void undo(uint8_t *image, const uint8_t *before, size_t length)
         memcpy(image, before, length);
 }
 
-static uint8_t *copy_of(const uint8_t *image, size_t length)
-{
-    uint8_t *copy = malloc(length ? length : 1);
-    if (copy == NULL)
-        abort();
-    memcpy(copy, image, length);
-    return copy;
-}
-
 uint32_t mutree_insert(uint32_t geometry, uint8_t *image, size_t image_len, uint32_t key, uint32_t address,
                        uint32_t allowance, uint8_t *result, size_t result_len)
 {
-    uint8_t *before = FAULT == 1 ? copy_of(image, image_len) : NULL;
+    uint8_t *before = FAULT == 1 ? copied(image, image_len) : NULL;
     uint32_t more = FAULT == 6 && allowance < UINT32_MAX;
     uint32_t answer = real_insert(chip_of(geometry), image, image_len, key, address, allowance + more, result, result_len);
     undo(image, before, image_len);
@@ -96,7 +114,7 @@ uint32_t mutree_insert(uint32_t geometry, uint8_t *image, size_t image_len, uint
 
 static int insert_lacks_room(uint32_t geometry, const uint8_t *image, size_t length, uint32_t key)
 {
-    uint8_t *copy = copy_of(image, length), result[MUTREE_RESULT_BYTES];
+    uint8_t *copy = copied(image, length), result[MUTREE_RESULT_BYTES];
     uint32_t answer = real_insert(chip_of(geometry), copy, length, key + 1, 0, 0, result, sizeof result);
     free(copy);
     return answer == MUTREE_ROOM;
@@ -104,7 +122,7 @@ static int insert_lacks_room(uint32_t geometry, const uint8_t *image, size_t len
 
 uint32_t mutree_delete(uint32_t geometry, uint8_t *image, size_t image_len, uint32_t key, uint32_t allowance, uint8_t *result, size_t result_len)
 {
-    uint8_t *before = FAULT == 4 || (FAULT == 9 && insert_lacks_room(geometry, image, image_len, key)) ? copy_of(image, image_len) : NULL;
+    uint8_t *before = FAULT == 4 || (FAULT == 9 && insert_lacks_room(geometry, image, image_len, key)) ? copied(image, image_len) : NULL;
     uint32_t answer = real_delete(chip_of(geometry), image, image_len, key, allowance, result, result_len);
     undo(image, before, image_len);
     if (FAULT == 9 && before != NULL && (answer == MUTREE_DONE || answer == MUTREE_STOPPED)) {
@@ -115,5 +133,27 @@ uint32_t mutree_delete(uint32_t geometry, uint8_t *image, size_t image_len, uint
         memset(result + 16, 0, 8);
     tell_wrongly(FAULT, geometry, image, image_len, answer, result);
     free(before);
+    return answer;
+}
+
+/* The half that a patrol was asked for. */
+static uint8_t *half_at(uint32_t geometry, uint8_t *image, uint32_t page, uint32_t half)
+{
+    return image + (size_t)page * mutree_geometry_of(geometry)->page_bytes + MUTREE_HALF_BYTES * half;
+}
+
+uint32_t mutree_patrol(uint32_t geometry, uint8_t *image, size_t image_len, uint32_t page, uint32_t half, uint8_t *result, size_t result_len)
+{
+    uint32_t answer = real_patrol(chip_of(geometry), image, image_len, page, half, result, result_len);
+    struct mutree_result r;
+    if (answer != MUTREE_DONE || FAULT < 17 || FAULT > 18)
+        return answer;
+    r = mutree_read_result(result);
+    if (FAULT == 17 && mutree_found(r) == MUTREE_DATA_MENDED)
+        half_at(geometry, image, page, half)[mutree_bit(r) / 8] ^= (uint8_t)(mutree_bit(r) % 8 == 7 ? 192 : 3 << mutree_bit(r) % 8);
+    if (FAULT == 18 && mutree_found(r) == MUTREE_BEYOND_REPAIR) {
+        result[4] = MUTREE_DATA_MENDED;
+        half_at(geometry, image, page, half)[0] ^= 1;
+    }
     return answer;
 }

@@ -72,7 +72,7 @@ def patrols(d, m, rng, turns, met):
         key = "patrol LENGTH" if theirs[0] else "patrol %d" % theirs[1]
         met[key] = met.get(key, 0) + 1
     img = b"\xff" * 50688
-    same("patrol of geometry 2", outcome(d["patrolOf"](2, img, 0, 0)), (1, 0, 0, 0, img), img)
+    same("patrol of geometry 2", outcome(d["patrolOf"](2, img, 0, 0)), (1, 0, 0, 0, 0, 0, img), img)
 
 
 def compare(seconds, seed, name):

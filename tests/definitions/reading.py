@@ -30,7 +30,7 @@ class Image:
         return self
 
     def bytes(self):
-        return bytes(self.b)
+        return reference.recoded(self.m, bytes(self.b))
 
 
 def tree(m):
@@ -59,6 +59,11 @@ def crowded(m):
     return img.node(34, 3, (0, 32), (16, 33))
 
 
+def flipped(img, at):
+    """The image with the lowest bit of a byte turned over."""
+    return img[:at] + bytes([img[at] ^ 1]) + img[at + 1:]
+
+
 def cases(m):
     loose = lambda: high(m, 0, 1, 1, 2)
     yield "length 0", b""
@@ -69,6 +74,8 @@ def cases(m):
     yield "R1, height byte 6 on page 0", tree(m).page(0, 1, 6)
     yield "R1, number 0 on page 1", tree(m).page(1, 0, 2)
     yield "R1, the same and height byte 7 on page 2", tree(m).page(1, 0, 2).page(2, 3, 7)
+    yield "R1, a data bit of page 1 flipped", flipped(tree(m).bytes(), SIZE)
+    yield "R1, a code bit of page 0 flipped", flipped(tree(m).bytes(), 522)
     yield "R2, page 2 erased before page 3", tree(m).page(3, 3, 0)
     yield "R2, the same and page 4 erased before page 5", tree(m).page(3, 3, 0).page(5, 4, 0)
     yield "R2, blocks 0 and 1 mixed", tree(m).page(32, 3, 0)

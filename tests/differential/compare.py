@@ -15,7 +15,8 @@ import damage
 import listing
 import reference
 
-CALLS = {"format": 0, "lookup": 1, "insert": 2, "delete": 3, "list": 8}
+CALLS = {"format": 0, "lookup": 1, "insert": 2, "delete": 3, "patrol": 4, "list": 5}
+FOUND = ["clean", "data mended", "code mended", "beyond repair"]
 ANSWERS = ["DONE", "LENGTH", "DAMAGED", "WORN", "ABSENT", "HEIGHT", "ROOM", "STOPPED"]
 LARGEST = 2 ** 32 - 1
 RESULT = 24  # bytes of the result: six numbers
@@ -32,6 +33,7 @@ class Library:
         self.geometry = geometry
         self.calls, self.met = 0, {}
         self.listed = {}  # kinds of lists (listing.KINDS), and how many there were
+        self.patrols = [0] * len(FOUND)  # halves by what a patrol found there
         self.clauses = {}  # clauses of request 5, and how many images broke each
         self.edges, self.beyond = 0, 0  # sound images with T - L = 64 (128), and images that break R8 alone
 
@@ -185,6 +187,36 @@ def scarce(library, m, fuzz, rng):
             every_update(library, m, rng, img, call)
 
 
+def patrol(library, m, rng, img, page, half):
+    """A half, or what is none. Returns the image afterwards."""
+    buf = buffer(rng)
+    answer, found, bit, _, _, _, after = reference.patrolled(m, img, page, half)
+    if len(buf) < RESULT:
+        wanted = 1, img, buf
+    else:
+        wanted = answer, after, struct.pack("<6I", answer, found, bit, 0, 0, 0) + buf[RESULT:]
+        library.patrols[found] += answer == 0
+    library.hold(wanted, "patrol", img, buf, key=page, address=half)
+    return wanted[1]
+
+
+def flips(library, m, fuzz, rng):
+    """Up to four flips of halves and their codes, of sound images and of any bytes; then all calls, before and after the patrol."""
+    img = fuzz.hand_image(rng, m, 3) if rng.random() < .7 else reference.recoded(m, rng.randbytes(3 * m.G.block_size))
+    for _ in range(12):
+        b, page, half = bytearray(img), rng.randrange(m.T(img)), rng.randrange(m.G.halves)
+        for _ in range(rng.choice([0, 1, 1, 1, 2, 2, 3, 4])):
+            in_code, n = rng.random() < .4, rng.randrange(24 * 2048)
+            i = reference.code_place(m.G, page, half) + n % 24 // 8 if in_code else page * m.G.page_size + 256 * half + n % 2048 // 8
+            b[i] ^= 1 << n % 8
+        mended = patrol(library, m, rng, bytes(b), page, half)
+        lookups(library, m, rng, rng.choice([bytes(b), mended]), [rng.randrange(2 ** 32)])
+    every_call(library, m, rng, mended)
+    for page, half in ((m.T(img), 0), (LARGEST, 0), (0, m.G.halves), (0, LARGEST)):
+        patrol(library, m, rng, img, page, half)
+    patrol(library, m, rng, img[:-1], 0, 0)
+
+
 def every_call(library, m, rng, img):
     """All calls on an image that is refused, or may be."""
     if m.good_length(img) and m.first_damage(img):
@@ -195,6 +227,8 @@ def every_call(library, m, rng, img):
     listing.lists(library, m, rng, img, buffer, 1)
     every_update(library, m, rng, img, ("insert", rng.randrange(2 ** 32), 5))
     every_update(library, m, rng, img, ("delete", rng.randrange(2 ** 32)))
+    if m.good_length(img):
+        patrol(library, m, rng, img, rng.randrange(m.T(img)), rng.randrange(m.G.halves))
     buf = buffer(rng)
     library.hold(m.c_call("format", img, buf), "format", img, buf)
 
@@ -247,19 +281,22 @@ def tell_met(library, wanted):
     print("  by call: " + ", ".join("%s %s: %d" % (call, ANSWERS[a], n) for (call, a), n in sorted(library.met.items())))
     print("  damaged images: " + ", ".join("%s: %d" % (c, library.clauses[c]) for c in damage.CLAUSES))
     print("  lists: " + ", ".join("%s: %d" % (k, library.listed.get(k, 0)) for k in listing.KINDS))
+    print("  patrols: " + ", ".join("%s %d" % x for x in zip(FOUND, library.patrols)))
     print("  T - L = %d on %d sound images; %d images refused by R8 alone" % (
         library.geometry.r8_least, library.edges, library.beyond))
     if wanted >= 5000 and 0 in counts:
         sys.exit("differential: never met " + ", ".join(name for name, n in zip(ANSWERS, counts) if n == 0))
     if wanted >= 5000 and set(library.listed) != set(listing.KINDS):
         sys.exit("differential: a kind of list was never met")
+    if 0 in library.patrols:
+        sys.exit("differential: a patrol never found " + ", ".join(name for name, n in zip(FOUND, library.patrols) if n == 0))
     if wanted >= 5000 and 0 in (library.edges, library.beyond):
         sys.exit("differential: one side of R8's edge was never met")
 
 
 def compare(fuzz, geometry, wanted, rng):
     library, m = Library(sys.argv[1], geometry), reference.mu(fuzz, geometry)
-    kinds = [no_chip, worn, full_path, scarce, hand_made, broken, a_log, hand_made]
+    kinds = [no_chip, worn, flips, full_path, scarce, hand_made, broken, a_log, hand_made]
     for kind in [clauses] + kinds:
         kind(library, m, fuzz, rng)
     while library.calls < wanted:

@@ -1,10 +1,10 @@
 /* driver.c: calls the library on what standard input says, so that a script can hold it against another implementation.
  *
- * A request: eight 32-bit numbers (call 0 to 3: format, lookup, insert, delete, 8: list, whose low and high are key and address;
- * geometry; key; address; allowance; image length; result length; how many numbers list is lent), least byte first, then the
- * image, the result buffer and list's numbers. The reply: the returned number, then these three as the call left them. All stand
- * against a guard page (guarded.h), so that a byte read too far ends the driver: with an even key the one behind them, with an
- * odd key the one before. The numbers are this processor's, least byte first. */
+ * A request: eight 32-bit numbers (call 0 to 5: format, lookup, insert, delete, patrol, list; geometry; key; address; allowance;
+ * image length; result length; how many numbers list is lent), least byte first, then the image, the result buffer and list's
+ * numbers. A patrol's page and half, and a list's low and high, stand for key and address. The reply: the returned number, then
+ * these three as the call left them. All stand against a guard page (guarded.h), so that a byte read too far ends the driver:
+ * with an even key the one behind them, with an odd key the one before. The numbers are this processor's, least byte first. */
 #define _DEFAULT_SOURCE
 #include "../../c/mutree.h"
 #include "../guarded.h"
@@ -37,7 +37,8 @@ static uint32_t call(const uint32_t *n, uint8_t *image, uint8_t *result, uint32_
     case 1: return mutree_lookup(n[GEOMETRY], image, n[IMAGE_LENGTH], n[KEY], result, n[RESULT_LENGTH]);
     case 2:
         return mutree_insert(n[GEOMETRY], image, n[IMAGE_LENGTH], n[KEY], n[ADDRESS], n[ALLOWANCE], result, n[RESULT_LENGTH]);
-    case 8:
+    case 4: return mutree_patrol(n[GEOMETRY], image, n[IMAGE_LENGTH], n[KEY], n[ADDRESS], result, n[RESULT_LENGTH]);
+    case 5:
         return mutree_list(n[GEOMETRY], image, n[IMAGE_LENGTH], n[KEY], n[ADDRESS], pairs, n[PAIRS_LENGTH], result,
                            n[RESULT_LENGTH]);
     default: return mutree_delete(n[GEOMETRY], image, n[IMAGE_LENGTH], n[KEY], n[ALLOWANCE], result, n[RESULT_LENGTH]);

@@ -6,7 +6,8 @@
  * image and the result buffer lie in mapped memory before a guard page, or after one: a byte read or written past their ends
  * ends the run. Checked besides: a number that is no chip's gives LENGTH, refused calls leave the image, a finished call leaves
  * one that is not DAMAGED, a short result buffer stays as it was, and so do the bytes after the 24; rule and page are 0 but for
- * DAMAGED, and then a rule's number and a page of the image. listing.c has what is checked of a list. */
+ * DAMAGED, and then a rule's number and a page of the image. A patrol that mended is clean when it is called again, and what it
+ * changed is one bit; else it changes nothing. listing.c has what is checked of a list. */
 #define _DEFAULT_SOURCE
 #include "../../c/mutree.h"
 #include "../guarded.h"
@@ -25,7 +26,7 @@ struct head {
     uint32_t key, allowance;
 };
 
-enum { HEAD = 8 };
+enum { HEAD = 8, PATROL = 4 };
 
 static uint32_t number(const uint8_t *at)
 {
@@ -35,7 +36,7 @@ static uint32_t number(const uint8_t *at)
 static struct head head_of(const uint8_t *data)
 {
     struct head head;
-    head.kind = data[0] & 3;
+    head.kind = (data[7] >> 2 & 3) == 1 ? PATROL : data[0] & 3;
     head.geometry = data[0] >> 2 & 1;
     if (data[0] >> 3 == 31) /* now and then no chip */
         head.geometry = data[1] + MUTREE_GEOMETRIES;
@@ -44,9 +45,9 @@ static struct head head_of(const uint8_t *data)
     head.allowance = data[6] == 255 ? UINT32_MAX : data[6];
     head.over_format = data[7] & 1;
     head.at_end = !(data[7] & 2);
-    head.lists = data[7] >> 2 & 1;
+    head.lists = (data[7] >> 2 & 3) == 2;
     head.wish.low = head.key;
-    head.wish.high = data[7] >> 3 == 31 ? UINT32_MAX : number(data + 2) >> 12 & 1023;
+    head.wish.high = data[7] >> 4 == 15 ? UINT32_MAX : number(data + 2) >> 12 & 1023;
     head.wish.numbers = data[6];
     return head;
 }
@@ -91,6 +92,8 @@ static uint32_t call(struct head head, struct guarded image, struct guarded resu
     case 2:
         return mutree_insert(head.geometry, image.bytes, image.length, head.key, ~head.key, head.allowance, result.bytes,
                              result.length);
+    case PATROL:
+        return mutree_patrol(head.geometry, image.bytes, image.length, head.key % 256, head.key / 256 % 10, result.bytes, result.length);
     default: return mutree_delete(head.geometry, image.bytes, image.length, head.key, head.allowance, result.bytes, result.length);
     }
 }
@@ -116,15 +119,40 @@ static void check_result(struct guarded result)
             abort();
 }
 
-static void check_image(uint32_t geometry, uint32_t answer, struct guarded image, const uint8_t *before)
+static void check_image(int kind, uint32_t geometry, uint32_t answer, struct guarded image, const uint8_t *before)
 {
     uint8_t judged[MUTREE_RESULT_BYTES];
     if (geometry >= MUTREE_GEOMETRIES && answer != MUTREE_LENGTH)
         abort();
     if (answer >= MUTREE_LENGTH && answer <= MUTREE_ROOM && memcmp(before, image.bytes, image.length) != 0)
         abort();
-    if ((answer == MUTREE_DONE || answer == MUTREE_STOPPED)
+    if (kind != PATROL && (answer == MUTREE_DONE || answer == MUTREE_STOPPED)
         && mutree_lookup(geometry, image.bytes, image.length, 0, judged, sizeof judged) == MUTREE_DAMAGED)
+        abort();
+}
+
+static unsigned bits_changed(const uint8_t *before, struct guarded image)
+{
+    unsigned bits = 0;
+    size_t i;
+    for (i = 0; i < image.length; i++) {
+        unsigned differ = before[i] ^ image.bytes[i];
+        for (; differ > 0; differ >>= 1)
+            bits += differ & 1;
+    }
+    return bits;
+}
+
+/* What the patrol said that it changed, it changed; and then the half is clean. */
+static void check_patrol(struct head head, struct guarded image, const uint8_t *before, const uint8_t *result)
+{
+    uint8_t again[MUTREE_RESULT_BYTES];
+    struct guarded second = { again, sizeof again, NULL, 0 };
+    struct mutree_result r = mutree_read_result(result);
+    int mended = r.answer == MUTREE_DONE && (mutree_found(r) == MUTREE_DATA_MENDED || mutree_found(r) == MUTREE_CODE_MENDED);
+    if (bits_changed(before, image) != (unsigned)mended)
+        abort();
+    if (mended && (call(head, image, second) != MUTREE_DONE || mutree_found(mutree_read_result(again)) != MUTREE_CLEAN))
         abort();
 }
 
@@ -147,10 +175,12 @@ int LLVMFuzzerTestOneInput(const uint8_t *data, size_t size)
     memcpy(before, image.bytes, image.length);
     memset(result.bytes, 7, result.length);
     answer = call(head, image, result);
-    check_image(head.geometry, answer, image, before);
+    check_image(head.kind, head.geometry, answer, image, before);
     check_result(result);
     if (result.length >= MUTREE_RESULT_BYTES)
         check_damage(head.geometry, answer, image.length, result.bytes);
+    if (head.kind == PATROL && result.length >= MUTREE_RESULT_BYTES)
+        check_patrol(head, image, before, result.bytes);
     free(before);
     guarded_free(&image);
     guarded_free(&result);

@@ -1,4 +1,5 @@
 #include "built.h"
+#include "code.h"
 
 #include <stdlib.h>
 #include <string.h>
@@ -103,5 +104,6 @@ uint8_t *build(struct built wanted)
     grow_node(plan.height, plan.leaves, 1);
     write_number(image + plan.chip->main, plan.chip->worn);
     image[plan.chip->main + 4] = (uint8_t)plan.height;
+    put_all_codes(plan.chip, image, length);
     return image;
 }

@@ -1,6 +1,8 @@
 /* damage.c: request 5. Images with one rule broken, or two, whose rule and page are known beforehand; and images with bytes
- * changed by chance. Of each the judge and every call of the library say the same rule and page. */
+ * changed by chance. Of each the judge and every call of the library say the same rule and page. Edits of main bytes are given
+ * fitting codes, or R1 (request 4) would be broken before the rule that is meant. */
 #include "built.h"
+#include "code.h"
 #include "demands.h"
 #include "listing.h"
 
@@ -125,16 +127,32 @@ static uint32_t number_0(void)
     return 4;
 }
 
-static uint32_t after_counts(void)
+static uint32_t bit_of_a_half(void)
 {
-    spare_at(6)[5 + chip->top] = 0;
+    flip(page_at(6) + HALF * (chip->halves - 1), HALF_BITS - 1);
+    flip(page_at(9), 0);
     return 6;
 }
 
+static uint32_t bit_of_a_code(void)
+{
+    flip(page_at(8) + code_place(chip, chip->halves - 1), CODE_BITS - 1);
+    flip(page_at(7) + code_place(chip, 0), 0);
+    return 7;
+}
+
+/* Of an image made before request 4. */
+static uint32_t no_code(void)
+{
+    memset(page_at(10) + code_place(chip, 0), 255, CODE_BYTES);
+    return 10;
+}
+
+/* On the small chip it is a code's. */
 static uint32_t last_spare_byte(void)
 {
     uint32_t page = chip->block_pages + 1;
-    page_at(page)[chip->page - 1] = 254;
+    page_at(page)[chip->page - 1] ^= 1;
     return page;
 }
 
@@ -266,7 +284,9 @@ struct edit {
 static const struct edit edits[] = {
     { "two height bytes too great", 1, heights },
     { "number 0", 1, number_0 },
-    { "a spare byte after the counts", 1, after_counts },
+    { "bits of two halves", 1, bit_of_a_half },
+    { "bits of two codes", 1, bit_of_a_code },
+    { "a page without its first code", 1, no_code },
     { "the last spare byte", 1, last_spare_byte },
     { "erased pages before programmed ones", 2, erased_before_programmed },
     { "two mixed blocks", 2, two_mixed_blocks },
@@ -288,6 +308,15 @@ static const struct edit edits[] = {
 
 enum { EDITS = sizeof edits / sizeof *edits };
 
+/* The edit, and its page. All codes fit after it, but where it breaks R1. */
+static uint32_t made(const struct edit *edit)
+{
+    uint32_t page = edit->make();
+    if (edit->rule > 1)
+        put_all_codes(chip, image, length);
+    return page;
+}
+
 /* The first edit's rule and page; the second one, of a later rule, is made before it and must not be told. */
 static void tells(const struct edit *first, const struct edit *second)
 {
@@ -295,8 +324,8 @@ static void tells(const struct edit *first, const struct edit *second)
     int rule;
     make_image();
     if (second != NULL)
-        second->make();
-    page = first->make();
+        made(second);
+    page = made(first);
     rule = is_judged_alike(image, length, 2);
     if (rule != first->rule || state.broken != page) {
         printf("independent: %s%s%s: R%d, page %u; the judge says R%d, page %u\n", first->what, second ? " and " : "",
@@ -365,6 +394,8 @@ static void by_chance(unsigned rounds)
             image = copy_of(whole, length);
             for (changes = 1 + some(3); changes > 0; changes--)
                 change_something();
+            if (some(4))
+                put_all_codes(chip, image, length);
             is_judged_alike(image, length, some(1000));
             free(image);
             image = whole;

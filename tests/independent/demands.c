@@ -5,7 +5,7 @@
  * where T - L < 63 + k (127 + k), and a delete never (request 11).
  *
  * usage: demands [ROUNDS] [SEED] [small|large|both] [quick]
- *        quick: of an update of over 60 stores only the last three allowances are tried
+ *        quick: of an update of over 60 stores only the last three allowances are tried, and one of 97 differences of a code
  */
 #include "built.h"
 #include "demands.h"
@@ -487,6 +487,7 @@ static void test_chip(unsigned rounds)
     delete_is_never_short_of_room();
     damage_is_named();
     lists_are_the_maps_part();
+    halves_are_patrolled(quick ? 97 : 1);
     if (met.least_spare != chip->room + 1 || met.rooms == 0)
         fail("T - L of 64 (128), or ROOM, was not met");
     for (i = 0; i < rounds; i++)

@@ -49,6 +49,9 @@ int is_judged_alike(const uint8_t *image, size_t length, uint32_t key);
 /* Request 5: damaged images for each rule and clause, and by chance (damage.c). */
 void damage_is_named(void);
 
+/* Request 4: the patrol of halves; of the differences that a code can have one in so many is tried (patrol.c). */
+void halves_are_patrolled(uint32_t step);
+
 /* Request 11 (room.c). */
 void delete_is_never_short_of_room(void);
 

@@ -1,12 +1,13 @@
 #include "judge.h"
+#include "code.h"
 
 #include <stdio.h>
 #include <stdlib.h>
 #include <string.h>
 
 const struct chip chips[CHIPS] = {
-    { "small", 0, 32, 512, 528, 64, 5, 63, 4294967000u, 5, 191, 6 },
-    { "large", 1, 64, 2048, 2112, 256, 7, 127, 4294966000u, 7, 511, 8 },
+    { "small", 0, 32, 512, 528, 64, 5, 63, 2, 10, 4294967000u, 5, 191, 6 },
+    { "large", 1, 64, 2048, 2112, 256, 7, 127, 8, 12, 4294966000u, 7, 511, 8 },
 };
 
 unsigned first_slot(const struct chip *c, unsigned level)
@@ -35,7 +36,7 @@ uint32_t number_at(const uint8_t *at)
     return (uint32_t)at[0] + ((uint32_t)at[1] << 8) + ((uint32_t)at[2] << 16) + ((uint32_t)at[3] << 24);
 }
 
-static int all_255(const uint8_t *at, size_t n)
+int all_255(const uint8_t *at, size_t n)
 {
     size_t i;
     for (i = 0; i < n; i++)
@@ -61,15 +62,22 @@ static int breaks(struct tree *t, int rule, size_t page)
     return rule;
 }
 
-/* Spare bytes 0 to 3 the number, 4 the height, then a count for each level, then 255. "The lowest page." */
+/* Spare bytes 0 to 3 the number, 4 the height, then a count for each level, then the codes, then 255. */
+static int is_page(const struct tree *t, const uint8_t *image, size_t p)
+{
+    const uint8_t *spare = spare_of(t, image, p);
+    unsigned rest = t->chip->code + CODE_BYTES * t->chip->halves;
+    return spare[4] <= t->chip->top && number_at(spare) != 0 && all_255(spare + rest, t->chip->page - t->chip->main - rest)
+        && codes_fit_again(t->chip, image, p);
+}
+
+/* "The lowest page." */
 static int rule_1(struct tree *t, const uint8_t *image)
 {
-    unsigned counts = 5 + t->chip->top, rest = t->chip->page - t->chip->main - counts;
     size_t p;
     for (p = 0; p < t->pages; p++) {
-        const uint8_t *spare = spare_of(t, image, p);
         t->erased[p] = (unsigned char)all_255(page_of(t, image, p), t->chip->page);
-        if (!t->erased[p] && (spare[4] > t->chip->top || !all_255(spare + counts, rest) || number_at(spare) == 0))
+        if (!t->erased[p] && !is_page(t, image, p))
             return breaks(t, 1, p);
     }
     return 0;

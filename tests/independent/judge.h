@@ -1,5 +1,5 @@
-/* judge.h: document 01's rules R1 to R7, request 11's R8, request 5's page and the map of an image, for both chips, written from
- * the documents alone. */
+/* judge.h: document 01's rules R1 to R7, request 4's codes, request 11's R8, request 5's page and the map of an image, for both
+ * chips, written from the documents alone. */
 #ifndef JUDGE_H
 #define JUDGE_H
 
@@ -15,6 +15,7 @@ struct chip {
     unsigned block_pages, main, page; /* pages of a block; main bytes and all bytes of a page */
     unsigned slots, top;              /* slots of a page, the greatest height */
     unsigned room;                    /* ROOM where T - L is below this and k together; R8 asks for one more */
+    unsigned halves, code;            /* request 4: parts of 256 main bytes, the spare byte of the first one's code */
     uint32_t worn;
     uint32_t own_pages, all_pages, erases; /* demand 3's bounds */
 };
@@ -51,5 +52,6 @@ int judge(struct tree *tree, const struct chip *chip, const uint8_t *image, size
 unsigned pages_needed(const struct tree *tree, const uint8_t *image, uint32_t key);
 
 uint32_t number_at(const uint8_t *at);
+int all_255(const uint8_t *at, size_t n);
 
 #endif

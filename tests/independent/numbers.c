@@ -11,7 +11,8 @@ static void header_is_the_documents(void)
     const struct mutree_geometry *g = mutree_geometry_of(chip->number);
     if (g == NULL || g->number != chip->number || g->pages != chip->block_pages || g->main_bytes != chip->main
         || g->page_bytes != chip->page || g->main_bytes + g->spare_bytes != chip->page || g->block_bytes != length_of(chip, 1)
-        || g->slots != chip->slots || g->top != chip->top || g->worn != chip->worn)
+        || g->slots != chip->slots || g->top != chip->top || g->worn != chip->worn || g->halves != chip->halves
+        || g->first_code != chip->code)
         fail("c/mutree.h gives the chip another geometry");
     if (g->most_own_pages != chip->own_pages || g->most_pages != chip->all_pages || g->most_erases != chip->erases
         || g->most_stores != chip->all_pages + chip->erases)
@@ -30,15 +31,18 @@ static void rules_are_the_documents(void)
     }
 }
 
-/* One call with a number that is no chip's: 0 format, 1 lookup, 2 insert, 3 list, 4 delete. */
+enum { CALLS = 6 };
+
+/* One call with a number that is no chip's: 0 format, 1 lookup, 2 insert, 3 delete, 4 patrol, 5 list. */
 static uint32_t call(int which, uint32_t number, uint8_t *image, size_t length, uint8_t *result, size_t room)
 {
     switch (which) {
     case 0: return mutree_format(number, image, length, result, room);
     case 1: return mutree_lookup(number, image, length, 1, result, room);
     case 2: return mutree_insert(number, image, length, 1, 1, UINT32_MAX, result, room);
-    case 3: return list_of_all(number, image, length, result, room);
-    default: return mutree_delete(number, image, length, 1, UINT32_MAX, result, room);
+    case 3: return mutree_delete(number, image, length, 1, UINT32_MAX, result, room);
+    case 4: return mutree_patrol(number, image, length, 0, 0, result, room);
+    default: return list_of_all(number, image, length, result, room);
     }
 }
 
@@ -48,7 +52,7 @@ static void is_no_chip(uint32_t number, const uint8_t *image, size_t length)
     int which;
     memset(untouched, 9, sizeof untouched);
     memset(written + RESULT, 9, 4);
-    for (which = 0; which < 5; which++) {
+    for (which = 0; which < CALLS; which++) {
         memset(result, 9, sizeof result);
         if (call(which, number, copy, length, result, RESULT - 1) != MUTREE_LENGTH || memcmp(result, untouched, sizeof result))
             fail("a number that is no chip's, with a short buffer, is LENGTH and writes nothing");

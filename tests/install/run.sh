@@ -18,12 +18,24 @@ cat > "$folder/user.c" <<'END'
 static uint32_t pairs[3]; /* of an odd length: one pair has room */
 static uint8_t image[MUTREE_LEAST_BLOCKS * MUTREE_LARGE_BLOCK_BYTES], result[MUTREE_RESULT_BYTES];
 
+/* A bit of page 1 is flipped, and put right by a patrol of its half. */
+static int mends(const struct mutree_geometry *chip, size_t length)
+{
+    struct mutree_result found;
+    image[chip->page_bytes] ^= 4;
+    if (mutree_patrol(chip->number, image, length, 1, 0, result, sizeof result) != MUTREE_DONE)
+        return 0;
+    found = mutree_read_result(result);
+    return mutree_found(found) == MUTREE_DATA_MENDED && mutree_bit(found) == 2;
+}
+
 /* An address stored and read again on a chip of three blocks, by a lookup and by a list, or 0. */
 static unsigned address_on(const struct mutree_geometry *chip, uint32_t key)
 {
     size_t length = MUTREE_LEAST_BLOCKS * (size_t)chip->block_bytes;
     if (mutree_format(chip->number, image, length, result, sizeof result) != MUTREE_DONE
         || mutree_insert(chip->number, image, length, key, 1000 + key, UINT32_MAX, result, sizeof result) != MUTREE_DONE
+        || !mends(chip, length)
         || mutree_lookup(chip->number, image, length, key, result, sizeof result) != MUTREE_DONE
         || mutree_read_result(result).address != 1000 + key)
         return 0;

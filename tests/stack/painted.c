@@ -14,14 +14,16 @@ uint32_t __real_mutree_insert(uint32_t geometry, uint8_t *image, size_t image_le
                               uint8_t *result, size_t result_len);
 uint32_t __real_mutree_delete(uint32_t geometry, uint8_t *image, size_t image_len, uint32_t key, uint32_t allowance, uint8_t *result,
                               size_t result_len);
+uint32_t __real_mutree_patrol(uint32_t geometry, uint8_t *image, size_t image_len, uint32_t page, uint32_t half, uint8_t *result,
+                              size_t result_len);
 
 uint32_t __real_mutree_list(uint32_t geometry, const uint8_t *image, size_t image_len, uint32_t low, uint32_t high, uint32_t *pairs,
                             size_t pairs_len, uint8_t *result, size_t result_len);
 
-enum { FORMAT, LOOKUP, INSERT, DELETE, LIST, NOTHING, CALLS };
+enum { FORMAT, LOOKUP, INSERT, DELETE, PATROL, LIST, NOTHING, CALLS };
 enum { ROOM = 1 << 20, PAINT = 0xA5 };
 
-static const char *const names[CALLS] = { "format", "lookup", "insert", "delete", "list", "nothing" };
+static const char *const names[CALLS] = { "format", "lookup", "insert", "delete", "patrol", "list", "nothing" };
 static unsigned long most[CALLS], made[CALLS];
 static unsigned char *stack;
 static ucontext_t caller, callee;
@@ -50,6 +52,9 @@ static void make_call(void)
         break;
     case DELETE:
         now.answer = __real_mutree_delete(now.geometry, now.image, now.image_len, now.key, now.allowance, now.result, now.result_len);
+        break;
+    case PATROL: /* page and half stand for key and address */
+        now.answer = __real_mutree_patrol(now.geometry, now.image, now.image_len, now.key, now.address, now.result, now.result_len);
         break;
     case LIST:
         now.answer = __real_mutree_list(now.geometry, now.image, now.image_len, now.key, now.address, now.pairs, now.pairs_len, now.result,
@@ -144,6 +149,19 @@ uint32_t __wrap_mutree_delete(uint32_t geometry, uint8_t *image, size_t image_le
     now.key = key;
     now.allowance = allowance;
     return on_painted_stack(DELETE);
+}
+
+/* Of the many patrols of the independent test every 1,000th is made on the painted stack. */
+uint32_t __wrap_mutree_patrol(uint32_t geometry, uint8_t *image, size_t image_len, uint32_t page, uint32_t half, uint8_t *result,
+                              size_t result_len)
+{
+    static unsigned long patrols;
+    if (patrols++ % 1000 != 0)
+        return __real_mutree_patrol(geometry, image, image_len, page, half, result, result_len);
+    set_buffers(geometry, image, image_len, result, result_len);
+    now.key = page;
+    now.address = half;
+    return on_painted_stack(PATROL);
 }
 
 /* A finished insert is also undone, on a copy, and its key looked up before, so that the other calls meet the trees on which insert

@@ -1,15 +1,5 @@
-# Damaged images, one for each rule and clause, made by byte edits of an erased chip: what check says, which page it shows, that every
+# Damaged images, one for each rule and clause, made by byte edits of an erased chip and, but for R1, given fitting codes: what check says, which page it shows, that every
 # other command names rule and page, and what page prints.
-
-# poke AT BYTE..: bytes of the chip, from a place on
-poke() {
-    from=$1
-    shift
-    for byte in "$@"; do
-        # shellcheck disable=SC2059
-        printf "\\$(printf %o "$byte")"
-    done | dd of="$chip" bs=1 seek="$from" conv=notrunc 2> /dev/null
-}
 
 # program PAGE NUMBER HEIGHT: the spare bytes of a page without entries
 program() {
@@ -41,6 +31,7 @@ tree() {
     entry 1 1 0 20 120
     entry 1 2 0 10 0
     entry 1 2 1 20 1
+    fit
 }
 
 # high: the same a level higher, the nodes on pages 0 and 1, their leaves on pages 1 and 2, the root on page 3. Page 1 has a leaf and a
@@ -84,6 +75,7 @@ others() {
 broken() {
     rule=$1 at=$2
     shift 2
+    [ "$rule" -eq 1 ] || fit
     want 2 "3 blocks, $kind, DAMAGED: R$rule is broken on page $at," check "$chip" "$said"
     for text in "R$rule asks: " "It is broken on page $at." "$(place "$at")" "$@"; do
         has "$out" "$text" || fail "check of a chip that breaks R$rule on page $at printed '$out', wanted '$text'"
@@ -93,6 +85,7 @@ broken() {
 
 # broken_whole RULE: the same for a rule of the whole image
 broken_whole() {
+    fit
     want 2 "3 blocks, $kind, DAMAGED: R$1 is broken," check "$chip" "$said"
     has "$out" "R$1 asks: " || fail "check does not say what R$1 asks: $out"
     has "$out" "whole image, so no page is named" || fail "check of a chip that breaks R$1 printed '$out'"
@@ -113,10 +106,12 @@ want 64 "usage: mutree page FILE N" page "$chip"
 # ---- each rule
 tree
 poke $((main + 4)) $((top + 1))
-broken 1 0 "lowest page" "height $((top + 1)), and the greatest is $top" "level 1, from slot 0: 1 entry"
-tree
-poke $((2 * page - 1)) 0
-broken 1 1 "lowest page" "spare byte $((page - main - 1)) is 0, and should be 255"
+broken 1 0 "lowest page" "The codes of all pages fit." "height $((top + 1)), and the greatest is $top" "level 1, from slot 0: 1 entry"
+if [ "$chip_name" = large ]; then # on the small chip codes stand up to the last spare byte
+    tree
+    poke $((2 * page - 1)) 0
+    broken 1 1 "lowest page" "spare byte $((page - main - 1)) is 0, and should be 255" "The codes of all pages fit."
+fi
 tree
 poke $((page + main)) 0
 broken 1 1 "sequence number 0, which no page may have"
@@ -194,6 +189,7 @@ broken_whole 8
 # ---- page
 tree
 program 2 3 0
+fit
 want 0 "$(place 1)" page "$chip" 1
 for text in "sequence number 2, height 2, it carries a root" "live: reached from the root at level 1 2; the root stands here" \
     "entries by level, from 1 on: 1 2 0" "          10          0

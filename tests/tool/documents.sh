@@ -20,17 +20,19 @@ in_order() {
 
 in_order 'A chip of three blocks is formatted\.' day
 
-# the day's index, with the first page number of its root changed
+# the day's index, with one bit of its root flipped: what check says of it, and how patrol mends it
 fresh
 key=1
 while [ "$key" -le 64 ]; do
     echo "insert $key $((1000 + key))"
     key=$((key + 1))
 done | "$tool" apply "$chip" > /dev/null
-printf '\5' | dd of="$chip" bs=1 seek=$((65 * page + main / 2 + 4)) conv=notrunc 2> /dev/null
+flip $((65 * page + main / 2 + 4)) 2
 {
     echo "\$ mutree check $chip"
     "$tool" check "$chip"
+    echo "\$ mutree patrol $chip --mend"
+    "$tool" patrol "$chip" --mend
 } > checked
 in_order '\$ mutree check chip.img' checked
 

@@ -1,11 +1,12 @@
 #!/bin/sh
 # The command-line tool as a user meets it, mistakes included: what it prints, its exit status, and what it leaves in files.
-# usage: run.sh TOOL
+# usage: run.sh TOOL CODES        CODES is the program of codes.c
 # Needs a POSIX shell and the usual small programs. What a machine has not is told in a line and left out.
 set -u
 here=$(cd "$(dirname "$0")" && pwd)
 root=$(cd "$here/../.." && pwd)
 tool=$(cd "$(dirname "$1")" && pwd)/$(basename "$1")
+codes=$(cd "$(dirname "$2")" && pwd)/$(basename "$2")
 folder=$(mktemp -d) || exit 1
 trap 'rm -rf "$folder"' EXIT
 trap 'exit 1' INT TERM HUP
@@ -56,11 +57,12 @@ want() {
 }
 
 # use_chip small|large: the chip of the parts that follow: its option for format, the bytes of a block, of three blocks and of
-# a page, a page's main bytes, the pages of a block, the greatest height, and so many blocks that a change of them takes a while
+# a page, a page's main bytes, the pages of a block, the greatest height, the halves of a page and the first spare byte of their
+# codes, and so many blocks that a change of them takes a while
 use_chip() {
     case $1 in
-    small) option='' block=16896 page=528 main=512 row=32 top=5 many=1024 ;;
-    large) option=--large block=135168 page=2112 main=2048 row=64 top=7 many=128 ;;
+    small) option='' block=16896 page=528 main=512 row=32 top=5 halves=2 first_code=10 many=1024 ;;
+    large) option=--large block=135168 page=2112 main=2048 row=64 top=7 halves=8 first_code=12 many=128 ;;
     esac
     kind="$1 pages" said=--$1
     three=$((3 * block))
@@ -76,6 +78,26 @@ fresh() {
 # filled FILE COUNT BYTE: a file of so many bytes, all of this octal value
 filled() {
     head -c "$2" /dev/zero | tr '\0' "\\$3" > "$1"
+}
+
+# fit: gives the chip's programmed pages fitting codes, after byte edits
+fit() {
+    "$codes" fit "${said#--}" "$chip" || fail "codes fit $said $chip"
+}
+
+# flip BYTE BIT..: turns bits of the chip over, numbered from a byte on
+flip() {
+    "$codes" flip "$chip" "$@" || fail "codes flip $chip $*"
+}
+
+# poke AT BYTE..: bytes of the chip, from a place on
+poke() {
+    from=$1
+    shift
+    for byte in "$@"; do
+        # shellcheck disable=SC2059
+        printf "\\$(printf %o "$byte")"
+    done | dd of="$chip" bs=1 seek="$from" conv=notrunc 2> /dev/null
 }
 
 # keep FILE and same FILE WHAT: that a file did not change in between
@@ -105,7 +127,7 @@ parts() {
 
 for chip_name in small large; do
     use_chip "$chip_name"
-    parts words overwriting lengths apply list pictures damage
+    parts words overwriting lengths apply list pictures damage patrol
 done
 use_chip small
 parts chips links kinds writers interrupts printing documents
