@@ -61,7 +61,7 @@
  * so too. Not covered: three or more. They can be taken for one, and then a bit is turned over that was right. The other spare
  * bytes (sequence number, height, counts) have no code: a changed one is found only where it breaks a rule. Where more than two
  * flips of a half and its code are to be feared, do not call.
- * Images made before version 0.5.0 have no codes: every call but mutree_format answers DAMAGED, rule 1.
+ * Images made before version 0.5.0 have no codes: every call but mutree_format and mutree_patrol answers DAMAGED, rule 1.
  */
 #ifndef MUTREE_H
 #define MUTREE_H
