@@ -18,7 +18,7 @@
 #include <sys/wait.h>
 #include <unistd.h>
 
-enum { A_LEVEL = 1500, A_PAIR = 400 };
+enum { A_LEVEL = 300, A_PAIR = 200 };
 enum { LISTS = 6, CALLS = LISTS + 2, NOTHING = 0, LOOKUP = 1 }; /* the calls from 2 on are lists */
 enum { STEP = 16 };                                             /* between two keys */
 enum { MAY_NOT_TRACE = 3 };                                     /* the child's status where the machine forbids it */
