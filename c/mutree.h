@@ -38,9 +38,10 @@
  *               138,412,032 bytes of a large one. Any alignment will do where the processor takes unaligned reads (on
  *               ARM64: normal memory, not device memory).
  *   stack       measured, in bytes, on the large chip, whose trees are deeper; it does not grow with the image:
- *                              format   lookup    insert    delete   patrol
- *                     ARM64     5,264  156,336   178,208   169,936      744
- *                     x86-64    2,240  160,240   178,080   169,920   (version 0.3.0; on ARM64 the codes of 0.5.0 added up to 4,096)
+ *                              format   lookup      list    insert    delete   patrol
+ *                     ARM64     5,280  156,352   156,384   178,224   169,952      760
+ *                     x86-64    2,240  160,240         -   178,080   169,920        -
+ *               x86-64 was measured with version 0.3.0; on ARM64 the codes of 0.5.0 added up to 4,096.
  *               192 KiB serve every call, 160 KiB on the small chip. Large frames are touched page by page as they are
  *               made, so a guard page below the stack catches a stack that is too small.
  *
