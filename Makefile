@@ -5,6 +5,7 @@
 # make search     time the search in one node (bench/search.c)
 # make wear       play a year of a camera's life and draw how often each block is erased (bench/wear.c, docs/WEAR.md)
 # make bound      insert keys in several orders and print how many pages go beyond one a key (bench/bound.c, docs/BENCHMARKS.md)
+# make cost       count what a list costs after the image is judged (bench/cost.c, docs/BENCHMARKS.md)
 # make install    header, library, pkg-config file and tool, under PREFIX; make uninstall takes them away
 # make clean      remove all that was built and proved
 #
@@ -44,7 +45,7 @@ PROOFS = crates.txt $(shell find crates -type f)
 # What is asked for before ten minutes of proving, and not after: the archive alone needs no compiler.
 NEEDS = rt $(if $(filter library,$(MAKECMDGOALS)),,"$(COMPILER)")
 
-.PHONY: day build library check search wear bound install uninstall clean settings
+.PHONY: day build library check search wear bound cost install uninstall clean settings
 .DELETE_ON_ERROR:
 
 ifeq ($(TARGET),$(HOST))
@@ -100,6 +101,12 @@ build/$(TARGET)/bound: bench/bound.c tests/independent/judge.c tests/independent
 	$(COMPILER) $(STRICT) $(CFLAGS) $(LINK) bench/bound.c tests/independent/judge.c tests/independent/code.c $(LIBRARY) -o $@
 
 bound: build/$(TARGET)/bound
+	$(RUN) $<
+
+build/$(TARGET)/cost: bench/cost.c c/mutree.h $(LIBRARY)
+	$(COMPILER) $(STRICT) $(CFLAGS) $(LINK) bench/cost.c $(LIBRARY) -o $@
+
+cost: build/$(TARGET)/cost
 	$(RUN) $<
 
 install: build

@@ -14,7 +14,7 @@ struct option {
 static const struct option options[] = {
     { "--allow", TAKES_ALLOW, 1 }, { "--force", TAKES_FORCE, 0 },     { "--no-wait", TAKES_NO_WAIT, 0 },
     { "--pages", TAKES_PAGES, 0 }, { "--svg", TAKES_SVG, 1 },         { "--small", TAKES_CHIP, 0 },
-    { "--large", TAKES_CHIP, 0 },  { "--mend", TAKES_MEND, 0 },
+    { "--large", TAKES_CHIP, 0 },  { "--mend", TAKES_MEND, 0 },       { "--count", TAKES_COUNT, 0 },
 };
 
 enum { OPTIONS = sizeof options / sizeof *options };
@@ -78,10 +78,17 @@ static int take(const struct command *command, const struct option *option, cons
     case TAKES_FORCE: arguments->force = 1; return 0;
     case TAKES_NO_WAIT: arguments->no_wait = 1; return 0;
     case TAKES_PAGES: arguments->pages = 1; return 0;
+    case TAKES_COUNT: arguments->count = 1; return 0;
     case TAKES_MEND: arguments->mend = 1; return 0;
     case TAKES_CHIP: return take_chip(command, option->name, arguments);
     default: arguments->svg = value; return 0;
     }
+}
+
+/* Whether so many words will do. */
+static int enough(const struct command *command, int found)
+{
+    return found == command->word_count || ((command->takes & TAKES_RANGE) && found == command->word_count - 2);
 }
 
 int arguments_read(const struct command *command, int count, char **words, struct arguments *arguments)
@@ -103,5 +110,5 @@ int arguments_read(const struct command *command, int count, char **words, struc
             arguments->word[found++] = words[i];
         }
     }
-    return found < command->word_count ? usage(command, "too few words after '%s'", command->name) : 0;
+    return enough(command, found) ? 0 : usage(command, "too few words after '%s'", command->name);
 }

@@ -8,6 +8,7 @@ int format_command(const struct arguments *arguments);
 int insert_command(const struct arguments *arguments);
 int delete_command(const struct arguments *arguments);
 int lookup_command(const struct arguments *arguments);
+int list_command(const struct arguments *arguments);
 int apply_command(const struct arguments *arguments);
 int show_command(const struct arguments *arguments);
 int cut_command(const struct arguments *arguments);

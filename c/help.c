@@ -25,13 +25,14 @@ void print_help(FILE *out, const struct command *commands, size_t count)
     fputs("usage: mutree COMMAND FILE ..       the index at the bench\n\n", out);
     print_commands(out, commands, count);
     fputs("  mutree help, mutree --version\n\n"
-          "FILE is a raw dump with spare bytes, as nanddump --oob writes it: a regular file. KEY, ADDRESS and N are\n"
-          "0 to 4294967295 without leading zeros. A change holds a lock and replaces the file whole, or leaves it as it\n"
-          "was; a second change waits for the first, and with --no-wait it is refused.\n\n", out);
+          "FILE is a raw dump with spare bytes, as nanddump --oob writes it: a regular file. KEY, ADDRESS, LOW, HIGH\n"
+          "and N are 0 to 4294967295 without leading zeros. A change holds a lock and replaces the file whole, or leaves\n"
+          "it as it was; a second change waits for the first, and with --no-wait it is refused.\n\n", out);
     print_chips(out);
     fputs("apply reads a command a line: insert KEY ADDRESS, delete KEY or lookup KEY; empty lines and lines that begin\n"
           "with # are passed over, the last line ends like the others. Every line must be understood and DONE, else\n"
           "nothing is changed and the line is named. Lookups print key and address.\n\n"
+          "list prints a line for each entry: key, tab, address. LOW above HIGH gives none, and status 0 as well.\n\n"
           "Exit status: 0 DONE, 1 LENGTH, 2 DAMAGED, 3 WORN, 4 ABSENT, 5 HEIGHT, 6 ROOM, 7 STOPPED; 64 the command was\n"
           "not understood or needs --force, 65 patrol found flipped bits and not all are mended in the file, 66 a file can't\n"
           "be read or written, 71 out of memory, 74 the output can't be printed, 75 another process is changing the file.\n", out);

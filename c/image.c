@@ -62,6 +62,13 @@ struct mutree_result image_lookup(const struct image *image, uint32_t key)
     return mutree_read_result(result);
 }
 
+struct mutree_listed image_list(const struct image *image, uint32_t low, uint32_t high, uint32_t *pairs, size_t numbers)
+{
+    uint8_t result[MUTREE_RESULT_BYTES];
+    mutree_list(image->geometry->number, image->bytes, image->length, low, high, pairs, numbers, result, sizeof result);
+    return mutree_read_listed(result);
+}
+
 struct mutree_result image_insert(struct image *image, uint32_t key, uint32_t address, uint32_t allowance)
 {
     uint8_t result[MUTREE_RESULT_BYTES];

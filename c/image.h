@@ -33,6 +33,7 @@ int image_is_sound(const struct image *image);
 /* The library's calls on an image whose chip is known. */
 struct mutree_result image_format(struct image *image);
 struct mutree_result image_lookup(const struct image *image, uint32_t key);
+struct mutree_listed image_list(const struct image *image, uint32_t low, uint32_t high, uint32_t *pairs, size_t numbers);
 struct mutree_result image_insert(struct image *image, uint32_t key, uint32_t address, uint32_t allowance);
 struct mutree_result image_delete(struct image *image, uint32_t key, uint32_t allowance);
 struct mutree_result image_patrol(struct image *image, uint32_t page, uint32_t half);

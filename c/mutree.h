@@ -12,8 +12,9 @@
  * and is safe for any numbers, any bytes and any lengths.
  *
  * Every call returns its answer number and writes 24 bytes to the caller's result buffer: answer, address, pages
- * programmed, blocks erased, rule, page, 32 bits each, least byte first. Bytes after the 24 stay as they were. With a shorter
- * buffer the call returns MUTREE_LENGTH and changes neither image nor buffer.
+ * programmed, blocks erased, rule, page, 32 bits each, least byte first; mutree_list has two counts in place of address and
+ * pages programmed. Bytes after the 24 stay as they were. With a shorter buffer the call returns MUTREE_LENGTH and changes no
+ * buffer at all.
  *
  * With MUTREE_DAMAGED rule is the first broken rule of a sound image, 1 to 8, and page says where; in all other answers both are
  * 0. mutree_rule_words says each rule in words. The page of each, a page number of the image:
@@ -27,23 +28,24 @@
  *   6   the lowest page that breaks it
  *   4, 7, 8   0: they speak of the whole image (mutree_rule_has_page)
  *
- * The caller owns both buffers. They must not overlap. Both pointers must be valid for their lengths; a call with a
- * length of 0 may pass any non-null pointer.
+ * The caller owns all buffers. They must not overlap. Each pointer must be valid for its length; a call with a length of 0 may
+ * pass any non-null pointer. mutree_list's buffer of numbers is aligned as uint32_t is; the others need no alignment.
  *
  * What a call needs
- *   processor   x86-64 or ARM64 with 64-bit size_t; an archive for each. Beside the five calls the archive asks the C
+ *   processor   x86-64 or ARM64 with 64-bit size_t; an archive for each. Beside its calls the archive asks the C
  *               library for memcpy and memset, nothing else. The code uses vector registers.
  *   memory      the whole image lies in RAM, 3 to 1,024 blocks: 50,688 to 17,301,504 bytes of a small chip, 405,504 to
  *               138,412,032 bytes of a large one. Any alignment will do where the processor takes unaligned reads (on
  *               ARM64: normal memory, not device memory).
  *   stack       measured, in bytes, on the large chip, whose trees are deeper; it does not grow with the image:
- *                              format   lookup    insert    delete   patrol
- *                     ARM64     5,264  156,336   178,208   169,936      744
- *                     x86-64    2,240  160,240   178,080   169,920   (version 0.3.0; on ARM64 the codes of 0.5.0 added up to 4,096)
+ *                              format   lookup      list    insert    delete   patrol
+ *                     ARM64     5,280  156,352   156,384   178,224   169,952      760
+ *                     x86-64    2,240  160,240         -   178,080   169,920        -
+ *               x86-64 was measured with version 0.3.0; on ARM64 the codes of 0.5.0 added up to 4,096.
  *               192 KiB serve every call, 160 KiB on the small chip. Large frames are touched page by page as they are
  *               made, so a guard page below the stack catches a stack that is too small.
  *
- * Two calls at once: on different images always; on one image lookups together, but no call beside an insert, delete
+ * Two calls at once: on different images always; on one image lookups and lists together, but no call beside an insert, delete
  * or format. Interrupts: a call may be interrupted at any place. A handler that calls the library is a second call at
  * once, and the same holds for it: no update of an image that a call was interrupted on, and no call at all on one that
  * is being updated. No call ends early or gives way; docs/BENCHMARKS.md says how long each takes.
@@ -68,7 +70,7 @@
 #include <stddef.h>
 #include <stdint.h>
 
-#define MUTREE_VERSION "0.5.0"
+#define MUTREE_VERSION "0.6.0"
 
 /* Lengths are 64 bits in the library. This line does not compile where size_t has another width. */
 typedef char mutree_needs_size_t_of_64_bits[sizeof(size_t) == 8 ? 1 : -1];
@@ -186,6 +188,28 @@ static inline struct mutree_result mutree_read_result(const uint8_t *bytes)
     return r;
 }
 
+/* The result of mutree_list. */
+struct mutree_listed {
+    uint32_t answer;
+    uint32_t exist;   /* pairs between the two keys */
+    uint32_t written; /* pairs written: the smaller of `exist` and half of pairs_len, rounded down */
+    uint32_t rule;    /* as in struct mutree_result */
+    uint32_t page;
+};
+
+/* The result of mutree_list, read from the 24 bytes that it wrote. */
+static inline struct mutree_listed mutree_read_listed(const uint8_t *bytes)
+{
+    struct mutree_result r = mutree_read_result(bytes);
+    struct mutree_listed listed;
+    listed.answer = r.answer;
+    listed.exist = r.address;
+    listed.written = r.programmed;
+    listed.rule = r.rule;
+    listed.page = r.page;
+    return listed;
+}
+
 /* What a patrol found, and the bit that it put right. */
 static inline enum mutree_finding mutree_found(struct mutree_result result)
 {
@@ -229,6 +253,24 @@ uint32_t mutree_format(uint32_t geometry, uint8_t *image, size_t image_len, uint
 /* The address of a key. Answers DONE with the address, LENGTH, DAMAGED or ABSENT. The image is only read. */
 uint32_t mutree_lookup(uint32_t geometry, const uint8_t *image, size_t image_len, uint32_t key, uint8_t *result,
                        size_t result_len);
+
+/* The pairs from `low` to `high`, both taken in, in rising key order, each once: key, address, key, address into `pairs`.
+ * `pairs_len` counts numbers, not pairs. The result says how many pairs exist and how many were written (mutree_read_listed):
+ * the smaller of that and pairs_len / 2, rounded down; its fourth number is 0. The first pairs are written where not all have
+ * room. Numbers of `pairs` beyond those written stay as they were, the last one of an odd length always. `low` above `high`
+ * gives 0 pairs.
+ *
+ * Answers DONE, LENGTH or DAMAGED. LENGTH and DAMAGED come with both counts 0 and leave `pairs` as it was. With a result buffer
+ * that is too short the call returns LENGTH, and both buffers stay. The image is only read; image, pairs and result must not
+ * overlap.
+ *
+ * The count alone: pairs_len 0, with any non-null pointer.
+ *
+ * With a small buffer, page after page, pairs_len 2 or more: call with low and high; while fewer are written than exist, call
+ * again with low = the last key written + 1 and the same high. That is never 4,294,967,295 + 1: a call that writes the key
+ * 4,294,967,295 has written the last pair, and then as many are written as exist. Every call judges the image anew. */
+uint32_t mutree_list(uint32_t geometry, const uint8_t *image, size_t image_len, uint32_t low, uint32_t high, uint32_t *pairs,
+                     size_t pairs_len, uint8_t *result, size_t result_len);
 
 /* Gives a key an address, a new one if the key is there. `allowance` is how many stores (pages programmed and blocks
  * erased together) the call may make; UINT32_MAX sets no limit. A battery loss after any store leaves a sound index

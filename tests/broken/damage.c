@@ -51,6 +51,13 @@ static uint32_t page_of_the_root(uint32_t pages)
     return root;
 }
 
+uint32_t root_of(uint32_t geometry, const uint8_t *of, size_t length)
+{
+    chip = mutree_geometry_of(geometry);
+    image = of;
+    return page_of_the_root((uint32_t)(length / chip->page_bytes));
+}
+
 void tell_wrongly(int fault, uint32_t geometry, const uint8_t *of, size_t length, uint32_t answer, uint8_t *result)
 {
     struct mutree_result r;

@@ -10,10 +10,13 @@
  * 14 R3 with the lower page of the pair   15 R2 with the last erased page in a row, not the first
  * 16 R5 with the root's page (damage.c has 14 to 16)
  * 17 a patrol that mends the bit beside   18 a patrol that takes two flips for one and turns bit 0 over
- * 19 a lookup that passes over codes that do not fit */
+ * 19 a lookup that passes over codes that do not fit
+ * 20 a list without the pair at its high key   21 one pair too many where a list is cut short at an odd length
+ * 22 a list that passes over the root's subtree that low lies in (listing.c has 20 to 22) */
 #include "../../c/mutree.h"
 #include "../independent/code.h"
 #include "damage.h"
+#include "listing.h"
 
 #include <stdlib.h>
 #include <string.h>
@@ -76,6 +79,14 @@ uint32_t mutree_lookup(uint32_t geometry, const uint8_t *image, size_t image_len
     return answer;
 }
 
+uint32_t mutree_list(uint32_t geometry, const uint8_t *image, size_t image_len, uint32_t low, uint32_t high, uint32_t *pairs,
+                     size_t pairs_len, uint8_t *result, size_t result_len)
+{
+    uint32_t answer = list_wrongly(FAULT, chip_of(geometry), image, image_len, low, high, pairs, pairs_len, result, result_len);
+    tell_wrongly(FAULT, geometry, image, image_len, answer, result);
+    return answer;
+}
+
 /* The image as it was, where the call pretends. */
 static void undo(uint8_t *image, const uint8_t *before, size_t length)
 {
@@ -135,7 +146,7 @@ uint32_t mutree_patrol(uint32_t geometry, uint8_t *image, size_t image_len, uint
 {
     uint32_t answer = real_patrol(chip_of(geometry), image, image_len, page, half, result, result_len);
     struct mutree_result r;
-    if (answer != MUTREE_DONE || FAULT < 17)
+    if (answer != MUTREE_DONE || FAULT < 17 || FAULT > 18)
         return answer;
     r = mutree_read_result(result);
     if (FAULT == 17 && mutree_found(r) == MUTREE_DATA_MENDED)

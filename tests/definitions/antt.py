@@ -255,7 +255,7 @@ class Definitions:
     def __init__(self, root):
         self.names = dict(self.library())
         for crate, files in (("geometry", ["Tests", "Geometry"]),
-                             ("model", ["Bytes", "Codes", "Count", "Image", "Tree", "Next", "Rules", "Page", "Stores", "Edit", "Collect", "Update", "Calls"])):
+                             ("model", ["Bytes", "Codes", "Count", "Image", "Tree", "Next", "Rules", "Page", "Stores", "Edit", "Collect", "Update", "Calls", "Listing"])):
             for f in files:
                 self.read("%s/crates/%s/specs/%s.antt" % (root, crate, f))
         self.names.update(self.quick())

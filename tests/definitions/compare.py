@@ -12,13 +12,29 @@ HERE = os.path.dirname(os.path.abspath(__file__))
 sys.path[:0] = [HERE, os.path.dirname(HERE)]
 import damage
 import reference
-from antt import Definitions, force
+from antt import Definitions, deep, force
 
 NAMES = "answer", "address", "programmed", "erased", "rule", "page", "image"
 
 
 def outcome(record):
     return tuple(force(record.fields[name]) for name in NAMES)
+
+
+def listed(record):
+    return tuple(deep(record.fields[name]) for name in ("answer", "exist", "written", "rule", "page", "buffer"))
+
+
+def listing(rng, d, m, small, img, keys, broke):
+    """One listing: keys of the map and beside them, low above high too, buffers of any small length."""
+    near = [k + s for k in rng.sample(keys, min(2, len(keys))) for s in (-1, 0, 1) if 0 <= k + s < 2 ** 32]
+    low, high = rng.choice(near + [0]), rng.choice(near + [2 ** 32 - 1])
+    buffer = [rng.randrange(2 ** 32) for _ in range(rng.choice([0, 1, 2, 3, 4, 5, 8, 9, 2 * len(keys), 2 * len(keys) + 3]))]
+    answer, exist, written, after = m.listing(img, low, high, buffer)
+    rule, page = broke if answer == 2 else (0, 0)
+    same("listing %d to %d, %d numbers" % (low, high, len(buffer)), listed(d["listing"](small, img, low, high, tuple(buffer))),
+         (answer, exist, written, rule, page, tuple(after)), img)
+    return "%s pairs exist, %s written" % ("no" if exist == 0 else "some", "all" if written == exist else "not all")
 
 
 def same(what, ours, theirs, img):
@@ -99,7 +115,9 @@ def compare(seconds, seed, name):
                 ours, theirs = d["delete"](chip, img, call[1], allowance), m.delete(img, call[1], allowance)
             same("%s allowance %d" % (call, allowance), outcome(ours), rest(theirs), img)
             same("lookup", outcome(d["lookup"](chip, img, call[1])), rest(m.lookup(img, call[1])), img)
-            calls += 2
+            kind = listing(rng, d, m, chip, img, sorted(model), broke)
+            met[kind] = met.get(kind, 0) + 1
+            calls += 3
             if broke:
                 same("delete", outcome(d["delete"](chip, img, 5, 1)), rest(m.delete(img, 5, 1)), img)
             met["answer %d" % theirs.answer] = met.get("answer %d" % theirs.answer, 0) + 1
@@ -111,6 +129,7 @@ def compare(seconds, seed, name):
         img = b"\xff" * cut
         same("format of %d" % cut, outcome(d["format"](chip, img)), rest(m.format(img)), img)
         same("lookup in %d" % cut, outcome(d["lookup"](chip, img, 1)), rest(m.lookup(img, 1)), img)
+        listing(rng, d, m, chip, img, [], m.first_damage(img) if cut == three else None)
     missing = [c for c in damage.CLAUSES if c not in met]
     if missing:
         sys.exit("definitions: no image for " + ", ".join(missing))

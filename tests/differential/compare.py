@@ -12,9 +12,10 @@ import sys
 
 sys.path.insert(0, os.path.dirname(os.path.dirname(os.path.abspath(__file__))))
 import damage
+import listing
 import reference
 
-CALLS = {"format": 0, "lookup": 1, "insert": 2, "delete": 3, "patrol": 4}
+CALLS = {"format": 0, "lookup": 1, "insert": 2, "delete": 3, "patrol": 4, "list": 5}
 FOUND = ["clean", "data mended", "code mended", "beyond repair"]
 ANSWERS = ["DONE", "LENGTH", "DAMAGED", "WORN", "ABSENT", "HEIGHT", "ROOM", "STOPPED"]
 LARGEST = 2 ** 32 - 1
@@ -31,19 +32,21 @@ class Library:
         self.process = subprocess.Popen([driver], stdin=subprocess.PIPE, stdout=subprocess.PIPE)
         self.geometry = geometry
         self.calls, self.met = 0, {}
+        self.listed = {}  # kinds of lists (listing.KINDS), and how many there were
         self.patrols = [0] * len(FOUND)  # halves by what a patrol found there
         self.clauses = {}  # clauses of request 5, and how many images broke each
         self.edges, self.beyond = 0, 0  # sound images with T - L = 64 (128), and images that break R8 alone
 
-    def call(self, name, img, buf, key=0, address=0, allowance=LARGEST, number=None):
+    def call(self, name, img, buf, key=0, address=0, allowance=LARGEST, number=None, pairs=b""):
         p = self.process
         number = self.geometry.number if number is None else number
-        p.stdin.write(struct.pack("<7I", CALLS[name], number, key, address, allowance, len(img), len(buf)) + img + buf)
+        p.stdin.write(struct.pack("<8I", CALLS[name], number, key, address, allowance, len(img), len(buf), len(pairs) // 4) + img + buf + pairs)
         p.stdin.flush()
-        out = p.stdout.read(4 + len(img) + len(buf))
-        if len(out) != 4 + len(img) + len(buf):
+        out = p.stdout.read(4 + len(img) + len(buf) + len(pairs))
+        if len(out) != 4 + len(img) + len(buf) + len(pairs):
             sys.exit("differential: the library died in %s" % name)
-        return struct.unpack("<I", out[:4])[0], out[4:4 + len(img)], out[4 + len(img):]
+        out, left = out[:len(out) - len(pairs)], out[len(out) - len(pairs):]
+        return (struct.unpack("<I", out[:4])[0], out[4:4 + len(img)], out[4 + len(img):]) + ((left,) if name == "list" else ())
 
     def hold(self, wanted, name, img, buf, **args):
         got = self.call(name, img, buf, **args)
@@ -53,8 +56,10 @@ class Library:
         if got != wanted:
             with open("build/differs.img", "wb") as f:
                 f.write(img)
-            sys.exit("differential: %s chip: %s %s: returned %d, wanted %d; image %s; numbers %s, wanted %s; the image is in build/differs.img" % (
-                self.geometry.name, name, args, got[0], wanted[0], "alike" if got[1] == wanted[1] else "differs", numbers(got[2]), numbers(wanted[2])))
+            args.pop("pairs", None)
+            sys.exit("differential: %s chip: %s %s: returned %d, wanted %d; image %s; numbers %s, wanted %s%s; the image is in build/differs.img" % (
+                self.geometry.name, name, args, got[0], wanted[0], "alike" if got[1] == wanted[1] else "differs", numbers(got[2]), numbers(wanted[2]),
+                "" if got[3:] == wanted[3:] else "; the pairs differ"))
 
 
 def buffer(rng):
@@ -116,6 +121,8 @@ def a_log(library, m, fuzz, rng):
         call = ("delete", key) if rng.random() < .25 else ("insert", key, rng.randrange(2 ** 32))
         img = every_update(library, m, rng, img, call)
         lookups(library, m, rng, img, [key])
+        if rng.random() < .2:
+            listing.lists(library, m, rng, img, buffer, 1)
 
 
 def hand_made(library, m, fuzz, rng):
@@ -125,6 +132,7 @@ def hand_made(library, m, fuzz, rng):
         model = dict(m.map_of(img))
         call = fuzz.some_call(rng, m, img, model)
         lookups(library, m, rng, img, [call[1], rng.choice(list(model) or [0])])
+        listing.lists(library, m, rng, img, buffer, 4)
         img = every_update(library, m, rng, img, call)
 
 
@@ -153,6 +161,7 @@ def full_path(library, m, fuzz, rng):
         lookups(library, m, rng, img, [key])
     gone = rng.choice(keys)
     img = every_update(library, m, rng, img, ("delete", gone))
+    listing.lists(library, m, rng, img, buffer, 6)
     every_update(library, m, rng, img, ("insert", gone, 5))
 
 
@@ -215,6 +224,7 @@ def every_call(library, m, rng, img):
         clause = damage.clause(m, img)
         library.clauses[clause] = library.clauses.get(clause, 0) + 1
     lookups(library, m, rng, img, [rng.randrange(2 ** 32)])
+    listing.lists(library, m, rng, img, buffer, 1)
     every_update(library, m, rng, img, ("insert", rng.randrange(2 ** 32), 5))
     every_update(library, m, rng, img, ("delete", rng.randrange(2 ** 32)))
     if m.good_length(img):
@@ -259,7 +269,9 @@ def no_chip(library, m, fuzz, rng):
     for name in CALLS:
         buf = buffer(rng)
         number = rng.choice([2, 3, 256, 2 ** 31, LARGEST, rng.randrange(2, 2 ** 32)])
-        library.hold(result(1, 0, 0, img, buf), name, img, buf, key=rng.randrange(2 ** 32), number=number)
+        pairs = rng.randbytes(4 * rng.randrange(6)) if name == "list" else b""
+        wanted = result(1, 0, 0, img, buf) + ((pairs,) if name == "list" else ())
+        library.hold(wanted, name, img, buf, key=rng.randrange(2 ** 32), address=LARGEST, number=number, pairs=pairs)
 
 
 def tell_met(library, wanted):
@@ -268,11 +280,14 @@ def tell_met(library, wanted):
     print("  answers: " + ", ".join("%s %d" % x for x in zip(ANSWERS, counts)))
     print("  by call: " + ", ".join("%s %s: %d" % (call, ANSWERS[a], n) for (call, a), n in sorted(library.met.items())))
     print("  damaged images: " + ", ".join("%s: %d" % (c, library.clauses[c]) for c in damage.CLAUSES))
+    print("  lists: " + ", ".join("%s: %d" % (k, library.listed.get(k, 0)) for k in listing.KINDS))
     print("  patrols: " + ", ".join("%s %d" % x for x in zip(FOUND, library.patrols)))
     print("  T - L = %d on %d sound images; %d images refused by R8 alone" % (
         library.geometry.r8_least, library.edges, library.beyond))
     if wanted >= 5000 and 0 in counts:
         sys.exit("differential: never met " + ", ".join(name for name, n in zip(ANSWERS, counts) if n == 0))
+    if wanted >= 5000 and set(library.listed) != set(listing.KINDS):
+        sys.exit("differential: a kind of list was never met")
     if 0 in library.patrols:
         sys.exit("differential: a patrol never found " + ", ".join(name for name, n in zip(FOUND, library.patrols) if n == 0))
     if wanted >= 5000 and 0 in (library.edges, library.beyond):

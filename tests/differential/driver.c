@@ -1,10 +1,10 @@
 /* driver.c: calls the library on what standard input says, so that a script can hold it against another implementation.
  *
- * A request: seven 32-bit numbers (call 0 to 4: format, lookup, insert, delete, patrol; geometry; key; address; allowance; image
- * length; result length), least byte first, then the image and the result buffer. A patrol's page and half stand for key and
- * address. The reply: the returned number, then the
- * image and the result buffer as the call left them. Both stand against a guard page (guarded.h), so that a byte read too
- * far ends the driver: with an even key the one behind them, with an odd key the one before. */
+ * A request: eight 32-bit numbers (call 0 to 5: format, lookup, insert, delete, patrol, list; geometry; key; address; allowance;
+ * image length; result length; how many numbers list is lent), least byte first, then the image, the result buffer and list's
+ * numbers. A patrol's page and half, and a list's low and high, stand for key and address. The reply: the returned number, then
+ * these three as the call left them. All stand against a guard page (guarded.h), so that a byte read too far ends the driver:
+ * with an even key the one behind them, with an odd key the one before. The numbers are this processor's, least byte first. */
 #define _DEFAULT_SOURCE
 #include "../../c/mutree.h"
 #include "../guarded.h"
@@ -16,8 +16,8 @@ static uint32_t number(const uint8_t *at)
     return (uint32_t)at[0] | (uint32_t)at[1] << 8 | (uint32_t)at[2] << 16 | (uint32_t)at[3] << 24;
 }
 
-/* The seven numbers of a request. */
-enum { CALL, GEOMETRY, KEY, ADDRESS, ALLOWANCE, IMAGE_LENGTH, RESULT_LENGTH, NUMBERS };
+/* The eight numbers of a request. */
+enum { CALL, GEOMETRY, KEY, ADDRESS, ALLOWANCE, IMAGE_LENGTH, RESULT_LENGTH, PAIRS_LENGTH, NUMBERS };
 
 static int read_request(uint32_t *n)
 {
@@ -30,7 +30,7 @@ static int read_request(uint32_t *n)
     return 1;
 }
 
-static uint32_t call(const uint32_t *n, uint8_t *image, uint8_t *result)
+static uint32_t call(const uint32_t *n, uint8_t *image, uint8_t *result, uint32_t *pairs)
 {
     switch (n[CALL]) {
     case 0: return mutree_format(n[GEOMETRY], image, n[IMAGE_LENGTH], result, n[RESULT_LENGTH]);
@@ -38,11 +38,14 @@ static uint32_t call(const uint32_t *n, uint8_t *image, uint8_t *result)
     case 2:
         return mutree_insert(n[GEOMETRY], image, n[IMAGE_LENGTH], n[KEY], n[ADDRESS], n[ALLOWANCE], result, n[RESULT_LENGTH]);
     case 4: return mutree_patrol(n[GEOMETRY], image, n[IMAGE_LENGTH], n[KEY], n[ADDRESS], result, n[RESULT_LENGTH]);
+    case 5:
+        return mutree_list(n[GEOMETRY], image, n[IMAGE_LENGTH], n[KEY], n[ADDRESS], pairs, n[PAIRS_LENGTH], result,
+                           n[RESULT_LENGTH]);
     default: return mutree_delete(n[GEOMETRY], image, n[IMAGE_LENGTH], n[KEY], n[ALLOWANCE], result, n[RESULT_LENGTH]);
     }
 }
 
-static void reply(uint32_t answer, const struct guarded *image, const struct guarded *result)
+static void reply(uint32_t answer, const struct guarded *image, const struct guarded *result, const struct guarded *pairs)
 {
     uint8_t bytes[4];
     int i;
@@ -51,6 +54,7 @@ static void reply(uint32_t answer, const struct guarded *image, const struct gua
     fwrite(bytes, 1, 4, stdout);
     fwrite(image->bytes, 1, image->length, stdout);
     fwrite(result->bytes, 1, result->length, stdout);
+    fwrite(pairs->bytes, 1, pairs->length, stdout);
     fflush(stdout);
 }
 
@@ -60,12 +64,15 @@ int main(void)
     while (read_request(n)) {
         int at_end = n[KEY] % 2 == 0;
         struct guarded image = guarded_make(n[IMAGE_LENGTH], at_end), result = guarded_make(n[RESULT_LENGTH], at_end);
+        struct guarded pairs = guarded_make(4 * (size_t)n[PAIRS_LENGTH], at_end);
         if (fread(image.bytes, 1, image.length, stdin) != image.length
-            || fread(result.bytes, 1, result.length, stdin) != result.length)
+            || fread(result.bytes, 1, result.length, stdin) != result.length
+            || fread(pairs.bytes, 1, pairs.length, stdin) != pairs.length)
             return 1;
-        reply(call(n, image.bytes, result.bytes), &image, &result);
+        reply(call(n, image.bytes, result.bytes, (uint32_t *)(void *)pairs.bytes), &image, &result, &pairs);
         guarded_free(&image);
         guarded_free(&result);
+        guarded_free(&pairs);
     }
     return 0;
 }

@@ -1,5 +1,5 @@
 /* main.c: drives target.c without libFuzzer, with inputs from a counter. So any C compiler can run it; it is no search, but
- * it meets all five calls on both chips, sound and broken images, good and bad lengths, and both guard pages.
+ * it meets all calls on both chips, sound and broken images, good and bad lengths, and both guard pages.
  *
  * usage: fuzz [ROUNDS]
  */
@@ -43,13 +43,23 @@ static size_t some_length(const struct mutree_geometry *chip)
     return lengths[some(8)];
 }
 
+/* What is laid over a formatted image is inserts alone: it stays sound. */
+static void only_inserts(uint8_t *changes, size_t size)
+{
+    size_t i;
+    for (i = 0; i < size; i += 5)
+        changes[i] |= 1;
+}
+
 /* The first bytes at random, then the image. */
 static size_t input(uint8_t *data)
 {
     size_t size = data[7] & 1 ? some(400) : some_length(mutree_geometry_of(data[0] >> 2 & 1));
     if (data[7] & 1)
         fill(data + 8, size);
-    else
+    if (data[7] & 1 && some(2))
+        only_inserts(data + 8, size);
+    else if (!(data[7] & 1))
         memset(data + 8, some(2) ? 255 : (int)some(256), size);
     return 8 + size;
 }

@@ -1,4 +1,4 @@
-/* target.c: any bytes, any lengths, small buffers, through the five calls; for libFuzzer with sanitizers, or for main.c.
+/* target.c: any bytes, any lengths, small buffers, through the calls; for libFuzzer with sanitizers, or for main.c.
  *
  * The first bytes choose the call, the chip or a number that is none's, the key, the allowance, the result buffer's length and
  * which guard page the buffers stand against; the rest is the image. Where the input says so the image is a formatted one with
@@ -7,10 +7,11 @@
  * ends the run. Checked besides: a number that is no chip's gives LENGTH, refused calls leave the image, a finished call leaves
  * one that is not DAMAGED, a short result buffer stays as it was, and so do the bytes after the 24; rule and page are 0 but for
  * DAMAGED, and then a rule's number and a page of the image. A patrol that mended is clean when it is called again, and what it
- * changed is one bit; else it changes nothing. */
+ * changed is one bit; else it changes nothing. listing.c has what is checked of a list. */
 #define _DEFAULT_SOURCE
 #include "../../c/mutree.h"
 #include "../guarded.h"
+#include "listing.h"
 
 #include <stdlib.h>
 #include <string.h>
@@ -19,6 +20,8 @@
 struct head {
     uint32_t geometry;
     int kind, over_format, at_end;
+    int lists; /* a list in place of a lookup */
+    struct wish wish;
     size_t room;
     uint32_t key, allowance;
 };
@@ -33,7 +36,7 @@ static uint32_t number(const uint8_t *at)
 static struct head head_of(const uint8_t *data)
 {
     struct head head;
-    head.kind = data[7] >> 2 & 1 ? PATROL : data[0] & 3;
+    head.kind = (data[7] >> 2 & 3) == 1 ? PATROL : data[0] & 3;
     head.geometry = data[0] >> 2 & 1;
     if (data[0] >> 3 == 31) /* now and then no chip */
         head.geometry = data[1] + MUTREE_GEOMETRIES;
@@ -42,6 +45,10 @@ static struct head head_of(const uint8_t *data)
     head.allowance = data[6] == 255 ? UINT32_MAX : data[6];
     head.over_format = data[7] & 1;
     head.at_end = !(data[7] & 2);
+    head.lists = (data[7] >> 2 & 3) == 2;
+    head.wish.low = head.key;
+    head.wish.high = data[7] >> 4 == 15 ? UINT32_MAX : number(data + 2) >> 12 & 1023;
+    head.wish.numbers = data[6];
     return head;
 }
 
@@ -78,7 +85,10 @@ static uint32_t call(struct head head, struct guarded image, struct guarded resu
 {
     switch (head.kind) {
     case 0: return mutree_format(head.geometry, image.bytes, image.length, result.bytes, result.length);
-    case 1: return mutree_lookup(head.geometry, image.bytes, image.length, head.key, result.bytes, result.length);
+    case 1:
+        if (head.lists)
+            return list_checked(head.geometry, image, head.wish, head.at_end, result);
+        return mutree_lookup(head.geometry, image.bytes, image.length, head.key, result.bytes, result.length);
     case 2:
         return mutree_insert(head.geometry, image.bytes, image.length, head.key, ~head.key, head.allowance, result.bytes,
                              result.length);

@@ -4,6 +4,7 @@
 #include "built.h"
 #include "code.h"
 #include "demands.h"
+#include "listing.h"
 
 #include <stdio.h>
 #include <stdlib.h>
@@ -15,13 +16,14 @@ static struct tree state;
 static unsigned long met[RULES + 1];
 
 /* ---- every call */
-enum { LOOKUP, INSERT, STOPPED_INSERT, DELETE, STOPPED_DELETE, CALLS };
+enum { LOOKUP, LIST, INSERT, STOPPED_INSERT, DELETE, STOPPED_DELETE, CALLS };
 
 static uint32_t call(int which, uint8_t *now, size_t length, uint32_t key, uint8_t *result)
 {
     uint32_t allowance = which == STOPPED_INSERT || which == STOPPED_DELETE ? 0 : UINT32_MAX;
     switch (which) {
     case LOOKUP: return mutree_lookup(chip->number, now, length, key, result, RESULT + 4);
+    case LIST: return list_of_all(chip->number, now, length, result, RESULT + 4);
     case INSERT:
     case STOPPED_INSERT: return mutree_insert(chip->number, now, length, key, 5, allowance, result, RESULT + 4);
     default: return mutree_delete(chip->number, now, length, key, allowance, result, RESULT + 4);
@@ -64,7 +66,7 @@ int is_judged_alike(const uint8_t *image, size_t length, uint32_t key)
         else if (answer == MUTREE_DAMAGED || number_at(result + 16) || number_at(result + 20))
             fail("a sound image is refused, or has a rule or page");
         if (memcmp(now, image, length))
-            fail("a refused call, or a lookup, wrote");
+            fail("a refused call, a lookup or a list wrote");
     }
     free(now);
     met[rule]++;

@@ -9,6 +9,7 @@
  */
 #include "built.h"
 #include "demands.h"
+#include "listing.h"
 
 #include <stdio.h>
 #include <stdlib.h>
@@ -428,6 +429,7 @@ static void one_step(struct update u, uint8_t *image, size_t length)
     look(image, length, some(4294967295u));
     if (entries)
         look(image, length, oracle[some((uint32_t)entries)].key);
+    some_lists(image, length, oracle, entries);
 }
 
 static void day(unsigned blocks, int way, unsigned steps)
@@ -484,6 +486,7 @@ static void test_chip(unsigned rounds)
     roots_grow();
     delete_is_never_short_of_room();
     damage_is_named();
+    lists_are_the_maps_part();
     halves_are_patrolled(quick ? 97 : 1);
     if (met.least_spare != chip->room + 1 || met.rooms == 0)
         fail("T - L of 64 (128), or ROOM, was not met");
@@ -492,6 +495,7 @@ static void test_chip(unsigned rounds)
     if (met.from_several == 0 || met.past_the_end == 0)
         fail("a choice among several wholly erased blocks, or one past the end, was not met");
     report();
+    tell_lists();
 }
 
 int main(int count, char **words)

@@ -3,6 +3,7 @@
 #define DEMANDS_H
 
 #include "../../c/mutree.h"
+#include "built.h"
 #include "judge.h"
 
 struct update {
@@ -53,6 +54,10 @@ void halves_are_patrolled(uint32_t step);
 
 /* Request 11 (room.c). */
 void delete_is_never_short_of_room(void);
+
+/* A built tree: a root with all entries it can store over a full path, so that the next key halves every node. The caller frees it
+ * (growth.c). */
+uint8_t *full_tree(unsigned height, enum path path, size_t *length);
 
 /* Roots that are full, at every height (growth.c). */
 void roots_grow(void);

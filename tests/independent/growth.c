@@ -53,8 +53,7 @@ static void first_root_is_halved(void)
     free(image);
 }
 
-/* A root with all entries it can store over a full path, so that the next key halves every node. */
-static uint8_t *full_tree(unsigned height, enum path path, size_t *length)
+uint8_t *full_tree(unsigned height, enum path path, size_t *length)
 {
     uint32_t root = most_root(chip, height), leaves = leaves_of_full_path(chip, height, root), blocks = 5 + leaves / chip->block_pages;
     struct built plan = { chip, 0, 0, 0, path, 0, 0 };

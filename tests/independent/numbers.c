@@ -1,6 +1,7 @@
 /* numbers.c: the geometry's number. 0 and 1 are the two chips, another gives LENGTH, and its result is written all the same. What
  * c/mutree.h says of a chip is what the documents say. */
 #include "demands.h"
+#include "listing.h"
 
 #include <stdlib.h>
 #include <string.h>
@@ -30,9 +31,9 @@ static void rules_are_the_documents(void)
     }
 }
 
-enum { CALLS = 5 };
+enum { CALLS = 6 };
 
-/* One call with a number that is no chip's: 0 format, 1 lookup, 2 insert, 3 delete, 4 patrol. */
+/* One call with a number that is no chip's: 0 format, 1 lookup, 2 insert, 3 delete, 4 patrol, 5 list. */
 static uint32_t call(int which, uint32_t number, uint8_t *image, size_t length, uint8_t *result, size_t room)
 {
     switch (which) {
@@ -40,7 +41,8 @@ static uint32_t call(int which, uint32_t number, uint8_t *image, size_t length, 
     case 1: return mutree_lookup(number, image, length, 1, result, room);
     case 2: return mutree_insert(number, image, length, 1, 1, UINT32_MAX, result, room);
     case 3: return mutree_delete(number, image, length, 1, UINT32_MAX, result, room);
-    default: return mutree_patrol(number, image, length, 0, 0, result, room);
+    case 4: return mutree_patrol(number, image, length, 0, 0, result, room);
+    default: return list_of_all(number, image, length, result, room);
     }
 }
 

@@ -15,6 +15,7 @@ cat > "$folder/user.c" <<'END'
 
 #include <stdio.h>
 
+static uint32_t pairs[3]; /* of an odd length: one pair has room */
 static uint8_t image[MUTREE_LEAST_BLOCKS * MUTREE_LARGE_BLOCK_BYTES], result[MUTREE_RESULT_BYTES];
 
 /* A bit of page 1 is flipped, and put right by a patrol of its half. */
@@ -28,16 +29,20 @@ static int mends(const struct mutree_geometry *chip, size_t length)
     return mutree_found(found) == MUTREE_DATA_MENDED && mutree_bit(found) == 2;
 }
 
-/* An address stored and read again on a chip of three blocks, or 0. */
+/* An address stored and read again on a chip of three blocks, by a lookup and by a list, or 0. */
 static unsigned address_on(const struct mutree_geometry *chip, uint32_t key)
 {
     size_t length = MUTREE_LEAST_BLOCKS * (size_t)chip->block_bytes;
     if (mutree_format(chip->number, image, length, result, sizeof result) != MUTREE_DONE
         || mutree_insert(chip->number, image, length, key, 1000 + key, UINT32_MAX, result, sizeof result) != MUTREE_DONE
         || !mends(chip, length)
-        || mutree_lookup(chip->number, image, length, key, result, sizeof result) != MUTREE_DONE)
+        || mutree_lookup(chip->number, image, length, key, result, sizeof result) != MUTREE_DONE
+        || mutree_read_result(result).address != 1000 + key)
         return 0;
-    return (unsigned)mutree_read_result(result).address;
+    if (mutree_list(chip->number, image, length, key, UINT32_MAX, pairs, 3, result, sizeof result) != MUTREE_DONE
+        || mutree_read_listed(result).exist != 1 || mutree_read_listed(result).written != 1 || pairs[0] != key || pairs[2] != 0)
+        return 0;
+    return (unsigned)pairs[1];
 }
 
 int main(void)

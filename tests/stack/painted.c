@@ -17,10 +17,13 @@ uint32_t __real_mutree_delete(uint32_t geometry, uint8_t *image, size_t image_le
 uint32_t __real_mutree_patrol(uint32_t geometry, uint8_t *image, size_t image_len, uint32_t page, uint32_t half, uint8_t *result,
                               size_t result_len);
 
-enum { FORMAT, LOOKUP, INSERT, DELETE, PATROL, NOTHING, CALLS };
+uint32_t __real_mutree_list(uint32_t geometry, const uint8_t *image, size_t image_len, uint32_t low, uint32_t high, uint32_t *pairs,
+                            size_t pairs_len, uint8_t *result, size_t result_len);
+
+enum { FORMAT, LOOKUP, INSERT, DELETE, PATROL, LIST, NOTHING, CALLS };
 enum { ROOM = 1 << 20, PAINT = 0xA5 };
 
-static const char *const names[CALLS] = { "format", "lookup", "insert", "delete", "patrol", "nothing" };
+static const char *const names[CALLS] = { "format", "lookup", "insert", "delete", "patrol", "list", "nothing" };
 static unsigned long most[CALLS], made[CALLS];
 static unsigned char *stack;
 static ucontext_t caller, callee;
@@ -31,6 +34,8 @@ static struct {
     uint8_t *image, *result;
     size_t image_len, result_len;
     uint32_t geometry, key, address, allowance, answer;
+    uint32_t *pairs; /* list's; its low and high are key and address */
+    size_t pairs_len;
 } now;
 
 static void make_call(void)
@@ -50,6 +55,10 @@ static void make_call(void)
         break;
     case PATROL: /* page and half stand for key and address */
         now.answer = __real_mutree_patrol(now.geometry, now.image, now.image_len, now.key, now.address, now.result, now.result_len);
+        break;
+    case LIST:
+        now.answer = __real_mutree_list(now.geometry, now.image, now.image_len, now.key, now.address, now.pairs, now.pairs_len, now.result,
+                                        now.result_len);
         break;
     }
 }
@@ -120,6 +129,17 @@ uint32_t __wrap_mutree_lookup(uint32_t geometry, const uint8_t *image, size_t im
     set_buffers(geometry, image, image_len, result, result_len);
     now.key = key;
     return on_painted_stack(LOOKUP);
+}
+
+uint32_t __wrap_mutree_list(uint32_t geometry, const uint8_t *image, size_t image_len, uint32_t low, uint32_t high, uint32_t *pairs,
+                            size_t pairs_len, uint8_t *result, size_t result_len)
+{
+    set_buffers(geometry, image, image_len, result, result_len);
+    now.key = low;
+    now.address = high;
+    now.pairs = pairs;
+    now.pairs_len = pairs_len;
+    return on_painted_stack(LIST);
 }
 
 uint32_t __wrap_mutree_delete(uint32_t geometry, uint8_t *image, size_t image_len, uint32_t key, uint32_t allowance, uint8_t *result,

@@ -1,4 +1,5 @@
--- A call of the camera service: the number returned, the image and the result buffer afterwards. Definitions alone; assumes nothing.
+-- A call of the camera service: the number returned, the image and the result buffer afterwards; a listing has its lent pairs where the other
+-- calls have the image. Definitions alone; assumes nothing.
 use mathlib.Core.List.{List, [], _∷_}
 use Prim.Native.Nat.{ℕ, _+_}
 use lib.Dec.{ltb}

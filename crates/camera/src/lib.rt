@@ -1,6 +1,7 @@
 // The calls as a camera service in C makes them: the geometry's number, numbers, the lent image, and a lent result buffer.
 ghost use mathlib.Core.Path.{_≡_};
 ghost use Rattle.model.specs.Calls.{formatOf, lookupOf, insertOf, deleteOf, patrolOf};
+ghost use Rattle.model.specs.Listing.{listOf, asOutcome};
 ghost use Rattle.answers.specs.Answers.{rowOf};
 ghost use Rattle.camera.specs.Camera.{putNumbers, reportOf, returned};
 use answers::Answer;
@@ -57,6 +58,26 @@ pub extern "C" fn mutree_lookup(kind: u32, image: &[u8], key: u32, result: &mut 
         return 1;
     }
     let a = index::lookup(kind, image, key);
+    report(&mut *result, a)
+}
+
+#[no_mangle]
+pub extern "C" fn mutree_list(
+    kind: u32,
+    image: &[u8],
+    low: u32,
+    high: u32,
+    pairs: &mut [u32],
+    result: &mut [u8],
+) -> u32
+    ensures answer { λ r. ⌜ r ≡ returned (asOutcome (listOf kind (now (image .entry)) low high (now (pairs .entry)))) (now (pairs .entry)) (now (result .entry)) .answer ⌝ }
+    ensures pairs { λ _. ⌜ now (pairs .exit) ≡ returned (asOutcome (listOf kind (now (image .entry)) low high (now (pairs .entry)))) (now (pairs .entry)) (now (result .entry)) .image ⌝ }
+    ensures result { λ _. ⌜ now (result .exit) ≡ returned (asOutcome (listOf kind (now (image .entry)) low high (now (pairs .entry)))) (now (pairs .entry)) (now (result .entry)) .result ⌝ }
+{
+    if result.len() < 24 {
+        return 1;
+    }
+    let a = index::list(kind, image, low, high, &mut *pairs);
     report(&mut *result, a)
 }
 

@@ -5,9 +5,11 @@ use mathlib.Core.Path.{_≡_, refl, ap}
 use borrow.Author.Tests.{lt-ltb}
 use Rattle.geometry.specs.declared.Finding.{Finding}
 use Rattle.geometry.specs.declared.Finding.the-variants.{Good, Bad}
+use Rattle.geometry.specs.declared.Verdict.{Verdict}
+use Rattle.geometry.specs.declared.Verdict.the-variants.{Sound, Broken}
 use Rattle.geometry.specs.Tests.{pick}
 use Rattle.model.specs.Count.{least, any}
-use Rattle.model.specs.Rules.{lowest, unless}
+use Rattle.model.specs.Rules.{lowest, unless, orElse, isSound}
 use Rattle.counts.specs.Least.{least-hit, any-none, none-passes}
 
 isGood : Finding → Bool
@@ -49,3 +51,12 @@ pub good-unless : (t : Bool) (p : ℕ) (v : Finding) → unless t p v ≡ Good �
 unfolding unless
 good-unless true p v e = (refl, e)
 good-unless false p v e = absurd (bad-good p e)
+
+-- a verdict of Sound says it of every rule
+pub broken-sound : (r p : ℕ) → Broken r p ≡ Sound → ⊥
+broken-sound r p e = false≢true (ap isSound e)
+
+pub or-sound : (r : ℕ) (f : Finding) (v : Verdict) → orElse r f v ≡ Sound → (f ≡ Good) × (v ≡ Sound)
+unfolding orElse
+or-sound r Good v e = (refl, e)
+or-sound r (Bad p) v e = absurd (broken-sound r p e)

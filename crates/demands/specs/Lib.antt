@@ -1,5 +1,5 @@
--- Demands 1, 2 and 3 of the definitions: read Words, then Refusals (demand 1) and Demands; Round for request 2, Patrol for request 4, Named for
--- request 5, Reached for request 11, Inserts and Many for request 10. The other files are their proofs.
+-- Demands 1, 2 and 3 of the definitions: read Words, then Refusals (demand 1) and Demands; Listing for request 1, Round for request 2, Patrol for request 4,
+-- Named for request 5, Reached for request 11, Inserts and Many for request 10. The other files are their proofs.
 pub mod Words
 pub mod Maps
 pub mod Bridges
@@ -13,6 +13,9 @@ pub mod Inside
 pub mod Proofs
 pub mod Demands
 pub mod Builds
+pub mod Between
+pub mod Looked
+pub mod Listing
 pub mod Round
 pub mod Reached
 pub mod Inserts

@@ -9,9 +9,9 @@ use lib.Dec.{eqb, leb}
 use borrow.Author.Tests.{not-false, le-leb, eq-eqb, ne-eqb, leb-true}
 use Rattle.geometry.specs.declared.Geometry.{Geometry}
 use Rattle.geometry.specs.declared.Finding.{Finding}
-use Rattle.geometry.specs.declared.Finding.the-variants.{Good, Bad}
+use Rattle.geometry.specs.declared.Finding.the-variants.{Good}
 use Rattle.geometry.specs.declared.Verdict.{Verdict}
-use Rattle.geometry.specs.declared.Verdict.the-variants.{Sound, Broken}
+use Rattle.geometry.specs.declared.Verdict.the-variants.{Sound}
 use Rattle.geometry.specs.Tests.{pick, _&_, and-true, and-false, and-left, and-right, and-both}
 use Rattle.geometry.specs.Geometry.{pageBytes, halves, codePlace, pageBase, half, rootMost}
 use Rattle.geometry.specs.Shape.{Shape}
@@ -23,7 +23,7 @@ use Rattle.model.specs.Tree.{placesOf}
 use Rattle.model.specs.Rules.{lowest, wellFormed, r1, repeated, r3, r4, orElse, verdict}
 use Rattle.counts.specs.Least.{least-none, any-clear}
 use Rattle.counts.specs.Peak.{arg-less}
-use Rattle.counts.specs.Lowest.{lowest-good, good-lowest, good-unless}
+use Rattle.counts.specs.Lowest.{lowest-good, good-lowest, good-unless, or-sound}
 use Rattle.trees.specs.Tests.{by-eq, by-le, true-false}
 use Rattle.trees.specs.Lists.{all-map}
 use Rattle.trees.specs.Nodes.{fitOf, fit-page}
@@ -150,18 +150,6 @@ module _ (g : Geometry) (n : ℕ) (img : List ℕ) where
   root-below h = arg-less (rootScore g img) t h
 
 -- ---- the verdict
-broken-sound : (r p : ℕ) → Broken r p ≡ Sound → ⊥
-broken-sound r p h = subst Fine (sym h) tt
-  where
-    Fine : Verdict → Type 0
-    Fine Sound = Unit {0}
-    Fine (Broken r p) = ⊥
-
-or-sound : (r : ℕ) (f : Finding) (w : Verdict) → orElse r f w ≡ Sound → (f ≡ Good) × (w ≡ Sound)
-unfolding orElse
-or-sound r Good w h = (refl, h)
-or-sound r (Bad p) w h = absurd (broken-sound r p h)
-
 sound-or : (r : ℕ) (f : Finding) (w : Verdict) → f ≡ Good → w ≡ Sound → orElse r f w ≡ Sound
 unfolding orElse
 sound-or r f w h i = rw (h, i) refl

@@ -10,18 +10,19 @@ use Rattle.geometry.specs.declared.Chosen.the-variants.{Of, Unknown}
 use Rattle.geometry.specs.Geometry.{chosenOf, pageBytes}
 use Rattle.geometry.specs.Shape.{Known, Shape, shape, page-most, chosen-known}
 use Rattle.model.specs.Calls.{Outcome, refused, chosenCall, format, lookup, insert, delete, patrol, formatOf, lookupOf, insertOf, deleteOf, patrolOf}
+use Rattle.model.specs.Listing.{listsNone, listing, listOf, asOutcome}
 use Rattle.answers.specs.declared.Answer.the-variants.{Length}
 use Rattle.answers.specs.Answers.{told}
 
 module _ (kind : ℕ) (c : Chosen) (ec : c ≡ chosenOf kind) (g : Geometry) (e : c ≡ Of g) where
-  known : Known g
-  known = chosen-known kind g (sym ec ∙ e)
+  pub of-known : Known g
+  of-known = chosen-known kind g (sym ec ∙ e)
 
   pub of-pages : g .pages ≤ 64
-  of-pages = shape g known .pages-high
+  of-pages = shape g of-known .pages-high
 
   pub of-page : pageBytes g ≤ 2112
-  of-page = page-most g known
+  of-page = page-most g of-known
 
   -- a call of any kind
   called : {A : Type 0} (call : Geometry → A) (other o : A) → o ≡ call g → o ≡ chosenCall (chosenOf kind) call other
@@ -35,6 +36,10 @@ module _ (kind : ℕ) (c : Chosen) (ec : c ≡ chosenOf kind) (g : Geometry) (e 
   pub of-lookup : (img : List ℕ) (k : ℕ) (o : Outcome) → o ≡ lookup g img k → o ≡ lookupOf kind img k
   unfolding lookupOf
   of-lookup img k o h = called (λ x. lookup x img k) (refused 1 img) o h
+
+  pub of-list : (img : List ℕ) (low high : ℕ) (b : List ℕ) (o : Outcome) → o ≡ asOutcome (listing g img low high b) → o ≡ asOutcome (listOf kind img low high b)
+  unfolding listOf chosenCall
+  of-list img low high b o h = h ∙ ap (λ (x : Chosen). asOutcome (chosenCall x (λ y. listing y img low high b) (listsNone 1 0 0 b))) (sym e ∙ ec)
 
   pub of-insert : (img : List ℕ) (k a al : ℕ) (o : Outcome) → o ≡ insert g img k a al → o ≡ insertOf kind img k a al
   unfolding insertOf
@@ -62,6 +67,10 @@ module _ (kind : ℕ) (c : Chosen) (ec : c ≡ chosenOf kind) (e : c ≡ Unknown
   unfolding lookupOf
   no-lookup k = unknown (λ x. lookup x img k) (refused 1 img)
 
+  pub no-list : (low high : ℕ) (b : List ℕ) → told Length b ≡ asOutcome (listOf kind img low high b)
+  unfolding listOf chosenCall
+  no-list low high b = ap (λ (x : Chosen). asOutcome (chosenCall x (λ y. listing y img low high b) (listsNone 1 0 0 b))) (sym e ∙ ec)
+
   pub no-insert : (k a al : ℕ) → told Length img ≡ insertOf kind img k a al
   unfolding insertOf
   no-insert k a al = unknown (λ x. insert x img k a al) (refused 1 img)
@@ -74,4 +83,4 @@ module _ (kind : ℕ) (c : Chosen) (ec : c ≡ chosenOf kind) (e : c ≡ Unknown
   unfolding patrolOf
   no-patrol page half = unknown (λ x. patrol x img page half) (refused 1 img)
 
-pub ruleset index-laws = (of-pages, of-page, of-format, of-lookup, of-insert, of-delete, of-patrol, no-format, no-lookup, no-insert, no-delete, no-patrol)
+pub ruleset index-laws = (of-known, of-pages, of-page, of-format, of-lookup, of-list, of-insert, of-delete, of-patrol, no-format, no-lookup, no-list, no-insert, no-delete, no-patrol)

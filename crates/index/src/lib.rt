@@ -2,6 +2,7 @@
 // each contract is one equation: the answer, its numbers and the image afterwards are those of the definition, for every image.
 ghost use mathlib.Core.Path.{_≡_};
 ghost use Rattle.model.specs.Calls.{formatOf, lookupOf, insertOf, deleteOf, patrolOf};
+ghost use Rattle.model.specs.Listing.{listOf, asOutcome};
 ghost use Rattle.answers.specs.Answers.{told};
 use answers::Answer;
 use geometry::Chosen;
@@ -24,6 +25,17 @@ pub fn lookup(kind: u32, img: &[u8], key: u32) -> Answer
         return Answer::Length;
     };
     lookup::lookup_on(g, img, key)
+}
+
+// The pairs between two keys, both taken in, into a lent buffer: DONE has how many exist and how many were written.
+pub fn list(kind: u32, img: &[u8], low: u32, high: u32, pairs: &mut [u32]) -> Answer
+    ensures { λ r. ⌜ told r (now (pairs .exit)) ≡ asOutcome (listOf kind (now (img .entry)) low high (now (pairs .entry))) ⌝ }
+{
+    let chosen = geometry::choose(kind);
+    let Chosen::Of(g) = chosen else {
+        return Answer::Length;
+    };
+    listing::list_on(g, img, low, high, &mut *pairs)
 }
 
 pub fn insert(kind: u32, img: &mut [u8], key: u32, address: u32, allowance: u32) -> Answer

@@ -1,5 +1,5 @@
--- Document 01 as definitions, in its order: Bytes to Calls, and Legal, a word of demand 3. These a reader must believe; Halving, Cases
--- and Examples are theorems about them.
+-- Document 01 as definitions, in its order: Bytes to Calls, then request 1 of document 02, Listing, and Legal, a word of demand 3. These a
+-- reader must believe; Halving, Cases and Examples are theorems about them.
 pub mod Bytes
 pub mod Codes
 pub mod Count
@@ -13,6 +13,7 @@ pub mod Edit
 pub mod Collect
 pub mod Update
 pub mod Calls
+pub mod Listing
 pub mod Legal
 pub mod Halving
 pub mod Cases

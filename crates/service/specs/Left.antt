@@ -17,6 +17,7 @@ use Rattle.geometry.specs.Tests.{pick}
 use Rattle.model.specs.Bytes.{u32At}
 use Rattle.model.specs.Page.{putU32}
 use Rattle.model.specs.Calls.{Outcome, chosenCall, formatOf, lookupOf, insertOf, deleteOf}
+use Rattle.model.specs.Listing.{listOf, asOutcome}
 use Rattle.images.specs.Bytes.{copy-u32, length-word, word-off, word-same}
 use Rattle.camera.specs.Camera.{Left, putNumbers, numbersOf, returned}
 
@@ -32,6 +33,10 @@ inserts kind image key address allowance result = returned (insertOf kind image 
 
 abbrev pub deletes : ℕ → List ℕ → ℕ → ℕ → List ℕ → Left
 deletes kind image key allowance result = returned (deleteOf kind image key allowance) image result
+
+-- mutree_list; what is left has the lent pairs where the others have the image
+abbrev pub listsPairs : ℕ → List ℕ → ℕ → ℕ → List ℕ → List ℕ → Left
+listsPairs kind image low high pairs result = returned (asOutcome (listOf kind image low high pairs)) pairs result
 
 -- 0 is the small chip, 1 the large one, and no other number is a geometry's
 pub zero-small : chosenOf 0 ≡ Of small
@@ -65,6 +70,13 @@ programmedIn result = numberIn 2 result
 
 abbrev pub erasedIn : List ℕ → ℕ
 erasedIn result = numberIn 3 result
+
+-- of a listing: pairs that exist, pairs written
+abbrev pub existIn : List ℕ → ℕ
+existIn result = numberIn 1 result
+
+abbrev pub writtenIn : List ℕ → ℕ
+writtenIn result = numberIn 2 result
 
 abbrev pub ruleIn : List ℕ → ℕ
 ruleIn result = numberIn 4 result

@@ -150,23 +150,36 @@ module _ (g : Geometry) (shape : Shape g) (t : ℕ) (c : Chip) where
       go true e = le-leb 0 m (omega arith)
       go false e = let z = eqb-false (suc l) 1 e in le-leb 2 m (f (omega (arith, z)))
 
-  pub r5-rooted : fitOf t (c .er) (suc (c .level)) (c .root) → r5 g t c ≡ Good → Root
-  unfolding r5 ownRoot
-  r5-rooted f h =
-      let u = good-unless _ _ _ h in
+  -- the root's own count, keys and page numbers, and R5 below it
+  r5-own : r5 g t c ≡ Good → (ownRoot g (c .er) (c .nodes) t (suc (c .level)) (c .root) ≡ true) ×
+      (judgeEntries (judgeNode g (c .er) (c .nodes) t (c .level)) (c .nodes (c .root) (suc (c .level))) 4294967296 ≡ Good)
+  unfolding r5
+  r5-own h = good-unless _ _ _ h
+
+  pub r5-most : r5 g t c ≡ Good → length (c .nodes (c .root) (suc (c .level))) ≤ rootMost g (suc (c .level))
+  unfolding ownRoot
+  r5-most h = leb-true _ (rootMost g (suc (c .level))) (and-right _ _ (and-left _ _ (r5-own h .0)))
+
+  pub r5-rises : r5 g t c ≡ Good → Rises (Ok (fitOf t (c .er)) (λ l. 2 * half g l) (c .nodes) (c .level)) 4294967296 (c .nodes (c .root) (suc (c .level)))
+  unfolding ownRoot
+  r5-rises h =
+      let u = r5-own h in
       let l = c .level in
       let es = c .nodes (c .root) (suc l) in
-      let a = and-left _ _ (u .0) in
       let up = rising-up (names (c .er) t (suc l)) es 0 4294967296 (and-right _ _ (u .0)) in
-      record {
-        fits = f;
-        least = least-of l (length es) (and-left _ _ a);
-        atmost = leb-true (length es) (rootMost g (suc l)) (and-right _ _ a);
-        rises = rises-map (λ y x. (names (c .er) t (suc l) (x .addr) ≡ true) × (judgeNode g (c .er) (c .nodes) t l (x .addr) (x .key) y ≡ Good))
-            (Ok (fitOf t (c .er)) (λ l. 2 * half g l) (c .nodes) l) 4294967296 es
-            (λ y x _ _ i. entry-ok g shape (c .er) (c .nodes) t l y x (names-fit (c .er) t l (x .addr) (i .0)) (i .1))
-            (entries-good (names (c .er) t (suc l)) (judgeNode g (c .er) (c .nodes) t l) es 4294967296 (up .0) (u .1));
-      }
+      rises-map (λ y x. (names (c .er) t (suc l) (x .addr) ≡ true) × (judgeNode g (c .er) (c .nodes) t l (x .addr) (x .key) y ≡ Good))
+      (Ok (fitOf t (c .er)) (λ l. 2 * half g l) (c .nodes) l) 4294967296 es
+      (λ y x _ _ i. entry-ok g shape (c .er) (c .nodes) t l y x (names-fit (c .er) t l (x .addr) (i .0)) (i .1))
+      (entries-good (names (c .er) t (suc l)) (judgeNode g (c .er) (c .nodes) t l) es 4294967296 (up .0) (u .1))
+
+  pub r5-rooted : fitOf t (c .er) (suc (c .level)) (c .root) → r5 g t c ≡ Good → Root
+  unfolding ownRoot
+  r5-rooted f h = record {
+    fits = f;
+    least = least-of (c .level) (length (c .nodes (c .root) (suc (c .level)))) (and-left _ _ (and-left _ _ (r5-own h .0)));
+    atmost = r5-most h;
+    rises = r5-rises h;
+  }
 
   pub rooted-r5 : Root → r5 g t c ≡ Good
   unfolding r5 ownRoot

@@ -12,6 +12,7 @@ pub mod DeletePages
 pub mod Proper
 pub mod Frame
 pub mod Seek
+pub mod Between
 pub mod Path
 pub mod Lengths
 pub mod Splits

@@ -175,7 +175,7 @@ next-drop k hi zero (e ∷ es) q f = f (omega arith)
 next-drop k hi (suc i) [] q f = q
 next-drop k hi (suc i) (e ∷ es) q f = next-drop k hi i es q (λ h. f (omega arith))
 
-some-before : (i : ℕ) (es : List Entry) → 0 < length (take i es) → 0 < i
+pub some-before : (i : ℕ) (es : List Entry) → 0 < length (take i es) → 0 < i
 some-before zero es h = h
 some-before (suc i) es h = omega arith
 

@@ -1,6 +1,6 @@
 -- R7 and the verdict, in the form in which the code has the premises. Assumes nothing.
 use Prim.Native.Nat.{ℕ, zero, suc, _+_, _-_, _*_, _<_, _≤_}
-use mathlib.Core.Bool.{Bool, true, false, not, false≢true}
+use mathlib.Core.Bool.{Bool, true, false, not}
 use mathlib.Core.Path.{_≡_, refl, sym, ap, subst, _∙_}
 use mathlib.Core.List.{List}
 use lib.Dec.{leb, ltb}
@@ -19,10 +19,10 @@ use Rattle.model.specs.Count.{count, least, any, arg}
 use Rattle.model.specs.Image.{Chip, chipOf, pagesOf, heightOf, rootOf, rootScore}
 use Rattle.model.specs.Next.{full, inBlock}
 use Rattle.model.specs.Tree.{placesOf, live}
-use Rattle.model.specs.Rules.{unless, r1, r2, r3, r4, r5, r6, r7, spareRoom, ample, r8, orElse, verdict, isSound}
+use Rattle.model.specs.Rules.{unless, r1, r2, r3, r4, r5, r6, r7, spareRoom, ample, r8, orElse, verdict}
 use Rattle.chip.specs.Chip.{chipWith}
 use Rattle.counts.specs.Least.{least-zero, least-go, any-none, any-hit, any-same}
-use Rattle.counts.specs.Lowest.{unless-true, unless-false}
+use Rattle.counts.specs.Lowest.{unless-true, unless-false, broken-sound}
 use Rattle.counts.specs.Peak.{arg-most, arg-less}
 use Rattle.survey.specs.declared.Survey.{Survey}
 use Rattle.survey.specs.Survey.{surveyOf}
@@ -184,9 +184,6 @@ module _ (g : Geometry) (n : ℕ) (img : List ℕ) (v : Finding) where
   good-1 w e f ew = ew ∙ or-good 1 _ _ (sym e ∙ f)
 
 -- the table
-pub broken-sound : (k q : ℕ) → Broken k q ≡ Sound → ⊥
-broken-sound k q e = false≢true (ap isSound e)
-
 pub tells-broken : (c : Chip) (tbl : List ℕ) (k q : ℕ) → Tells c tbl (Broken k q)
 tells-broken c tbl k q = record { marked = λ e. absurd (broken-sound k q e) }
 
