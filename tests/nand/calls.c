@@ -234,6 +234,25 @@ static void meddled(void)
     need(mutree_nand_read(&nand).answer == MUTREE_DONE && lookup(1) == 1001, "the old map is not on the chip");
 }
 
+/* The simulated chip keeps a chip's laws. */
+static void laws(void)
+{
+    uint32_t refused = chip.refused, pages = BLOCKS * g->pages;
+    const uint8_t *page = nand.image, *spare = nand.image + g->main_bytes;
+    format();
+    need(simulated_program(&chip, 0, page, spare) == SIMULATED_NOT_ERASED, "a page was programmed twice");
+    need(simulated_program(&chip, 2, page, spare) == SIMULATED_OUT_OF_ORDER, "a page was programmed before the one in front of it");
+    need(simulated_program(&chip, pages, page, spare) == SIMULATED_NO_SUCH, "a page that is not there was programmed");
+    need(simulated_erase(&chip, BLOCKS) == SIMULATED_NO_SUCH, "a block that is not there was erased");
+    need(chip.refused == refused + 4, "the chip does not count what it refused");
+    same_as_chip("a refused store changed the chip");
+    chip.refused = refused;
+    chip.power_after = 0;
+    need(simulated_program(&chip, 1, page, spare) == SIMULATED_NO_POWER && simulated_erase(&chip, 0) == SIMULATED_NO_POWER,
+         "the chip stored without power");
+    same_as_chip("a store without power changed the chip");
+}
+
 int main(int words, char **word)
 {
     g = words == 2 ? mutree_geometry_of((uint32_t)strtoul(word[1], NULL, 10)) : NULL;
@@ -253,6 +272,7 @@ int main(int words, char **word)
     failing_read();
     patrol();
     meddled();
+    laws();
     printf("nand: chip %u: every call of nand.h as it should be\n", (unsigned)g->number);
     free(kept);
     free(nand.image);
