@@ -90,7 +90,7 @@ static void bad_numbers(void)
     size_t i;
     memcpy(kept, nand.image, chip.length);
     for (i = 0; i < 5; i++) {
-        bad.length = i < 3 ? blocks[i] * g->block_bytes : i == 3 ? chip.length - 1 : chip.length;
+        bad.length = i < 3 ? blocks[i] * g->block_bytes : i == 3 ? chip.length + 1 : chip.length;
         bad.geometry = i == 4 ? MUTREE_GEOMETRIES : g->number;
         is_refused(mutree_nand_format(&bad), MUTREE_LENGTH, stores, "format of a bad length");
         is_refused(mutree_nand_insert(&bad, 1, 1), MUTREE_LENGTH, stores, "insert with a bad length");

@@ -129,5 +129,7 @@ int main(int words, char **word)
     for (place = 0; place < PLACES; place++)
         for (tear = TEAR_FRONT; tear <= TEAR_BITS; tear++)
             print_row(tear, place);
+    for (place = 0; place < PLACES; place++)
+        need(counts[TEAR_FRONT][place][0][OTHER_MAP] + counts[TEAR_BITS][place][0][OTHER_MAP] == 0, "a torn image, as read, holds another map");
     return 0;
 }
