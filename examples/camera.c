@@ -143,7 +143,7 @@ int main(int words, char **word)
         look_at_all();
     }
     look_at_all();
-    printf("camera: chip %u: %u frames taken, %u crashes, the index made anew %u times, %u old frames given up for room; %u keys, each with its own frame\n",
+    printf("camera: chip %u: %u frames taken, %u crashes, the index made anew %u times, %u old frames given up; %u keys with their own frames\n",
            (unsigned)g->number, (unsigned)frames, crashes, rebuilt, full, (unsigned)list(0, UINT32_MAX).exist);
     return 0;
 }
