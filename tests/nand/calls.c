@@ -211,11 +211,16 @@ static void patrol(void)
          "the new key is not on the chip");
 }
 
-/* A callback that keeps the order of main and spare bytes to its promise, and one that breaks a rule: it writes to the image. */
+/* A callback that breaks a rule: it writes to the image. What it leaves is another sound index, or a damaged one. */
+static const uint8_t *other;
+
 static int meddling(void *context, uint32_t page, const uint8_t *main_bytes, const uint8_t *spare_bytes)
 {
     need(spare_bytes == main_bytes + g->main_bytes, "the spare bytes do not follow the main bytes");
-    memset(nand.image + chip.length - g->page_bytes, 0, g->page_bytes);
+    if (other != NULL)
+        memcpy(nand.image, other, chip.length);
+    else
+        memset(nand.image + chip.length - g->page_bytes, 0, g->page_bytes);
     return simulated_program(context, page, main_bytes, spare_bytes);
 }
 
@@ -232,6 +237,19 @@ static void meddled(void)
     need(chip.stores == stores + made && result.programmed == 1, "a store was made from a changed image");
     nand.program = simulated_program;
     need(mutree_nand_read(&nand).answer == MUTREE_DONE && lookup(1) == 1001, "the old map is not on the chip");
+}
+
+/* The other index is an empty one. */
+static void meddled_twice(void)
+{
+    uint8_t *empty = room_for(chip.length);
+    other = NULL;
+    meddled();
+    format();
+    memcpy(empty, nand.image, chip.length);
+    other = empty;
+    meddled();
+    free(empty);
 }
 
 /* The simulated chip keeps a chip's laws. */
@@ -271,7 +289,7 @@ int main(int words, char **word)
     failing_format();
     failing_read();
     patrol();
-    meddled();
+    meddled_twice();
     laws();
     printf("nand: chip %u: every call of nand.h as it should be\n", (unsigned)g->number);
     free(kept);
