@@ -16,7 +16,7 @@
 #ifdef __linux__
 
 /* The device, read into memory. */
-struct session {
+struct loaded {
     struct mtd mtd;
     struct image image, copy;
     struct mutree_nand nand;
@@ -24,18 +24,18 @@ struct session {
 
 static const char *device;
 
-static void session_end(struct session *session)
+static void unload_device(struct loaded *loaded)
 {
-    image_free(&session->image);
-    image_free(&session->copy);
-    mtd_close(&session->mtd);
+    image_free(&loaded->image);
+    image_free(&loaded->copy);
+    mtd_close(&loaded->mtd);
 }
 
 /* Mends in memory what has one flipped bit, and tells how much that was. */
-static void mend(struct session *session)
+static void mend(struct loaded *loaded)
 {
     uint32_t found[4], mended;
-    mutree_nand_patrol(&session->nand, found);
+    mutree_nand_patrol(&loaded->nand, found);
     mended = found[MUTREE_DATA_MENDED] + found[MUTREE_CODE_MENDED];
     if (mended + found[MUTREE_BEYOND_REPAIR] > 0)
         complain("%s: %" PRIu32 " halves with a flipped bit, mended in memory and not on the chip; %" PRIu32 " beyond repair", device, mended,
@@ -43,22 +43,22 @@ static void mend(struct session *session)
 }
 
 /* Opens the device and reads it. Returns 0, or an exit status after a line. */
-static int session_begin(struct session *session, const struct arguments *arguments, int to_change)
+static int load_device(struct loaded *loaded, const struct arguments *arguments, int to_change)
 {
     struct mutree_nand_result result;
-    int status = mtd_open(device, to_change, arguments->no_wait, &session->mtd);
+    int status = mtd_open(device, to_change, arguments->no_wait, &loaded->mtd);
     if (status != 0)
         return status;
-    session->image = image_erased(session->mtd.geometry, session->mtd.blocks);
-    session->copy = image_erased(session->mtd.geometry, session->mtd.blocks);
-    session->image.name = device;
-    session->nand = mtd_nand(&session->mtd, &session->image, &session->copy);
-    result = mutree_nand_read(&session->nand);
+    loaded->image = image_erased(loaded->mtd.geometry, loaded->mtd.blocks);
+    loaded->copy = image_erased(loaded->mtd.geometry, loaded->mtd.blocks);
+    loaded->image.name = device;
+    loaded->nand = mtd_nand(&loaded->mtd, &loaded->image, &loaded->copy);
+    result = mutree_nand_read(&loaded->nand);
     if (result.answer != MUTREE_DONE) {
-        status = mtd_say_failed(&session->mtd, result);
-        session_end(session);
+        status = mtd_say_failed(&loaded->mtd, result);
+        unload_device(loaded);
     } else if (arguments->mend) {
-        mend(session);
+        mend(loaded);
     }
     return status;
 }
@@ -72,12 +72,12 @@ static void say_dump(uint32_t answer)
 }
 
 /* Prints the answer of an update or a format. Returns it as an exit status. */
-static int say_carried(struct session *session, struct mutree_nand_result made)
+static int say_carried(struct loaded *loaded, struct mutree_nand_result made)
 {
     struct mutree_result result = { 0, 0, 0, 0, 0, 0 };
     int status;
     if (made.answer >= MUTREE_NAND_FAILED) {
-        status = mtd_say_failed(&session->mtd, made);
+        status = mtd_say_failed(&loaded->mtd, made);
         complain("%" PRIu32 " programmed, %" PRIu32 " erased before that", made.programmed, made.erased);
         return status;
     }
@@ -97,16 +97,16 @@ static int say_carried(struct session *session, struct mutree_nand_result made)
 /* An insert (address given) or a delete (none). */
 static int update(const struct arguments *arguments, const uint32_t *address)
 {
-    struct session session;
+    struct loaded loaded;
     uint32_t key;
     int status;
     if (read_number(arguments->word[0], "key", &key))
         return BAD_USAGE;
-    status = session_begin(&session, arguments, 1);
+    status = load_device(&loaded, arguments, 1);
     if (status != 0)
         return status;
-    status = say_carried(&session, address != NULL ? mutree_nand_insert(&session.nand, key, *address) : mutree_nand_delete(&session.nand, key));
-    session_end(&session);
+    status = say_carried(&loaded, address != NULL ? mutree_nand_insert(&loaded.nand, key, *address) : mutree_nand_delete(&loaded.nand, key));
+    unload_device(&loaded);
     return status;
 }
 
@@ -123,38 +123,38 @@ static int delete_on_mtd(const struct arguments *arguments)
 
 static int lookup_on_mtd(const struct arguments *arguments)
 {
-    struct session session;
+    struct loaded loaded;
     struct mutree_result result;
     uint32_t key;
     int status;
     if (read_number(arguments->word[0], "key", &key))
         return BAD_USAGE;
-    status = session_begin(&session, arguments, 0);
+    status = load_device(&loaded, arguments, 0);
     if (status != 0)
         return status;
-    result = image_lookup(&session.image, key);
+    result = image_lookup(&loaded.image, key);
     if (result.answer == MUTREE_DONE)
         printf("%" PRIu32 "\n", result.address);
     else
         complain("%s: %s", answer_name(result.answer), answer_meaning(result));
     say_dump(result.answer);
-    session_end(&session);
+    unload_device(&loaded);
     return (int)result.answer;
 }
 
 static int format_on_mtd(const struct arguments *arguments)
 {
-    struct session session;
-    int status = session_begin(&session, arguments, 1);
+    struct loaded loaded;
+    int status = load_device(&loaded, arguments, 1);
     if (status != 0)
         return status;
-    if (!arguments->force && !all_255(session.image.bytes, session.image.length)) {
-        complain("%s holds %s; --force wipes it", device, image_is_sound(&session.image) ? "an index" : "other bytes, or a damaged index");
+    if (!arguments->force && !all_255(loaded.image.bytes, loaded.image.length)) {
+        complain("%s holds %s; --force wipes it", device, image_is_sound(&loaded.image) ? "an index" : "other bytes, or a damaged index");
         status = BAD_USAGE;
     } else {
-        status = say_carried(&session, mutree_nand_format(&session.nand));
+        status = say_carried(&loaded, mutree_nand_format(&loaded.nand));
     }
-    session_end(&session);
+    unload_device(&loaded);
     return status;
 }
 
@@ -179,12 +179,12 @@ static int write_dump(const struct image *image, const struct arguments *argumen
 
 static int dump_mtd(const struct arguments *arguments)
 {
-    struct session session;
-    int status = session_begin(&session, arguments, 0);
+    struct loaded loaded;
+    int status = load_device(&loaded, arguments, 0);
     if (status != 0)
         return status;
-    status = write_dump(&session.image, arguments);
-    session_end(&session);
+    status = write_dump(&loaded.image, arguments);
+    unload_device(&loaded);
     return status;
 }
 
