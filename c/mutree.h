@@ -297,9 +297,10 @@ uint32_t mutree_delete(uint32_t geometry, uint8_t *image, size_t image_len, uint
  * image has not, a half that is not below the chip's `halves`, or what gives LENGTH everywhere. Bits are numbered from 0, the
  * least bit of a byte first. It looks at this half and its code alone, on any image, damaged or not; an erased page is clean.
  *
- * Call it for every half of every page on the lent copy, after it was read from the chip and before the other calls judge it. It
- * changes the copy, not the chip, and is no store: a page that was mended stays wrong on the chip until it is programmed again
- * elsewhere. What it does with more than one flipped bit is told above. */
+ * Call it for every half of every page on the lent copy, after a call answered DAMAGED with rule 1, and then judge again. Not before:
+ * a page that power loss tore can look like one with a flipped bit (docs/USING.md). It changes the copy, not the chip, and is no
+ * store: a page that was mended stays wrong on the chip until it is programmed again elsewhere. What it does with more than one
+ * flipped bit is told above. */
 uint32_t mutree_patrol(uint32_t geometry, uint8_t *image, size_t image_len, uint32_t page, uint32_t half, uint8_t *result,
                        size_t result_len);
 
