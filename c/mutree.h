@@ -63,6 +63,10 @@
  * bytes (sequence number, height, counts) have no code: a changed one is found only where it breaks a rule. Where more than two
  * flips of a half and its code are to be feared, do not call.
  * Images made before version 0.5.0 have no codes: every call but mutree_format and mutree_patrol answers DAMAGED, rule 1.
+ *
+ * From the image to a chip: the stores of an update must reach the NAND one by one and in their order. c/nand.h and c/nand.c do that
+ * through callbacks. What differs between the image before and after an update is not its stores, and an allowance of 1 again and
+ * again may never end it; docs/USING.md says more.
  */
 #ifndef MUTREE_H
 #define MUTREE_H
@@ -293,9 +297,10 @@ uint32_t mutree_delete(uint32_t geometry, uint8_t *image, size_t image_len, uint
  * image has not, a half that is not below the chip's `halves`, or what gives LENGTH everywhere. Bits are numbered from 0, the
  * least bit of a byte first. It looks at this half and its code alone, on any image, damaged or not; an erased page is clean.
  *
- * Call it for every half of every page on the lent copy, after it was read from the chip and before the other calls judge it. It
- * changes the copy, not the chip, and is no store: a page that was mended stays wrong on the chip until it is programmed again
- * elsewhere. What it does with more than one flipped bit is told above. */
+ * Call it for every half of every page on the lent copy, after a call answered DAMAGED with rule 1, and then judge again. Not before:
+ * a page that power loss tore can look like one with a flipped bit (docs/USING.md). It changes the copy, not the chip, and is no
+ * store: a page that was mended stays wrong on the chip until it is programmed again elsewhere. What it does with more than one
+ * flipped bit is told above. */
 uint32_t mutree_patrol(uint32_t geometry, uint8_t *image, size_t image_len, uint32_t page, uint32_t half, uint8_t *result,
                        size_t result_len);
 
