@@ -41,7 +41,7 @@ tabbed (n ∷ ns) = (9 ∷ decimal n) ++ tabbed ns
 unfoldable pub written : ℕ → List ℕ → List ℕ
 written letter ns = (letter ∷ tabbed ns) ++ (10 ∷ [])
 
-unfoldable pub letterOf : Order → ℕ
+abbrev pub letterOf : Order → ℕ
 letterOf Format = 70
 letterOf (Insert k a) = 73
 letterOf (Delete k) = 68

@@ -4,6 +4,7 @@ ghost use Prim.Native.Nat.{_≤_};
 ghost use lib.ListN.{length, drop};
 ghost use Rattle.texts.specs.Lines.{fields};
 ghost use Rattle.logs.specs.Forms.{parsed};
+ghost use Rattle.logs.specs.Replay.{letterOf};
 ghost use Rattle.logs.specs.Laws.{formAlone, formOne, formTwo, formThree, lastForm, nextForm, firstForm};
 use decimals::Number;
 
@@ -24,6 +25,19 @@ pub enum Line {
     Of(Order),
     // a line of any other form
     Other,
+}
+
+// The letter by which an order is answered.
+pub fn letter_of(order: Order) -> u8
+    ensures { λ r. ⌜ r ≡ letterOf order ⌝ }
+{
+    match order {
+        Order::Format => b'F',
+        Order::Insert(_, _) => b'I',
+        Order::Delete(_) => b'D',
+        Order::Lookup(_) => b'L',
+        Order::Limited(_, _, _) => b'S',
+    }
 }
 
 fn form_alone(letter: u8) -> Line
