@@ -1,17 +1,20 @@
 -- Laws for the code of the machine. Assumes nothing.
 use mathlib.Core.Path.{_≡_, refl, ap, sym, subst, _∙_}
 use mathlib.Core.Bool.{Bool, true, false}
-use mathlib.Core.List.{List, [], _∷_, _++_, append-assoc, append-nil}
-use Prim.Native.Nat.{ℕ, zero, suc, _+_, _-_, _*_, _<_, _≤_}
+use mathlib.Core.List.{List, [], _∷_, _++_}
+use Prim.Native.Nat.{ℕ, zero, suc, _+_, _<_, _≤_}
+use mir.Syntax.{w32}
+use mir.Val.{Fits}
+use native.Mathlib.Nat.{add-zero}
 use native.Mathlib.Numerals.{add-one}
 use native.Mathlib.Omega.{arith}
-use lib.ListN.{length, take, drop, getD, set, length-append}
-use lib.Seq.{sets, take-suc}
+use lib.Dec.{eqb, ltb}
+use lib.ListN.{length, take, set, length-append}
+use lib.Seq.{sets, length-take-le, take-suc-set}
+use borrow.Author.Tests.{lt-ltb, le-ltb, eq-eqb, ne-eqb}
 use Rattle.geometry.specs.Geometry.{small}
+use Rattle.geometry.specs.Tests.{pick}
 use Rattle.model.specs.Calls.{Outcome}
-use Rattle.texts.specs.Laws.{sets-append, sets-snoc}
-use Rattle.decimals.specs.Decimals.{decimal}
-use Rattle.decimals.specs.Writing.{decimal-long}
 use Rattle.answers.specs.declared.Answer.{Answer}
 use Rattle.answers.specs.declared.Row.{Row}
 use Rattle.answers.specs.Answers.{rowOf, told}
@@ -20,95 +23,115 @@ use Rattle.tally.specs.Counted.{counted, Within, within-more}
 use Rattle.logs.specs.declared.Order.{Order}
 use Rattle.logs.specs.declared.Line.{Line}
 use Rattle.logs.specs.declared.Line.the-variants.{Of, Other}
-use Rattle.logs.specs.Replay.{obeyed, tabbed, written, letterOf, answerLine, errorLine, after}
+use Rattle.logs.specs.Forms.{parsed}
+use Rattle.logs.specs.Replay.{obeyed, written, letterOf, answerLine, errorLine, lastLine, ending, taken}
 use Rattle.replaying.specs.declared.Run.{Run}
-use Rattle.replaying.specs.Machine.{State, Fed, close}
-use Rattle.replaying.specs.Run.{runOf}
-
--- ---- a line that is written
-module _ (buf mid out : List ℕ) (at n r : ℕ) where
-  pub field-place : r ≡ at + 1 + length (decimal n) → r ≡ at + length (9 ∷ decimal n)
-  field-place e = omega arith
-
-  pub field-most : n < 18446744073709551616 → r ≡ at + 1 + length (decimal n) → r ≤ at + 21
-  field-most h e = let d = decimal-long n h in omega (arith, d, e)
-
-  pub field-bytes : mid ≡ set buf at 9 → out ≡ sets mid (at + 1) (decimal n) → out ≡ sets buf at (9 ∷ decimal n)
-  field-bytes e f = f ∙ rw (e, add-one) refl
-
-tabbed-append : (xs ys : List ℕ) → tabbed (xs ++ ys) ≡ tabbed xs ++ tabbed ys
-unfolding tabbed
-tabbed-append [] ys = refl
-tabbed-append (x ∷ xs) ys = rw (tabbed-append xs ys) (sym (append-assoc (9 ∷ decimal x) (tabbed xs) (tabbed ys)))
-
-tabbed-more : (ns : List ℕ) (i : ℕ) → i < length ns → tabbed (take (i + 1) ns) ≡ tabbed (take i ns) ++ (9 ∷ decimal (getD ns i 0))
-unfolding tabbed
-tabbed-more ns i h = rw (add-one, take-suc ns i 0 h) (tabbed-append (take i ns) (getD ns i 0 ∷ []) ∙ rw append-nil refl)
-
-module _ (ns buf : List ℕ) (at : ℕ) where
-  pub fields-start : buf ≡ sets buf at (tabbed (take 0 ns))
-  unfolding tabbed
-  fields-start = refl
-
-  pub place-starts : at ≡ at + length (tabbed (take 0 ns))
-  unfolding tabbed
-  place-starts = omega arith
-
-  module _ (i end : ℕ) (e : end ≡ at + length (tabbed (take i ns))) where
-    pub fields-go : (mid out : List ℕ) (x n : ℕ) → i < n → n ≤ 4 → length ns ≡ 4 → x ≡ getD ns i 0 → mid ≡ sets buf at (tabbed (take i ns)) → out ≡ sets mid end (9 ∷ decimal x)
-        → out ≡ sets buf at (tabbed (take (i + 1) ns))
-    fields-go mid out x n h k l q f g =
-        g ∙ rw (e, f, q, tabbed-more ns i (omega arith)) (sym (sets-append buf at (tabbed (take i ns)) (9 ∷ decimal (getD ns i 0))))
-
-    pub place-goes : (r x n : ℕ) → i < n → n ≤ 4 → length ns ≡ 4 → x ≡ getD ns i 0 → r ≡ end + length (9 ∷ decimal x) → r ≡ at + length (tabbed (take (i + 1) ns))
-    place-goes r x n h k l q g =
-        let m = length-append (tabbed (take i ns)) (9 ∷ decimal (getD ns i 0)) in
-        rw (tabbed-more ns i (omega arith)) (g ∙ rw q (omega (arith, m, e)))
-
-    pub fields-end : (mid : List ℕ) (n : ℕ) → i ≤ n → n ≤ i → mid ≡ sets buf at (tabbed (take i ns)) → mid ≡ sets buf at (tabbed (take n ns))
-    fields-end mid n p q f = let z : n ≡ i = omega arith in rw z f
-
-    pub place-ends : (n : ℕ) → i ≤ n → n ≤ i → end ≡ at + length (tabbed (take n ns))
-    place-ends n p q = let z : n ≡ i = omega arith in rw z e
-
-pub ruleset fields-laws = (field-place, field-most, field-bytes, fields-start, place-starts, fields-go, place-goes, fields-end, place-ends)
-
--- the letter, the numbers and byte 10
-module _ (l : ℕ) (ns : List ℕ) (at end : ℕ) (e : end ≡ at + 1 + length (tabbed ns)) where
-  pub line-place : end + 1 ≡ at + length (written l ns)
-  unfolding written
-  line-place = let n = length-append (l ∷ tabbed ns) (10 ∷ []) in omega (arith, n, e)
-
-  pub line-bytes : (buf one mid out : List ℕ) → one ≡ set buf at l → mid ≡ sets one (at + 1) (tabbed ns) → out ≡ set mid end 10 → out ≡ sets buf at (written l ns)
-  unfolding written
-  line-bytes buf one mid out f g h =
-      let q : end ≡ at + length (l ∷ tabbed ns) = omega arith in
-      h ∙ rw (g, f, q, add-one) (sets-snoc buf at (l ∷ tabbed ns) 10)
-
-pub ruleset line-laws = (line-place, line-bytes)
+use Rattle.replaying.specs.Machine.{State, Fed, close, longer, feed, finish}
+use Rattle.replaying.specs.Run.{stateOf, runOf, refusedRun, longerFrom, Steady}
 
 -- ---- an order
-module _ (t : Tally) (img x : List ℕ) (order : Order) (a : Answer) (w : Row) (e : told a x ≡ obeyed small order img) (f : w ≡ rowOf a) where
-  row-line : written (letterOf order) (take 4 (w .answer ∷ w .address ∷ w .programmed ∷ w .erased ∷ [])) ≡ answerLine order (obeyed small order img)
-  row-line = rw (f, ← e) refl
+abbrev pub rowLine : ℕ → Row → List ℕ
+rowLine l w = written l (take 4 (w .answer ∷ w .address ∷ w .programmed ∷ w .erased ∷ []))
 
-  pub answer-run : (wrote next : ℕ) (u : Tally) → u ≡ counted t (w .programmed) (w .erased)
-      → next ≡ wrote + length (written (letterOf order) (take 4 (w .answer ∷ w .address ∷ w .programmed ∷ w .erased ∷ [])))
-      → record { filled = 0; tally = u; over = false; wrote = next } ≡ runOf (close small t img (Of order)) wrote
-  unfolding close
-  answer-run wrote next u g h = rw (g, h, row-line, f, ← e) refl
+module _ (t : Tally) (img x : List ℕ) (order : Order) (a : Answer) (w : Row) (e : told a x ≡ obeyed small order img) (f : w ≡ rowOf a) where
+  module _ (l : ℕ) (q : l ≡ letterOf order) where
+    row-line : rowLine l w ≡ answerLine order (obeyed small order img)
+    row-line = rw (q, f, ← e) refl
+
+    pub answer-run : (wrote next : ℕ) (u : Tally) → u ≡ counted t (w .programmed) (w .erased) → next ≡ wrote + length (rowLine l w)
+        → record { filled = 0; tally = u; over = false; wrote = next } ≡ runOf (close small t img (Of order)) wrote
+    unfolding close
+    answer-run wrote next u g h = rw (g, h, row-line, f, ← e) refl
+
+    pub answer-out : (buf out : List ℕ) (wrote : ℕ) → out ≡ sets buf wrote (rowLine l w) → out ≡ sets buf wrote (close small t img (Of order) .out)
+    unfolding close
+    answer-out buf out wrote g = g ∙ rw row-line refl
 
   pub answer-image : x ≡ close small t img (Of order) .state .image
   unfolding close
   answer-image = ap (λ (o : Outcome). o .image) e
 
-  pub answer-out : (buf out : List ℕ) (wrote : ℕ)
-      → out ≡ sets buf wrote (written (letterOf order) (take 4 (w .answer ∷ w .address ∷ w .programmed ∷ w .erased ∷ [])))
-      → out ≡ sets buf wrote (close small t img (Of order) .out)
-  unfolding close
-  answer-out buf out wrote g = g ∙ rw row-line refl
+pub answer-within : (t u : Tally) (p e : ℕ) → u ≡ counted t p e → Within t → t .lines < 1000000 → Fits w32 p → Fits w32 e → Within u
+answer-within t u p e q w h i j =
+    let y : p ≤ 4294967295 = omega (arith, i .fits) in
+    let z : e ≤ 4294967295 = omega (arith, j .fits) in
+    subst Within (sym q) (within-more t p e w h y z)
 
-pub answer-within : (t u : Tally) (p e : ℕ) → u ≡ counted t p e → Within t → t .lines < 1000000 → p < 4294967296 → e < 4294967296 → Within u
-answer-within t u p e q w h i j = subst Within (sym q) (within-more t p e w h (omega arith) (omega arith))
+-- ---- a line that is whole: its form, and what follows from it
+module _ (t : Tally) (line : List ℕ) where
+  pub taken-late : 1000000 ≤ t .lines → taken t line ≡ Other
+  unfolding taken
+  taken-late h = rw (le-ltb (t .lines) 1000000 h) refl
 
-pub ruleset answer-laws = (answer-run, answer-image, answer-out, answer-within)
+  pub taken-as : (form x : Line) → t .lines < 1000000 → form ≡ parsed line → form ≡ x → taken t line ≡ x
+  unfolding taken
+  taken-as form x h e f = rw (lt-ltb (t .lines) 1000000 h) (sym e ∙ f)
+
+  module _ (img : List ℕ) (r : Run) (buf out : List ℕ) (wrote : ℕ) where
+    pub refused-run : taken t line ≡ Other → r ≡ refusedRun t wrote → r ≡ runOf (close small t img (taken t line)) wrote
+    unfolding close
+    refused-run e f = f ∙ rw e refl
+
+    pub refused-image : taken t line ≡ Other → img ≡ close small t img (taken t line) .state .image
+    unfolding close
+    refused-image e = rw e refl
+
+    pub refused-out : taken t line ≡ Other → out ≡ sets buf wrote (errorLine t) → out ≡ sets buf wrote (close small t img (taken t line) .out)
+    unfolding close
+    refused-out e f = f ∙ rw e refl
+
+    pub refused-within : Within t → r ≡ refusedRun t wrote → Within (r .tally)
+    refused-within w f = subst (λ (x : Run). Within (x .tally)) (sym f) w
+
+    module _ (order : Order) (e : taken t line ≡ Of order) where
+      pub answered-run : r ≡ runOf (close small t img (Of order)) wrote → r ≡ runOf (close small t img (taken t line)) wrote
+      answered-run f = rw e f
+
+      pub answered-image : (y : List ℕ) → y ≡ close small t img (Of order) .state .image → y ≡ close small t img (taken t line) .state .image
+      answered-image y f = rw e f
+
+      pub answered-out : out ≡ sets buf wrote (close small t img (Of order) .out) → out ≡ sets buf wrote (close small t img (taken t line) .out)
+      answered-out f = rw e f
+
+-- ---- a byte more of a line
+module _ (t : Tally) (line : List ℕ) (filled b : ℕ) (room : length line ≡ 34) where
+  few : filled ≤ 34 → length (take filled line) ≡ filled
+  few h = length-take-le filled line (omega arith)
+
+  module _ (h : filled < 34) where
+    goes : longerFrom t (take filled line) b ≡ record { state = record { line = take filled line ++ (b ∷ []); tally = t; image = []; over = false }; out = [] }
+    unfolding longer
+    goes = rw (few (omega arith), lt-ltb filled 34 h) refl
+
+    pub longer-run : (wrote : ℕ) → record { filled = filled + 1; tally = t; over = false; wrote = wrote } ≡ runOf (longerFrom t (take filled line) b) wrote
+    longer-run wrote =
+        let n = length-append (take filled line) (b ∷ []) in
+        let k = few (omega arith) in
+        let z : length (take filled line ++ (b ∷ [])) ≡ filled + 1 = omega (arith, n, k) in
+        sym (rw (goes, z, add-zero) refl)
+
+    pub longer-line : (new : List ℕ) → new ≡ set line filled b → take (filled + 1) new ≡ longerFrom t (take filled line) b .state .line
+    longer-line new e = rw (goes, e, add-one) (take-suc-set line filled b (omega arith))
+
+    pub longer-out : (buf : List ℕ) (wrote : ℕ) → buf ≡ sets buf wrote (longerFrom t (take filled line) b .out)
+    longer-out buf wrote = rw goes refl
+
+  module _ (h : 34 ≤ filled) (g : filled ≤ 34) where
+    stops : longerFrom t (take filled line) b ≡ close small t [] Other
+    unfolding longer
+    stops = rw (few g, le-ltb filled 34 h) refl
+
+    pub stops-run : (r : Run) (wrote : ℕ) → r ≡ refusedRun t wrote → r ≡ runOf (longerFrom t (take filled line) b) wrote
+    unfolding close
+    stops-run r wrote f = f ∙ sym (rw stops refl)
+
+    pub stops-line : (r : Run) (wrote : ℕ) (new : List ℕ) → r ≡ refusedRun t wrote → take (r .filled) new ≡ longerFrom t (take filled line) b .state .line
+    unfolding close
+    stops-line r wrote new f = rw (stops, f) refl
+
+    pub stops-out : (buf out : List ℕ) (wrote : ℕ) → out ≡ sets buf wrote (errorLine t) → out ≡ sets buf wrote (longerFrom t (take filled line) b .out)
+    unfolding close
+    stops-out buf out wrote f = f ∙ sym (rw stops refl)
+
+pub ruleset step-laws = (taken-late, taken-as, refused-run, refused-image, refused-out, refused-within, answered-run, answered-image, answered-out, longer-run,
+    longer-line, longer-out, stops-run, stops-line, stops-out)

@@ -1,9 +1,9 @@
-use Rattle.replaying.specs.Laws.{fields-laws}
+use Rattle.replies.specs.Laws.{fields-laws}
 use borrow.Author.Needs.{needs}
-use Rattle.replaying.proofs.put_field.Statement.{statement}
-use Rattle.replaying.proofs.put_field.Tie as tie
-use Rattle.replaying.proofs.put_field.Reads as reads
-use Rattle.replaying.proofs.put_field.Lts as lts
+use Rattle.replies.proofs.put_field.Statement.{statement}
+use Rattle.replies.proofs.put_field.Tie as tie
+use Rattle.replies.proofs.put_field.Reads as reads
+use Rattle.replies.proofs.put_field.Lts as lts
 use Rattle.decimals.proofs.put_number.Reads as put-number-reads
 use Rattle.texts.proofs.put_byte.Reads as put-byte-reads
 
@@ -22,7 +22,7 @@ same-length : tie.Need-same-length
 same-length c = search all
 
 returns : tie.Need-returns
-returns c = search all
+returns c = (search all, (search all, search all))
 
 pub put-field-spec : {M : Type 1} → statement M
 put-field-spec =

@@ -4,15 +4,14 @@ use mathlib.Core.Path.{_≡_}
 use lib.ListN.{length, take}
 use lib.Seq.{sets}
 use Rattle.logs.specs.Replay.{tabbed}
-use native.Mathlib.Omega.{arith}
-use Rattle.replaying.specs.Laws.{fields-laws, line-laws, answer-laws}
-use Rattle.replaying.proofs.put_fields.Statement.{statement}
-use Rattle.replaying.proofs.put_fields.Tie as tie
-use Rattle.replaying.proofs.put_fields.Reads as reads
-use Rattle.replaying.proofs.put_fields.Lts as lts
-use Rattle.replaying.proofs.put_field.Reads as put-field-reads
+use Rattle.replies.specs.Laws.{fields-laws}
+use Rattle.replies.proofs.put_fields.Statement.{statement}
+use Rattle.replies.proofs.put_fields.Tie as tie
+use Rattle.replies.proofs.put_fields.Reads as reads
+use Rattle.replies.proofs.put_fields.Lts as lts
+use Rattle.replies.proofs.put_field.Reads as put-field-reads
 
-ruleset all = (needs, fields-laws, line-laws, answer-laws)
+ruleset all = (needs, fields-laws)
 
 abbrev Inv-loop : tie.InvT-loop
 Inv-loop out₀ at n numbers end₀ i₀ out end i =
@@ -41,13 +40,13 @@ loop-less : tie.Need-loop-less Inv-loop μ-loop
 loop-less c = search all
 
 loop-again : tie.Need-loop-again Inv-loop μ-loop
-loop-again c = (search all, search all, search all, ?, ?, ?)
+loop-again c = (search all, search all, search all, search all, search all, search all)
 
 same-length : tie.Need-same-length Inv-loop μ-loop
 same-length c = search all
 
 returns : tie.Need-returns Inv-loop μ-loop
-returns c = (search all, (omega (arith, c .before .before .before .pre, c .before .loop .inv .0, c .before .loop .inv .3), search all))
+returns c = (search all, (search all, search all))
 
 pub put-fields-spec : {M : Type 1} → statement M
 put-fields-spec =
