@@ -11,7 +11,7 @@ use native.Mathlib.Omega.{arith}
 use lib.Dec.{eqb, ltb}
 use lib.ListN.{length, take, set, length-append}
 use lib.Seq.{sets, length-take-le, take-suc-set}
-use borrow.Author.Tests.{lt-ltb, le-ltb, eq-eqb, ne-eqb}
+use borrow.Author.Tests.{lt-ltb, le-ltb, ltb-true, eq-eqb, ne-eqb}
 use Rattle.geometry.specs.Geometry.{small}
 use Rattle.geometry.specs.Tests.{pick}
 use Rattle.model.specs.Calls.{Outcome}
@@ -133,5 +133,141 @@ module _ (t : Tally) (line : List ℕ) (filled b : ℕ) (room : length line ≡ 
     unfolding close
     stops-out buf out wrote f = f ∙ sym (rw stops refl)
 
-pub ruleset step-laws = (taken-late, taken-as, refused-run, refused-image, refused-out, refused-within, answered-run, answered-image, answered-out, longer-run,
+-- ---- a byte of the input, by what the code has tested
+pub part-length : (line : List ℕ) (n : ℕ) → n ≤ 34 → length line ≡ 34 → length (take n line) ≡ n
+part-length line n h e = length-take-le n line (omega arith)
+
+module _ (s : State) (b : ℕ) where
+  feed-over : s .over ≡ true → feed small s b ≡ record { state = s; out = [] }
+  unfolding feed
+  feed-over e = rw e refl
+
+  feed-close : s .over ≡ false → b ≡ 10 → feed small s b ≡ close small (s .tally) (s .image) (taken (s .tally) (s .line))
+  unfolding feed
+  feed-close e h = rw (e, eq-eqb b 10 h) refl
+
+  feed-longer : s .over ≡ false → (b ≡ 10 → ⊥) → feed small s b ≡ longer small s b
+  unfolding feed
+  feed-longer e h = rw (e, ne-eqb b 10 h) refl
+
+-- a line that has begun does not look at the image
+abbrev withImage : List ℕ → Fed → Fed
+withImage img f = record {
+  state = record { line = f .state .line; tally = f .state .tally; image = img; over = f .state .over };
+  out = f .out;
+}
+
+longer-image : (s : State) (b : ℕ) → longer small s b ≡ withImage (s .image) (longerFrom (s .tally) (s .line) b)
+unfolding longer close
+longer-image s b = go (ltb (length (s .line)) 34)
+  where
+    go : (t : Bool) → pick t (record { state = record { line = s .line ++ (b ∷ []); tally = s .tally; image = s .image; over = false }; out = [] }) (close small (s .tally) (s .image) Other)
+        ≡ withImage (s .image) (pick t (record { state = record { line = s .line ++ (b ∷ []); tally = s .tally; image = []; over = false }; out = [] }) (close small (s .tally) [] Other))
+    go true = refl
+    go false = refl
+
+longer-few : (t : Tally) (l : List ℕ) (b : ℕ) → length (longerFrom t l b .state .line) ≤ 34
+unfolding longer close
+longer-few t l b = go (ltb (length l) 34) refl
+  where
+    go : (u : Bool) → ltb (length l) 34 ≡ u
+        → length (pick u (record { state = record { line = l ++ (b ∷ []); tally = t; image = []; over = false }; out = [] }) (close small t [] Other) .state .line) ≤ 34
+    go true e = let h = ltb-true (length l) 34 e in let n = length-append l (b ∷ []) in omega (arith, h, n)
+    go false e = omega arith
+
+close-empty : (t : Tally) (img : List ℕ) (x : Line) → close small t img x .state .line ≡ []
+unfolding close
+close-empty t img Other = refl
+close-empty t img (Of order) = refl
+
+module _ (run r : Run) (line img : List ℕ) (b : ℕ) (h : Steady run line) where
+  abbrev fed : Fed
+  fed = feed small (stateOf run line img) b
+
+  -- after E
+  module _ (e : run .over ≡ true) where
+    pub over-run : run ≡ runOf fed (run .wrote)
+    over-run = sym (rw (feed-over (stateOf run line img) b e, part-length line (run .filled) (h .filled) (h .room), add-zero) refl)
+
+    pub over-line : take (run .filled) line ≡ fed .state .line
+    over-line = rw (feed-over (stateOf run line img) b e) refl
+
+    pub over-image : img ≡ fed .state .image
+    over-image = rw (feed-over (stateOf run line img) b e) refl
+
+    pub over-out : (out : List ℕ) → out ≡ sets out (run .wrote) (fed .out)
+    over-out out = rw (feed-over (stateOf run line img) b e) refl
+
+  -- a line's end
+  module _ (e : run .over ≡ false) (q : b ≡ 10) where
+    abbrev closed : Fed
+    closed = close small (run .tally) img (taken (run .tally) (take (run .filled) line))
+
+    at-end : fed ≡ closed
+    at-end = feed-close (stateOf run line img) b e q
+
+    empty : r ≡ runOf closed (run .wrote) → r .filled ≡ 0
+    empty f = ap (λ (x : Run). x .filled) f ∙ rw (close-empty (run .tally) img (taken (run .tally) (take (run .filled) line))) refl
+
+    pub end-run : r ≡ runOf closed (run .wrote) → r ≡ runOf fed (run .wrote)
+    end-run f = rw at-end f
+
+    pub end-line : r ≡ runOf closed (run .wrote) → take (r .filled) line ≡ fed .state .line
+    end-line f = rw (at-end, empty f, close-empty (run .tally) img (taken (run .tally) (take (run .filled) line))) refl
+
+    pub end-image : (x : List ℕ) → x ≡ closed .state .image → x ≡ fed .state .image
+    end-image x f = rw at-end f
+
+    pub end-out : (buf out : List ℕ) → out ≡ sets buf (run .wrote) (closed .out) → out ≡ sets buf (run .wrote) (fed .out)
+    end-out buf out f = rw at-end f
+
+    pub end-steady : r ≡ runOf closed (run .wrote) → Within (r .tally) → Steady r line
+    end-steady f w = let z = empty f in record { filled = omega (arith, z); room = h .room; within = w }
+
+  -- another byte
+  module _ (e : run .over ≡ false) (q : b ≡ 10 → ⊥) where
+    abbrev more : Fed
+    more = longerFrom (run .tally) (take (run .filled) line) b
+
+    at-more : fed ≡ withImage img more
+    at-more = feed-longer (stateOf run line img) b e q ∙ longer-image (stateOf run line img) b
+
+    pub more-run : r ≡ runOf more (run .wrote) → r ≡ runOf fed (run .wrote)
+    more-run f = rw at-more f
+
+    pub more-line : (new : List ℕ) → take (r .filled) new ≡ more .state .line → take (r .filled) new ≡ fed .state .line
+    more-line new f = rw at-more f
+
+    pub more-image : img ≡ fed .state .image
+    more-image = rw at-more refl
+
+    pub more-out : (buf out : List ℕ) → out ≡ sets buf (run .wrote) (more .out) → out ≡ sets buf (run .wrote) (fed .out)
+    more-out buf out f = rw at-more f
+
+    pub more-steady : (new : List ℕ) → r ≡ runOf more (run .wrote) → length new ≡ 34 → Within (r .tally) → Steady r new
+    more-steady new f n w =
+        let z : r .filled ≡ length (more .state .line) = ap (λ (x : Run). x .filled) f in
+        let k = longer-few (run .tally) (take (run .filled) line) b in
+        record { filled = omega (arith, z, k); room = n; within = w }
+
+-- ---- the end of the input
+module _ (run : Run) (line : List ℕ) where
+  pub finish-over : run .over ≡ true → finish (stateOf run line []) ≡ []
+  unfolding finish
+  finish-over e = rw e refl
+
+  pub finish-last : run .over ≡ false → run .filled ≡ 0 → finish (stateOf run line []) ≡ lastLine (run .tally)
+  unfolding finish ending
+  finish-last e f = rw (e, f) refl
+
+  pub finish-error : Steady run line → run .over ≡ false → (run .filled ≡ 0 → ⊥) → finish (stateOf run line []) ≡ errorLine (run .tally)
+  unfolding finish ending
+  finish-error h e f = rw e (go (run .filled) line f (h .room))
+    where
+      go : (n : ℕ) (l : List ℕ) → (n ≡ 0 → ⊥) → length l ≡ 34 → ending (run .tally) (take n l) ≡ errorLine (run .tally)
+      go zero l f k = absurd (f refl)
+      go (suc n) [] f k = absurd (omega arith)
+      go (suc n) (b ∷ l) f k = refl
+
+pub ruleset step-laws = (part-length, taken-late, taken-as, refused-run, refused-image, refused-out, refused-within, answered-run, answered-image, answered-out, longer-run,
     longer-line, longer-out, stops-run, stops-line, stops-out)

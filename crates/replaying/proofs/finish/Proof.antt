@@ -1,12 +1,18 @@
+use mathlib.Core.Path.{refl}
+use native.Mathlib.Nat.{add-zero}
+use native.Mathlib.Omega.{arith}
 use borrow.Author.Needs.{needs}
-use Rattle.replaying.specs.Laws.{step-laws}
+use Rattle.replaying.specs.Laws.{finish-over, finish-last, finish-error}
 use Rattle.replaying.proofs.finish.Statement.{statement}
 use Rattle.replaying.proofs.finish.Tie as tie
 
-ruleset all = (needs, step-laws)
+ruleset all = (needs)
 
 returns : tie.Need-returns
-returns c = ?
+returns c =
+    let a = c .before .before .before .before .args in
+    let e = finish-over (a .run) (a .line .now) (c .if1 .taken) in
+    (rw (e, add-zero) refl, (omega arith, rw e refl))
 
 put-line-requires : tie.Need-put-line-requires
 put-line-requires c κs = search all
@@ -15,7 +21,11 @@ same-length : tie.Need-same-length
 same-length c = search all
 
 returns-2 : tie.Need-returns-2
-returns-2 c = ?
+returns-2 c =
+    let a = c .before .before .before .before .before .before .before .before .before .before .args in
+    let e = finish-last (a .run) (a .line .now) (c .before .before .before .before .before .before .if1 .left) (c .before .before .before .before .if2 .taken) in
+    let f = c .before .before .put-line .ensures in
+    (rw e (f .0), (f .1 .0, rw e (f .1 .1)))
 
 add-t11 : tie.Need-add-t11
 add-t11 c = search all
@@ -27,7 +37,12 @@ same-length-2 : tie.Need-same-length-2
 same-length-2 c = search all
 
 returns-3 : tie.Need-returns-3
-returns-3 c = ?
+returns-3 c =
+    let start = c .before .before .before .before .before .before .before .before .before .before .before in
+    let a = start .args in
+    let e = finish-error (a .run) (a .line .now) (start .pre .0) (c .before .before .before .before .before .before .before .if1 .left) (c .before .before .before .before .before .if2 .left) in
+    let f = c .before .before .put-line2 .ensures in
+    (rw e (f .0), (f .1 .0, rw e (f .1 .1)))
 
 pub finish-spec : {M : Type 1} → statement M
 finish-spec =
