@@ -13,7 +13,7 @@ use Rattle.tally.specs.declared.Tally.{Tally}
 use Rattle.logs.specs.declared.Line.{Line}
 use Rattle.logs.specs.declared.Line.the-variants.{Of, Other}
 use Rattle.logs.specs.Forms.{parsed}
-use Rattle.logs.specs.Replay.{mostLines, taken}
+use Rattle.logs.specs.Replay.{mostLines, formAt}
 use Rattle.replaying.specs.declared.Run.{Run}
 use Rattle.replaying.specs.Short.{longest}
 use Rattle.replaying.specs.Machine.{State, Fed, close, longer, feed}
@@ -31,8 +31,8 @@ abbrev pub left : Run → ℕ
 left r = leftOf (r .over) (r .tally .lines) (r .filled)
 
 module _ (t : Tally) (img : List ℕ) where
-  close-left : (line : List ℕ) → length line ≤ 34 → leftIn (close small t img (taken t line) .state) ≤ leftOf false (t .lines) (length line) - 1
-  unfolding close taken
+  close-left : (line : List ℕ) → length line ≤ 34 → leftIn (close small t img (formAt t line) .state) ≤ leftOf false (t .lines) (length line) - 1
+  unfolding close formAt
   close-left line h = go (ltb (t .lines) mostLines) refl (parsed line)
     where
       go : (u : Bool) → ltb (t .lines) mostLines ≡ u → (x : Line) → leftIn (close small t img (pick u x Other) .state) ≤ leftOf false (t .lines) (length line) - 1
@@ -55,7 +55,7 @@ unfolding feed
 feed-left s b h = go (s .over) refl (eqb b 10)
   where
     go : (u : Bool) → s .over ≡ u → (v : Bool)
-        → leftIn (pick u (record { state = s; out = [] }) (pick v (close small (s .tally) (s .image) (taken (s .tally) (s .line))) (longer small s b)) .state)
+        → leftIn (pick u (record { state = s; out = [] }) (pick v (close small (s .tally) (s .image) (formAt (s .tally) (s .line))) (longer small s b)) .state)
         ≤ leftOf u (s .tally .lines) (length (s .line)) - 1
     go true e v = rw e (omega arith)
     go false e true = close-left (s .tally) (s .image) (s .line) h

@@ -7,7 +7,7 @@ use Rattle.decimals.specs.Decimals.{numberOf, digit, allDigits, value, proper, 
 use Rattle.logs.specs.declared.Order.the-variants.{Insert, Lookup, Limited}
 use Rattle.logs.specs.declared.Line.the-variants.{Of, Other}
 use Rattle.logs.specs.Forms.{isLetter, given, formOf, parsed}
-use Rattle.logs.specs.Replay.{tabbed, written, lastLine}
+use Rattle.logs.specs.Replay.{tabbed, lineText, lastLine}
 
 -- "I 7 1000", "I 07 1" (a leading zero), "L 4294967295", "L 4294967296" (too large), "F " (a field too many), "" (an empty line),
 -- "D 9" and byte 13, "S 0 0 1"
@@ -27,5 +27,5 @@ forms = refl
 
 -- "T 4 2 3", a line
 pub last : lastLine (record { lines = 4; programmed = 2; erased = 3 }) ≡ (84 ∷ 9 ∷ 52 ∷ 9 ∷ 50 ∷ 9 ∷ 51 ∷ 10 ∷ [])
-unfolding decimal digitsOf tabbed written
+unfolding decimal digitsOf tabbed lineText
 last = refl

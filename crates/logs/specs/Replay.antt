@@ -38,8 +38,8 @@ unfoldable pub tabbed : List ℕ → List ℕ
 tabbed [] = []
 tabbed (n ∷ ns) = (9 ∷ decimal n) ++ tabbed ns
 
-unfoldable pub written : ℕ → List ℕ → List ℕ
-written letter ns = (letter ∷ tabbed ns) ++ (10 ∷ [])
+unfoldable pub lineText : ℕ → List ℕ → List ℕ
+lineText letter ns = (letter ∷ tabbed ns) ++ (10 ∷ [])
 
 abbrev pub letterOf : Order → ℕ
 letterOf Format = 70
@@ -50,20 +50,20 @@ letterOf (Limited k a allowance) = 83
 
 -- "Each line is answered by its letter, answer number, address, programmed, erased"
 abbrev pub answerLine : Order → Outcome → List ℕ
-answerLine order o = written (letterOf order) (o .answer ∷ o .address ∷ o .programmed ∷ o .erased ∷ [])
+answerLine order o = lineText (letterOf order) (o .answer ∷ o .address ∷ o .programmed ∷ o .erased ∷ [])
 
 -- "E and its line number": the line after those that are counted
 abbrev pub errorLine : Tally → List ℕ
-errorLine t = written 69 ((t .lines + 1) ∷ [])
+errorLine t = lineText 69 ((t .lines + 1) ∷ [])
 
 -- "at the end T, line count, and both sums"
 abbrev pub lastLine : Tally → List ℕ
-lastLine t = written 84 (t .lines ∷ t .programmed ∷ t .erased ∷ [])
+lastLine t = lineText 84 (t .lines ∷ t .programmed ∷ t .erased ∷ [])
 
 -- ---- the run
 -- "changed in place after every line"
-abbrev pub after : Tally → Outcome → Tally
-after t o = counted t (o .programmed) (o .erased)
+abbrev pub tallyAfter : Tally → Outcome → Tally
+tallyAfter t o = counted t (o .programmed) (o .erased)
 
 -- the end of the input: a piece without byte 10 is "a line of any other form"
 unfoldable pub ending : Tally → List ℕ → List ℕ
@@ -74,18 +74,18 @@ ending t (b ∷ bs) = errorLine t
 unfoldable pub reply : Geometry → Tally → List ℕ → (Tally → List ℕ → List ℕ) → Line → List ℕ
 reply g t img next Other = errorLine t
 reply g t img next (Of order) =
-    answerLine order (obeyed g order img) ++ next (after t (obeyed g order img)) (obeyed g order img .image)
+    answerLine order (obeyed g order img) ++ next (tallyAfter t (obeyed g order img)) (obeyed g order img .image)
 
 -- the next line's form; "or line 1,000,001"
 abbrev pub mostLines : ℕ
 mostLines = 1000000
 
-unfoldable pub taken : Tally → List ℕ → Line
-taken t line = pick (ltb (t .lines) mostLines) (parsed line) Other
+unfoldable pub formAt : Tally → List ℕ → Line
+formAt t line = pick (ltb (t .lines) mostLines) (parsed line) Other
 
 unfoldable pub answers : Geometry → Tally → List ℕ → List (List ℕ) → List ℕ → List ℕ
 answers g t img [] rest = ending t rest
-answers g t img (l ∷ ls) rest = reply g t img (λ u x. answers g u x ls rest) (taken t l)
+answers g t img (l ∷ ls) rest = reply g t img (λ u x. answers g u x ls rest) (formAt t l)
 
 -- the whole output
 unfoldable pub replayed : Geometry → List ℕ → List ℕ

@@ -24,14 +24,14 @@ use Rattle.logs.specs.declared.Order.{Order}
 use Rattle.logs.specs.declared.Line.{Line}
 use Rattle.logs.specs.declared.Line.the-variants.{Of, Other}
 use Rattle.logs.specs.Forms.{parsed}
-use Rattle.logs.specs.Replay.{obeyed, written, letterOf, answerLine, errorLine, lastLine, ending, taken}
+use Rattle.logs.specs.Replay.{obeyed, lineText, letterOf, answerLine, errorLine, lastLine, ending, formAt}
 use Rattle.replaying.specs.declared.Run.{Run}
 use Rattle.replaying.specs.Machine.{State, Fed, close, longer, feed, finish}
 use Rattle.replaying.specs.Run.{stateOf, runOf, refusedRun, longerFrom, Steady}
 
 -- ---- an order
 abbrev pub rowLine : ℕ → Row → List ℕ
-rowLine l w = written l (take 4 (w .answer ∷ w .address ∷ w .programmed ∷ w .erased ∷ []))
+rowLine l w = lineText l (take 4 (w .answer ∷ w .address ∷ w .programmed ∷ w .erased ∷ []))
 
 module _ (t : Tally) (img x : List ℕ) (order : Order) (a : Answer) (w : Row) (e : told a x ≡ obeyed small order img) (f : w ≡ rowOf a) where
   module _ (l : ℕ) (q : l ≡ letterOf order) where
@@ -59,38 +59,38 @@ answer-within t u p e q w h i j =
 
 -- ---- a line that is whole: its form, and what follows from it
 module _ (t : Tally) (line : List ℕ) where
-  pub taken-late : 1000000 ≤ t .lines → taken t line ≡ Other
-  unfolding taken
-  taken-late h = rw (le-ltb (t .lines) 1000000 h) refl
+  pub form-late : 1000000 ≤ t .lines → formAt t line ≡ Other
+  unfolding formAt
+  form-late h = rw (le-ltb (t .lines) 1000000 h) refl
 
-  pub taken-as : (form x : Line) → t .lines < 1000000 → form ≡ parsed line → form ≡ x → taken t line ≡ x
-  unfolding taken
-  taken-as form x h e f = rw (lt-ltb (t .lines) 1000000 h) (sym e ∙ f)
+  pub form-as : (form x : Line) → t .lines < 1000000 → form ≡ parsed line → form ≡ x → formAt t line ≡ x
+  unfolding formAt
+  form-as form x h e f = rw (lt-ltb (t .lines) 1000000 h) (sym e ∙ f)
 
   module _ (img : List ℕ) (r : Run) (buf out : List ℕ) (wrote : ℕ) where
-    pub refused-run : taken t line ≡ Other → r ≡ refusedRun t wrote → r ≡ runOf (close small t img (taken t line)) wrote
+    pub refused-run : formAt t line ≡ Other → r ≡ refusedRun t wrote → r ≡ runOf (close small t img (formAt t line)) wrote
     unfolding close
     refused-run e f = f ∙ rw e refl
 
-    pub refused-image : taken t line ≡ Other → img ≡ close small t img (taken t line) .state .image
+    pub refused-image : formAt t line ≡ Other → img ≡ close small t img (formAt t line) .state .image
     unfolding close
     refused-image e = rw e refl
 
-    pub refused-out : taken t line ≡ Other → out ≡ sets buf wrote (errorLine t) → out ≡ sets buf wrote (close small t img (taken t line) .out)
+    pub refused-out : formAt t line ≡ Other → out ≡ sets buf wrote (errorLine t) → out ≡ sets buf wrote (close small t img (formAt t line) .out)
     unfolding close
     refused-out e f = f ∙ rw e refl
 
     pub refused-within : Within t → r ≡ refusedRun t wrote → Within (r .tally)
     refused-within w f = subst (λ (x : Run). Within (x .tally)) (sym f) w
 
-    module _ (order : Order) (e : taken t line ≡ Of order) where
-      pub answered-run : r ≡ runOf (close small t img (Of order)) wrote → r ≡ runOf (close small t img (taken t line)) wrote
+    module _ (order : Order) (e : formAt t line ≡ Of order) where
+      pub answered-run : r ≡ runOf (close small t img (Of order)) wrote → r ≡ runOf (close small t img (formAt t line)) wrote
       answered-run f = rw e f
 
-      pub answered-image : (y : List ℕ) → y ≡ close small t img (Of order) .state .image → y ≡ close small t img (taken t line) .state .image
+      pub answered-image : (y : List ℕ) → y ≡ close small t img (Of order) .state .image → y ≡ close small t img (formAt t line) .state .image
       answered-image y f = rw e f
 
-      pub answered-out : out ≡ sets buf wrote (close small t img (Of order) .out) → out ≡ sets buf wrote (close small t img (taken t line) .out)
+      pub answered-out : out ≡ sets buf wrote (close small t img (Of order) .out) → out ≡ sets buf wrote (close small t img (formAt t line) .out)
       answered-out f = rw e f
 
 -- ---- a byte more of a line
@@ -142,7 +142,7 @@ module _ (s : State) (b : ℕ) where
   unfolding feed
   feed-over e = rw e refl
 
-  feed-close : s .over ≡ false → b ≡ 10 → feed small s b ≡ close small (s .tally) (s .image) (taken (s .tally) (s .line))
+  feed-close : s .over ≡ false → b ≡ 10 → feed small s b ≡ close small (s .tally) (s .image) (formAt (s .tally) (s .line))
   unfolding feed
   feed-close e h = rw (e, eq-eqb b 10 h) refl
 
@@ -201,19 +201,19 @@ module _ (run r : Run) (line img : List ℕ) (b : ℕ) (h : Steady run line) whe
   -- a line's end
   module _ (e : run .over ≡ false) (q : b ≡ 10) where
     abbrev closed : Fed
-    closed = close small (run .tally) img (taken (run .tally) (take (run .filled) line))
+    closed = close small (run .tally) img (formAt (run .tally) (take (run .filled) line))
 
     at-end : fed ≡ closed
     at-end = feed-close (stateOf run line img) b e q
 
     empty : r ≡ runOf closed (run .wrote) → r .filled ≡ 0
-    empty f = ap (λ (x : Run). x .filled) f ∙ rw (close-empty (run .tally) img (taken (run .tally) (take (run .filled) line))) refl
+    empty f = ap (λ (x : Run). x .filled) f ∙ rw (close-empty (run .tally) img (formAt (run .tally) (take (run .filled) line))) refl
 
     pub end-run : r ≡ runOf closed (run .wrote) → r ≡ runOf fed (run .wrote)
     end-run f = rw at-end f
 
     pub end-line : r ≡ runOf closed (run .wrote) → take (r .filled) line ≡ fed .state .line
-    end-line f = rw (at-end, empty f, close-empty (run .tally) img (taken (run .tally) (take (run .filled) line))) refl
+    end-line f = rw (at-end, empty f, close-empty (run .tally) img (formAt (run .tally) (take (run .filled) line))) refl
 
     pub end-image : (x : List ℕ) → x ≡ closed .state .image → x ≡ fed .state .image
     end-image x f = rw at-end f
@@ -269,5 +269,5 @@ module _ (run : Run) (line : List ℕ) where
       go (suc n) [] f k = absurd (omega arith)
       go (suc n) (b ∷ l) f k = refl
 
-pub ruleset step-laws = (part-length, taken-late, taken-as, refused-run, refused-image, refused-out, refused-within, answered-run, answered-image, answered-out, longer-run,
+pub ruleset step-laws = (part-length, form-late, form-as, refused-run, refused-image, refused-out, refused-within, answered-run, answered-image, answered-out, longer-run,
     longer-line, longer-out, stops-run, stops-line, stops-out)

@@ -17,7 +17,7 @@ use Rattle.logs.specs.declared.Order.{Order}
 use Rattle.logs.specs.declared.Line.{Line}
 use Rattle.logs.specs.declared.Line.the-variants.{Of, Other}
 use Rattle.logs.specs.Forms.{parsed}
-use Rattle.logs.specs.Replay.{obeyed, blankImage, answerLine, errorLine, after, ending, reply, mostLines, taken, answers, replayed}
+use Rattle.logs.specs.Replay.{obeyed, blankImage, answerLine, errorLine, tallyAfter, ending, reply, mostLines, formAt, answers, replayed}
 use Rattle.replaying.specs.Short.{longest, long-other}
 
 -- the line that has begun, the tally, the image, and whether the run has ended with E
@@ -39,7 +39,7 @@ start g = record { line = []; tally = none-yet; image = blankImage g; over = fal
 unfoldable pub close : Geometry → Tally → List ℕ → Line → Fed
 close g t img Other = record { state = record { line = []; tally = t; image = img; over = true }; out = errorLine t }
 close g t img (Of order) = record {
-  state = record { line = []; tally = after t (obeyed g order img); image = obeyed g order img .image; over = false };
+  state = record { line = []; tally = tallyAfter t (obeyed g order img); image = obeyed g order img .image; over = false };
   out = answerLine order (obeyed g order img);
 }
 
@@ -51,7 +51,7 @@ longer g s b = pick (ltb (length (s .line)) longest)
 
 unfoldable pub feed : Geometry → State → ℕ → Fed
 feed g s b = pick (s .over) (record { state = s; out = [] })
-    (pick (eqb b 10) (close g (s .tally) (s .image) (taken (s .tally) (s .line))) (longer g s b))
+    (pick (eqb b 10) (close g (s .tally) (s .image) (formAt (s .tally) (s .line))) (longer g s b))
 
 -- the end of the input
 unfoldable pub finish : State → List ℕ
@@ -91,13 +91,13 @@ module _ (g : Geometry) where
   at-end p t img h = ap (λ (x : Pieces). answers g t img (x .ended) (x .rest)) (lines-rest p h)
 
   at-line : (p bs : List ℕ) (t : Tally) (img : List ℕ) → Whole p
-      → answered t img (p ++ (10 ∷ bs)) ≡ reply g t img (λ u x. answered u x bs) (taken t p)
+      → answered t img (p ++ (10 ∷ bs)) ≡ reply g t img (λ u x. answered u x bs) (formAt t p)
   unfolding answers
   at-line p bs t img h = ap (λ (x : Pieces). answers g t img (x .ended) (x .rest)) (lines-line p bs h)
 
   -- a line that is longer than any form, whatever follows
   too-long : (bs p : List ℕ) (t : Tally) (img : List ℕ) → Whole p → longest < length p → answered t img (p ++ bs) ≡ errorLine t
-  unfolding ending reply taken
+  unfolding ending reply formAt
   too-long [] p t img h q = ap (answered t img) (append-nil p) ∙ at-end p t img h ∙ go p q
     where
       go : (p : List ℕ) → longest < length p → ending t p ≡ errorLine t
@@ -128,7 +128,7 @@ module _ (g : Geometry) where
       → close g t img x .out ++ ran g (close g t img x .state) bs ≡ reply g t img (λ u y. answered u y bs) x
   unfolding close reply
   closed t img bs Other ih = rw (ran-over t img bs) (append-nil (errorLine t))
-  closed t img bs (Of order) ih = ap (λ m. answerLine order (obeyed g order img) ++ m) (ih (after t (obeyed g order img)) (obeyed g order img .image))
+  closed t img bs (Of order) ih = ap (λ m. answerLine order (obeyed g order img) ++ m) (ih (tallyAfter t (obeyed g order img)) (obeyed g order img .image))
 
   from : (bs p : List ℕ) (t : Tally) (img : List ℕ) → Whole p → length p ≤ longest → ran g (inLine p t img) bs ≡ answered t img (p ++ bs)
   unfolding ran feed finish longer close
@@ -147,9 +147,9 @@ module _ (g : Geometry) where
 
       go : (e : Bool) → eqb b 10 ≡ e
           → ((p : List ℕ) (t : Tally) (img : List ℕ) → Whole p → length p ≤ longest → ran g (inLine p t img) bs ≡ answered t img (p ++ bs))
-          → pick e (close g t img (taken t p)) (longer g (inLine p t img) b) .out
-          ++ ran g (pick e (close g t img (taken t p)) (longer g (inLine p t img) b) .state) bs ≡ answered t img (p ++ (b ∷ bs))
-      go true e ih = closed t img bs (taken t p) (λ t img. ih [] t img tt (omega arith)) ∙ rw (eqb-true b 10 e) (sym (at-line p bs t img h))
+          → pick e (close g t img (formAt t p)) (longer g (inLine p t img) b) .out
+          ++ ran g (pick e (close g t img (formAt t p)) (longer g (inLine p t img) b) .state) bs ≡ answered t img (p ++ (b ∷ bs))
+      go true e ih = closed t img bs (formAt t p) (λ t img. ih [] t img tt (omega arith)) ∙ rw (eqb-true b 10 e) (sym (at-line p bs t img h))
       go false e ih = more (ltb (length p) longest) refl e ih
 
   pub machine : (input : List ℕ) → ran g (start g) input ≡ replayed g input

@@ -14,7 +14,7 @@ use Rattle.tally.specs.Counted.{none-yet}
 use Rattle.logs.specs.declared.Order.{Order}
 use Rattle.logs.specs.declared.Line.the-variants.{Of, Other}
 use Rattle.logs.specs.Forms.{parsed}
-use Rattle.logs.specs.Replay.{obeyed, blankImage, answerLine, lastLine, after, ending, reply, mostLines, taken, answers, replayed}
+use Rattle.logs.specs.Replay.{obeyed, blankImage, answerLine, lastLine, tallyAfter, ending, reply, mostLines, formAt, answers, replayed}
 
 -- the answers to a log's orders, one after the other
 unfoldable pub outcomes : Geometry → List ℕ → List Order → List Outcome
@@ -32,7 +32,7 @@ erasedSum (o ∷ os) = o .erased + erasedSum os
 -- "changed in place after every line"
 unfoldable pub tallied : Tally → List Outcome → Tally
 tallied t [] = t
-tallied t (o ∷ os) = tallied (after t o) os
+tallied t (o ∷ os) = tallied (tallyAfter t o) os
 
 -- it is the count of the answers and both sums
 sums-from : (t : Tally) (os : List Outcome) → tallied t os
@@ -50,7 +50,7 @@ sums-from t (o ∷ os) =
     let a : t .lines + 1 + length os ≡ t .lines + length (o ∷ os) = omega arith in
     let b : t .programmed + o .programmed + programmedSum os ≡ t .programmed + (o .programmed + programmedSum os) = omega arith in
     let c : t .erased + o .erased + erasedSum os ≡ t .erased + (o .erased + erasedSum os) = omega arith in
-    sums-from (after t o) os ∙ rw (a, b, c) refl
+    sums-from (tallyAfter t o) os ∙ rw (a, b, c) refl
 
 pub tally-sums : (os : List Outcome) → tallied none-yet os ≡ record { lines = length os; programmed = programmedSum os; erased = erasedSum os }
 tally-sums os =
@@ -73,15 +73,15 @@ Formed (l ∷ ls) (c ∷ cs) = (parsed l ≡ Of c) × Formed ls cs
 
 log-from : (g : Geometry) (t : Tally) (img : List ℕ) (ls : List (List ℕ)) (cs : List Order) → Formed ls cs → t .lines + length ls ≤ mostLines
     → answers g t img ls [] ≡ answerLines cs (outcomes g img cs) ++ lastLine (tallied t (outcomes g img cs))
-unfolding answers reply ending taken answerLines tallied outcomes
+unfolding answers reply ending formAt answerLines tallied outcomes
 log-from g t img [] [] p q = refl
 log-from g t img [] (c ∷ cs) p q = absurd p
 log-from g t img (l ∷ ls) [] p q = absurd p
 log-from g t img (l ∷ ls) (c ∷ cs) p q =
     let o = obeyed g c img in
     rw (lt-ltb (t .lines) 1000000 (omega arith), p .0)
-    (ap (λ m. answerLine c o ++ m) (log-from g (after t o) (o .image) ls cs (p .1) (omega arith))
-    ∙ sym (append-assoc (answerLine c o) (answerLines cs (outcomes g (o .image) cs)) (lastLine (tallied (after t o) (outcomes g (o .image) cs)))))
+    (ap (λ m. answerLine c o ++ m) (log-from g (tallyAfter t o) (o .image) ls cs (p .1) (omega arith))
+    ∙ sym (append-assoc (answerLine c o) (answerLines cs (outcomes g (o .image) cs)) (lastLine (tallied (tallyAfter t o) (outcomes g (o .image) cs)))))
 
 -- its lines are answered in order, then come T, the count of the answers, and their sums
 pub log-answers : (g : Geometry) (input : List ℕ) (cs : List Order) → Formed (lines input .ended) cs → lines input .rest ≡ []

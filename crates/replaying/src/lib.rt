@@ -8,7 +8,7 @@ ghost use lib.Seq.{sets};
 ghost use Rattle.geometry.specs.Geometry.{small};
 ghost use Rattle.tally.specs.Counted.{Within};
 ghost use Rattle.logs.specs.declared.Line.the-variants.{Of};
-ghost use Rattle.logs.specs.Replay.{errorLine, taken};
+ghost use Rattle.logs.specs.Replay.{errorLine, formAt};
 ghost use Rattle.replaying.specs.Machine.{close, feed, finish};
 ghost use Rattle.replaying.specs.Run.{startOf, stateOf, runOf, refusedRun, longerFrom, Steady};
 use logs::Line;
@@ -81,9 +81,9 @@ fn answer(img: &mut [u8], out: &mut [u8], t: Tally, wrote: usize, order: Order) 
 // A line that is whole.
 fn close_line(img: &mut [u8], line: &[u8], out: &mut [u8], t: Tally, wrote: usize) -> Run
     requires { ⌜ Within t × (wrote ≤ 8000000000000000000) ⌝ }
-    ensures run { λ r. ⌜ r ≡ runOf (close small t (now (img .entry)) (taken t (now (line .entry)))) wrote ⌝ }
-    ensures image { λ _. ⌜ now (img .exit) ≡ close small t (now (img .entry)) (taken t (now (line .entry))) .state .image ⌝ }
-    ensures out { λ _. ⌜ now (out .exit) ≡ sets (now (out .entry)) wrote (close small t (now (img .entry)) (taken t (now (line .entry))) .out) ⌝ }
+    ensures run { λ r. ⌜ r ≡ runOf (close small t (now (img .entry)) (formAt t (now (line .entry)))) wrote ⌝ }
+    ensures image { λ _. ⌜ now (img .exit) ≡ close small t (now (img .entry)) (formAt t (now (line .entry))) .state .image ⌝ }
+    ensures out { λ _. ⌜ now (out .exit) ≡ sets (now (out .entry)) wrote (close small t (now (img .entry)) (formAt t (now (line .entry))) .out) ⌝ }
     ensures most { λ r. ⌜ r .wrote ≤ wrote + 86 ⌝ }
     ensures within { λ r. ⌜ Within (r .tally) ⌝ }
 {

@@ -9,7 +9,7 @@ use lib.Seq.{sets, take-suc}
 use Rattle.texts.specs.Laws.{sets-append, sets-snoc}
 use Rattle.decimals.specs.Decimals.{decimal}
 use Rattle.decimals.specs.Writing.{decimal-long}
-use Rattle.logs.specs.Replay.{tabbed, written}
+use Rattle.logs.specs.Replay.{tabbed, lineText}
 
 -- ---- a line that is written
 module _ (buf mid out : List ℕ) (at n r : ℕ) where
@@ -67,15 +67,15 @@ pub ruleset fields-laws = (field-place, field-most, field-bytes, fields-start, p
 
 -- the letter, the numbers and byte 10
 module _ (l : ℕ) (ns : List ℕ) (at end : ℕ) (e : end ≡ at + 1 + length (tabbed ns)) where
-  pub line-place : end + 1 ≡ at + length (written l ns)
-  unfolding written
+  pub line-place : end + 1 ≡ at + length (lineText l ns)
+  unfolding lineText
   line-place = let n = length-append (l ∷ tabbed ns) (10 ∷ []) in omega (arith, n, e)
 
   pub line-most : end ≤ at + 1 + 84 → end + 1 ≤ at + 86
   line-most h = omega arith
 
-  pub line-bytes : (buf one mid out : List ℕ) → one ≡ set buf at l → mid ≡ sets one (at + 1) (tabbed ns) → out ≡ set mid end 10 → out ≡ sets buf at (written l ns)
-  unfolding written
+  pub line-bytes : (buf one mid out : List ℕ) → one ≡ set buf at l → mid ≡ sets one (at + 1) (tabbed ns) → out ≡ set mid end 10 → out ≡ sets buf at (lineText l ns)
+  unfolding lineText
   line-bytes buf one mid out f g h =
       let q : end ≡ at + length (l ∷ tabbed ns) = omega arith in
       h ∙ rw (g, f, q, add-one) (sets-snoc buf at (l ∷ tabbed ns) 10)

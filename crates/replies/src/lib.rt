@@ -5,7 +5,7 @@ ghost use Prim.Native.Nat.{_+_, _≤_};
 ghost use lib.ListN.{length, take};
 ghost use lib.Seq.{sets};
 ghost use Rattle.decimals.specs.Decimals.{decimal};
-ghost use Rattle.logs.specs.Replay.{tabbed, written};
+ghost use Rattle.logs.specs.Replay.{tabbed, lineText};
 
 // A tab and a number.
 fn put_field(out: &mut [u8], at: usize, n: u64) -> usize
@@ -37,9 +37,9 @@ fn put_fields(out: &mut [u8], at: usize, numbers: [u64; 4], n: usize) -> usize
 // A letter, the first n numbers after tabs, and byte 10.
 pub fn put_line(out: &mut [u8], at: usize, letter: u8, numbers: [u64; 4], n: usize) -> usize
     requires { ⌜ (at ≤ 8000000000000000000) × (n ≤ 4) ⌝ }
-    ensures place { λ r. ⌜ r ≡ at + length (written letter (take n numbers)) ⌝ }
+    ensures place { λ r. ⌜ r ≡ at + length (lineText letter (take n numbers)) ⌝ }
     ensures most { λ r. ⌜ r ≤ at + 86 ⌝ }
-    ensures bytes { λ _. ⌜ now (out .exit) ≡ sets (now (out .entry)) at (written letter (take n numbers)) ⌝ }
+    ensures bytes { λ _. ⌜ now (out .exit) ≡ sets (now (out .entry)) at (lineText letter (take n numbers)) ⌝ }
 {
     texts::put_byte(&mut *out, at, letter);
     let end = put_fields(&mut *out, at + 1, numbers, n);
