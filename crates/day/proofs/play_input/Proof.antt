@@ -3,6 +3,7 @@ use Prim.Native.Nat.{_≤_}
 use mathlib.Core.Path.{_≡_, refl, sym, _∙_}
 use native.Mathlib.Omega.{arith}
 use lib.ListN.{length, length-take}
+use borrow.Author.Tests.{not-true}
 use Rattle.feeding.specs.Left.{left}
 use Rattle.day.specs.Emptied.{Ready, left-some, part-counted, day-laws}
 use Rattle.day.proofs.play_input.Statement.{statement}
@@ -37,7 +38,7 @@ same-length-3 c = c .before .before .before .before .before .before .before .bef
 
 same-length-4 : tie.Need-same-length-4 Inv-loop μ-loop
 same-length-4 c =
-    let same : length (c .before .before .before .before .before .read .last .0) ≡ length (c .before .before .before .before .before .before .before .before .before .loop .part) = search needs in
+    let same : length (c .before .before .before .before .before .read .last .1 .0) ≡ length (c .before .before .before .before .before .before .before .before .before .loop .part) = search needs in
     same ∙ c .before .before .before .before .before .before .before .before .before .loop .inv .2 ∙ sym (c .before .before .before .before .before .before .before .before .before .before .before .before .before .before .pre .2)
 
 returns : tie.Need-returns Inv-loop μ-loop
@@ -52,14 +53,14 @@ slice-aggregate-play-read c = search all
 play-read-requires : tie.Need-play-read-requires Inv-loop μ-loop
 play-read-requires c κs =
     let loop = c .before .before .before .before .before .before .before .before .before .before .before .before .before .loop in
-    let same : length (c .before .before .before .before .before .before .before .before .before .read .last .0) ≡ length (loop .part) = search needs in
-    let n = length-take (c .before .before .before .before .before .count .result) (c .before .before .before .before .before .before .before .before .before .read .last .0) in
+    let same : length (c .before .before .before .before .before .before .before .before .before .read .last .1 .0) ≡ length (loop .part) = search needs in
+    let n = length-take (c .before .before .before .before .before .count .result) (c .before .before .before .before .before .before .before .before .before .read .last .1 .0) in
     (loop .inv .0, loop .inv .1, omega (arith, n, same, loop .inv .2))
 
 loop-less : tie.Need-loop-less Inv-loop μ-loop
 loop-less c =
-    let some = left-some (c .before .before .before .before .before .before .before .before .before .before .before .before .before .before .before .before .before .before .before .before .loop .state) (search needs) in
-    let n = part-counted (c .before .before .before .before .before .before .before .before .before .before .before .before .before .before .before .before .read .last .0) (c .before .before .before .before .before .before .before .before .before .before .before .before .count .result) (search needs) in
+    let some = left-some (c .before .before .before .before .before .before .before .before .before .before .before .before .before .before .before .before .before .before .before .before .loop .state) (not-true _ (c .before .before .before .before .before .before .before .before .before .before .before .before .before .before .before .before .before .before .if1 .taken)) in
+    let n = part-counted (c .before .before .before .before .before .before .before .before .before .before .before .before .before .before .before .before .read .last .1 .0) (c .before .before .before .before .before .before .before .before .before .before .before .before .count .result) (search needs) in
     omega (arith, some, n, c .before .before .before .before .before .before .play-read .ensures .1, c .before .before .before .before .before .before .before .before .before .before .before .if2 .left)
 
 loop-again : tie.Need-loop-again Inv-loop μ-loop
@@ -67,7 +68,7 @@ loop-again c =
     let loop = c .before .before .before .before .before .before .before .before .before .before .before .before .before .before .before .before .before .before .before .before .loop in
     let played = c .before .before .before .before .before .before .play-read in
     let out : length (played .last .1 .1 .0) ≡ length (loop .out) = search needs in
-    let part : length (c .before .before .before .before .before .before .before .before .before .before .before .before .before .before .before .before .read .last .0) ≡ length (loop .part) = search needs in
+    let part : length (c .before .before .before .before .before .before .before .before .before .before .before .before .before .before .before .before .read .last .1 .0) ≡ length (loop .part) = c .before .before .before .before .before .before .before .before .before .before .before .before .before .before .before .before .read .kept .1 .0 in
     let image : length (played .last .0) ≡ length (loop .img) = search needs in
     (played .ensures .0, out ∙ loop .inv .1, part ∙ loop .inv .2, image ∙ loop .inv .3)
 

@@ -1,5 +1,8 @@
 use borrow.Author.Needs.{needs}
-use Rattle.day.specs.Emptied.{ready-start, day-laws}
+use mathlib.Core.Path.{_≡_}
+use native.Mathlib.Omega.{arith}
+use lib.ListN.{length}
+use Rattle.day.specs.Emptied.{ready-start, part-counted, day-laws}
 use Rattle.day.proofs.replay.Statement.{statement}
 use Rattle.day.proofs.replay.Tie as tie
 
@@ -36,13 +39,19 @@ slice-aggregate-finish-2 : tie.Need-slice-aggregate-finish-2
 slice-aggregate-finish-2 c = search all
 
 finish-requires : tie.Need-finish-requires
-finish-requires c κs = ?
+finish-requires c κs =
+    let ready = c .before .before .before .before .before .before .play-input .ensures in
+    (ready .steady, omega (arith, ready .none))
 
 array-share-prefix-out : tie.Need-array-share-prefix-out
 array-share-prefix-out c = search all
 
 slice-aggregate-write-all : tie.Need-slice-aggregate-write-all
-slice-aggregate-write-all c = search all
+slice-aggregate-write-all c =
+    let ended = c .before .before .finish in
+    let same : length (ended .last .0) ≡ 65536 = search needs in
+    let counted = part-counted (ended .last .0) (ended .result) (omega (arith, same, ended .ensures .1 .0, c .before .before .before .before .before .before .before .before .before .play-input .ensures .none)) in
+    search needs
 
 write-all-requires : tie.Need-write-all-requires
 write-all-requires c κs = search all
