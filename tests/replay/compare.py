@@ -38,6 +38,9 @@ def compare(program, lines, seed):
         for before in (b"", logs.log(3, seed)):
             same(program, model, m, before + last, repr(last[:40]))
             runs += 1
+    for text in (b"", logs.rising(1200)):
+        same(program, model, m, text, "no line, or rising keys")
+        runs += 1
     while done < lines:
         text = logs.log(min(lines - done, rng.choice([1, 20, 300, 3000])), rng.random())
         done += text.count(b"\n")

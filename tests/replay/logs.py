@@ -1,6 +1,6 @@
 """Random logs of request 3, the same for the same seed.
 
-usage: logs.py LINES SEED        writes a log of so many lines
+usage: logs.py LINES SEED        writes a log of so many lines, and then 1,201 with rising keys; 1200 5 is the stored log of bench_log
 """
 import random
 import sys
@@ -36,5 +36,11 @@ def log(lines, seed):
     return "".join(l + "\n" for l in out).encode()
 
 
+def rising(lines):
+    """A format and rising keys, more than three blocks have room for; every key is looked up."""
+    return b"F\n" + b"".join(b"I\t%d\t%d\nL\t%d\n" % (k, 3 * k, k) for k in range(1, lines // 2 + 1))
+
+
 if __name__ == "__main__":
-    sys.stdout.buffer.write(log(int(sys.argv[1]), int(sys.argv[2])))
+    lines, seed = int(sys.argv[1]), int(sys.argv[2])
+    sys.stdout.buffer.write(log(lines, seed) + rising(1200))

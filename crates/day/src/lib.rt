@@ -43,13 +43,7 @@ fn play_read(img: &mut [u8], line: &mut [u8], out: &mut [u8], part: &[u8], run: 
 }
 
 // All of the input, part by part, until it ends or the run is over.
-fn play_input(
-    img: &mut [u8],
-    line: &mut [u8],
-    out: &mut [u8],
-    part: &mut [u8],
-    run: Run,
-) -> Run
+fn play_input(img: &mut [u8], line: &mut [u8], out: &mut [u8], part: &mut [u8], run: Run) -> Run
     requires { ⌜ Ready run (now line) × (length (now out) ≡ 65536) × (length (now part) ≡ 65536) ⌝ }
     ensures { λ r. ⌜ Ready r (now (line .exit)) ⌝ }
 {

@@ -269,5 +269,21 @@ module _ (run : Run) (line : List ℕ) where
       go (suc n) [] f k = absurd (omega arith)
       go (suc n) (b ∷ l) f k = refl
 
-pub ruleset step-laws = (part-length, form-late, form-as, refused-run, refused-image, refused-out, refused-within, answered-run, answered-image, answered-out, longer-run,
-    longer-line, longer-out, stops-run, stops-line, stops-out)
+pub ruleset step-laws = (
+  part-length,
+  form-late,
+  form-as,
+  refused-run,
+  refused-image,
+  refused-out,
+  refused-within,
+  answered-run,
+  answered-image,
+  answered-out,
+  longer-run,
+  longer-line,
+  longer-out,
+  stops-run,
+  stops-line,
+  stops-out,
+)

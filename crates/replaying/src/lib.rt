@@ -151,7 +151,13 @@ pub fn finish(out: &mut [u8], line: &[u8], run: Run) -> usize
         return run.wrote;
     }
     if run.filled == 0 {
-        return replies::put_line(&mut *out, run.wrote, b'T', [t.lines, t.programmed, t.erased, 0], 3);
+        return replies::put_line(
+            &mut *out,
+            run.wrote,
+            b'T',
+            [t.lines, t.programmed, t.erased, 0],
+            3,
+        );
     }
     replies::put_line(&mut *out, run.wrote, b'E', [t.lines + 1, 0, 0, 0], 1)
 }

@@ -44,9 +44,14 @@ loop-again c =
     let goes = f .1 .1 .1 .0 (c .before .before .before .before .before .before .before .before .before .before .before .before .before .loop-test .taken) (omega (arith, inv .1 .none, inv .2)) in
     let same : length (played .last .1 .1 .0) ≡ length (loop .out) = search needs in
     let image : length (played .last .0) ≡ length (loop .img) = search needs in
-    let less = left-emptied (played .result .run) (c .write-out .result) (played .last .1 .0) (c .write-out .ensures) in
-    (f .1 .1 .0, ready-emptied (played .result .run) (c .write-out .result) (played .last .1 .0) (c .write-out .ensures) (f .0), same ∙ inv .2, inv .3,
-    omega (arith, less, goes, f .1 .1 .1 .1 .0, inv .4), image ∙ inv .5)
+    let less = left-emptied (played .result .run) (c .write-out .result) (played .last .1 .0) (c .write-out .ensures) in (
+      f .1 .1 .0,
+      ready-emptied (played .result .run) (c .write-out .result) (played .last .1 .0) (c .write-out .ensures) (f .0),
+      same ∙ inv .2,
+      inv .3,
+      omega (arith, less, goes, f .1 .1 .1 .1 .0, inv .4),
+      image ∙ inv .5,
+    )
 
 same-length : tie.Need-same-length Inv-loop μ-loop
 same-length c = c .before .loop .inv .5

@@ -67,11 +67,19 @@ loop-again c =
     let same : length (fed .last .1 .1 .0) ≡ length (loop .out) = search needs in
     let image : length (fed .last .0) ≡ length (loop .img) = search needs in
     let most = f .1 .1 .1 .1 .0 in
-    let less = run-left (loop .state) (fed .result) (loop .line) (loop .img) _ (inv .2) (f .0) in
-    (omega (arith, inv .0), omega (arith, c .before .before .before .before .before .before .before .before .before .before .before .before .before .loop-test .taken), f .1 .1 .1 .1 .1, omega (arith, same, most, room, inv .3), same ∙ inv .4, inv .5,
-    λ e. absurd (omega (arith, e, inv .0)), omega (arith, less, inv .7, inv .0),
-    λ rest. inv .8 rest ∙ whole-goes (loop .state) (fed .result) (loop .line) (loop .img) (loop .out) (fed .last .1 .0) (fed .last .0) (fed .last .1 .1 .0) _ (f .0) (f .1 .0) (f .1 .1 .0)
-    (f .1 .1 .1 .0) _ rest (loop .at) (c .before .before .before .before .before .before .before .before .before .before .before .before .before .loop-test .taken) refl (omega (arith, most, room, inv .3)), image ∙ inv .9)
+    let less = run-left (loop .state) (fed .result) (loop .line) (loop .img) _ (inv .2) (f .0) in (
+      omega (arith, inv .0),
+      omega (arith, c .before .before .before .before .before .before .before .before .before .before .before .before .before .loop-test .taken),
+      f .1 .1 .1 .1 .1,
+      omega (arith, same, most, room, inv .3),
+      same ∙ inv .4,
+      inv .5,
+      λ e. absurd (omega (arith, e, inv .0)),
+      omega (arith, less, inv .7, inv .0),
+      λ rest. inv .8 rest ∙ whole-goes (loop .state) (fed .result) (loop .line) (loop .img) (loop .out) (fed .last .1 .0) (fed .last .0) (fed .last .1 .1 .0) _ (f .0) (f .1 .0) (f .1 .1 .0)
+          (f .1 .1 .1 .0) _ rest (loop .at) (c .before .before .before .before .before .before .before .before .before .before .before .before .before .loop-test .taken) refl (omega (arith, most, room, inv .3)),
+      image ∙ inv .9,
+    )
 
 same-length-4 : tie.Need-same-length-4 Inv-loop μ-loop
 same-length-4 c = c .before .loop .inv .9

@@ -51,13 +51,18 @@ returns c =
     let obeyed = c .before .before .before .before .before .before .before .before .before .before .before .before .before .obey in
     let row = c .before .before .before .before .before .before .before .before .before .before .row-of in
     let letter = c .before .before .before .before .letter-of in
-    let line = c .before .before .before .put-line .ensures in
-    (answer-run (start .args .t) (start .args .img .now) (obeyed .last .0) (start .args .order) (obeyed .result) (row .result) (obeyed .ensures) (row .ensures)
-    (letter .result) (letter .ensures) (start .args .wrote) _ _ (c .after-line .ensures) (line .0),
-    (answer-image (start .args .t) (start .args .img .now) (obeyed .last .0) (start .args .order) (obeyed .result) (row .result) (obeyed .ensures) (row .ensures),
-    (answer-out (start .args .t) (start .args .img .now) (obeyed .last .0) (start .args .order) (obeyed .result) (row .result) (obeyed .ensures) (row .ensures)
-    (letter .result) (letter .ensures) _ _ (start .args .wrote) (line .1 .1),
-    (line .1 .0, answer-within (start .args .t) _ (row .result .programmed) (row .result .erased) (c .after-line .ensures) (start .pre .0) (start .pre .1) (search needs) (search needs)))))
+    let line = c .before .before .before .put-line .ensures in (
+      answer-run (start .args .t) (start .args .img .now) (obeyed .last .0) (start .args .order) (obeyed .result) (row .result) (obeyed .ensures) (row .ensures)
+          (letter .result) (letter .ensures) (start .args .wrote) _ _ (c .after-line .ensures) (line .0),
+      (
+        answer-image (start .args .t) (start .args .img .now) (obeyed .last .0) (start .args .order) (obeyed .result) (row .result) (obeyed .ensures) (row .ensures),
+        (
+          answer-out (start .args .t) (start .args .img .now) (obeyed .last .0) (start .args .order) (obeyed .result) (row .result) (obeyed .ensures) (row .ensures)
+              (letter .result) (letter .ensures) _ _ (start .args .wrote) (line .1 .1),
+          (line .1 .0, answer-within (start .args .t) _ (row .result .programmed) (row .result .erased) (c .after-line .ensures) (start .pre .0) (start .pre .1) (search needs) (search needs)),
+        ),
+      ),
+    )
 
 pub answer-spec : {M : Type 1} → statement M
 answer-spec =

@@ -11,10 +11,19 @@ returns c =
     let start = c .before .before .before .before .before in
     let a = start .args in
     let h = start .pre .0 in
-    let e = c .if1 .taken in
-    (over-run (a .run) (a .run) (a .line .now) (a .img .now) (a .b) h e, (over-line (a .run) (a .run) (a .line .now) (a .img .now) (a .b) h e,
-    (over-image (a .run) (a .run) (a .line .now) (a .img .now) (a .b) h e, (over-out (a .run) (a .run) (a .line .now) (a .img .now) (a .b) h e (a .out .now),
-    (omega arith, h)))))
+    let e = c .if1 .taken in (
+      over-run (a .run) (a .run) (a .line .now) (a .img .now) (a .b) h e,
+      (
+        over-line (a .run) (a .run) (a .line .now) (a .img .now) (a .b) h e,
+        (
+          over-image (a .run) (a .run) (a .line .now) (a .img .now) (a .b) h e,
+          (
+            over-out (a .run) (a .run) (a .line .now) (a .img .now) (a .b) h e (a .out .now),
+            (omega arith, h),
+          ),
+        ),
+      ),
+    )
 
 slice-reshare-prefix-close-line : tie.Need-slice-reshare-prefix-close-line
 slice-reshare-prefix-close-line c = search all
@@ -42,10 +51,19 @@ returns-2 c =
     let e = c .before .before .before .before .before .before .before .before .before .if1 .left in
     let q = c .before .before .before .before .before .before .before .before .if2 .taken in
     let r = c .before .before .before .before .close-line in
-    let f = r .ensures in
-    (end-run (a .run) (r .result) (a .line .now) (a .img .now) (a .b) h e q (f .0), (end-line (a .run) (r .result) (a .line .now) (a .img .now) (a .b) h e q (f .0),
-    (end-image (a .run) (r .result) (a .line .now) (a .img .now) (a .b) h e q _ (f .1 .0), (end-out (a .run) (r .result) (a .line .now) (a .img .now) (a .b) h e q _ _ (f .1 .1 .0),
-    (f .1 .1 .1 .0, end-steady (a .run) (r .result) (a .line .now) (a .img .now) (a .b) h e q (f .0) (f .1 .1 .1 .1))))))
+    let f = r .ensures in (
+      end-run (a .run) (r .result) (a .line .now) (a .img .now) (a .b) h e q (f .0),
+      (
+        end-line (a .run) (r .result) (a .line .now) (a .img .now) (a .b) h e q (f .0),
+        (
+          end-image (a .run) (r .result) (a .line .now) (a .img .now) (a .b) h e q _ (f .1 .0),
+          (
+            end-out (a .run) (r .result) (a .line .now) (a .img .now) (a .b) h e q _ _ (f .1 .1 .0),
+            (f .1 .1 .1 .0, end-steady (a .run) (r .result) (a .line .now) (a .img .now) (a .b) h e q (f .0) (f .1 .1 .1 .1)),
+          ),
+        ),
+      ),
+    )
 
 lengthen-requires : tie.Need-lengthen-requires
 lengthen-requires c κs = search all
@@ -64,10 +82,19 @@ returns-3 c =
     let e = c .before .before .before .before .before .before .before .before .if1 .left in
     let q = c .before .before .before .before .before .before .before .if2 .left in
     let r = c .before .before .before .before .lengthen in
-    let f = r .ensures in
-    (more-run (a .run) (r .result) (a .line .now) (a .img .now) (a .b) h e q (f .0), (more-line (a .run) (r .result) (a .line .now) (a .img .now) (a .b) h e q _ (f .1 .0),
-    (more-image (a .run) (r .result) (a .line .now) (a .img .now) (a .b) h e q, (more-out (a .run) (r .result) (a .line .now) (a .img .now) (a .b) h e q _ _ (f .1 .1 .0),
-    (f .1 .1 .1 .0, more-steady (a .run) (r .result) (a .line .now) (a .img .now) (a .b) h e q _ (f .0) (search needs) (f .1 .1 .1 .1))))))
+    let f = r .ensures in (
+      more-run (a .run) (r .result) (a .line .now) (a .img .now) (a .b) h e q (f .0),
+      (
+        more-line (a .run) (r .result) (a .line .now) (a .img .now) (a .b) h e q _ (f .1 .0),
+        (
+          more-image (a .run) (r .result) (a .line .now) (a .img .now) (a .b) h e q,
+          (
+            more-out (a .run) (r .result) (a .line .now) (a .img .now) (a .b) h e q _ _ (f .1 .1 .0),
+            (f .1 .1 .1 .0, more-steady (a .run) (r .result) (a .line .now) (a .img .now) (a .b) h e q _ (f .0) (search needs) (f .1 .1 .1 .1)),
+          ),
+        ),
+      ),
+    )
 
 pub feed-spec : {M : Type 1} → statement M
 feed-spec =
