@@ -1,6 +1,6 @@
 -- The forms of lines by computation. Assumes nothing.
 use mathlib.Core.Path.{_≡_, refl}
-use mathlib.Core.List.{List, [], _∷_, _++_, map}
+use mathlib.Core.List.{[], _∷_, map}
 use Rattle.geometry.specs.Tests.{_&_}
 use Rattle.texts.specs.Lines.{pieces}
 use Rattle.decimals.specs.Decimals.{numberOf, digit, allDigits, value, proper, digitsOf, decimal}

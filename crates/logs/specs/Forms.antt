@@ -1,13 +1,12 @@
 -- Request 3: "F ..., `I key address`, `D key`, `L key`, and `S key address allowance`", "fields parted by tabs". Definitions alone; assumes nothing.
 use Prim.Native.Nat.{ℕ}
-use mathlib.Core.Bool.{Bool, true, false}
+use mathlib.Core.Bool.{Bool, false}
 use mathlib.Core.List.{List, [], _∷_}
 use mathlib.Core.Option.{Option, none, some}
 use lib.Dec.{eqb}
 use Rattle.geometry.specs.Tests.{pick}
 use Rattle.texts.specs.Lines.{fields}
 use Rattle.decimals.specs.Decimals.{numberOf}
-use Rattle.logs.specs.declared.Order.{Order}
 use Rattle.logs.specs.declared.Order.the-variants.{Format, Insert, Delete, Lookup, Limited}
 use Rattle.logs.specs.declared.Line.{Line}
 use Rattle.logs.specs.declared.Line.the-variants.{Of, Other}

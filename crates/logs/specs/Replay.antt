@@ -1,6 +1,5 @@
 -- Request 3: what a day's log is answered by. The whole output is a function of the whole input. Definitions alone; assumes nothing.
-use Prim.Native.Nat.{ℕ, zero, suc, _+_, _*_}
-use mathlib.Core.Bool.{Bool, true, false}
+use Prim.Native.Nat.{ℕ, _+_, _*_}
 use mathlib.Core.List.{List, [], _∷_, _++_}
 use lib.Dec.{ltb}
 use lib.ListN.{replicate}
@@ -8,7 +7,7 @@ use Rattle.geometry.specs.declared.Geometry.{Geometry}
 use Rattle.geometry.specs.Tests.{pick}
 use Rattle.model.specs.Image.{blockBytes}
 use Rattle.model.specs.Calls.{Outcome, format, lookup, insert, delete}
-use Rattle.texts.specs.Lines.{Pieces, lines}
+use Rattle.texts.specs.Lines.{lines}
 use Rattle.decimals.specs.Decimals.{decimal}
 use Rattle.tally.specs.declared.Tally.{Tally}
 use Rattle.tally.specs.Counted.{none-yet, counted}

@@ -1,5 +1,5 @@
 -- A text is a list of bytes: its lines and their fields. Definitions alone; assumes nothing.
-use Prim.Native.Nat.{ℕ, zero, suc}
+use Prim.Native.Nat.{ℕ, suc}
 use mathlib.Core.List.{List, [], _∷_, _++_}
 use lib.Dec.{eqb}
 use Rattle.geometry.specs.Tests.{pick}

@@ -2,10 +2,6 @@ use Rattle.replies.specs.Laws.{fields-laws}
 use borrow.Author.Needs.{needs}
 use Rattle.replies.proofs.put_field.Statement.{statement}
 use Rattle.replies.proofs.put_field.Tie as tie
-use Rattle.replies.proofs.put_field.Reads as reads
-use Rattle.replies.proofs.put_field.Lts as lts
-use Rattle.decimals.proofs.put_number.Reads as put-number-reads
-use Rattle.texts.proofs.put_byte.Reads as put-byte-reads
 
 ruleset all = (needs, fields-laws)
 

@@ -7,9 +7,6 @@ use Rattle.logs.specs.Replay.{tabbed}
 use Rattle.replies.specs.Laws.{fields-laws}
 use Rattle.replies.proofs.put_fields.Statement.{statement}
 use Rattle.replies.proofs.put_fields.Tie as tie
-use Rattle.replies.proofs.put_fields.Reads as reads
-use Rattle.replies.proofs.put_fields.Lts as lts
-use Rattle.replies.proofs.put_field.Reads as put-field-reads
 
 ruleset all = (needs, fields-laws)
 

@@ -2,10 +2,6 @@ use Rattle.replies.specs.Laws.{line-laws}
 use borrow.Author.Needs.{needs}
 use Rattle.replies.proofs.put_line.Statement.{statement}
 use Rattle.replies.proofs.put_line.Tie as tie
-use Rattle.replies.proofs.put_line.Reads as reads
-use Rattle.replies.proofs.put_line.Lts as lts
-use Rattle.replies.proofs.put_fields.Reads as put-fields-reads
-use Rattle.texts.proofs.put_byte.Reads as put-byte-reads
 
 ruleset all = (needs, line-laws)
 
