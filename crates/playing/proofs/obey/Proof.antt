@@ -2,12 +2,6 @@ use Rattle.playing.specs.Laws.{playing-laws}
 use borrow.Author.Needs.{needs}
 use Rattle.playing.proofs.obey.Statement.{statement}
 use Rattle.playing.proofs.obey.Tie as tie
-use Rattle.playing.proofs.obey.Reads as reads
-use Rattle.playing.proofs.obey.Lts as lts
-use Rattle.index.proofs.delete.Reads as delete-reads
-use Rattle.index.proofs.format.Reads as format-reads
-use Rattle.index.proofs.insert.Reads as insert-reads
-use Rattle.index.proofs.lookup.Reads as lookup-reads
 
 ruleset all = (needs, playing-laws)
 
