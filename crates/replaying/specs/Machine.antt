@@ -3,7 +3,7 @@
 use mathlib.Core.Path.{_≡_, refl, ap, sym, _∙_}
 use mathlib.Core.List.{List, [], _∷_, _++_, append-assoc, append-nil}
 use mathlib.Core.Bool.{Bool, true, false}
-use Prim.Native.Nat.{ℕ, zero, suc, _+_, _<_, _≤_}
+use Prim.Native.Nat.{ℕ, _+_, _<_, _≤_}
 use native.Mathlib.Omega.{arith}
 use lib.Dec.{eqb, ltb}
 use lib.ListN.{length, length-append}
@@ -13,10 +13,8 @@ use Rattle.geometry.specs.Tests.{pick}
 use Rattle.texts.specs.Lines.{Pieces, before, pieces, lines}
 use Rattle.tally.specs.declared.Tally.{Tally}
 use Rattle.tally.specs.Counted.{none-yet}
-use Rattle.logs.specs.declared.Order.{Order}
 use Rattle.logs.specs.declared.Line.{Line}
 use Rattle.logs.specs.declared.Line.the-variants.{Of, Other}
-use Rattle.logs.specs.Forms.{parsed}
 use Rattle.logs.specs.Replay.{obeyed, blankImage, answerLine, errorLine, tallyAfter, ending, reply, mostLines, formAt, answers, replayed}
 use Rattle.replaying.specs.Short.{longest, long-other}
 

@@ -1,18 +1,17 @@
 -- Request 3: the tally is "proved equal to the sums of the answers". Assumes nothing.
 use mathlib.Core.Path.{_≡_, refl, ap, sym, _∙_}
 use mathlib.Core.List.{List, [], _∷_, _++_, append-assoc}
-use Prim.Native.Nat.{ℕ, _+_, _<_, _≤_}
+use Prim.Native.Nat.{ℕ, _+_, _≤_}
 use native.Mathlib.Omega.{arith}
 use lib.ListN.{length}
 use borrow.Author.Tests.{lt-ltb}
 use Rattle.geometry.specs.declared.Geometry.{Geometry}
-use Rattle.geometry.specs.Tests.{pick}
 use Rattle.model.specs.Calls.{Outcome}
 use Rattle.texts.specs.Lines.{lines}
 use Rattle.tally.specs.declared.Tally.{Tally}
 use Rattle.tally.specs.Counted.{none-yet}
 use Rattle.logs.specs.declared.Order.{Order}
-use Rattle.logs.specs.declared.Line.the-variants.{Of, Other}
+use Rattle.logs.specs.declared.Line.the-variants.{Of}
 use Rattle.logs.specs.Forms.{parsed}
 use Rattle.logs.specs.Replay.{obeyed, blankImage, answerLine, lastLine, tallyAfter, ending, reply, mostLines, formAt, answers, replayed}
 

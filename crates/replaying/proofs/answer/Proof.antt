@@ -2,13 +2,6 @@ use Rattle.replaying.specs.Laws.{answer-run, answer-image, answer-out, a
 use borrow.Author.Needs.{needs}
 use Rattle.replaying.proofs.answer.Statement.{statement}
 use Rattle.replaying.proofs.answer.Tie as tie
-use Rattle.replaying.proofs.answer.Reads as reads
-use Rattle.replaying.proofs.answer.Lts as lts
-use Rattle.answers.proofs.row_of.Reads as row-of-reads
-use Rattle.logs.proofs.letter_of.Reads as letter-of-reads
-use Rattle.playing.proofs.obey.Reads as obey-reads
-use Rattle.replies.proofs.put_line.Reads as put-line-reads
-use Rattle.tally.proofs.after_line.Reads as after-line-reads
 
 ruleset all = (needs)
 

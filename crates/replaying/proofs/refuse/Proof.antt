@@ -3,9 +3,6 @@ use Rattle.replaying.specs.Run.{overAt}
 use borrow.Author.Needs.{needs}
 use Rattle.replaying.proofs.refuse.Statement.{statement}
 use Rattle.replaying.proofs.refuse.Tie as tie
-use Rattle.replaying.proofs.refuse.Reads as reads
-use Rattle.replaying.proofs.refuse.Lts as lts
-use Rattle.replies.proofs.put_line.Reads as put-line-reads
 
 ruleset all = (needs)
 

@@ -4,9 +4,6 @@ use Rattle.tally.specs.declared.Tally.{Tally}
 use borrow.Author.Needs.{needs}
 use Rattle.replaying.proofs.start.Statement.{statement}
 use Rattle.replaying.proofs.start.Tie as tie
-use Rattle.replaying.proofs.start.Reads as reads
-use Rattle.replaying.proofs.start.Lts as lts
-use Rattle.tally.proofs.none_yet.Reads as none-yet-reads
 
 ruleset all = (needs)
 
