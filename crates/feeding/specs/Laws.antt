@@ -1,6 +1,6 @@
 -- Laws for the code that feeds a part. Assumes nothing.
-use mathlib.Core.Path.{_≡_, refl, ap, sym, subst, _∙_}
-use mathlib.Core.List.{List, [], _∷_, _++_, append-assoc}
+use mathlib.Core.Path.{_≡_, ap, sym}
+use mathlib.Core.List.{List, _++_, append-assoc}
 use Prim.Native.Nat.{ℕ, suc, _+_, _-_, _<_, _≤_}
 use native.Mathlib.Numerals.{add-one}
 use native.Mathlib.Decide.{decLt}
@@ -10,7 +10,7 @@ use lib.Seq.{drop-cons, sets}
 use Rattle.geometry.specs.Geometry.{small}
 use Rattle.texts.specs.Laws.{take-sets}
 use Rattle.replaying.specs.declared.Run.{Run}
-use Rattle.replaying.specs.Machine.{State, Fed, feed, ran}
+use Rattle.replaying.specs.Machine.{Fed, feed, ran}
 use Rattle.replaying.specs.Run.{stateOf, runOf}
 
 -- what waits to be written, and all that the machine writes from a state on

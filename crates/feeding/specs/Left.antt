@@ -1,11 +1,11 @@
 -- A run is over after 35,000,035 bytes at the latest: each byte lowers a number. Assumes nothing.
-use mathlib.Core.Path.{_≡_, refl, ap, sym, subst, _∙_}
+use mathlib.Core.Path.{_≡_, refl, sym, subst}
 use mathlib.Core.Bool.{Bool, true, false}
 use mathlib.Core.List.{List, [], _∷_, _++_}
-use Prim.Native.Nat.{ℕ, suc, _+_, _-_, _*_, _<_, _≤_}
+use Prim.Native.Nat.{ℕ, _+_, _-_, _*_, _≤_}
 use native.Mathlib.Omega.{arith}
 use lib.Dec.{eqb, ltb}
-use lib.ListN.{length, take, length-append}
+use lib.ListN.{length, length-append}
 use borrow.Author.Tests.{ltb-true}
 use Rattle.geometry.specs.Geometry.{small}
 use Rattle.geometry.specs.Tests.{pick}
@@ -16,7 +16,7 @@ use Rattle.logs.specs.Forms.{parsed}
 use Rattle.logs.specs.Replay.{mostLines, formAt}
 use Rattle.replaying.specs.declared.Run.{Run}
 use Rattle.replaying.specs.Short.{longest}
-use Rattle.replaying.specs.Machine.{State, Fed, close, longer, feed}
+use Rattle.replaying.specs.Machine.{State, close, longer, feed}
 use Rattle.replaying.specs.Run.{stateOf, runOf, Steady}
 use Rattle.replaying.specs.Laws.{part-length}
 
