@@ -1,6 +1,7 @@
 # make            prove all crates, build the library and the tool, and play a short day with them
 # make build      the same without the day
 # make library    prove all crates and build the library alone; needs no C compiler
+# make replay     build the program that replays a day's log (request 3): build/replay, or build/TARGET/replay for the other processor
 # make check      pass all tests: the gate and what runs beside it
 # make search     time the search in one node (bench/search.c)
 # make wear       play a year of a camera's life and draw how often each block is erased (bench/wear.c, docs/WEAR.md)
@@ -29,11 +30,13 @@ COMPILER = $(CC)
 RUN =
 LINK =
 TOOL = build/mutree
+REPLAY = build/replay
 else
 COMPILER = $(CC_$(TARGET))
 RUN = $(RUN_$(TARGET))
 LINK = -static
 TOOL = build/$(TARGET)/mutree
+REPLAY = build/$(TARGET)/replay
 endif
 ifeq ($(filter x86_64 aarch64,$(TARGET)),)
 $(error TARGET is x86_64 or aarch64, not $(TARGET))
@@ -46,7 +49,7 @@ PROOFS = crates.txt $(shell find crates -type f)
 # What is asked for before ten minutes of proving, and not after: the archive alone needs no compiler.
 NEEDS = rt $(if $(filter library,$(MAKECMDGOALS)),,"$(COMPILER)")
 
-.PHONY: day build library check search wear bound cost cuts install uninstall clean settings
+.PHONY: day build library replay check search wear bound cost cuts install uninstall clean settings
 .DELETE_ON_ERROR:
 
 ifeq ($(TARGET),$(HOST))
@@ -67,22 +70,28 @@ target/proved: $(PROOFS)
 	@sh scripts/prove
 	@touch $@
 
-$(LIBRARY): target/proved scripts/archive scripts/kit
+$(LIBRARY): target/proved scripts/archive scripts/kit scripts/arm
 	sh scripts/archive $(TARGET) $@
 
 $(TOOL): $(LIBRARY) $(TOOL_SOURCES) $(TOOL_HEADERS)
 	@sh scripts/needs "$(COMPILER)" > /dev/null
 	$(COMPILER) $(STRICT) $(CFLAGS) $(TOOL_SOURCES) $(LIBRARY) -o $@
 
+# Request 3's program.
+replay: $(REPLAY)
+
+$(REPLAY): target/proved scripts/program scripts/kit scripts/arm
+	sh scripts/program $(TARGET) $@ "$(COMPILER)"
+
 # The one place from which the tests of the compiled code have their compiler: lines for sh to read.
 settings:
-	@printf "HOST='%s'\nCC='%s'\nRUN='%s'\nLINK='%s'\nLIBRARY='%s'\nTOOL='%s'\n" '$(HOST)' '$(COMPILER)' '$(RUN)' '$(LINK)' '$(LIBRARY)' '$(TOOL)'
+	@printf "HOST='%s'\nCC='%s'\nRUN='%s'\nLINK='%s'\nLIBRARY='%s'\nTOOL='%s'\nREPLAY='%s'\n" '$(HOST)' '$(COMPILER)' '$(RUN)' '$(LINK)' '$(LIBRARY)' '$(TOOL)' '$(REPLAY)'
 
 check:
 	sh tests/run
 
 # The crate bench_search has the search alone.
-build/$(TARGET)/libsearch.a: target/proved scripts/archive scripts/kit
+build/$(TARGET)/libsearch.a: target/proved scripts/archive scripts/kit scripts/arm
 	sh scripts/archive $(TARGET) $@ bench_search
 
 build/$(TARGET)/search: bench/search.c build/$(TARGET)/libsearch.a

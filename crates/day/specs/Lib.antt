@@ -1,0 +1,2 @@
+-- Between two parts of the input.
+pub mod Emptied

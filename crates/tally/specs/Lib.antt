@@ -1,0 +1,2 @@
+-- The tally of a replayed log (request 3).
+pub mod Counted

@@ -1,0 +1,46 @@
+#!/bin/sh
+# Request 3's program: the request's example, the stored longer log, each way in which a line has no form, and the limit of
+# 1,000,000 lines.
+# usage: run.sh PROGRAM, which may be a script that hands it to an emulator
+set -eu
+program=$1
+cd "$(dirname "$0")/../.."
+folder=$(mktemp -d)
+trap 'rm -rf "$folder"' EXIT
+bad=0
+
+# want WHAT INPUT OUTPUT: both as printf writes them
+want() {
+    printf "$2" | "$program" > "$folder/out"
+    printf "$3" > "$folder/wanted"
+    if ! cmp -s "$folder/out" "$folder/wanted"; then
+        echo "replay: $1: wrote '$(head -c 300 "$folder/out")', wanted '$(cat "$folder/wanted")'"
+        bad=1
+    fi
+}
+
+for crate in replay bench_log; do
+    "$program" < crates/$crate/stdin > "$folder/out"
+    cmp "$folder/out" crates/$crate/stdout || bad=1
+done
+
+want "no input" '' 'T\t0\t0\t0\n'
+want "before any F" 'L\t1\nI\t1\t2\nD\t1\nS\t1\t2\t3\n' 'L\t2\t0\t0\t0\nI\t2\t0\t0\t0\nD\t2\t0\t0\t0\nS\t2\t0\t0\t0\nT\t4\t0\t0\n'
+want "the largest numbers" 'F\nI\t4294967295\t4294967295\nL\t4294967295\nS\t0\t0\t0\n' 'F\t0\t0\t1\t3\nI\t0\t0\t1\t0\nL\t0\t4294967295\t0\t0\nS\t7\t0\t0\t0\nT\t4\t2\t3\n'
+# each is line 2: one too large, leading zeros, no number, a field too few and too many, other letters, CR, an empty line, blanks
+for line in 'L\t4294967296' 'L\t99999999999' 'L\t01' 'L\t00' 'L\t' 'L\t-1' 'L\t1a' 'L' 'L\t1\t2' 'I\t1' 'I\t1\t2\t3' 'S\t1\t2' 'S\t1\t2\t3\t4' 'F\t' 'F\t1' 'FF' 'f' 'X\t1' \
+    'F\r' 'L\t1\r' '' ' ' ' F' '\tF' 'L 1' 'S\t4294967295\t4294967295\t42949672950' 'L\t00000000000000000000000000000000000000001'; do
+    want "a line '$line'" "F\n$line\nF\n" 'F\t0\t0\t1\t3\nE\t2\n'
+done
+want "a last piece without byte 10" 'F\nF' 'F\t0\t0\t1\t3\nE\t2\n'
+want "one byte" 'F' 'E\t1\n'
+
+# 1,000,000 lines end with T, and line 1,000,001 is E whatever it holds.
+awk 'BEGIN { for (i = 0; i < 1000000; i++) print "L\t1" }' > "$folder/lines"
+"$program" < "$folder/lines" > "$folder/out"
+[ "$(tail -n 1 "$folder/out" | tr '\t' ' ')" = "T 1000000 0 0" ] && [ "$(wc -l < "$folder/out")" -eq 1000001 ] || { echo "replay: 1,000,000 lines do not end with T"; bad=1; }
+echo F >> "$folder/lines"
+"$program" < "$folder/lines" > "$folder/out"
+[ "$(tail -n 1 "$folder/out" | tr '\t' ' ')" = "E 1000001" ] && [ "$(wc -l < "$folder/out")" -eq 1000001 ] || { echo "replay: line 1,000,001 is not E"; bad=1; }
+[ $bad -eq 0 ] && echo "replay: the example, the stored log, lines without a form and the limit are as the request says"
+exit $bad
