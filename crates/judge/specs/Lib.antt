@@ -1,2 +1,3 @@
 -- R5, in the form in which the code has the premises.
+pub mod Programmed
 pub mod Laws

@@ -4,8 +4,7 @@ use mathlib.Core.Bool.{Bool, true, false, not, false≢true}
 use mathlib.Core.Path.{_≡_, refl, sym, ap, _∙_}
 use mathlib.Core.List.{List}
 use lib.Dec.{eqb, leb, ltb}
-use lib.ListN.{length, getD, set}
-use lib.Seq.{getD-set-same, getD-set-other}
+use lib.ListN.{getD}
 use native.Mathlib.Omega.{arith}
 use native.Mathlib.Numerals.{add-one}
 use borrow.Author.Tests.{not-true, not-false, eq-eqb, ne-eqb, lt-ltb, le-ltb, le-leb, lt-leb, eqb-true}
@@ -19,27 +18,27 @@ use Rattle.model.specs.Rules.{repeated, r3}
 use Rattle.counts.specs.Least.{by-lt, least-zero, least-go, least-end, any-none, any-hit, any-clear, least-none}
 use Rattle.counts.specs.Lowest.{lowest-bad, lowest-good}
 use Rattle.numbers.specs.declared.Range.{Range}
-use Rattle.numbers.specs.Ranges.{extended, rangeTo, apartOf, Shows, Ranges, ClearTo, Clear, AllClear, Differ}
+use Rattle.numbers.specs.Ranges.{extended, rangeTo, apartOf, Zero, Shows, Ranges, ClearTo, Counts, Clear, AllClear, Differ}
 use Rattle.numbers.specs.Apart.{differ}
 
 -- one page more
-module _ (er : ℕ → Bool) (seq : ℕ → ℕ) (p : ℕ) (s : Range) (e : Bool) (ee : e ≡ er p) where
-  pub extend-erased : e ≡ true → s ≡ extended er seq p s
+module _ (er : ℕ → Bool) (seq : ℕ → ℕ) (p : ℕ) (s : Range) where
+  pub extend-erased : er p ≡ true → s ≡ extended er seq p s
   unfolding extended
-  extend-erased q = simp (← ee, q)
+  extend-erased q = simp q
 
-  module _ (q : e ≡ false) (n : ℕ) (en : n ≡ seq p) where
+  module _ (q : er p ≡ false) (n : ℕ) (en : n ≡ seq p) where
     pub extend-falls : n ≤ s .high → record { rising = false; low = s .low; high = s .high } ≡ extended er seq p s
     unfolding extended
-    extend-falls h = simp (← ee, q, ← en, le-leb _ _ h)
+    extend-falls h = simp (q, ← en, le-leb _ _ h)
 
     pub extend-first : s .high < n → s .high ≡ 0 → record { rising = s .rising; low = n; high = n } ≡ extended er seq p s
     unfolding extended
-    extend-first h z = simp (← ee, q, ← en, lt-leb _ _ h, eq-eqb _ _ z)
+    extend-first h z = simp (q, ← en, lt-leb _ _ h, eq-eqb _ _ z)
 
     pub extend-more : s .high < n → (s .high ≡ 0 → ⊥) → record { rising = s .rising; low = s .low; high = n } ≡ extended er seq p s
     unfolding extended
-    extend-more h z = simp (← ee, q, ← en, lt-leb _ _ h, ne-eqb _ _ z)
+    extend-more h z = simp (q, ← en, lt-leb _ _ h, ne-eqb _ _ z)
 
 -- the range of a block
 module _ (er : ℕ → Bool) (seq : ℕ → ℕ) (base : ℕ) where
@@ -51,11 +50,6 @@ module _ (er : ℕ → Bool) (seq : ℕ → ℕ) (base : ℕ) where
   unfolding rangeTo
   range-go j p s s′ e ep es = es ∙ rw (ep, e, add-one j)
 
-  pub range-end : (j n : ℕ) (s : Range) → s ≡ rangeTo er seq base j → j ≤ n → n ≤ j → s ≡ rangeTo er seq base n
-  range-end j n s e h k =
-      let w : j ≡ n = omega arith in
-      rw (← w) e
-
 -- an answer of false shows nothing
 pub shows-none : (A : Type 0) → Shows false A
 shows-none A = record { holds = λ e. absurd (false≢true e) }
@@ -63,56 +57,56 @@ shows-none A = record { holds = λ e. absurd (false≢true e) }
 pub shows-some : (A : Type 0) → A → Shows true A
 shows-some A a = record { holds = λ e. a }
 
--- the ranges of all blocks
-module _ (er : ℕ → Bool) (seq : ℕ → ℕ) (p : ℕ) where
-  pub ranges-start : (lows highs : List ℕ) → Ranges er seq p 0 lows highs
-  ranges-start lows highs = record { rise = λ b h. absurd (omega arith); low = λ b h. absurd (omega arith); high = λ b h. absurd (omega arith) }
-
-  pub ranges-go : (lows highs : List ℕ) (b at : ℕ) (s : Range) → Ranges er seq p b lows highs → s ≡ rangeTo er seq (p * b) p → at ≡ b
-      → not (s .rising) ≡ false → (n : ℕ) (lows₀ highs₀ : List ℕ) → b < n → n ≤ length lows₀ → n ≤ length highs₀
-      → length lows ≡ length lows₀ → length highs ≡ length highs₀ → Ranges er seq p (b + 1) (set lows at (s .low)) (set highs at (s .high))
-  ranges-go lows highs b at s x es ea q n lows₀ highs₀ h hl hh el eh = record {
-    rise = λ i m. by-lt i b (λ k. x .rise i k) (λ k. (let w : i ≡ b = omega arith in rw (w, ← es) (not-false (s .rising) q)));
-    low = λ i m. by-lt i b
-        (λ k. getD-set-other lows at i (s .low) 0 (λ z. omega (arith, z, ea, k)) ∙ x .low i k)
-        (λ k. (let w : i ≡ at = omega (arith, ea) in let v : i ≡ b = omega arith in rw (w, getD-set-same lows at (s .low) 0 (omega (arith, ea, h, hl, el))) (rw (← w, v, ← es) refl)));
-    high = λ i m. by-lt i b
-        (λ k. getD-set-other highs at i (s .high) 0 (λ z. omega (arith, z, ea, k)) ∙ x .high i k)
-        (λ k. (let w : i ≡ at = omega (arith, ea) in let v : i ≡ b = omega arith in rw (w, getD-set-same highs at (s .high) 0 (omega (arith, ea, h, hh, eh))) (rw (← w, v, ← es) refl)));
-  }
-
-  pub ranges-end : (lows highs : List ℕ) (b n : ℕ) → Ranges er seq p b lows highs → n ≤ b → Shows true (Ranges er seq p n lows highs)
-  ranges-end lows highs b n x h =
-      shows-some _ (record { rise = λ i k. x .rise i (omega arith); low = λ i k. x .low i (omega arith); high = λ i k. x .high i (omega arith) })
-
 -- two ranges
 module _ (a b c d : ℕ) where
-  pub apart-none : b ≡ 0 → true ≡ apartOf a b c d
-  unfolding apartOf
-  apart-none z = simp (eq-eqb _ _ z)
+  by-zero : (t : Bool) → t ≡ true → pick (eqb b 0) true (pick (eqb d 0) true t) ≡ true
+  by-zero t e = go (eqb b 0) (eqb d 0)
+    where
+      go : (u v : Bool) → pick u true (pick v true t) ≡ true
+      go true v = refl
+      go false true = refl
+      go false false = e
 
-  pub apart-other : (b ≡ 0 → ⊥) → d ≡ 0 → true ≡ apartOf a b c d
+  pub apart-before : b < c → Zero 0 (apartOf a b c d)
   unfolding apartOf
-  apart-other z y = simp (ne-eqb _ _ z, eq-eqb _ _ y)
+  apart-before h = record { passes = λ e. by-zero (pick (ltb b c) true (ltb d a)) (simp (lt-ltb b c h)) }
 
-  pub apart-before : (b ≡ 0 → ⊥) → (d ≡ 0 → ⊥) → b < c → true ≡ apartOf a b c d
+  pub apart-after : d < a → Zero 0 (apartOf a b c d)
   unfolding apartOf
-  apart-before z y h = simp (ne-eqb _ _ z, ne-eqb _ _ y, lt-ltb _ _ h)
+  apart-after h = record { passes = λ e. by-zero (pick (ltb b c) true (ltb d a)) (rw (lt-ltb d a h) (either (ltb b c))) }
+    where
+      either : (t : Bool) → pick t true true ≡ true
+      either true = refl
+      either false = refl
 
-  pub apart-after : (b ≡ 0 → ⊥) → (d ≡ 0 → ⊥) → c ≤ b → ltb d a ≡ apartOf a b c d
+  pub apart-not : Zero 1 (apartOf a b c d)
+  apart-not = record { passes = λ e. absurd (omega (arith, e)) }
+
+  apart-empty : d ≡ 0 → apartOf a b c d ≡ true
   unfolding apartOf
-  apart-after z y h = simp (ne-eqb _ _ z, ne-eqb _ _ y, le-ltb _ _ h)
+  apart-empty e = rw (eq-eqb d 0 e) (go (eqb b 0))
+    where
+      go : (t : Bool) → pick t true true ≡ true
+      go true = refl
+      go false = refl
 
 module _ (lows highs : List ℕ) where
-  pub clear-start : (b : ℕ) → ClearTo lows highs b 0
-  clear-start b = record { apart = λ a h. absurd (omega arith) }
+  pub clear-empty : (b : ℕ) → getD highs b 0 ≡ 0 → Shows true (Clear lows highs b)
+  clear-empty b e = shows-some _ (record { clear = record { apart = λ a h. apart-empty (getD lows a 0) (getD highs a 0) (getD lows b 0) (getD highs b 0) e } })
 
-  pub clear-go : (b i : ℕ) (r : Bool) → ClearTo lows highs b i → r ≡ apartOf (getD lows i 0) (getD highs i 0) (getD lows b 0) (getD highs b 0) → not r ≡ false
-      → ClearTo lows highs b (i + 1)
-  clear-go b i r x e q = record { apart = λ a h. by-lt a i (λ k. x .apart a k) (λ k. (let w : a ≡ i = omega arith in rw w (sym e ∙ not-false r q))) }
+  pub clear-start : (b : ℕ) → Counts lows highs b 0 0
+  clear-start b = record { clear = λ e. record { apart = λ a h. absurd (omega arith) } }
 
-  pub clear-end : (b i : ℕ) → ClearTo lows highs b i → b ≤ i → Shows true (Clear lows highs b)
-  clear-end b i x h = shows-some _ (record { clear = record { apart = λ a k. x .apart a (omega arith) } })
+  pub clear-go : (b i k r : ℕ) → Counts lows highs b i k → Zero r (apartOf (getD lows i 0) (getD highs i 0) (getD lows b 0) (getD highs b 0))
+      → Counts lows highs b (i + 1) (k + r)
+  clear-go b i k r x y = record {
+    clear = λ e. record {
+      apart = λ a h. by-lt a i (λ m. x .clear (omega arith) .apart a m) (λ m. (let w : a ≡ i = omega arith in rw w (y .passes (omega (arith, e)))));
+    };
+  }
+
+  pub clear-end : (b i k : ℕ) → Counts lows highs b i k → b ≤ i → Shows (eqb k 0) (Clear lows highs b)
+  clear-end b i k x h = record { holds = λ e. record { clear = record { apart = λ a m. x .clear (eqb-true k 0 e) .apart a (omega arith) } } }
 
   pub all-start : AllClear lows highs 0
   all-start = record { each = λ b h. absurd (omega arith) }
@@ -212,4 +206,4 @@ module _ (g : Geometry) (img : List ℕ) (n : ℕ) where
       lowest-good (repeated (erased g img) (seqAt g img)) (g .pages * n)
       (least-none (repeated (erased g img) (seqAt g img)) (g .pages * n) (λ p h. never (erased g img) (seqAt g img) (g .pages * n) (d .holds q) p h))
 
-pub ruleset number-laws = (extend-erased, extend-falls, extend-first, extend-more, range-start, range-go, range-end, shows-none, ranges-start, ranges-go, ranges-end, apart-none, apart-other, apart-before, apart-after, clear-start, clear-go, clear-end, all-start, all-go, all-end, differ-shown, same-no, same-yes, repeated-erased, same-hit, same-end, same-start, same-go, again-start, again-go, again-bad, again-good, ranges-good)
+pub ruleset number-laws = (extend-falls, extend-first, extend-more, shows-none, apart-before, apart-after, apart-not, clear-empty, clear-start, clear-go, clear-end, all-start, all-go, all-end, differ-shown, same-no, same-yes, repeated-erased, same-hit, same-end, same-start, same-go, again-start, again-go, again-bad, again-good, ranges-good)

@@ -32,6 +32,10 @@ apartOf low high low′ high′ = pick (eqb high 0) true (pick (eqb high′ 0) t
 pub record Shows (b : Bool) (A : Type 0) : Type 0 where
   pub holds : b ≡ true → A
 
+-- a count of 0 shows that a test passes
+pub record Zero (k : ℕ) (t : Bool) : Type 0 where
+  pub passes : k ≡ 0 → t ≡ true
+
 -- the numbers of the blocks below n, p pages each, rise; their ranges stand in two lists
 pub record Ranges (er : ℕ → Bool) (seq : ℕ → ℕ) (p n : ℕ) (lows highs : List ℕ) : Type 0 where
   pub rise : (b : ℕ) → b < n → rangeTo er seq (p * b) p .rising ≡ true
@@ -41,6 +45,10 @@ pub record Ranges (er : ℕ → Bool) (seq : ℕ → ℕ) (p n : ℕ) (lows high
 -- the range of block b lies apart from those of the blocks below i
 pub record ClearTo (lows highs : List ℕ) (b i : ℕ) : Type 0 where
   pub apart : (a : ℕ) → a < i → apartOf (getD lows a 0) (getD highs a 0) (getD lows b 0) (getD highs b 0) ≡ true
+
+-- a count of 0 shows that of the ranges of the blocks below i
+pub record Counts (lows highs : List ℕ) (b i k : ℕ) : Type 0 where
+  pub clear : k ≡ 0 → ClearTo lows highs b i
 
 pub record Clear (lows highs : List ℕ) (b : ℕ) : Type 0 where
   pub clear : ClearTo lows highs b b

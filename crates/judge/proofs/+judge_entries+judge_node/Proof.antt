@@ -21,31 +21,31 @@ use Rattle.judge.proofs.+judge_entries+judge_node.Tie.{close}
 
 ruleset all = (needs, judge-laws)
 
-abbrev μ-judge-entries : Measures 1 judge-entries-kinds.ps ℕ
+abbrev μ-judge-entries : Measures 2 judge-entries-kinds.ps ℕ
 μ-judge-entries κs a = 257 * a .1 .1 .1 .0 + a .1 .1 .1 .1 .1 .0 + 1
 
-abbrev μ-judge-node : Measures 1 judge-node-kinds.ps ℕ
+abbrev μ-judge-node : Measures 2 judge-node-kinds.ps ℕ
 μ-judge-node κs a = 257 * a .1 .1 .1 .0
 
-abbrev judge-entries-at : ℕ → In 1 judge-entries-kinds.ps
+abbrev judge-entries-at : ℕ → In 2 judge-entries-kinds.ps
 judge-entries-at t =
-    and 1 judge-entries-kinds.ps (is 1 judge-entries-kinds.ps μ-judge-entries t) judge-entries.Pre
+    and 2 judge-entries-kinds.ps (is 2 judge-entries-kinds.ps μ-judge-entries t) judge-entries.Pre
 
-abbrev judge-entries-below : ℕ → In 1 judge-entries-kinds.ps
+abbrev judge-entries-below : ℕ → In 2 judge-entries-kinds.ps
 judge-entries-below t =
     and
-    1
+    2
     judge-entries-kinds.ps
-    (falls 1 judge-entries-kinds.ps _<_ μ-judge-entries t)
+    (falls 2 judge-entries-kinds.ps _<_ μ-judge-entries t)
     judge-entries.Pre
 
-abbrev judge-node-at : ℕ → In 1 judge-node-kinds.ps
+abbrev judge-node-at : ℕ → In 2 judge-node-kinds.ps
 judge-node-at t =
-    and 1 judge-node-kinds.ps (is 1 judge-node-kinds.ps μ-judge-node t) judge-node.Pre
+    and 2 judge-node-kinds.ps (is 2 judge-node-kinds.ps μ-judge-node t) judge-node.Pre
 
-abbrev judge-node-below : ℕ → In 1 judge-node-kinds.ps
+abbrev judge-node-below : ℕ → In 2 judge-node-kinds.ps
 judge-node-below t =
-    and 1 judge-node-kinds.ps (falls 1 judge-node-kinds.ps _<_ μ-judge-node t) judge-node.Pre
+    and 2 judge-node-kinds.ps (falls 2 judge-node-kinds.ps _<_ μ-judge-node t) judge-node.Pre
 
 pub +judge-entries+judge-node-spec : {M : Type 1} → statement M
 +judge-entries+judge-node-spec = close μ-judge-entries μ-judge-node (λ t. judge-entries-lts.spec (
@@ -74,7 +74,7 @@ pub +judge-entries+judge-node-spec : {M : Type 1} → statement M
     (λ c. search all)
     (λ c. search all)
     (λ c. search all)
-    (λ c κs. search all)
+    (λ c κs. (search needs, (search needs, search needs)))
     (λ c. search all)
     (λ c. search all))
     λ t. judge-node-lts.spec (
@@ -96,5 +96,5 @@ pub +judge-entries+judge-node-spec : {M : Type 1} → statement M
     (λ c κs. search all)
     (λ c κs. search all)
     (λ c. search all)
-    (λ c κs. search all)
+    (λ c κs. (search needs, (search needs, search needs)))
     (λ c. search all)

@@ -10,4 +10,5 @@ use Rattle.numbers.proofs.ranges_differ.Reads as ranges-differ-reads
 ruleset all = (needs, number-laws)
 
 pub rule-3-spec : {M : Type 1} → statement M
-rule-3-spec = tie.close (tie.spec (λ c κs. search all) (λ c. search all) (λ c κs. search all) (λ c. search all))
+rule-3-spec =
+    tie.close (tie.spec (λ c κs. search all) (λ c. search all) (λ c κs. search all) (λ c. search all))
