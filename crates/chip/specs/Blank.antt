@@ -8,7 +8,7 @@ use lib.Dec.{eqb}
 use native.Mathlib.Omega.{arith}
 use borrow.Author.Tests.{eq-eqb, ne-eqb, eqb-true, eqb-false, not-true, not-false}
 use Rattle.geometry.specs.Tests.{_&_, and-true, and-false}
-use Rattle.model.specs.Bytes.{byteAt, u32At, blank}
+use Rattle.model.specs.Bytes.{byteAt, blank}
 
 and-last : (a : Bool) → (a & true) ≡ a
 unfolding _&_

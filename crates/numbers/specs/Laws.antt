@@ -1,24 +1,23 @@
 -- R3, in the form in which the code has the premises. Assumes nothing.
-use Prim.Native.Nat.{ℕ, zero, suc, _+_, _-_, _*_, _<_, _≤_}
+use Prim.Native.Nat.{ℕ, _+_, _-_, _*_, _<_, _≤_}
 use mathlib.Core.Bool.{Bool, true, false, not, false≢true}
-use mathlib.Core.Path.{_≡_, refl, sym, ap, _∙_}
+use mathlib.Core.Path.{_≡_, refl, _∙_}
 use mathlib.Core.List.{List}
-use lib.Dec.{eqb, leb, ltb}
+use lib.Dec.{eqb, ltb}
 use lib.ListN.{getD}
 use native.Mathlib.Omega.{arith}
 use native.Mathlib.Numerals.{add-one}
-use borrow.Author.Tests.{not-true, not-false, eq-eqb, ne-eqb, lt-ltb, le-ltb, le-leb, lt-leb, eqb-true}
+use borrow.Author.Tests.{not-false, eq-eqb, ne-eqb, lt-ltb, le-leb, lt-leb, eqb-true}
 use Rattle.geometry.specs.declared.Geometry.{Geometry}
-use Rattle.geometry.specs.declared.Finding.{Finding}
-use Rattle.geometry.specs.declared.Finding.the-variants.{Good, Bad}
-use Rattle.geometry.specs.Tests.{pick, _&_, and-true, and-false}
+use Rattle.geometry.specs.declared.Finding.the-variants.{Good}
+use Rattle.geometry.specs.Tests.{pick}
 use Rattle.model.specs.Bytes.{erased, seqAt}
-use Rattle.model.specs.Count.{least, any}
-use Rattle.model.specs.Rules.{repeated, r3}
-use Rattle.counts.specs.Least.{by-lt, least-zero, least-go, least-end, any-none, any-hit, any-clear, least-none}
-use Rattle.counts.specs.Lowest.{lowest-bad, lowest-good}
+use Rattle.model.specs.Rules.{r3}
+use Rattle.counts.specs.Least.{by-lt}
+use Rattle.repeats.specs.Repeats.{Differ}
+use Rattle.repeats.specs.Laws.{differ-good}
 use Rattle.numbers.specs.declared.Range.{Range}
-use Rattle.numbers.specs.Ranges.{extended, rangeTo, apartOf, Zero, Shows, Ranges, ClearTo, Counts, Clear, AllClear, Differ}
+use Rattle.numbers.specs.Ranges.{extended, rangeTo, apartOf, Zero, Shows, Ranges, Counts, Clear, AllClear}
 use Rattle.numbers.specs.Apart.{differ}
 
 -- one page more
@@ -122,88 +121,8 @@ pub differ-shown : (er : ℕ → Bool) (seq : ℕ → ℕ) (p n m : ℕ) (lows h
 differ-shown er seq p n m lows highs a b x q e y =
     record { holds = λ t. differ er seq p n lows highs (x .holds (not-false a q)) (rw (← e) (y .holds t)) }
 
--- page by page
-unfoldable pub same : (ℕ → Bool) → (ℕ → ℕ) → ℕ → ℕ → Bool
-same er seq s q = not (er q) & eqb (seq q) s
-
-module _ (er : ℕ → Bool) (seq : ℕ → ℕ) where
-  pub same-no : (s q n : ℕ) → n ≡ seq q → (n ≡ s → ⊥) → false ≡ same er seq s q
-  unfolding same
-  same-no s q n e h = fails (not (er q))
-    where
-      fails : (t : Bool) → false ≡ (t & eqb (seq q) s)
-      fails true = simp (← e, ne-eqb _ _ h, and-true)
-      fails false = simp and-false
-
-  pub same-yes : (s q n : ℕ) (b : Bool) → n ≡ seq q → n ≡ s → b ≡ er q → not b ≡ same er seq s q
-  unfolding same
-  same-yes s q n b e h eb = holds b eb
-    where
-      holds : (b : Bool) → b ≡ er q → not b ≡ (not (er q) & eqb (seq q) s)
-      holds true f = simp (← f, and-false)
-      holds false f = simp (← f, ← e, eq-eqb _ _ h, and-true)
-
-  module _ (p : ℕ) (e : Bool) (ee : e ≡ er p) where
-    pub repeated-erased : e ≡ true → false ≡ repeated er seq p
-    unfolding repeated
-    repeated-erased q = simp (← ee, q, and-false)
-
-    module _ (q : e ≡ false) (s : ℕ) (es : s ≡ seq p) where
-      repeated-is : repeated er seq p ≡ any p (same er seq s)
-      unfolding repeated same
-      repeated-is = rw (← ee, q, ← es) (and-true _)
-
-      pub same-hit : (i : ℕ) (r : Bool) → least i (same er seq s) ≡ i → r ≡ same er seq s i → r ≡ true → i < p → true ≡ repeated er seq p
-      same-hit i r x er′ t h = sym (repeated-is ∙ any-hit (same er seq s) p i x (sym er′ ∙ t) h)
-
-      pub same-end : (i : ℕ) → least i (same er seq s) ≡ i → i ≤ p → p ≤ i → false ≡ repeated er seq p
-      same-end i x h k =
-          let w : i ≡ p = omega arith in
-          sym (repeated-is ∙ any-none (same er seq s) p (rw (← w) x))
-
-  pub same-start : (s : ℕ) → least 0 (same er seq s) ≡ 0
-  same-start s = sym (least-zero (same er seq s))
-
-  pub same-go : (s i : ℕ) (r : Bool) → least i (same er seq s) ≡ i → r ≡ same er seq s i → r ≡ false → least (i + 1) (same er seq s) ≡ i + 1
-  same-go s i r x er′ t = least-go (same er seq s) i x (sym er′ ∙ t)
-
-  pub again-start : least 0 (repeated er seq) ≡ 0
-  again-start = sym (least-zero (repeated er seq))
-
-  pub again-go : (i : ℕ) (r : Bool) → least i (repeated er seq) ≡ i → r ≡ repeated er seq i → r ≡ false → least (i + 1) (repeated er seq) ≡ i + 1
-  again-go i r x er′ t = least-go (repeated er seq) i x (sym er′ ∙ t)
-
-  never : (t : ℕ) → Differ er seq t → (p : ℕ) → p < t → repeated er seq p ≡ false
-  unfolding repeated
-  never t d p h = by-er (er p) refl
-    where
-      other : (q : ℕ) → q < p → er p ≡ false → (a b : Bool) → er q ≡ a → eqb (seq q) (seq p) ≡ b → (not a & b) ≡ false
-      other q lt ep true b eq e = and-false b
-      other q lt ep false true eq e = absurd (d .differ p q lt h ep eq (eqb-true (seq q) (seq p) e))
-      other q lt ep false false eq e = and-true false
-
-      by-er : (b : Bool) → er p ≡ b → (not b & any p (λ q. not (er q) & eqb (seq q) (seq p))) ≡ false
-      by-er true e = and-false _
-      by-er false e =
-          and-true _ ∙ any-clear (λ q. not (er q) & eqb (seq q) (seq p)) p (λ q lt. other q lt e (er q) (eqb (seq q) (seq p)) refl refl)
-
 -- R3
-module _ (g : Geometry) (img : List ℕ) (n : ℕ) where
-  pub again-bad : (t i : ℕ) (r : Bool) → t ≡ g .pages * n → least i (repeated (erased g img) (seqAt g img)) ≡ i
-      → r ≡ repeated (erased g img) (seqAt g img) i → r ≡ true → i < t → Bad i ≡ r3 g n img
-  unfolding r3
-  again-bad t i r et x er t′ h = lowest-bad (repeated (erased g img) (seqAt g img)) (g .pages * n) i x (sym er ∙ t′) (rw (← et) h)
+pub ranges-good : (g : Geometry) (img : List ℕ) (n : ℕ) (r : Bool) → Shows r (Differ (erased g img) (seqAt g img) (g .pages * n)) → r ≡ true → Good ≡ r3 g n img
+ranges-good g img n r d q = differ-good g img n (d .holds q)
 
-  pub again-good : (t i : ℕ) → t ≡ g .pages * n → least i (repeated (erased g img) (seqAt g img)) ≡ i → i ≤ t → t ≤ i → Good ≡ r3 g n img
-  unfolding r3
-  again-good t i et x h k =
-      let w : i ≡ g .pages * n = omega (arith, et) in
-      lowest-good (repeated (erased g img) (seqAt g img)) (g .pages * n) (rw (← w) x)
-
-  pub ranges-good : (r : Bool) → Shows r (Differ (erased g img) (seqAt g img) (g .pages * n)) → r ≡ true → Good ≡ r3 g n img
-  unfolding r3
-  ranges-good r d q =
-      lowest-good (repeated (erased g img) (seqAt g img)) (g .pages * n)
-      (least-none (repeated (erased g img) (seqAt g img)) (g .pages * n) (λ p h. never (erased g img) (seqAt g img) (g .pages * n) (d .holds q) p h))
-
-pub ruleset number-laws = (extend-falls, extend-first, extend-more, shows-none, apart-before, apart-after, apart-not, clear-empty, clear-start, clear-go, clear-end, all-start, all-go, all-end, differ-shown, same-no, same-yes, repeated-erased, same-hit, same-end, same-start, same-go, again-start, again-go, again-bad, again-good, ranges-good)
+pub ruleset number-laws = (extend-falls, extend-first, extend-more, shows-none, apart-before, apart-after, apart-not, clear-empty, clear-start, clear-go, clear-end, all-start, all-go, all-end, differ-shown, ranges-good)

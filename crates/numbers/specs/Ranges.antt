@@ -56,7 +56,3 @@ pub record Clear (lows highs : List ℕ) (b : ℕ) : Type 0 where
 -- the ranges of all blocks below n lie apart
 pub record AllClear (lows highs : List ℕ) (n : ℕ) : Type 0 where
   pub each : (b : ℕ) → b < n → Clear lows highs b
-
--- the numbers of the programmed pages below t differ
-pub record Differ (er : ℕ → Bool) (seq : ℕ → ℕ) (t : ℕ) : Type 0 where
-  pub differ : (p q : ℕ) → q < p → p < t → er p ≡ false → er q ≡ false → seq q ≡ seq p → ⊥

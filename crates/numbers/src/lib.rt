@@ -1,13 +1,13 @@
 // R3: the sequence numbers of programmed pages differ. They do where the numbers of each block rise and the blocks'
-// ranges lie apart; where not, each page is held against all before it.
+// ranges lie apart; where not, the crate repeats looks at all of them.
 ghost use mathlib.Core.Path.{_≡_};
-ghost use Prim.Native.Nat.{ℕ, _+_, _*_, _-_, _≤_, _<_};
+ghost use Prim.Native.Nat.{_+_, _*_, _-_, _≤_, _<_};
 ghost use mathlib.Core.Bool.{false};
 ghost use lib.ListN.{length};
 ghost use Rattle.model.specs.Bytes.{erased, seqAt};
-ghost use Rattle.model.specs.Rules.{repeated, r3};
-ghost use Rattle.numbers.specs.Ranges.{extended, rangeTo, apartOf, Zero, Shows, Ranges, Clear, AllClear, Differ};
-ghost use Rattle.numbers.specs.Laws.{same};
+ghost use Rattle.model.specs.Rules.{r3};
+ghost use Rattle.numbers.specs.Ranges.{extended, apartOf, Zero, Shows, Ranges, Clear, AllClear};
+ghost use Rattle.repeats.specs.Repeats.{Differ};
 use geometry::Finding;
 use geometry::Geometry;
 
@@ -103,48 +103,6 @@ fn ranges_differ(g: Geometry, img: &[u8], n: u16, rising: bool, lows: &[u32], hi
     all_apart(lows, highs, geometry::wide(n))
 }
 
-// Whether a page is programmed and has this number.
-fn has_number(g: Geometry, img: &[u8], page: u32, seq: u32) -> bool
-    ensures { λ r. ⌜ r ≡ same (erased g (now (img .entry))) (seqAt g (now (img .entry))) seq page ⌝ }
-{
-    if chip::seq_at(g, img, page) != seq {
-        return false;
-    }
-    !chip::page_erased(g, img, page)
-}
-
-// Whether a page is programmed and a lower one has its number.
-fn is_repeated(g: Geometry, img: &[u8], page: u32) -> bool
-    ensures { λ r. ⌜ r ≡ repeated (erased g (now (img .entry))) (seqAt g (now (img .entry))) page ⌝ }
-{
-    if chip::page_erased(g, img, page) {
-        return false;
-    }
-    let seq = chip::seq_at(g, img, page);
-    let mut other: u32 = 0;
-    while other < page {
-        if has_number(g, img, other, seq) {
-            return true;
-        }
-        other += 1;
-    }
-    false
-}
-
-fn first_repeated(g: Geometry, img: &[u8], n: u16) -> Finding
-    ensures { λ r. ⌜ r ≡ r3 g n (now (img .entry)) ⌝ }
-{
-    let pages = chip::first_page(g, n);
-    let mut page: u32 = 0;
-    while page < pages {
-        if is_repeated(g, img, page) {
-            return Finding::Bad(page);
-        }
-        page += 1;
-    }
-    Finding::Good
-}
-
 // R3, by the ranges of the blocks: the lowest page whose number a lower one has.
 pub fn rule_3(g: Geometry, img: &[u8], n: u16, rising: bool, lows: &[u32], highs: &[u32]) -> Finding
     requires { ⌜ (n ≤ length (now lows)) × (n ≤ length (now highs)) ⌝ }
@@ -154,5 +112,5 @@ pub fn rule_3(g: Geometry, img: &[u8], n: u16, rising: bool, lows: &[u32], highs
     if ranges_differ(g, img, n, rising, lows, highs) {
         return Finding::Good;
     }
-    first_repeated(g, img, n)
+    repeats::first_repeated(g, img, n)
 }

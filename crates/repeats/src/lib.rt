@@ -1,7 +1,7 @@
 // R3 on any image: the lowest page whose number a lower one has. The numbers are looked at in parts, from the lowest up,
 // each as large as a table of keys holds; a part is one pass over the pages.
 ghost use mathlib.Core.Path.{_≡_};
-ghost use Prim.Native.Nat.{ℕ, _+_, _*_, _-_, _≤_, _<_};
+ghost use Prim.Native.Nat.{_+_, _*_, _-_, _≤_, _<_};
 ghost use lib.ListN.{length};
 ghost use Rattle.model.specs.Bytes.{erased, seqAt};
 ghost use Rattle.model.specs.Rules.{r3};

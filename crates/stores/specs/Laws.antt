@@ -4,15 +4,15 @@ use mathlib.Core.List.{List, [], _∷_, _++_}
 use Prim.Native.Nat.{ℕ, zero, suc, _+_, _-_, _*_, _<_, _≤_}
 use mir.Syntax.{w32}
 use mir.Val.{Fits}
-use native.Mathlib.Nat.{mul-le-mul-left, lt-of-le-of-lt, le-of-lt}
+use native.Mathlib.Nat.{mul-le-mul-left, lt-of-le-of-lt}
 use native.Mathlib.Omega.{arith}
 use native.Mathlib.Nat.{zero-add}
-use lib.ListN.{length, getD, set, take, drop, List·getD-eq-default, take-append-drop, length-drop}
+use lib.ListN.{length, set, take, drop, List·getD-eq-default, take-append-drop, length-drop}
 use lib.Seq.{set-out, getD-take, set-append-left, length-take-le}
 use Rattle.geometry.specs.declared.Geometry.{Geometry}
 use Rattle.geometry.specs.Geometry.{pageBytes, pageBase}
 use Rattle.model.specs.Bytes.{byteAt}
-use Rattle.model.specs.Stores.{Store, program, erase, written, applyStore}
+use Rattle.model.specs.Stores.{program, erase, written, applyStore}
 use Rattle.lists.specs.Written.{written-none, written-more, written-same, length-written, filled-more}
 
 pub byte-past : (l : List ℕ) (at : ℕ) → length l ≤ at → 0 ≡ byteAt l at

@@ -1,4 +1,4 @@
-use Prim.Native.Nat.{_≤_, _<_, _+_, _*_, _-_}
+use Prim.Native.Nat.{_≤_, _-_}
 use Rattle.numbers.specs.Ranges.{Counts}
 use borrow.Author.Needs.{needs}
 use Rattle.numbers.specs.Laws.{number-laws}

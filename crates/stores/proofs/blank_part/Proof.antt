@@ -2,7 +2,7 @@ use borrow.Author.Needs.{needs}
 use Rattle.stores.specs.Laws.{store-laws}
 use Rattle.stores.specs.Runs.{run-laws}
 use mathlib.Core.Path.{_≡_}
-use Prim.Native.Nat.{_+_, _-_, _≤_}
+use Prim.Native.Nat.{_-_, _≤_}
 use lib.ListN.{length}
 use Rattle.model.specs.Stores.{written}
 use Rattle.stores.proofs.blank_part.Statement.{statement}
