@@ -41,7 +41,7 @@ fn long(x: u32) -> u64
 }
 
 // The number inside the image; it is the largest where its bytes are all 255.
-fn raw_u32(img: &[u8], at: usize) -> u32
+pub fn raw_u32(img: &[u8], at: usize) -> u32
     requires { ⌜ at + 4 ≤ length (now img) ⌝ }
     ensures { λ r. ⌜ r ≡ u32At (now (img .entry)) at ⌝ }
     ensures { λ r. ⌜ eqb r 4294967295 ≡ blank (now (img .entry)) at 4 ⌝ }

@@ -21,6 +21,7 @@ use Rattle.model.specs.Bytes.{u32At, erased, nodePlace, nodeCount, entriesAt, n
 use Rattle.model.specs.Image.{Nodes}
 use Rattle.model.specs.Tree.{next}
 use Rattle.model.specs.Rules.{first, unless, names, rising, own, ownRoot, judgeEntries, judgeNode, r5}
+use Rattle.leaves.specs.Leaves.{anyPage}
 use Rattle.judge.specs.Programmed.{Programmed}
 use Rattle.chip.specs.Chip.{entryAt, chipWith}
 use Rattle.chip.specs.Node.{node-is, node-length, node-read, entries-start, entries-step, entries-none, entries-turn, entries-past, key-is, addr-is}
@@ -98,15 +99,7 @@ module _ (ok : ℕ → Bool) (img : List ℕ) (at n lo hi : ℕ) where
     unfolding rising
     rising-end h = sym (inv ∙ rw (entries-past img at n i h))
 
--- a leaf's entries name anything
-abbrev pub anyPage : ℕ → Bool
-anyPage a = true
-
-pub keys-go : (img : List ℕ) (at n lo hi i low k : ℕ) → rising anyPage (entriesAt img at n) lo hi ≡ rising anyPage (entriesAt img (at + 8 * i) (n - i)) low hi
-    → k ≡ u32At img (at + 8 * i) → i < n → low ≤ k → k < hi
-    → rising anyPage (entriesAt img at n) lo hi ≡ rising anyPage (entriesAt img (at + 8 * (i + 1)) (n - (i + 1))) (k + 1) hi
-keys-go img at n lo hi i low k inv ek h g f = rising-go anyPage img at n lo hi i low inv k (u32At img (at + 8 * i + 4)) true ek refl refl refl h g f
-
+-- a leaf
 leaf-any : (er : ℕ → Bool) (t l : ℕ) → l ≡ 1 → (es : List Entry) (lo hi : ℕ) → rising anyPage es lo hi ≡ rising (names er t l) es lo hi
 unfolding rising
 leaf-any er t l e [] lo hi = refl
@@ -232,4 +225,4 @@ module _ (g : Geometry) (img : List ℕ) (t l p : ℕ) (b : Bool) (eb : b ≡ ow
   rule-below at n v q ea en ev =
       ev ∙ rw (node-read g img p (l + 1) at n ea en) (sym (rw (← (add-one l), ← eb, not-false b q) (unless-true p _)))
 
-pub ruleset judge-laws = (next-none, next-some, names-leaf, names-off, names-by, blank-some, blank-inside, blank-fits, blank-read, blank-is, rising-start, rising-low, rising-high, rising-refused, rising-go, rising-end, keys-go, leaf-rises, own-none, own-over, own-on, least-leaf, least-above, root-none, root-over, root-on, judge-bottom, judge-own, judge-on, judge-leaf, judge-end, judge-bad, judge-good, rule-root, rule-below)
+pub ruleset judge-laws = (next-none, next-some, names-leaf, names-off, names-by, blank-some, blank-inside, blank-fits, blank-read, blank-is, rising-start, rising-low, rising-high, rising-refused, rising-go, rising-end, leaf-rises, own-none, own-over, own-on, least-leaf, least-above, root-none, root-over, root-on, judge-bottom, judge-own, judge-on, judge-leaf, judge-end, judge-bad, judge-good, rule-root, rule-below)

@@ -3,20 +3,14 @@ ghost use mathlib.Core.Path.{_≡_};
 ghost use Prim.Native.Nat.{ℕ, _+_, _*_, _-_, _/_, _%_, _≤_, _<_};
 ghost use lib.Dec.{leb};
 ghost use lib.ListN.{length, getD};
-ghost use Rattle.model.specs.Bytes.{u32At, erased, entriesAt, nodeAt};
+ghost use Rattle.model.specs.Bytes.{erased, entriesAt, nodeAt};
 ghost use Rattle.model.specs.Tree.{next};
 ghost use Rattle.model.specs.Rules.{names, rising, own, ownRoot, judgeEntries, judgeNode, r5};
 ghost use Rattle.chip.specs.Chip.{chipWith};
 ghost use Rattle.judge.specs.Programmed.{Programmed};
-ghost use Rattle.judge.specs.Laws.{anyPage, rootLeast};
+ghost use Rattle.judge.specs.Laws.{rootLeast};
 use geometry::Finding;
 use geometry::Geometry;
-
-fn key_at(img: &[u8], at: usize) -> u64
-    ensures { λ r. ⌜ (r ≡ u32At (now (img .entry)) at) × (r < 4294967296) ⌝ }
-{
-    chip::read_u32(img, at) as u64
-}
 
 // The key below which an entry stays: that of the entry at `at`, or the node's bound if none is left.
 fn next_key(img: &[u8], at: usize, left: usize, hi: u64) -> u64
@@ -25,7 +19,7 @@ fn next_key(img: &[u8], at: usize, left: usize, hi: u64) -> u64
     if left == 0 {
         return hi;
     }
-    key_at(img, at)
+    leaves::key_at(img, at)
 }
 
 // Whether a page is none of the programmed ones of its block.
@@ -72,7 +66,7 @@ fn all_rising(
     let mut low = lo;
     let mut i: usize = 0;
     while i < n {
-        let key = key_at(img, at + 8 * i);
+        let key = leaves::key_at(img, at + 8 * i);
         if key < low {
             return false;
         }
@@ -81,27 +75,6 @@ fn all_rising(
         }
         let page = chip::read_u32(img, at + 8 * i + 4);
         if !may_name(g, img, pages, level, page, programmed) {
-            return false;
-        }
-        low = key + 1;
-        i += 1;
-    }
-    true
-}
-
-// The keys of the n entries from byte `at` rise from lo, below hi.
-fn keys_rise(img: &[u8], at: usize, n: usize, lo: u64, hi: u64) -> bool
-    requires { ⌜ at + 8 * n < 1152921504606846976 ⌝ }
-    ensures { λ r. ⌜ r ≡ rising anyPage (entriesAt (now (img .entry)) at n) lo hi ⌝ }
-{
-    let mut low = lo;
-    let mut i: usize = 0;
-    while i < n {
-        let key = key_at(img, at + 8 * i);
-        if key < low {
-            return false;
-        }
-        if hi <= key {
             return false;
         }
         low = key + 1;
@@ -127,7 +100,7 @@ fn entries_rise(
     ensures { λ r. ⌜ r ≡ rising (names (erased g (now (img .entry))) pages level) (entriesAt (now (img .entry)) at n) lo hi ⌝ }
 {
     if level == 1 {
-        return keys_rise(img, at, n, lo, hi);
+        return leaves::keys_rise(img, at, n, lo, hi);
     }
     all_rising(g, img, pages, level, at, n, lo, hi, programmed)
 }
@@ -228,7 +201,7 @@ fn judge_entries(
     if left == 0 {
         return Finding::Good;
     }
-    let key = key_at(img, at);
+    let key = leaves::key_at(img, at);
     let page = chip::read_u32(img, at + 4);
     let next = next_key(img, at + 8, left - 1, hi);
     match judge_node(g, img, pages, below, page, key, next, programmed) {

@@ -13,7 +13,7 @@ use Rattle.judge.proofs.+judge_entries+judge_node.Lts-judge_node as jud
 use Rattle.chip.proofs.node_count.Reads as node-count-reads
 use Rattle.chip.proofs.node_place.Reads as node-place-reads
 use Rattle.chip.proofs.read_u32.Reads as read-u32-reads
-use Rattle.judge.proofs.key_at.Reads as key-at-reads
+use Rattle.leaves.proofs.key_at.Reads as key-at-reads
 use Rattle.judge.proofs.next_key.Reads as next-key-reads
 use Rattle.judge.proofs.node_own.Reads as node-own-reads
 use Rattle.judge.proofs.+judge_entries+judge_node.{statement}

@@ -10,7 +10,7 @@ use Rattle.judge.proofs.all_rising.Tie as tie
 use Rattle.judge.proofs.all_rising.Reads as reads
 use Rattle.judge.proofs.all_rising.Lts as lts
 use Rattle.chip.proofs.read_u32.Reads as read-u32-reads
-use Rattle.judge.proofs.key_at.Reads as key-at-reads
+use Rattle.leaves.proofs.key_at.Reads as key-at-reads
 use Rattle.judge.proofs.may_name.Reads as may-name-reads
 
 ruleset all = (needs, judge-laws)

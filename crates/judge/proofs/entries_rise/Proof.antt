@@ -5,7 +5,7 @@ use Rattle.judge.proofs.entries_rise.Tie as tie
 use Rattle.judge.proofs.entries_rise.Reads as reads
 use Rattle.judge.proofs.entries_rise.Lts as lts
 use Rattle.judge.proofs.all_rising.Reads as all-rising-reads
-use Rattle.judge.proofs.keys_rise.Reads as keys-rise-reads
+use Rattle.leaves.proofs.keys_rise.Reads as keys-rise-reads
 
 ruleset all = (needs, judge-laws)
 

@@ -2,16 +2,16 @@ use Prim.Native.Nat.{_≤_, _<_, _+_, _*_, _-_}
 use mathlib.Core.Path.{_≡_}
 use Rattle.model.specs.Bytes.{entriesAt}
 use Rattle.model.specs.Rules.{rising}
-use Rattle.judge.specs.Laws.{anyPage, keys-go}
+use Rattle.leaves.specs.Leaves.{anyPage}
 use borrow.Author.Needs.{needs}
-use Rattle.judge.specs.Laws.{judge-laws}
-use Rattle.judge.proofs.keys_rise.Statement.{statement}
-use Rattle.judge.proofs.keys_rise.Tie as tie
-use Rattle.judge.proofs.keys_rise.Reads as reads
-use Rattle.judge.proofs.keys_rise.Lts as lts
-use Rattle.judge.proofs.key_at.Reads as key-at-reads
+use Rattle.leaves.specs.Laws.{leaf-laws}
+use Rattle.leaves.proofs.each_rises.Statement.{statement}
+use Rattle.leaves.proofs.each_rises.Tie as tie
+use Rattle.leaves.proofs.each_rises.Reads as reads
+use Rattle.leaves.proofs.each_rises.Lts as lts
+use Rattle.leaves.proofs.key_at.Reads as key-at-reads
 
-ruleset all = (needs, judge-laws)
+ruleset all = (needs, leaf-laws)
 
 abbrev Inv-loop : tie.InvT-loop
 Inv-loop img at n lo hi low₀ i₀ low i =
@@ -20,8 +20,8 @@ Inv-loop img at n lo hi low₀ i₀ low i =
 abbrev μ-loop : tie.MeasureT-loop
 μ-loop img at n lo hi low₀ i₀ low i = n - i
 
-pub keys-rise-spec : {M : Type 1} → statement M
-keys-rise-spec =
+pub each-rises-spec : {M : Type 1} → statement M
+each-rises-spec =
     tie.close
     (tie.spec
     Inv-loop
@@ -35,5 +35,5 @@ keys-rise-spec =
     (λ c. search all)
     (λ c. search all)
     (λ c. search all)
-    (λ c. (search all, search keys-go))
+    (λ c. search all)
     (λ c. search all))
