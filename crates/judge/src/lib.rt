@@ -233,8 +233,8 @@ fn judge_leaves(
     while i < n {
         let found = leaf_at(g, img, &mut *table, pages, at, n, hi, i);
         match found {
-            Finding::Bad(bad) => {
-                return Finding::Bad(bad);
+            Finding::Bad(leaf) => {
+                return Finding::Bad(leaf);
             }
             Finding::Good => {
                 i += 1;
