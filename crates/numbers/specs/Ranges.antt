@@ -1,5 +1,5 @@
 -- The ranges of the blocks' numbers. `er` tells the erased pages, `seq` the numbers. Definitions alone; assumes nothing.
-use Prim.Native.Nat.{ℕ, zero, suc, _+_, _*_, _<_}
+use Prim.Native.Nat.{ℕ, zero, suc, _+_, _*_, _<_, _≤_}
 use mathlib.Core.Bool.{Bool, true, false}
 use mathlib.Core.Path.{_≡_}
 use mathlib.Core.List.{List}
@@ -56,3 +56,21 @@ pub record Clear (lows highs : List ℕ) (b : ℕ) : Type 0 where
 -- the ranges of all blocks below n lie apart
 pub record AllClear (lows highs : List ℕ) (n : ℕ) : Type 0 where
   pub each : (b : ℕ) → b < n → Clear lows highs b
+
+-- of the blocks below b none has a number above floor and below ceiling: a range there lies apart from theirs
+pub record Free (lows highs : List ℕ) (b floor ceiling : ℕ) : Type 0 where
+  pub apart : (a : ℕ) → a < b → (low high : ℕ) → floor < low → high < ceiling → apartOf (getD lows a 0) (getD highs a 0) low high ≡ true
+
+-- the ranges of the blocks below b lie apart and leave that space
+pub record Spaced (lows highs : List ℕ) (b floor ceiling : ℕ) : Type 0 where
+  pub clear : AllClear lows highs b
+  pub free : Free lows highs b floor ceiling
+
+-- c is not above any beginning of a range, of the blocks below i, that is above h
+pub record Over (lows : List ℕ) (i h c : ℕ) : Type 0 where
+  pub over : (a : ℕ) → a < i → h < getD lows a 0 → c ≤ getD lows a 0
+
+-- the same with one range more, that begins at low
+pub record Nearer (low h c r : ℕ) : Type 0 where
+  pub most : r ≤ c
+  pub near : h < low → r ≤ low

@@ -3,10 +3,10 @@
 ghost use mathlib.Core.Path.{_≡_};
 ghost use Prim.Native.Nat.{_+_, _*_, _-_, _≤_, _<_};
 ghost use mathlib.Core.Bool.{false};
-ghost use lib.ListN.{length};
+ghost use lib.ListN.{length, getD};
 ghost use Rattle.model.specs.Bytes.{erased, seqAt};
 ghost use Rattle.model.specs.Rules.{r3};
-ghost use Rattle.numbers.specs.Ranges.{extended, apartOf, Zero, Shows, Ranges, Clear, AllClear};
+ghost use Rattle.numbers.specs.Ranges.{extended, apartOf, Zero, Shows, Ranges, Clear, AllClear, Spaced, Over, Nearer};
 ghost use Rattle.repeats.specs.Repeats.{Differ};
 use geometry::Finding;
 use geometry::Geometry;
@@ -16,6 +16,13 @@ pub struct Range {
     pub rising: bool,
     pub low: u32,
     pub high: u32,
+}
+
+// Whether the ranges of some blocks lie apart, and a space, above floor and below ceiling, that none of them reaches into.
+struct Space {
+    apart: bool,
+    floor: u32,
+    ceiling: u64,
 }
 
 // A range with one programmed page more.
@@ -64,9 +71,6 @@ fn apart_below(lows: &[u32], highs: &[u32], block: usize) -> bool
 {
     let low = lows[block];
     let high = highs[block];
-    if high == 0 {
-        return true;
-    }
     let mut k: usize = 0;
     let mut i: usize = 0;
     while i < block {
@@ -76,16 +80,104 @@ fn apart_below(lows: &[u32], highs: &[u32], block: usize) -> bool
     k == 0
 }
 
+fn long(x: u32) -> u64
+    ensures { λ r. ⌜ (r ≡ x) × (r < 4294967296) ⌝ }
+{
+    x as u64
+}
+
+// The lower of a ceiling and a range's beginning, if that is above `high`.
+fn nearer(low: u32, high: u32, ceiling: u64) -> u64
+    ensures { λ r. ⌜ Nearer low high ceiling r ⌝ }
+{
+    if low <= high {
+        return ceiling;
+    }
+    let wide = long(low);
+    if ceiling <= wide {
+        return ceiling;
+    }
+    wide
+}
+
+// Where the first range above `high` begins, of the blocks below one; 2^32 if there is none.
+fn ceiling_above(lows: &[u32], block: usize, high: u32) -> u64
+    requires { ⌜ block ≤ length (now lows) ⌝ }
+    ensures { λ r. ⌜ Over (now (lows .entry)) block high r ⌝ }
+{
+    let mut ceiling: u64 = 4294967296;
+    let mut i: usize = 0;
+    while i < block {
+        ceiling = nearer(lows[i], high, ceiling);
+        i += 1;
+    }
+    ceiling
+}
+
+// The space above the range of a block that does not lie in the space before it.
+fn far_space(lows: &[u32], highs: &[u32], block: usize, low: u32, high: u32) -> Space
+    requires { ⌜ (block < length (now lows)) × (block < length (now highs)) ⌝ }
+    requires { ⌜ (low ≡ getD (now lows) block 0) × (high ≡ getD (now highs) block 0) × (1 ≤ high) × (low ≤ high) ⌝ }
+    requires { ⌜ AllClear (now lows) (now highs) block ⌝ }
+    ensures { λ r. ⌜ Shows (r .apart) (Spaced (now (lows .entry)) (now (highs .entry)) (block + 1) (r .floor) (r .ceiling)) ⌝ }
+{
+    let apart = apart_below(lows, highs, block);
+    let ceiling = ceiling_above(lows, block, high);
+    Space {
+        apart: apart,
+        floor: high,
+        ceiling: ceiling,
+    }
+}
+
+// With one block more. Most often its range lies in the space above that of the block before.
+fn next_space(lows: &[u32], highs: &[u32], block: usize, floor: u32, ceiling: u64) -> Space
+    requires { ⌜ (block < length (now lows)) × (block < length (now highs)) × Spaced (now lows) (now highs) block floor ceiling ⌝ }
+    ensures { λ r. ⌜ Shows (r .apart) (Spaced (now (lows .entry)) (now (highs .entry)) (block + 1) (r .floor) (r .ceiling)) ⌝ }
+{
+    let low = lows[block];
+    let high = highs[block];
+    if high == 0 {
+        return Space {
+            apart: true,
+            floor: floor,
+            ceiling: ceiling,
+        };
+    }
+    if high < low {
+        return Space {
+            apart: false,
+            floor: floor,
+            ceiling: ceiling,
+        };
+    }
+    if floor < low {
+        if long(high) < ceiling {
+            return Space {
+                apart: true,
+                floor: high,
+                ceiling: ceiling,
+            };
+        }
+    }
+    far_space(lows, highs, block, low, high)
+}
+
 // Whether the ranges of n blocks lie apart.
 fn all_apart(lows: &[u32], highs: &[u32], n: usize) -> bool
     requires { ⌜ (n ≤ length (now lows)) × (n ≤ length (now highs)) ⌝ }
     ensures { λ r. ⌜ Shows r (AllClear (now (lows .entry)) (now (highs .entry)) n) ⌝ }
 {
+    let mut floor: u32 = 0;
+    let mut ceiling: u64 = 4294967296;
     let mut block: usize = 0;
     while block < n {
-        if !apart_below(lows, highs, block) {
+        let space = next_space(lows, highs, block, floor, ceiling);
+        if !space.apart {
             return false;
         }
+        floor = space.floor;
+        ceiling = space.ceiling;
         block += 1;
     }
     true

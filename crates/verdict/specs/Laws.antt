@@ -30,6 +30,7 @@ use Rattle.survey.specs.Laws.{chip-is}
 use Rattle.numbers.specs.Ranges.{Shows, Ranges}
 use Rattle.sight.specs.Sight.{Told, Counted, Clear, Flaw}
 use Rattle.judge.specs.Programmed.{Programmed}
+use Rattle.judge.specs.Noted.{Marks}
 use Rattle.walk.specs.Table.{liveIn, Marked}
 use Rattle.walk.specs.Lows.{marked-block, marked-pages}
 use Rattle.loose.specs.Loose.{Inside}
@@ -191,9 +192,6 @@ pub tells-broken : (c : Chip) (tbl : List ℕ) (k q : ℕ) → Tells c tbl (Brok
 tells-broken c tbl k q = record { marked = λ e. absurd (broken-sound k q e) }
 
 module _ (g : Geometry) (n : ℕ) (img : List ℕ) (s : Survey) where
-  pub tells-filled : (m : ℕ) (tbl : List ℕ) (v : Verdict) → Ready g n img s m → Marked (chipWith g img (s .level) (s .root)) tbl → Tells (chipOf g n img) tbl v
-  tells-filled m tbl v x y = record { marked = λ e. subst (λ (c : Chip). Marked c tbl) (chip-is g n img s (x .survey)) y }
-
   -- 65536 places have room for 1024 blocks of at most 64 pages
   pub ready-is : (m : ℕ) → s ≡ surveyOf g n img → s .level < 255 → g .pages ≤ 64 → n ≤ 1024 → 65536 ≤ m → Ready g n img s m
   ready-is m e h p k r = record {
@@ -207,8 +205,11 @@ module _ (g : Geometry) (n : ℕ) (img : List ℕ) (s : Survey) where
     pub ready-same : (k : ℕ) → k ≡ m → Ready g n img s k
     ready-same k e = rw e x
 
-    pub marked-chip : (tbl : List ℕ) → Marked (chipWith g img (s .level) (s .root)) tbl → Marked (chipOf g n img) tbl
+    marked-chip : (tbl : List ℕ) → Marked (chipWith g img (s .level) (s .root)) tbl → Marked (chipOf g n img) tbl
     marked-chip tbl y = subst (λ (c : Chip). Marked c tbl) (chip-is g n img s (x .survey)) y
+
+    pub marked-rule : (u : List ℕ) (v : Finding) → Marks v (chipWith g img (s .level) (s .root)) u → v ≡ Good → Marked (chipOf g n img) u
+    marked-rule u v y e = marked-chip u (y .marks e)
 
     pub marked-with : (tbl : List ℕ) → Marked (chipOf g n img) tbl → Marked (chipWith g img (s .level) (s .root)) tbl
     marked-with tbl y = subst (λ (c : Chip). Marked c tbl) (sym (chip-is g n img s (x .survey))) y
@@ -229,6 +230,9 @@ module _ (g : Geometry) (n : ℕ) (img : List ℕ) (s : Survey) where
     inside-good v t k et e f ek =
         subst (λ (c : Chip). Inside c k) (chip-is g n img s (x .survey))
         (r5-inside g t k (chipWith g img (s .level) (s .root)) (omega (arith, et, ek, x .room)) (rw ek root-below) (sym e ∙ f))
+
+    pub tells-rule : (u : List ℕ) (v : Finding) (w : Verdict) → Marks v (chipWith g img (s .level) (s .root)) u → v ≡ Good → Tells (chipOf g n img) u w
+    tells-rule u v w y e = record { marked = λ _. marked-rule u v y e }
 
 pub judged-is : (g : Geometry) (n : ℕ) (img t u : List ℕ) (v : Verdict) (s : Survey) → v ≡ verdict g n img → s ≡ surveyOf g n img → s .level < 255
     → Tells (chipOf g n img) u v → length u ≡ length t → Judged g n img (record { verdict = v; survey = s }) t u
@@ -287,4 +291,4 @@ module _ (g : Geometry) (n : ℕ) (img : List ℕ) (t f : Bool) (s : Survey) (pr
     sight-judged w u v ev y e =
         judged-is g n img w u v s (good-1 g n img Good v (sym (c .formed)) refl (good-2 g n img Good v (sym (c .ordered)) refl ev)) (c .survey) (c .level) y e
 
-pub ruleset verdict-laws = (clear-no, clear-is, clear-start, clear-go, clear-hit, clear-end, room-many, room-some, room-none, ample-yes, ample-no, bad-8, good-8, bad-7, good-7, bad-6, good-6, bad-5, good-5, bad-4, good-4, bad-3, good-3, bad-2, good-2, bad-1, good-1, tells-broken, tells-filled, ready-is, ready-same, marked-chip, marked-with, inside-with, inside-good, never-broken, order-breaks, passed-1, judged-never, sight-broken, sight-ready, sight-counted, sight-ranges, sight-judged, programmed-is)
+pub ruleset verdict-laws = (clear-no, clear-is, clear-start, clear-go, clear-hit, clear-end, room-many, room-some, room-none, ample-yes, ample-no, bad-8, good-8, bad-7, good-7, bad-6, good-6, bad-5, good-5, bad-4, good-4, bad-3, good-3, bad-2, good-2, bad-1, good-1, tells-broken, ready-is, ready-same, marked-rule, marked-with, inside-with, inside-good, tells-rule, never-broken, order-breaks, passed-1, judged-never, sight-broken, sight-ready, sight-counted, sight-ranges, sight-judged, programmed-is)

@@ -137,16 +137,14 @@ fn from_rule_5(
     match judge::rule_5(
         g,
         img,
+        &mut *table,
         chip::first_page(g, n),
         survey.level,
         survey.root,
         programmed,
     ) {
         Finding::Bad(page) => Verdict::Broken(5, page),
-        Finding::Good => {
-            walk::fill(g, img, &mut *table, survey.level, survey.root);
-            from_rule_6(g, img, &*table, n, survey)
-        }
+        Finding::Good => from_rule_6(g, img, &*table, n, survey),
     }
 }
 

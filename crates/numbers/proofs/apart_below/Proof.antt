@@ -31,7 +31,6 @@ apart-below-spec =
     (λ c. search all)
     (λ c. search all)
     (λ c. search all)
-    (λ c. search all)
     (λ c κs. search all)
     (λ c. search all)
     (λ c. search all)
