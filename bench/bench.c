@@ -5,6 +5,7 @@
  */
 #define _POSIX_C_SOURCE 200809L
 #include "../c/mutree.h"
+#include "../tests/independent/built.h"
 #include "../tests/independent/code.h"
 
 #include <stdio.h>
@@ -23,11 +24,18 @@ enum { LEFT = 90, SPAN = 300, PANEL = 390 }; /* of the plot, in pixels */
 static const unsigned sizes[SIZES] = { 3, 64, 1024 };
 static const char *const chip_names[CHIPS] = { "small pages", "large pages" };
 
-enum { MEMCPY, READ, LOOKUP, INSERT, COLLECT, DELETE, FORMAT, PATROL, LMDB_GET, LMDB_PUT, KINDS };
+enum { MEMCPY, READ, LOOKUP, DISORDER, INSERT, COLLECT, DELETE, FORMAT, PATROL, LMDB_GET, LMDB_PUT, KINDS };
 
 static const char *const names[KINDS] = {
-    "memcpy of the image", "reading the image", "lookup, judged", "insert, no collection", "insert, with collection", "delete", "format",
+    "memcpy of the image", "reading the image", "lookup, judged", "lookup, a number out of order", "insert, no collection", "insert, with collection", "delete", "format",
     "patrol of the whole image", "LMDB get", "LMDB put, no sync"
+};
+
+/* The insert with the most stores that there is: how long it takes, a memcpy of its image, its blocks, pages and erases. */
+struct worst {
+    double time, copy;
+    unsigned blocks;
+    uint32_t pages, erases;
 };
 
 /* What was measured on a chip at one size. */
@@ -37,6 +45,7 @@ struct figures {
 };
 
 static struct figures measured[CHIPS][SIZES];
+static struct worst worst[CHIPS];
 
 static double now(void)
 {
@@ -171,6 +180,16 @@ static uint8_t *built(const struct mutree_geometry *chip, unsigned blocks, uint3
     return b.image;
 }
 
+/* The same image, and the number of its first dead page has a bit more: no block's numbers are repeated, but they don't rise. */
+static uint8_t *disordered(const struct mutree_geometry *chip, unsigned blocks, uint32_t erased)
+{
+    uint8_t *image = built(chip, blocks, erased), *spare = image + chip->main_bytes;
+    while (spare[5] != 0)
+        spare += chip->page_bytes;
+    spare[2] |= 64;
+    return image;
+}
+
 static uint64_t seed = 1;
 
 static uint32_t some(uint32_t below)
@@ -215,7 +234,8 @@ static uint32_t call(int kind, uint32_t chip, const uint8_t *start, uint8_t *ima
     case MEMCPY: memcpy(image, start, length); return MUTREE_DONE;
     case READ: return read_all(image, length);
     case PATROL: return patrol_all(mutree_geometry_of(chip), image, length);
-    case LOOKUP: return mutree_lookup(chip, image, length, key, result, sizeof result);
+    case LOOKUP:
+    case DISORDER: return mutree_lookup(chip, image, length, key, result, sizeof result);
     case DELETE: return mutree_delete(chip, image, length, key, UINT32_MAX, result, sizeof result);
     case FORMAT: return mutree_format(chip, image, length, result, sizeof result);
     default: return mutree_insert(chip, image, length, key + 1, key, UINT32_MAX, result, sizeof result);
@@ -230,7 +250,7 @@ static double time_call(int kind, uint32_t chip, const uint8_t *start, uint8_t *
     for (i = 0; i < rounds; i++) {
         uint32_t key = 16 * (1 + some(keys)), answer;
         double from;
-        if (kind != LOOKUP)
+        if (kind != LOOKUP && kind != DISORDER)
             memcpy(image, start, length);
         from = now();
         answer = call(kind, chip, start, image, length, key);
@@ -245,15 +265,45 @@ static void measure(const struct mutree_geometry *chip, int at)
     size_t length = (size_t)sizes[at] * chip->block_bytes;
     uint8_t *image = malloc(length);
     uint8_t *roomy = built(chip, sizes[at], chip->pages * 3 / 2), *tight = built(chip, sizes[at], chip->pages);
+    uint8_t *unsorted = disordered(chip, sizes[at], chip->pages * 3 / 2);
     struct figures *f = &measured[chip->number][at];
     int kind;
     need(image != NULL, "out of memory");
     f->keys = (unsigned long)leaves_of(chip, sizes[at]) * keys_a_leaf(chip);
     for (kind = MEMCPY; kind <= PATROL; kind++)
-        f->time[kind] = time_call(kind, chip->number, kind == COLLECT ? tight : roomy, image, length, (uint32_t)f->keys);
+        f->time[kind] = time_call(kind, chip->number, kind == COLLECT ? tight : kind == DISORDER ? unsorted : roomy, image, length,
+                                  (uint32_t)f->keys);
     free(image);
     free(roomy);
     free(tight);
+    free(unsorted);
+}
+
+/* The image of tests/independent that reaches the bounds of an insert: all pages of each block live but one, a full path. */
+static void measure_worst(uint32_t number)
+{
+    enum { ROUNDS = 40 };
+    const struct chip *chip = &chips[number];
+    struct worst *w = &worst[number];
+    uint32_t row = chip->block_pages, blocks = row + chip->own_pages;
+    struct built plan = { chip, blocks, chip->top, 3, FIRST_PATH, (blocks - 1) * (row - 1), (blocks - 1) * row + 1 };
+    size_t length = length_of(chip, blocks);
+    uint8_t *start = build(plan), *image = malloc(length), result[MUTREE_RESULT_BYTES];
+    int i;
+    need(image != NULL, "out of memory");
+    w->blocks = blocks;
+    for (i = 0; i < ROUNDS; i++) {
+        double from = now();
+        memcpy(image, start, length);
+        w->copy += (now() - from) / ROUNDS;
+        from = now();
+        need(mutree_insert(number, image, length, 3, 99, UINT32_MAX, result, sizeof result) == MUTREE_DONE, "the worst insert was refused");
+        w->time += (now() - from) / ROUNDS;
+    }
+    w->pages = mutree_read_result(result).programmed;
+    w->erases = mutree_read_result(result).erased;
+    free(start);
+    free(image);
 }
 
 #ifdef WITH_LMDB
@@ -355,6 +405,13 @@ static void tell_largest(uint32_t number)
            f->time[LOOKUP] / f->time[MEMCPY], f->time[LOOKUP] / f->time[READ]);
 }
 
+static void tell_worst(uint32_t number)
+{
+    const struct worst *w = &worst[number];
+    printf("The insert with the most stores, %u blocks with %s: %u pages and %u erases in %.1f microseconds, %.2f times a memcpy of the "
+           "image.\n", w->blocks, chip_names[number], (unsigned)w->pages, (unsigned)w->erases, 1e6 * w->time, w->time / w->copy);
+}
+
 /* The decimal logarithm of x >= 1, to 20 binary places: a square doubles it. */
 static double logarithm(double x)
 {
@@ -384,7 +441,7 @@ static double across(uint32_t chip, unsigned blocks)
     return LEFT + PANEL * chip + SPAN * logarithm((double)blocks / sizes[0]) / logarithm((double)sizes[SIZES - 1] / sizes[0]);
 }
 
-static const char *const colours[KINDS] = { "#000000", "#999999", "#1b7837", "#2166ac", "#b2182b", "#762a83", "#e08214", "#c51b7d", "#4d9221", "#8073ac" };
+static const char *const colours[KINDS] = { "#000000", "#999999", "#1b7837", "#7fbf7b", "#2166ac", "#b2182b", "#762a83", "#e08214", "#c51b7d", "#4d9221", "#8073ac" };
 
 /* One call's line through its three points. */
 static void plot_line(FILE *f, uint32_t chip, int kind)
@@ -450,9 +507,13 @@ int main(int count, char **words)
             measure_lmdb(&measured[chip][at]);
         }
     for (chip = 0; chip < CHIPS; chip++)
+        measure_worst(chip);
+    for (chip = 0; chip < CHIPS; chip++)
         table(chip);
     for (chip = 0; chip < CHIPS; chip++)
         tell_largest(chip);
+    for (chip = 0; chip < CHIPS; chip++)
+        tell_worst(chip);
     if (count == 3 && strcmp(words[1], "--svg") == 0)
         plot(words[2]);
     return 0;

@@ -39,9 +39,9 @@
  *               ARM64: normal memory, not device memory).
  *   stack       measured, in bytes, on the large chip, whose trees are deeper; it does not grow with the image:
  *                              format   lookup      list    insert    delete   patrol
- *                     ARM64     5,280  156,352   156,384   178,224   169,952      760
+ *                     ARM64     5,568  112,256   112,288   179,568   170,032      760
  *                     x86-64    2,240  160,240         -   178,080   169,920        -
- *               x86-64 was measured with version 0.3.0; on ARM64 the codes of 0.5.0 added up to 4,096.
+ *               x86-64 was measured with version 0.3.0, before the codes and the one pass of judging.
  *               192 KiB serve every call, 160 KiB on the small chip. Large frames are touched page by page as they are
  *               made, so a guard page below the stack catches a stack that is too small.
  *

@@ -3,11 +3,12 @@ use Prim.Native.Nat.{ℕ, zero, suc, _+_, _-_, _*_, _<_, _≤_}
 use mathlib.Core.Bool.{Bool, true, false, not}
 use mathlib.Core.Path.{_≡_, refl, sym, ap, _∙_}
 use mathlib.Core.List.{List}
+use lib.Bits.{bitAnd, and-le-l, and-le-r, and-self}
 use lib.Dec.{eqb}
 use native.Mathlib.Omega.{arith}
 use borrow.Author.Tests.{eq-eqb, ne-eqb, eqb-true, eqb-false, not-true, not-false}
 use Rattle.geometry.specs.Tests.{_&_, and-true, and-false}
-use Rattle.model.specs.Bytes.{byteAt, u32At, blank}
+use Rattle.model.specs.Bytes.{byteAt, blank}
 
 and-last : (a : Bool) → (a & true) ≡ a
 unfolding _&_
@@ -100,4 +101,23 @@ eight-full img at a b x y ea eb ex ey hx hy =
     (λ e. (omega arith, omega arith)) (λ e f. omega arith)
     ∙ rw (ea, eb) (sym (blank-parts img 4 4 at))
 
-pub ruleset blank-laws = (run-stop, run-go, run-rest, blank-stop, blank-go, blank-end, four-full, eight-full)
+-- the bits that two numbers share, and two runs as one
+pub both-full : (a b : ℕ) → a < 18446744073709551616 → b < 18446744073709551616
+    → eqb (bitAnd a b) 18446744073709551615 ≡ (eqb a 18446744073709551615 & eqb b 18446744073709551615)
+both-full a b ha hb =
+    both-tests (bitAnd a b) 18446744073709551615 a 18446744073709551615 b 18446744073709551615
+    (λ e. (omega (arith, and-le-l a b), omega (arith, and-le-r a b))) (λ e f. rw (e, f) (and-self 18446744073709551615))
+
+and-turn : (a b : Bool) → (a & b) ≡ (b & a)
+unfolding _&_
+and-turn true true = refl
+and-turn true false = refl
+and-turn false true = refl
+and-turn false false = refl
+
+pub pair-full : (img : List ℕ) (at k m a b r : ℕ) → eqb r 18446744073709551615 ≡ (eqb a 18446744073709551615 & eqb b 18446744073709551615)
+    → eqb a 18446744073709551615 ≡ blank img at k → eqb b 18446744073709551615 ≡ blank img (at + k) k → m ≡ k + k
+    → eqb r 18446744073709551615 ≡ blank img at m
+pair-full img at k m a b r e ea eb em = e ∙ rw (ea, eb, em) (and-turn _ _ ∙ sym (blank-parts img k k at))
+
+pub ruleset blank-laws = (both-full, pair-full, run-stop, run-go, run-rest, blank-stop, blank-go, blank-end, four-full, eight-full)

@@ -1,8 +1,9 @@
 // What is read of an image. Every read is total: a byte outside the image reads as 0.
 ghost use mathlib.Core.Path.{_≡_};
-ghost use Prim.Native.Nat.{ℕ, _+_, _*_, _-_, _≤_, _<_};
+ghost use Prim.Native.Nat.{_+_, _*_, _-_, _≤_, _<_};
 ghost use lib.Dec.{eqb};
 ghost use lib.ListN.{length};
+ghost use Rattle.geometry.specs.Tests.{_&_};
 ghost use Rattle.model.specs.Bytes.{byteAt, u32At, blank, erased, seqAt, heightAt, countAt, tailAt, nodePlace, nodeCount};
 ghost use Rattle.model.specs.Codes.{codeAt};
 ghost use Rattle.model.specs.Image.{blockBytes, blocksOf, goodLength};
@@ -40,7 +41,7 @@ fn long(x: u32) -> u64
 }
 
 // The number inside the image; it is the largest where its bytes are all 255.
-fn raw_u32(img: &[u8], at: usize) -> u32
+pub fn raw_u32(img: &[u8], at: usize) -> u32
     requires { ⌜ at + 4 ≤ length (now img) ⌝ }
     ensures { λ r. ⌜ r ≡ u32At (now (img .entry)) at ⌝ }
     ensures { λ r. ⌜ eqb r 4294967295 ≡ blank (now (img .entry)) at 4 ⌝ }
@@ -113,15 +114,68 @@ fn bytes_blank(img: &[u8], at: usize, n: usize) -> bool
     true
 }
 
-// Whether eight bytes are all 255, as one number.
+// Eight bytes as one number; it is the largest where they are all 255.
+fn eight(img: &[u8], at: usize) -> u64
+    requires { ⌜ at + 8 ≤ length (now img) ⌝ }
+    ensures { λ r. ⌜ eqb r 18446744073709551615 ≡ blank (now (img .entry)) at 8 ⌝ }
+{
+    long(raw_u32(img, at)) + 4294967296 * long(raw_u32(img, at + 4))
+}
+
+// The bits that two numbers share; the largest number where both are.
+fn both(a: u64, b: u64) -> u64
+    ensures { λ r. ⌜ eqb r 18446744073709551615 ≡ (eqb a 18446744073709551615 & eqb b 18446744073709551615) ⌝ }
+{
+    a & b
+}
+
+fn sixteen(img: &[u8], at: usize) -> u64
+    requires { ⌜ at + 16 ≤ length (now img) ⌝ }
+    ensures { λ r. ⌜ eqb r 18446744073709551615 ≡ blank (now (img .entry)) at 16 ⌝ }
+{
+    both(eight(img, at), eight(img, at + 8))
+}
+
+fn thirty_two(img: &[u8], at: usize) -> u64
+    requires { ⌜ at + 32 ≤ length (now img) ⌝ }
+    ensures { λ r. ⌜ eqb r 18446744073709551615 ≡ blank (now (img .entry)) at 32 ⌝ }
+{
+    both(sixteen(img, at), sixteen(img, at + 16))
+}
+
+// Whether 64 bytes are all 255: eight numbers, one test.
+fn line_blank(img: &[u8], at: usize) -> bool
+    requires { ⌜ at + 64 ≤ length (now img) ⌝ }
+    ensures { λ r. ⌜ r ≡ blank (now (img .entry)) at 64 ⌝ }
+{
+    both(thirty_two(img, at), thirty_two(img, at + 32)) == 18446744073709551615
+}
+
+// Whether eight bytes are all 255.
 fn eight_blank(img: &[u8], at: usize) -> bool
     requires { ⌜ at + 8 ≤ length (now img) ⌝ }
     ensures { λ r. ⌜ r ≡ blank (now (img .entry)) at 8 ⌝ }
 {
-    long(raw_u32(img, at)) + 4294967296 * long(raw_u32(img, at + 4)) == 18446744073709551615
+    eight(img, at) == 18446744073709551615
 }
 
-// Whether the n bytes from `at` are all 255, from the last down: a programmed page shows in its spare bytes.
+// Whether n bytes inside the image are all 255, 64 at once from the last down.
+fn lines_blank(img: &[u8], at: usize, n: usize) -> bool
+    requires { ⌜ (at + n ≤ length (now img)) × (at + n < 1152921504606846976) ⌝ }
+    ensures { λ r. ⌜ r ≡ blank (now (img .entry)) at n ⌝ }
+{
+    let mut k: usize = n;
+    while 64 <= k {
+        k -= 64;
+        if !line_blank(img, at + k) {
+            return false;
+        }
+    }
+    bytes_blank(img, at, k)
+}
+
+// Whether the n bytes from `at` are all 255, from the last down: a programmed page shows in its spare bytes. What is
+// over whole lines of 64 comes first.
 fn all_blank(img: &[u8], at: usize, n: usize) -> bool
     requires { ⌜ at + n < 1152921504606846976 ⌝ }
     ensures { λ r. ⌜ r ≡ blank (now (img .entry)) at n ⌝ }
@@ -130,13 +184,16 @@ fn all_blank(img: &[u8], at: usize, n: usize) -> bool
         return bytes_blank(img, at, n);
     }
     let mut k: usize = n;
-    while 8 <= k {
+    while k % 64 != 0 {
+        if k < 8 {
+            return bytes_blank(img, at, k);
+        }
         k -= 8;
         if !eight_blank(img, at + k) {
             return false;
         }
     }
-    bytes_blank(img, at, k)
+    lines_blank(img, at, k)
 }
 
 // Whether all bytes of a page are 255.

@@ -1,6 +1,6 @@
 -- Laws of collection, in the form in which the code has the premises. Assumes nothing.
 use Prim.Native.Nat.{ℕ, zero, suc, _+_, _-_, _*_, _<_, _≤_}
-use mathlib.Core.Bool.{Bool, true, false, not}
+use mathlib.Core.Bool.{Bool, true, false, not, false≢true}
 use mathlib.Core.Path.{_≡_, refl, sym, ap, _∙_}
 use mathlib.Core.List.{List, [], _∷_, _++_}
 use mathlib.Core.Option.{none, some}
@@ -27,7 +27,7 @@ use Rattle.victim.specs.declared.Best.{Best}
 use Rattle.victim.specs.Victim.{fullIn, livesBy, bestOf, Bests, Looked}
 use Rattle.victim.specs.Laws.{inside, victim-is}
 use Rattle.collect.specs.declared.Swept.{Swept}
-use Rattle.collect.specs.Collect.{pageStores, Sweeps}
+use Rattle.collect.specs.Collect.{pageStores, Sweeps, Collects}
 
 -- ---- one page
 module _ (g : Geometry) (n : ℕ) (i : List ℕ) (s : Survey) (tbl : List ℕ) (lk : Looked g n i s tbl) (q w : ℕ) (ew : w ≡ getD tbl q 0) (k : q < length tbl) where
@@ -112,9 +112,10 @@ module _ (g : Geometry) (n : ℕ) (i : List ℕ) (s : Survey) (tbl : List ℕ) (
   clear-done r u m o last run f = rw (some-is (not-false (v .found) f)) (ran-then g (sweepStores g n (v .block) (g .pages) i) (erase (v .block) ∷ []) b r u i m o run last)
 
 -- ---- rounds
-pub collect-none : (g : Geometry) (n k m : ℕ) (b : Budget) (i : List ℕ) → m ≡ 0 → Ran g (collectStores g n k m i) b b i i
+pub collect-none : (g : Geometry) (n k m : ℕ) (b : Budget) (s : Survey) (i tbl : List ℕ) → m ≡ 0 → Looked g n i s tbl
+    → Collects g n k m b (record { budget = b; survey = s }) i i tbl
 unfolding collectStores
-collect-none g n k m b i e = rw e (ran-none g b i)
+collect-none g n k m b s i tbl e lk = record { ran = rw e (ran-none g b i); seen = λ f. lk }
 
 collect-suc : (g : Geometry) (n k m : ℕ) (i : List ℕ) (t : Bool) → ltb (erasedPages (pagesOf g n) (chipOf g n i)) (g .pages + k) ≡ t
     → collectStores g n k (suc m) i ≡ pick t (clearStores g n (theVictim (g .pages) n (chipOf g n i)) i ++ collectStores g n k m (applyAll g (clearStores g n (theVictim (g .pages) n (chipOf g n i)) i) i)) []
@@ -132,21 +133,38 @@ module _ (g : Geometry) (n k : ℕ) (i : List ℕ) (s : Survey) (tbl : List ℕ)
   few-is : s .erased < w → ltb (erasedPages (pagesOf g n) (chipOf g n i)) (g .pages + k) ≡ true
   few-is h = lt-ltb (erasedPages (pagesOf g n) (chipOf g n i)) (g .pages + k) (rw (← count-is, ← ew) h)
 
-  pub collect-enough : (m : ℕ) → w ≤ s .erased → (m ≡ 0 → ⊥) → Ran g (collectStores g n k m i) b b i i
+  pub collect-enough : (m : ℕ) → w ≤ s .erased → (m ≡ 0 → ⊥) → Collects g n k m b (record { budget = b; survey = s }) i i tbl
   collect-enough zero h z = absurd (z refl)
-  collect-enough (suc m) h z = rw (collect-suc g n k m i false (enough-is h)) (ran-none g b i)
+  collect-enough (suc m) h z = record { ran = rw (collect-suc g n k m i false (enough-is h)) (ran-none g b i); seen = λ f. lk }
 
-  pub collect-halt : (m : ℕ) (r : Budget) (o : List ℕ) → Ran g (clearStores g n (theVictim (g .pages) n (chipOf g n i)) i) b r i o → s .erased < w → (m ≡ 0 → ⊥) → b .stopped ≡ false → r .stopped ≡ true
-      → Ran g (collectStores g n k m i) b r i o
-  collect-halt zero r o run h z e t = absurd (z refl)
-  collect-halt (suc m) r o run h z e t = rw (collect-suc g n k m i true (few-is h)) (ran-halted g _ _ b r i o run e t)
+  pub collect-halt : (m : ℕ) (r : Budget) (u : Survey) (o v : List ℕ) → Ran g (clearStores g n (theVictim (g .pages) n (chipOf g n i)) i) b r i o → s .erased < w → (m ≡ 0 → ⊥)
+      → b .stopped ≡ false → r .stopped ≡ true → Collects g n k m b (record { budget = r; survey = u }) i o v
+  collect-halt zero r u o v run h z e t = absurd (z refl)
+  collect-halt (suc m) r u o v run h z e t = record {
+    ran = rw (collect-suc g n k m i true (few-is h)) (ran-halted g _ _ b r i o run e t);
+    seen = λ f. absurd (false≢true (sym f ∙ t));
+  }
 
-  pub collect-on : (m : ℕ) (r u : Budget) (h o : List ℕ) → Ran g (collectStores g n k (m - 1) h) r u h o → Ran g (clearStores g n (theVictim (g .pages) n (chipOf g n i)) i) b r i h → s .erased < w → (m ≡ 0 → ⊥)
-      → b .stopped ≡ false → r .stopped ≡ false → Ran g (collectStores g n k m i) b u i o
-  collect-on zero r u h o rest run l z e t = absurd (z refl)
-  collect-on (suc m) r u h o rest run l z e t =
+  pub collect-on : (m : ℕ) (r : Budget) (u : Swept) (h o v : List ℕ) → Collects g n k (m - 1) r u h o v → Ran g (clearStores g n (theVictim (g .pages) n (chipOf g n i)) i) b r i h → s .erased < w → (m ≡ 0 → ⊥)
+      → b .stopped ≡ false → r .stopped ≡ false → Collects g n k m b u i o v
+  collect-on zero r u h o v rest run l z e t = absurd (z refl)
+  collect-on (suc m) r u h o v rest run l z e t =
       let made : h ≡ applyAll g (clearStores g n (theVictim (g .pages) n (chipOf g n i)) i) i = ran-full g _ b r i h run e t in
-      let two : Ran g (collectStores g n k m h) r u h o = rw sub-one at rest in
-      rw (collect-suc g n k m i true (few-is l), ← made) (ran-then g _ _ b r u i h o run two)
+      let two : Ran g (collectStores g n k m h) r (u .budget) h o = rw sub-one at (rest .ran) in
+      record {
+        ran = rw (collect-suc g n k m i true (few-is l), ← made) (ran-then g _ _ b r (u .budget) i h o run two);
+        seen = rest .seen;
+      }
+
+-- what a collection that was not stopped hands on
+module _ (g : Geometry) (n k m : ℕ) (b : Budget) (r : Swept) (i o tbl : List ℕ) (w : Collects g n k m b r i o tbl) where
+  pub collect-survey : r .budget .stopped ≡ false → r .survey ≡ surveyOf g n o
+  collect-survey e = w .seen e .survey
+
+  pub collect-low : r .budget .stopped ≡ false → r .survey .level < 255
+  collect-low e = w .seen e .low
+
+  pub collect-total : r .budget .left + r .budget .programmed + r .budget .erased ≡ b .left + b .programmed + b .erased
+  collect-total = w .ran .total
 
 pub ruleset collect-laws = (low-is, page-dead, page-moved, page-in, sweep-none, sweep-halt, sweep-on, room-is, clear-none, clear-halt, clear-done, collect-none, collect-enough, collect-halt, collect-on)

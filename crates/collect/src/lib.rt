@@ -2,22 +2,22 @@
 // Each store on the image as it then stands; the lent table takes the live pages anew after each.
 ghost use mathlib.Core.Path.{_≡_};
 ghost use mathlib.Core.Bool.{false};
-ghost use Prim.Native.Nat.{ℕ, _+_, _*_, _-_, _≤_, _<_};
+ghost use Prim.Native.Nat.{_+_, _*_, _-_, _≤_, _<_};
 ghost use lib.ListN.{length};
 ghost use Rattle.geometry.specs.Geometry.{pageBytes};
-ghost use Rattle.model.specs.Collect.{sweepStores, clearStores, collectStores, theVictim};
+ghost use Rattle.model.specs.Collect.{sweepStores, clearStores, theVictim};
 ghost use Rattle.model.specs.Image.{chipOf};
 ghost use Rattle.stores.specs.Run.{Ran};
 ghost use Rattle.victim.specs.Victim.{Looked};
-ghost use Rattle.collect.specs.Collect.{Sweeps};
+ghost use Rattle.collect.specs.Collect.{Sweeps, Collects};
 use geometry::Geometry;
 use stores::Budget;
 use survey::Survey;
 
 // What is left of the allowance, and the survey of the image as it then stands.
-struct Swept {
-    budget: Budget,
-    survey: Survey,
+pub struct Swept {
+    pub budget: Budget,
+    pub survey: Survey,
 }
 
 // Moves page q, if it is live, and looks at the image anew.
@@ -105,7 +105,8 @@ fn enough(g: Geometry, k: u32) -> u32
     (g.pages as u32) + k
 }
 
-// Collects while fewer pages are erased than a block's and k more, in at most m rounds.
+// Collects while fewer pages are erased than a block's and k more, in at most m rounds. The survey and the table are those
+// of the image; the ones that come back are those of the image that is left, unless the allowance stopped it.
 pub fn collect(
     g: Geometry,
     img: &mut [u8],
@@ -114,20 +115,31 @@ pub fn collect(
     b: Budget,
     k: u32,
     m: u32,
-) -> Budget
+    s: Survey,
+) -> Swept
     requires { ⌜ (g .pages * n ≤ length (now table)) × (k < 65536) × (pageBytes g ≤ 2112) × (b .left + b .programmed + b .erased < 4294967296) × (b .stopped ≡ false) ⌝ }
-    ensures { λ r. ⌜ Ran g (collectStores g n k m (now (img .entry))) b r (now (img .entry)) (now (img .exit)) ⌝ }
+    requires { ⌜ Looked g n (now img) s (now table) ⌝ }
+    ensures { λ r. ⌜ Collects g n k m b r (now (img .entry)) (now (img .exit)) (now (table .exit)) ⌝ }
 {
     if m == 0 {
-        return b;
+        return Swept {
+            budget: b,
+            survey: s,
+        };
     }
-    let s = victim::look(g, &*img, &mut *table, n);
     if enough(g, k) <= s.erased {
-        return b;
+        return Swept {
+            budget: b,
+            survey: s,
+        };
     }
     let r = clear(g, &mut *img, &mut *table, n, b, s);
     if r.stopped {
-        return r;
+        return Swept {
+            budget: r,
+            survey: s,
+        };
     }
-    collect(g, &mut *img, &mut *table, n, r, k, m - 1)
+    let t = victim::look(g, &*img, &mut *table, n);
+    collect(g, &mut *img, &mut *table, n, r, k, m - 1, t)
 }

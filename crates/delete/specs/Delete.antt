@@ -10,6 +10,9 @@ use Rattle.model.specs.Tree.{sought}
 use Rattle.model.specs.Rules.{verdict}
 use Rattle.model.specs.Calls.{refused, damaged, byVerdict, Outcome, worn, deleteRest, delete}
 use Rattle.model.specs.Collect.{collectStores}
+use Rattle.collect.specs.declared.Swept.{Swept}
+use Rattle.collect.specs.Collect.{Collects}
+use Rattle.collect.specs.Laws.{collect-survey, collect-low, collect-total}
 use Rattle.model.specs.Stores.{Store}
 use Rattle.model.specs.Update.{isNone, deleteStore, deleteStores}
 use Rattle.answers.specs.declared.Answer.{Answer}
@@ -41,19 +44,19 @@ module _ (f : Found) (o : Option ℕ) (ef : found f ≡ o) where
   absent-is e = sym (simp (← ef, e))
 
 -- ---- the stores
-module _ (g : Geometry) (n k x : ℕ) (i : List ℕ) (b : Budget) (eb : b ≡ freshOf x) (r : Budget) (h : List ℕ) (run : Ran g (collectStores g n 1 2 i) b r i h) where
+module _ (g : Geometry) (n k x : ℕ) (i : List ℕ) (b : Budget) (eb : b ≡ freshOf x) (r : Swept) (h tbl : List ℕ) (w : Collects g n 1 2 b r i h tbl) where
   -- delete's own, on an image
   own : List ℕ → List Store
   own j = deleteStore g n (maxSeq g n j) (chipOf g n j) k ∷ []
 
-  pub delete-halt : r .stopped ≡ true → Ran g (deleteStores g n i k) (freshOf x) r i h
+  pub delete-halt : r .budget .stopped ≡ true → Ran g (deleteStores g n i k) (freshOf x) (r .budget) i h
   unfolding deleteStores own
-  delete-halt t = first-halt g (collectStores g n 1 2 i) own x b eb r i h run t
+  delete-halt t = first-halt g (collectStores g n 1 2 i) own x b eb (r .budget) i h (w .ran) t
 
-  pub delete-on : (u : Budget) (o : List ℕ) → Ran g (deleteStore g n (maxSeq g n h) (chipOf g n h) k ∷ []) r u h o → r .stopped ≡ false
+  pub delete-on : (u : Budget) (o : List ℕ) → Ran g (deleteStore g n (maxSeq g n h) (chipOf g n h) k ∷ []) (r .budget) u h o → r .budget .stopped ≡ false
       → Ran g (deleteStores g n i k) (freshOf x) u i o
   unfolding deleteStores own
-  delete-on u o last t = first-then g (collectStores g n 1 2 i) own x b eb r i h run u o t last
+  delete-on u o last t = first-then g (collectStores g n 1 2 i) own x b eb (r .budget) i h (w .ran) u o t last
 
 -- ---- the answers
 module _ (g : Geometry) (n k x : ℕ) (i : List ℕ) (s : Survey) (tbl : List ℕ) (lk : Looked g n i s tbl) where
@@ -87,4 +90,4 @@ module _ (g : Geometry) (img : List ℕ) (k x n : ℕ) (en : n ≡ goodBlocks g 
       let f : o ≡ byVerdict (verdict g n img) (damaged img) (deleteRest g (blocksOf g img) img k x) = e ∙ ap (λ (m : ℕ). byVerdict (verdict g n img) (damaged img) (deleteRest g m img k x)) (some-blocks g img n en h) in
       judged-blocks g img (refused 1 img) (damaged img) _ n en o h f
 
-pub ruleset delete-laws = (absent-no, absent-is, delete-halt, delete-on, rest-worn, rest-absent, rest-made, judged-broken, judged-rest, judged-looked, judged-room, delete-length, delete-blocks)
+pub ruleset delete-laws = (collect-survey, collect-low, collect-total, absent-no, absent-is, delete-halt, delete-on, rest-worn, rest-absent, rest-made, judged-broken, judged-rest, judged-looked, judged-room, delete-length, delete-blocks)

@@ -1,6 +1,6 @@
 // Delete on an image: judged first, then refused, or made under its allowance.
 ghost use mathlib.Core.Path.{_≡_};
-ghost use Prim.Native.Nat.{ℕ, _+_, _*_, _-_, _≤_, _<_};
+ghost use Prim.Native.Nat.{_*_, _-_, _≤_, _<_};
 ghost use lib.ListN.{length};
 ghost use Rattle.geometry.specs.Geometry.{pageBytes};
 ghost use Rattle.model.specs.Rules.{verdict};
@@ -19,7 +19,7 @@ use search::Found;
 use stores::Budget;
 use survey::Survey;
 
-// Collection for one page, then the delete's own.
+// Collection for one page, then the delete's own, with the image's survey and table given.
 fn make_stores(
     g: Geometry,
     img: &mut [u8],
@@ -27,17 +27,20 @@ fn make_stores(
     n: u16,
     key: u32,
     allowance: u32,
+    s: Survey,
 ) -> Budget
     requires { ⌜ (g .pages * n ≤ length (now table)) × (pageBytes g ≤ 2112) ⌝ }
+    requires { ⌜ Looked g n (now img) s (now table) ⌝ }
     ensures { λ r. ⌜ Ran g (deleteStores g n (now (img .entry)) key) (freshOf allowance) r (now (img .entry)) (now (img .exit)) ⌝ }
 {
     let b = account::fresh(allowance);
-    let r = collect::collect(g, &mut *img, &mut *table, n, b, 1, 2);
+    let w = collect::collect(g, &mut *img, &mut *table, n, b, 1, 2, s);
+    let r = w.budget;
+    let t = w.survey;
     if r.stopped {
         return r;
     }
-    let s = survey::take_survey(g, &*img, n);
-    deletion::delete_own(g, &mut *img, n, r, s, key)
+    deletion::delete_own(g, &mut *img, n, r, t, key)
 }
 
 // ABSENT: nothing stands under the key.
@@ -71,7 +74,7 @@ fn delete_rest(
     if is_absent(g, &*img, s.level, s.root, key) {
         return Answer::Absent;
     }
-    let b = make_stores(g, &mut *img, &mut *table, n, key, allowance);
+    let b = make_stores(g, &mut *img, &mut *table, n, key, allowance, s);
     account::answer_of(b)
 }
 

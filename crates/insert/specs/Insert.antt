@@ -11,6 +11,9 @@ use Rattle.model.specs.Count.{count}
 use Rattle.model.specs.Rules.{verdict}
 use Rattle.model.specs.Calls.{refused, damaged, byVerdict, worn, roomless, freePages, insertRest, insert}
 use Rattle.model.specs.Collect.{collectStores}
+use Rattle.collect.specs.declared.Swept.{Swept}
+use Rattle.collect.specs.Collect.{Collects}
+use Rattle.collect.specs.Laws.{collect-survey, collect-low, collect-total}
 use Rattle.model.specs.Stores.{Store, applyAll}
 use Rattle.model.specs.Update.{needs, ownStores, insertStores}
 use Rattle.answers.specs.declared.Answer.{Answer}
@@ -43,12 +46,12 @@ module _ (g : Geometry) (n k a m x : ℕ) (i : List ℕ) (em : m ≡ needs g (ch
   unfolding insertStores
   stores-are = rw (add-one, em)
 
-  pub insert-halt : (r : Budget) (o : List ℕ) → Ran g (collectStores g n m (m + 1) i) b r i o → r .stopped ≡ true → Ran g (insertStores g n i k a) (freshOf x) r i o
-  insert-halt r o run t = rw stores-are (first-halt g first own x b eb r i o run t)
+  pub insert-halt : (r : Swept) (o tbl : List ℕ) → Collects g n m (m + 1) b r i o tbl → r .budget .stopped ≡ true → Ran g (insertStores g n i k a) (freshOf x) (r .budget) i o
+  insert-halt r o tbl w t = rw stores-are (first-halt g first own x b eb (r .budget) i o (w .ran) t)
 
-  pub insert-on : (r u : Budget) (h o : List ℕ) → Ran g (ownStores g n (maxSeq g n h) (chipOf g n h) m k a) r u h o
-      → Ran g (collectStores g n m (m + 1) i) b r i h → r .stopped ≡ false → Ran g (insertStores g n i k a) (freshOf x) u i o
-  insert-on r u h o mine run t = rw stores-are (first-then g first own x b eb r i h run u o t mine)
+  pub insert-on : (r : Swept) (u : Budget) (h o tbl : List ℕ) → Ran g (ownStores g n (maxSeq g n h) (chipOf g n h) m k a) (r .budget) u h o
+      → Collects g n m (m + 1) b r i h tbl → r .budget .stopped ≡ false → Ran g (insertStores g n i k a) (freshOf x) u i o
+  insert-on r u h o tbl mine w t = rw stores-are (first-then g first own x b eb (r .budget) i h (w .ran) u o t mine)
 
 -- ---- the answers
 module _ (g : Geometry) (n k a x : ℕ) (i : List ℕ) (s : Survey) (tbl : List ℕ) (lk : Looked g n i s tbl) where
@@ -92,4 +95,4 @@ module _ (g : Geometry) (img : List ℕ) (k a x n : ℕ) (en : n ≡ goodBlocks 
   insert-judged c o h e =
       judged-blocks g img (refused 1 img) (damaged img) (insertRest g (blocksOf g img) img k a x) n en (told c o) h (e ∙ ap (λ m. byVerdict (verdict g n img) (damaged img) (insertRest g m img k a x)) (some-blocks g img n en h))
 
-pub ruleset insert-laws = (insert-halt, insert-on, rest-worn, rest-high, rest-room, rest-made, needs-is, judged-broken, judged-rest, judged-looked, judged-room, insert-length, insert-judged)
+pub ruleset insert-laws = (collect-survey, collect-low, collect-total, insert-halt, insert-on, rest-worn, rest-high, rest-room, rest-made, needs-is, judged-broken, judged-rest, judged-looked, judged-room, insert-length, insert-judged)

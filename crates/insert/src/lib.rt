@@ -1,8 +1,8 @@
 // Insert on an image: judged first, then refused, or made under its allowance.
 ghost use mathlib.Core.Path.{_≡_};
-ghost use Prim.Native.Nat.{ℕ, _+_, _*_, _-_, _≤_, _<_};
+ghost use Prim.Native.Nat.{_+_, _*_, _-_, _≤_, _<_};
 ghost use lib.ListN.{length};
-ghost use Rattle.geometry.specs.Geometry.{small, pageBytes};
+ghost use Rattle.geometry.specs.Geometry.{pageBytes};
 ghost use Rattle.model.specs.Rules.{verdict};
 ghost use Rattle.model.specs.Calls.{damaged, byVerdict, insertRest, insert};
 ghost use Rattle.model.specs.Image.{chipOf};
@@ -17,7 +17,7 @@ use geometry::Verdict;
 use stores::Budget;
 use survey::Survey;
 
-// Collection for m pages, then the insert's own.
+// Collection for m pages, then the insert's own, with the image's survey and table given.
 fn make_stores(
     g: Geometry,
     img: &mut [u8],
@@ -27,17 +27,20 @@ fn make_stores(
     key: u32,
     addr: u32,
     allowance: u32,
+    s: Survey,
 ) -> Budget
     requires { ⌜ (g .pages * n ≤ length (now table)) × (1 ≤ m) × (m ≤ 256) × (pageBytes g ≤ 2112) × (m ≡ needs g (chipOf g n (now img)) key) ⌝ }
+    requires { ⌜ Looked g n (now img) s (now table) ⌝ }
     ensures { λ r. ⌜ Ran g (insertStores g n (now (img .entry)) key addr) (freshOf allowance) r (now (img .entry)) (now (img .exit)) ⌝ }
 {
     let b = account::fresh(allowance);
-    let r = collect::collect(g, &mut *img, &mut *table, n, b, m, m + 1);
+    let w = collect::collect(g, &mut *img, &mut *table, n, b, m, m + 1, s);
+    let r = w.budget;
+    let t = w.survey;
     if r.stopped {
         return r;
     }
-    let s = survey::take_survey(g, &*img, n);
-    insertion::insert_own(g, &mut *img, n, r, s, m, key, addr)
+    insertion::insert_own(g, &mut *img, n, r, t, m, key, addr)
 }
 
 // The rest on a judged image of n blocks.
@@ -65,7 +68,17 @@ fn insert_rest(
     if account::is_roomless(g, &*table, n, p.needs) {
         return Answer::Room;
     }
-    let b = make_stores(g, &mut *img, &mut *table, n, p.needs, key, addr, allowance);
+    let b = make_stores(
+        g,
+        &mut *img,
+        &mut *table,
+        n,
+        p.needs,
+        key,
+        addr,
+        allowance,
+        s,
+    );
     account::answer_of(b)
 }
 

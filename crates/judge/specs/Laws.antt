@@ -1,11 +1,14 @@
 -- R5. `er` tells the erased pages, `r` reads a node. Assumes nothing.
-use Prim.Native.Nat.{ℕ, zero, suc, _+_, _-_, _*_, _<_, _≤_}
+use Prim.Native.Nat.{ℕ, zero, suc, _+_, _-_, _*_, _/_, _%_, _<_, _≤_}
 use mathlib.Core.Bool.{Bool, true, false, not}
 use mathlib.Core.Path.{_≡_, refl, sym, _∙_}
 use mathlib.Core.List.{List, [], _∷_}
 use lib.Dec.{eqb, ltb, leb}
-use lib.ListN.{length}
+use lib.ListN.{length, getD}
 use native.Mathlib.Omega.{arith}
+use native.Mathlib.Nat.{div-le-self}
+use mir.Syntax.{w64}
+use mir.Val.{Fits}
 use native.Mathlib.Numerals.{sub-one, add-one}
 use borrow.Author.Tests.{not-true, not-false, eq-eqb, ne-eqb, lt-ltb, le-ltb, lt-leb, le-leb}
 use Rattle.geometry.specs.declared.Geometry.{Geometry}
@@ -18,6 +21,9 @@ use Rattle.model.specs.Bytes.{u32At, erased, nodePlace, nodeCount, entriesAt, n
 use Rattle.model.specs.Image.{Nodes}
 use Rattle.model.specs.Tree.{next}
 use Rattle.model.specs.Rules.{first, unless, names, rising, own, ownRoot, judgeEntries, judgeNode, r5}
+use Rattle.leaves.specs.Leaves.{anyPage}
+use Rattle.judge.specs.Programmed.{Programmed}
+use Rattle.judge.specs.Noted.{judgedFrom, judgedAt}
 use Rattle.chip.specs.Chip.{entryAt, chipWith}
 use Rattle.chip.specs.Node.{node-is, node-length, node-read, entries-start, entries-step, entries-none, entries-turn, entries-past, key-is, addr-is}
 use Rattle.counts.specs.Lowest.{unless-true, unless-false}
@@ -42,6 +48,26 @@ module _ (er : ℕ → Bool) (t l a : ℕ) where
   pub names-on : (b : Bool) → b ≡ er a → (l ≡ 1 → ⊥) → a < t → not b ≡ names er t l a
   unfolding names
   names-on b f e h = simp (ne-eqb _ _ e, lt-ltb _ _ h, and-true, ← f)
+
+-- by the count of programmed pages
+pub blank-fits : (r s : ℕ) → r < 4294967296 → Fits w64 (r / s * 2)
+blank-fits r s h = record { fits = omega (arith, h, div-le-self r s) }
+
+pub blank-read : (r s p q : ℕ) (xs : List ℕ) → r ≡ p → s ≡ q → p / q < length xs → r / s < length xs
+blank-read r s p q xs er es h = rw (er, es) h
+
+pub blank-is : (r s p q w : ℕ) (xs : List ℕ) → r ≡ p → s ≡ q → w ≡ getD xs (r / s) 0 → leb w (r % s) ≡ leb (getD xs (p / q) 0) (p % q)
+blank-is r s p q w xs er es ew = rw (ew, er, es) refl
+
+module _ (g : Geometry) (img : List ℕ) (t a : ℕ) (programmed : List ℕ) (x : Programmed g img t programmed) where
+  pub blank-some : a < t → 0 < g .pages
+  blank-some h = x .some a h
+
+  pub blank-inside : a < t → a / g .pages < length programmed
+  blank-inside h = x .inside a h
+
+  pub names-by : (l : ℕ) (b : Bool) → b ≡ leb (getD programmed (a / g .pages) 0) (a % g .pages) → (l ≡ 1 → ⊥) → a < t → not b ≡ names (erased g img) t l a
+  names-by l b e z h = names-on (erased g img) t l a b (e ∙ sym (x .kinds a h)) z h
 
 -- the entries' own check, as a loop
 module _ (ok : ℕ → Bool) (img : List ℕ) (at n lo hi : ℕ) where
@@ -73,6 +99,15 @@ module _ (ok : ℕ → Bool) (img : List ℕ) (at n lo hi : ℕ) where
     pub rising-end : n ≤ i → true ≡ rising ok (entriesAt img at n) lo hi
     unfolding rising
     rising-end h = sym (inv ∙ rw (entries-past img at n i h))
+
+-- a leaf
+leaf-any : (er : ℕ → Bool) (t l : ℕ) → l ≡ 1 → (es : List Entry) (lo hi : ℕ) → rising anyPage es lo hi ≡ rising (names er t l) es lo hi
+unfolding rising
+leaf-any er t l e [] lo hi = refl
+leaf-any er t l e (x ∷ es) lo hi = rw (← (names-leaf er t l (x .addr) e), leaf-any er t l e es (x .key + 1) hi) refl
+
+pub leaf-rises : (er : ℕ → Bool) (t l : ℕ) (es : List Entry) (lo hi : ℕ) (b : Bool) → l ≡ 1 → b ≡ rising anyPage es lo hi → b ≡ rising (names er t l) es lo hi
+leaf-rises er t l es lo hi b e f = f ∙ leaf-any er t l e es lo hi
 
 -- a node's own check
 module _ (g : Geometry) (er : ℕ → Bool) (img : List ℕ) (t l p n : ℕ) (en : n ≡ nodeCount g img p l) where
@@ -157,27 +192,47 @@ module _ (g : Geometry) (er : ℕ → Bool) (img : List ℕ) (t l p lo hi : ℕ)
         let f : l - 1 ≡ 0 = omega arith in
         sym (judge-step g er (nodeAt g img) t l p lo hi (omega arith) ∙ rw (← eb, not-false b q, f) (unless-true p _ ∙ leaves g er (nodeAt g img) t (nodeAt g img p l) hi))
 
--- the nodes below a list of entries
+-- a leaf
+module _ (g : Geometry) (er : ℕ → Bool) (img : List ℕ) (t p lo hi : ℕ) (b : Bool) (eb : b ≡ own g er (nodeAt g img) t 1 p lo hi) where
+  pub leaf-bad : not b ≡ true → Bad p ≡ judgeNode g er (nodeAt g img) t 1 p lo hi
+  leaf-bad q = judge-own g er img t 1 p lo hi b eb q (omega arith)
+
+  pub leaf-good : not b ≡ false → Good ≡ judgeNode g er (nodeAt g img) t 1 p lo hi
+  leaf-good q = judge-leaf g er img t 1 p lo hi b eb q refl
+
+-- the nodes below a list of entries, as a loop
 module _ (sub : ℕ → ℕ → ℕ → Finding) (img : List ℕ) (at n hi : ℕ) where
-  pub judge-end : n ≡ 0 → Good ≡ judgeEntries sub (entriesAt img at n) hi
-  unfolding judgeEntries
-  judge-end e = sym (rw (entries-none img at n e) refl)
+  pub judge-start : judgeEntries sub (entriesAt img at n) hi ≡ judgedFrom sub img at n hi 0
+  unfolding judgedFrom
+  judge-start = rw (← (entries-start img at n)) refl
 
-  judge-one : (n ≡ 0 → ⊥) → judgeEntries sub (entriesAt img at n) hi
-      ≡ first (sub (u32At img (at + 4)) (u32At img at) (next (entriesAt img (at + 8) (n - 1)) hi)) (judgeEntries sub (entriesAt img (at + 8) (n - 1)) hi)
-  unfolding judgeEntries
-  judge-one h = rw (entries-step img at n h, key-is, addr-is)
+  module _ (i : ℕ) (w : Finding) (inv : w ≡ judgedFrom sub img at n hi i) where
+    pub judge-end : n ≤ i → Good ≡ w
+    unfolding judgeEntries judgedFrom
+    judge-end h = sym (inv ∙ rw (entries-past img at n i h) refl)
 
-  module _ (k nx a : ℕ) (ek : k ≡ u32At img at) (en : nx ≡ next (entriesAt img (at + 8) (n - 1)) hi) (ea : a ≡ u32At img (at + 4))
-      (v : Finding) (ev : v ≡ sub a k nx) where
-    pub judge-bad : (q : ℕ) → v ≡ Bad q → (n ≡ 0 → ⊥) → Bad q ≡ judgeEntries sub (entriesAt img at n) hi
-    unfolding first
-    judge-bad q e h = sym (judge-one h ∙ simp (← ek, ← en, ← ea, ← ev, e))
+    module _ (h : i < n) (v : Finding) (ev : v ≡ judgedAt sub img at n hi i) where
+      judge-turn : w ≡ first v (judgedFrom sub img at n hi (i + 1))
+      unfolding judgeEntries judgedFrom judgedAt
+      judge-turn = inv ∙ rw (entries-turn img at n i h, key-is img (at + 8 * i), addr-is img (at + 8 * i), ev) refl
 
-    pub judge-good : (w : Finding) → v ≡ Good → (n ≡ 0 → ⊥) → w ≡ judgeEntries sub (entriesAt img (at + 8) (n - 1)) hi
-        → w ≡ judgeEntries sub (entriesAt img at n) hi
-    unfolding first
-    judge-good w e h ew = ew ∙ sym (judge-one h ∙ simp (← ek, ← en, ← ea, ← ev, e))
+      pub judge-bad : (q : ℕ) → v ≡ Bad q → Bad q ≡ w
+      unfolding first
+      judge-bad q e = sym (judge-turn ∙ rw e refl)
+
+      pub judge-good : v ≡ Good → w ≡ judgedFrom sub img at n hi (i + 1)
+      unfolding first
+      judge-good e = judge-turn ∙ rw e refl
+
+pub judge-at : (sub : ℕ → ℕ → ℕ → Finding) (img : List ℕ) (at n hi i k nx a : ℕ) (v : Finding) → k ≡ u32At img (at + 8 * i) → a ≡ u32At img (at + 8 * i + 4)
+    → nx ≡ next (entriesAt img (at + 8 * (i + 1)) (n - (i + 1))) hi → v ≡ sub a k nx → v ≡ judgedAt sub img at n hi i
+unfolding judgedAt
+judge-at sub img at n hi i k nx a v ek ea en ev = ev ∙ rw (ek, ea, en) refl
+
+-- leaves are the nodes below level 2
+pub judge-leaves : (g : Geometry) (er : ℕ → Bool) (r : Nodes) (t l : ℕ) (es : List Entry) (hi : ℕ) (v : Finding) → v ≡ judgeEntries (judgeNode g er r t 1) es hi → l ≡ 1
+    → v ≡ judgeEntries (judgeNode g er r t l) es hi
+judge-leaves g er r t l es hi v e h = e ∙ rw h refl
 
 -- R5
 module _ (g : Geometry) (img : List ℕ) (t l p : ℕ) (b : Bool) (eb : b ≡ ownRoot g (erased g img) (nodeAt g img) t (l + 1) p) where
@@ -191,4 +246,4 @@ module _ (g : Geometry) (img : List ℕ) (t l p : ℕ) (b : Bool) (eb : b ≡ ow
   rule-below at n v q ea en ev =
       ev ∙ rw (node-read g img p (l + 1) at n ea en) (sym (rw (← (add-one l), ← eb, not-false b q) (unless-true p _)))
 
-pub ruleset judge-laws = (next-none, next-some, names-leaf, names-off, names-on, rising-start, rising-low, rising-high, rising-refused, rising-go, rising-end, own-none, own-over, own-on, least-leaf, least-above, root-none, root-over, root-on, judge-bottom, judge-own, judge-on, judge-leaf, judge-end, judge-bad, judge-good, rule-root, rule-below)
+pub ruleset judge-laws = (next-none, next-some, names-leaf, names-off, names-by, blank-some, blank-inside, blank-fits, blank-read, blank-is, rising-start, rising-low, rising-high, rising-refused, rising-go, rising-end, leaf-rises, own-none, own-over, own-on, least-leaf, least-above, root-none, root-over, root-on, judge-bottom, judge-own, judge-on, judge-leaf, leaf-bad, leaf-good, judge-start, judge-end, judge-bad, judge-good, judge-at, judge-leaves, rule-root, rule-below)

@@ -1,5 +1,5 @@
 -- R6, in the form in which the code has the premises. Assumes nothing.
-use Prim.Native.Nat.{ℕ, _+_, _-_, _*_, _<_, _≤_}
+use Prim.Native.Nat.{ℕ, suc, _+_, _-_, _*_, _<_, _≤_}
 use mathlib.Core.Bool.{Bool, true, false, not}
 use mathlib.Core.Path.{_≡_, refl, sym, ap, _∙_}
 use mathlib.Core.List.{List, [], _∷_, _++_}
@@ -7,19 +7,24 @@ use lib.Dec.{eqb, ltb}
 use lib.ListN.{length, getD}
 use native.Mathlib.Numerals.{add-one}
 use borrow.Author.Tests.{not-true, not-false, eq-eqb, ne-eqb, lt-ltb, le-ltb, le-leb, lt-leb}
+use native.Mathlib.Omega.{arith}
 use Rattle.geometry.specs.declared.Geometry.{Geometry}
+use Rattle.geometry.specs.declared.Entry.{Entry}
 use Rattle.geometry.specs.declared.Finding.the-variants.{Good, Bad}
 use Rattle.geometry.specs.Tests.{pick, _&_, and-true, and-false}
 use Rattle.model.specs.Bytes.{u32At, entriesAt, nodePlace, nodeCount, nodeAt}
 use Rattle.model.specs.Image.{Nodes}
-use Rattle.model.specs.Tree.{Place, places, placesOf}
+use Rattle.model.specs.Tree.{gather, Place, places, placesOf, lowLevel}
 use Rattle.model.specs.Rules.{namesPage, loose, lowestPage, r6}
 use Rattle.chip.specs.Chip.{named, chipWith}
 use Rattle.chip.specs.Node.{node-read, entries-start, entries-turn, entries-past, addr-is}
 use Rattle.counts.specs.Lowest.{unless-true, unless-false}
-use Rattle.trees.specs.Lists.{All, all-map}
+use Rattle.counts.specs.Least.{by-lt}
+use Rattle.trees.specs.Lists.{All, Mem, all-map, all-both, all-get, all-mem}
+use Rattle.trees.specs.Live.{mem-live, low-is}
 use Rattle.walk.specs.Table.{rest, Marked}
-use Rattle.walk.specs.Laws.{rest-leaf, rest-start, rest-turn, rest-end}
+use Rattle.walk.specs.Lows.{Level, place-levels}
+use Rattle.walk.specs.Laws.{places-named, rest-leaf, rest-start, rest-turn, rest-end}
 use Rattle.loose.specs.Loose.{looseIn, looseAt, lowered, Inside}
 
 -- some entry names a page
@@ -73,35 +78,61 @@ lowest-nil : (f : Place → Bool) (low : ℕ) → lowestPage f [] low ≡ low
 unfolding lowestPage
 lowest-nil f low = refl
 
-lowest-cons : (r : Nodes) (tbl : List ℕ) (l p : ℕ) (xs : List Place) (low : ℕ)
+lowest-cons : (r : Nodes) (tbl : List ℕ) (l p : ℕ) (xs : List Place) (low : ℕ) → 1 < l
     → lowestPage (looseAt r tbl) (record { page = p; level = l } ∷ xs) low ≡ lowestPage (looseAt r tbl) xs (lowered r tbl l p low)
 unfolding lowestPage looseAt lowered
-lowest-cons r tbl l p xs low = refl
+lowest-cons r tbl l p xs low h = rw (lt-ltb 1 l h, and-true (looseIn r tbl l p)) refl
+
+lowest-skip : (r : Nodes) (tbl : List ℕ) (l p : ℕ) (xs : List Place) (low : ℕ) → l ≤ 1
+    → lowestPage (looseAt r tbl) (record { page = p; level = l } ∷ xs) low ≡ lowestPage (looseAt r tbl) xs low
+unfolding lowestPage looseAt
+lowest-skip r tbl l p xs low h = rw (le-ltb 1 l h, and-false (looseIn r tbl l p), and-false (ltb p low)) refl
 
 lowest-append : (f : Place → Bool) (xs ys : List Place) (low : ℕ) → lowestPage f (xs ++ ys) low ≡ lowestPage f ys (lowestPage f xs low)
 unfolding lowestPage
 lowest-append f [] ys low = refl
 lowest-append f (x ∷ xs) ys low = lowest-append f xs ys (pick (f x & ltb (x .page) low) (x .page) low)
 
+-- the leaves under some entries
+leaves-none : (g : Geometry) (img tbl : List ℕ) (es : List Entry) (low : ℕ) → lowestPage (looseAt (nodeAt g img) tbl) (gather (places (nodeAt g img) 1) es) low ≡ low
+unfolding gather
+leaves-none g img tbl [] low = lowest-nil (looseAt (nodeAt g img) tbl) low
+leaves-none g img tbl (e ∷ es) low =
+    lowest-append (looseAt (nodeAt g img) tbl) (places (nodeAt g img) 1 e) (gather (places (nodeAt g img) 1) es) low
+    ∙ rw (← one) (leaves-none g img tbl es low)
+  where
+    one : low ≡ lowestPage (looseAt (nodeAt g img) tbl) (places (nodeAt g img) 1 e) low
+    one =
+        sym (ap (λ (xs : List Place). lowestPage (looseAt (nodeAt g img) tbl) xs low) (places-named (nodeAt g img) 1 e ∙ rest-leaf g img 1 (e .addr) refl)
+        ∙ lowest-skip (nodeAt g img) tbl 1 (e .addr) [] low (omega arith) ∙ lowest-nil (looseAt (nodeAt g img) tbl) low)
+
 module _ (g : Geometry) (img tbl : List ℕ) (l p low : ℕ) where
   abbrev test : Place → Bool
   test = looseAt (nodeAt g img) tbl
 
-  pub lowest-none : l ≡ 0 → low ≡ lowestPage test (places (nodeAt g img) l (named p)) low
+  lowest-one : l ≡ 1 → low ≡ lowestPage test (places (nodeAt g img) l (named p)) low
+  lowest-one h =
+      sym (ap (λ (xs : List Place). lowestPage test xs low) (rest-leaf g img l p h) ∙ lowest-skip (nodeAt g img) tbl l p [] low (omega arith) ∙ lowest-nil test low)
+
+  pub lowest-none : l ≤ 1 → low ≡ lowestPage test (places (nodeAt g img) l (named p)) low
   unfolding lowestPage places
-  lowest-none e = rw e
+  lowest-none h = by-lt l 1 (λ k. (let e : l ≡ 0 = omega arith in rw e refl)) (λ k. lowest-one (omega arith))
 
   module _ (m : ℕ) (em : m ≡ lowered (nodeAt g img) tbl l p low) where
-    pub lowest-leaf : l ≡ 1 → m ≡ lowestPage test (places (nodeAt g img) l (named p)) low
-    lowest-leaf h =
-        sym (ap (λ (xs : List Place). lowestPage test xs low) (rest-leaf g img l p h) ∙ lowest-cons (nodeAt g img) tbl l p [] low ∙ lowest-nil test _ ∙ sym em)
+    pub lowest-leaves : l ≡ 2 → m ≡ lowestPage test (places (nodeAt g img) l (named p)) low
+    unfolding rest
+    lowest-leaves h =
+        let f : l - 1 ≡ 1 = omega arith in
+        sym (ap (λ (xs : List Place). lowestPage test xs low) (rest-start g img l p (nodePlace g p l) (nodeCount g img p l) refl refl (omega arith))
+        ∙ lowest-cons (nodeAt g img) tbl l p (rest g img l (nodePlace g p l) (nodeCount g img p l) 0) low (omega arith)
+        ∙ rw f (leaves-none g img tbl _ (lowered (nodeAt g img) tbl l p low)) ∙ sym em)
 
     pub lowest-end : (at n i v : ℕ) → at ≡ nodePlace g p l → n ≡ nodeCount g img p l
-        → lowestPage test (rest g img l at n 0) m ≡ lowestPage test (rest g img l at n i) v → n ≤ i → (l ≡ 0 → ⊥)
+        → lowestPage test (rest g img l at n 0) m ≡ lowestPage test (rest g img l at n i) v → n ≤ i → 1 < l
         → v ≡ lowestPage test (places (nodeAt g img) l (named p)) low
     lowest-end at n i v ea en inv h some =
-        sym (ap (λ (xs : List Place). lowestPage test xs low) (rest-start g img l p at n ea en some)
-        ∙ lowest-cons (nodeAt g img) tbl l p (rest g img l at n 0) low
+        sym (ap (λ (xs : List Place). lowestPage test xs low) (rest-start g img l p at n ea en (omega arith))
+        ∙ lowest-cons (nodeAt g img) tbl l p (rest g img l at n 0) low some
         ∙ ap (λ (v : ℕ). lowestPage test (rest g img l at n 0) v) (sym em) ∙ inv
         ∙ ap (λ (xs : List Place). lowestPage test xs v) (rest-end g img l at n i h) ∙ lowest-nil test v)
 
@@ -124,12 +155,22 @@ module _ (g : Geometry) (img tbl : List ℕ) (t l p q : ℕ) (m : Marked (chipWi
   all : List Place
   all = placesOf (chipWith g img l p)
 
-  page-is : q ≡ lowestPage (loose (nodeAt g img) all) all t
+  some-level : (x : Place) → Mem x all → 1 ≤ lowLevel all (x .page)
+  unfolding all
+  some-level x y = all-get Level _ all (place-levels (nodeAt g img) (suc l) (named p)) (low-is all (x .page) (mem-live x all y) .0)
+
+  same-at : (x : Place) → (x .page < length tbl) × Mem x all → looseAt (nodeAt g img) tbl x ≡ loose (nodeAt g img) all x
   unfolding all looseAt looseIn loose
+  same-at x h = by-lt 1 (x .level)
+      (λ k. rw (lt-ltb 1 (x .level) k, m .lows (x .page) (h .0)) (and-true _))
+      (λ k. rw (le-ltb 1 (x .level) k, le-ltb (lowLevel all (x .page)) (x .level) (omega (arith, k, some-level x (h .1)))) (and-false _ ∙ sym (and-false _)))
+
+  page-is : q ≡ lowestPage (loose (nodeAt g img) all) all t
+  unfolding all
   page-is =
       e ∙ rw (add-one l) (lowest-same (looseAt (nodeAt g img) tbl) (loose (nodeAt g img) all) all t
-      (all-map (λ x. x .page < length tbl) (λ x. looseAt (nodeAt g img) tbl x ≡ loose (nodeAt g img) all x) all
-      (λ x h. rw (m .lows (x .page) h) refl) (w .inside)))
+      (all-map (λ x. (x .page < length tbl) × Mem x all) (λ x. looseAt (nodeAt g img) tbl x ≡ loose (nodeAt g img) all x) all
+      same-at (all-both (λ x. x .page < length tbl) (λ x. Mem x all) all (w .inside) (all-mem all))))
 
   pub loose-bad : q < t → Bad q ≡ r6 t (chipWith g img l p)
   unfolding r6 all
@@ -139,4 +180,4 @@ module _ (g : Geometry) (img tbl : List ℕ) (t l p q : ℕ) (m : Marked (chipWi
   unfolding r6 all
   loose-good h = sym (rw (← page-is, le-leb t q h) (unless-true q Good))
 
-pub ruleset loose-laws = (names-start, names-hit, names-go, names-end, loose-low, loose-is, lowered-not, lowered-high, lowered-is, lowest-none, lowest-leaf, lowest-end, lowest-go, loose-bad, loose-good)
+pub ruleset loose-laws = (names-start, names-hit, names-go, names-end, loose-low, loose-is, lowered-not, lowered-high, lowered-is, lowest-none, lowest-leaves, lowest-end, lowest-go, loose-bad, loose-good)

@@ -13,8 +13,9 @@ use Rattle.trees.specs.Lists.{All}
 unfoldable pub looseIn : Nodes → List ℕ → ℕ → ℕ → Bool
 looseIn r tbl l p = ltb (getD tbl p 0) l & not (namesPage p (r p l))
 
+-- a leaf is never loose: no live node stands below it
 unfoldable pub looseAt : Nodes → List ℕ → Place → Bool
-looseAt r tbl x = looseIn r tbl (x .level) (x .page)
+looseAt r tbl x = ltb 1 (x .level) & looseIn r tbl (x .level) (x .page)
 
 unfoldable pub lowered : Nodes → List ℕ → ℕ → ℕ → ℕ → ℕ
 lowered r tbl l p low = pick (looseIn r tbl l p & ltb p low) p low

@@ -51,16 +51,17 @@ fn lower_loose(g: Geometry, img: &[u8], table: &[u8], level: u32, page: u32, low
     page
 }
 
-// The lowest page with a loose node, of the node at a level of a page and all that it reaches, or `lowest`.
+// The lowest page with a loose node, of the node at a level of a page and all that it reaches, or `lowest`. Leaves are not
+// looked at.
 fn lowest_loose(g: Geometry, img: &[u8], table: &[u8], level: u32, page: u32, lowest: u32) -> u32
     ensures { λ r.
         ⌜ r ≡ lowestPage (looseAt (nodeAt g (now (img .entry))) (now (table .entry))) (places (nodeAt g (now (img .entry))) level (named page)) lowest ⌝ }
 {
-    if level == 0 {
+    if level <= 1 {
         return lowest;
     }
     let mut low = lower_loose(g, img, table, level, page, lowest);
-    if level == 1 {
+    if level == 2 {
         return low;
     }
     let at = chip::node_place(g, page, level);

@@ -1,7 +1,7 @@
 // Which page next, and the pages to come. A page counts as erased if it is so on the image and is not among the pages
 // already chosen, the first i of `taken`.
 ghost use mathlib.Core.Path.{_≡_};
-ghost use Prim.Native.Nat.{ℕ, _+_, _*_, _-_, _/_, _≤_, _<_};
+ghost use Prim.Native.Nat.{_+_, _-_, _/_, _≤_, _<_};
 ghost use lib.ListN.{length};
 ghost use Rattle.model.specs.Bytes.{erased};
 ghost use Rattle.model.specs.Count.{least};
@@ -10,9 +10,9 @@ ghost use Rattle.next.specs.Coming.{free, whole, seen, Coming};
 use geometry::Geometry;
 
 // Whether a page is erased and not yet chosen.
-fn is_free(g: Geometry, img: &[u8], taken: [u32; 256], i: usize, page: u32) -> bool
+fn is_free(g: Geometry, img: &[u8], taken: &[u32; 256], i: usize, page: u32) -> bool
     requires { ⌜ i ≤ 256 ⌝ }
-    ensures { λ r. ⌜ r ≡ free (erased g (now (img .entry))) taken i page ⌝ }
+    ensures { λ r. ⌜ r ≡ free (erased g (now (img .entry))) (now (taken .entry)) i page ⌝ }
 {
     let mut k: usize = i;
     while 0 < k {
@@ -25,9 +25,9 @@ fn is_free(g: Geometry, img: &[u8], taken: [u32; 256], i: usize, page: u32) -> b
 }
 
 // The place in a block of its first free page, or the block's pages.
-fn first_in(g: Geometry, img: &[u8], taken: [u32; 256], i: usize, block: u16) -> u16
+fn first_in(g: Geometry, img: &[u8], taken: &[u32; 256], i: usize, block: u16) -> u16
     requires { ⌜ i ≤ 256 ⌝ }
-    ensures { λ r. ⌜ (r ≡ firstIn (g .pages) (free (erased g (now (img .entry))) taken i) block) × (r ≤ g .pages) ⌝ }
+    ensures { λ r. ⌜ (r ≡ firstIn (g .pages) (free (erased g (now (img .entry))) (now (taken .entry)) i) block) × (r ≤ g .pages) ⌝ }
 {
     let mut j: u16 = 0;
     while j < g.pages {
@@ -40,9 +40,9 @@ fn first_in(g: Geometry, img: &[u8], taken: [u32; 256], i: usize, block: u16) ->
 }
 
 // Whether the first page of a block is programmed and the last one free.
-fn is_mixed(g: Geometry, img: &[u8], taken: [u32; 256], i: usize, block: u16) -> bool
+fn is_mixed(g: Geometry, img: &[u8], taken: &[u32; 256], i: usize, block: u16) -> bool
     requires { ⌜ i ≤ 256 ⌝ }
-    ensures { λ r. ⌜ r ≡ mixed (g .pages) (free (erased g (now (img .entry))) taken i) block ⌝ }
+    ensures { λ r. ⌜ r ≡ mixed (g .pages) (free (erased g (now (img .entry))) (now (taken .entry)) i) block ⌝ }
 {
     if is_free(g, img, taken, i, chip::page_of(g, block, 0)) {
         return false;
@@ -51,9 +51,9 @@ fn is_mixed(g: Geometry, img: &[u8], taken: [u32; 256], i: usize, block: u16) ->
 }
 
 // The lowest mixed block, or n.
-fn first_mixed(g: Geometry, img: &[u8], taken: [u32; 256], i: usize, n: u16) -> u16
+fn first_mixed(g: Geometry, img: &[u8], taken: &[u32; 256], i: usize, n: u16) -> u16
     requires { ⌜ i ≤ 256 ⌝ }
-    ensures { λ r. ⌜ r ≡ least n (mixed (g .pages) (free (erased g (now (img .entry))) taken i)) ⌝ }
+    ensures { λ r. ⌜ r ≡ least n (mixed (g .pages) (free (erased g (now (img .entry))) (now (taken .entry)) i)) ⌝ }
 {
     let mut block: u16 = 0;
     while block < n {
@@ -77,9 +77,9 @@ fn block_of(g: Geometry, page: u32) -> usize
 }
 
 // Whether a block is block `from` or a later one, and its first page is free.
-fn is_whole(g: Geometry, img: &[u8], taken: [u32; 256], i: usize, from: usize, block: u16) -> bool
+fn is_whole(g: Geometry, img: &[u8], taken: &[u32; 256], i: usize, from: usize, block: u16) -> bool
     requires { ⌜ i ≤ 256 ⌝ }
-    ensures { λ r. ⌜ r ≡ whole (g .pages) (free (erased g (now (img .entry))) taken i) from block ⌝ }
+    ensures { λ r. ⌜ r ≡ whole (g .pages) (free (erased g (now (img .entry))) (now (taken .entry)) i) from block ⌝ }
 {
     if geometry::wide(block) < from {
         return false;
@@ -88,9 +88,9 @@ fn is_whole(g: Geometry, img: &[u8], taken: [u32; 256], i: usize, from: usize, b
 }
 
 // The lowest such block, or n.
-fn first_whole(g: Geometry, img: &[u8], taken: [u32; 256], i: usize, from: usize, n: u16) -> u16
+fn first_whole(g: Geometry, img: &[u8], taken: &[u32; 256], i: usize, from: usize, n: u16) -> u16
     requires { ⌜ i ≤ 256 ⌝ }
-    ensures { λ r. ⌜ r ≡ least n (whole (g .pages) (free (erased g (now (img .entry))) taken i) from) ⌝ }
+    ensures { λ r. ⌜ r ≡ least n (whole (g .pages) (free (erased g (now (img .entry))) (now (taken .entry)) i) from) ⌝ }
 {
     let mut block: u16 = 0;
     while block < n {
@@ -103,9 +103,9 @@ fn first_whole(g: Geometry, img: &[u8], taken: [u32; 256], i: usize, from: usize
 }
 
 // The mixed block, else the first whole one after the block of the page `last`, round past the end to the start.
-fn next_block(g: Geometry, img: &[u8], taken: [u32; 256], i: usize, n: u16, last: u32) -> u16
+fn next_block(g: Geometry, img: &[u8], taken: &[u32; 256], i: usize, n: u16, last: u32) -> u16
     requires { ⌜ i ≤ 256 ⌝ }
-    ensures { λ r. ⌜ r ≡ nextBlock (g .pages) n (seen (free (erased g (now (img .entry))) taken i) last) ⌝ }
+    ensures { λ r. ⌜ r ≡ nextBlock (g .pages) n (seen (free (erased g (now (img .entry))) (now (taken .entry)) i) last) ⌝ }
 {
     let mixed = first_mixed(g, img, taken, i, n);
     if mixed < n {
@@ -120,9 +120,9 @@ fn next_block(g: Geometry, img: &[u8], taken: [u32; 256], i: usize, n: u16, last
 }
 
 // The page that follows the chosen ones; `last` is the last of them, or the page with the largest number.
-fn page_after(g: Geometry, img: &[u8], taken: [u32; 256], i: usize, n: u16, last: u32) -> u32
+fn page_after(g: Geometry, img: &[u8], taken: &[u32; 256], i: usize, n: u16, last: u32) -> u32
     requires { ⌜ i ≤ 256 ⌝ }
-    ensures { λ r. ⌜ r ≡ nextPage (g .pages) n (seen (free (erased g (now (img .entry))) taken i) last) ⌝ }
+    ensures { λ r. ⌜ r ≡ nextPage (g .pages) n (seen (free (erased g (now (img .entry))) (now (taken .entry)) i) last) ⌝ }
 {
     let block = next_block(g, img, taken, i, n, last);
     chip::page_of(g, block, first_in(g, img, taken, i, block))
@@ -139,7 +139,7 @@ pub fn next_page(g: Geometry, img: &[u8], n: u16, last: u32) -> u32
     ensures { λ r. ⌜ r ≡ nextPage (g .pages) n (seen (erased g (now (img .entry))) last) ⌝ }
 {
     let none = no_pages();
-    page_after(g, img, none, 0, n, last)
+    page_after(g, img, &none, 0, n, last)
 }
 
 // The first pages to come, as many as `count`.
@@ -151,7 +151,7 @@ pub fn coming(g: Geometry, img: &[u8], n: u16, last: u32, count: usize) -> [u32;
     let mut before = last;
     let mut i: usize = 0;
     while i < count {
-        let page = page_after(g, img, taken, i, n, before);
+        let page = page_after(g, img, &taken, i, n, before);
         taken[i] = page;
         before = page;
         i += 1;

@@ -10,8 +10,9 @@ use native.Mathlib.Nat.{mod-lt, div-add-mod, zero-mul, mul-le-mul-left}
 use borrow.Author.Tests.{eqb-true, leb-false, ltb-true}
 use Rattle.geometry.specs.Tests.{pick}
 use Rattle.counts.specs.Least.{by-lt}
+use Rattle.repeats.specs.Repeats.{Differ}
 use Rattle.numbers.specs.declared.Range.{Range}
-use Rattle.numbers.specs.Ranges.{fallen, grown, extended, rangeTo, apartOf, Ranges, AllClear, Differ}
+use Rattle.numbers.specs.Ranges.{fallen, grown, extended, rangeTo, apartOf, Ranges, AllClear}
 
 module _ (er : ℕ → Bool) (seq : ℕ → ℕ) where
   -- what a rising range says of its pages

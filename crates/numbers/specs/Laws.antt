@@ -1,45 +1,43 @@
 -- R3, in the form in which the code has the premises. Assumes nothing.
-use Prim.Native.Nat.{ℕ, zero, suc, _+_, _-_, _*_, _<_, _≤_}
+use Prim.Native.Nat.{ℕ, _+_, _-_, _*_, _<_, _≤_}
 use mathlib.Core.Bool.{Bool, true, false, not, false≢true}
-use mathlib.Core.Path.{_≡_, refl, sym, ap, _∙_}
+use mathlib.Core.Path.{_≡_, refl, sym, _∙_}
 use mathlib.Core.List.{List}
-use lib.Dec.{eqb, leb, ltb}
-use lib.ListN.{length, getD, set}
-use lib.Seq.{getD-set-same, getD-set-other}
+use lib.Dec.{eqb, ltb}
+use lib.ListN.{getD}
 use native.Mathlib.Omega.{arith}
 use native.Mathlib.Numerals.{add-one}
-use borrow.Author.Tests.{not-true, not-false, eq-eqb, ne-eqb, lt-ltb, le-ltb, le-leb, lt-leb, eqb-true}
+use borrow.Author.Tests.{not-true, not-false, eq-eqb, ne-eqb, lt-ltb, le-ltb, le-leb, lt-leb, eqb-true, ltb-true}
 use Rattle.geometry.specs.declared.Geometry.{Geometry}
-use Rattle.geometry.specs.declared.Finding.{Finding}
-use Rattle.geometry.specs.declared.Finding.the-variants.{Good, Bad}
-use Rattle.geometry.specs.Tests.{pick, _&_, and-true, and-false}
+use Rattle.geometry.specs.declared.Finding.the-variants.{Good}
+use Rattle.geometry.specs.Tests.{pick}
 use Rattle.model.specs.Bytes.{erased, seqAt}
-use Rattle.model.specs.Count.{least, any}
-use Rattle.model.specs.Rules.{repeated, r3}
-use Rattle.counts.specs.Least.{by-lt, least-zero, least-go, least-end, any-none, any-hit, any-clear, least-none}
-use Rattle.counts.specs.Lowest.{lowest-bad, lowest-good}
+use Rattle.model.specs.Rules.{r3}
+use Rattle.counts.specs.Least.{by-lt}
+use Rattle.repeats.specs.Repeats.{Differ}
+use Rattle.repeats.specs.Laws.{differ-good}
 use Rattle.numbers.specs.declared.Range.{Range}
-use Rattle.numbers.specs.Ranges.{extended, rangeTo, apartOf, Shows, Ranges, ClearTo, Clear, AllClear, Differ}
+use Rattle.numbers.specs.Ranges.{extended, rangeTo, apartOf, Zero, Shows, Ranges, ClearTo, Counts, Clear, AllClear, Free, Spaced, Over, Nearer}
 use Rattle.numbers.specs.Apart.{differ}
 
 -- one page more
-module _ (er : ℕ → Bool) (seq : ℕ → ℕ) (p : ℕ) (s : Range) (e : Bool) (ee : e ≡ er p) where
-  pub extend-erased : e ≡ true → s ≡ extended er seq p s
+module _ (er : ℕ → Bool) (seq : ℕ → ℕ) (p : ℕ) (s : Range) where
+  pub extend-erased : er p ≡ true → s ≡ extended er seq p s
   unfolding extended
-  extend-erased q = simp (← ee, q)
+  extend-erased q = simp q
 
-  module _ (q : e ≡ false) (n : ℕ) (en : n ≡ seq p) where
+  module _ (q : er p ≡ false) (n : ℕ) (en : n ≡ seq p) where
     pub extend-falls : n ≤ s .high → record { rising = false; low = s .low; high = s .high } ≡ extended er seq p s
     unfolding extended
-    extend-falls h = simp (← ee, q, ← en, le-leb _ _ h)
+    extend-falls h = simp (q, ← en, le-leb _ _ h)
 
     pub extend-first : s .high < n → s .high ≡ 0 → record { rising = s .rising; low = n; high = n } ≡ extended er seq p s
     unfolding extended
-    extend-first h z = simp (← ee, q, ← en, lt-leb _ _ h, eq-eqb _ _ z)
+    extend-first h z = simp (q, ← en, lt-leb _ _ h, eq-eqb _ _ z)
 
     pub extend-more : s .high < n → (s .high ≡ 0 → ⊥) → record { rising = s .rising; low = s .low; high = n } ≡ extended er seq p s
     unfolding extended
-    extend-more h z = simp (← ee, q, ← en, lt-leb _ _ h, ne-eqb _ _ z)
+    extend-more h z = simp (q, ← en, lt-leb _ _ h, ne-eqb _ _ z)
 
 -- the range of a block
 module _ (er : ℕ → Bool) (seq : ℕ → ℕ) (base : ℕ) where
@@ -51,11 +49,6 @@ module _ (er : ℕ → Bool) (seq : ℕ → ℕ) (base : ℕ) where
   unfolding rangeTo
   range-go j p s s′ e ep es = es ∙ rw (ep, e, add-one j)
 
-  pub range-end : (j n : ℕ) (s : Range) → s ≡ rangeTo er seq base j → j ≤ n → n ≤ j → s ≡ rangeTo er seq base n
-  range-end j n s e h k =
-      let w : j ≡ n = omega arith in
-      rw (← w) e
-
 -- an answer of false shows nothing
 pub shows-none : (A : Type 0) → Shows false A
 shows-none A = record { holds = λ e. absurd (false≢true e) }
@@ -63,153 +56,155 @@ shows-none A = record { holds = λ e. absurd (false≢true e) }
 pub shows-some : (A : Type 0) → A → Shows true A
 shows-some A a = record { holds = λ e. a }
 
--- the ranges of all blocks
-module _ (er : ℕ → Bool) (seq : ℕ → ℕ) (p : ℕ) where
-  pub ranges-start : (lows highs : List ℕ) → Ranges er seq p 0 lows highs
-  ranges-start lows highs = record { rise = λ b h. absurd (omega arith); low = λ b h. absurd (omega arith); high = λ b h. absurd (omega arith) }
+-- the nearer of two beginnings
+pub nearer-old : (low h c : ℕ) → low ≤ h → Nearer low h c c
+nearer-old low h c k = record { most = omega arith; near = λ m. absurd (omega arith) }
 
-  pub ranges-go : (lows highs : List ℕ) (b at : ℕ) (s : Range) → Ranges er seq p b lows highs → s ≡ rangeTo er seq (p * b) p → at ≡ b
-      → not (s .rising) ≡ false → (n : ℕ) (lows₀ highs₀ : List ℕ) → b < n → n ≤ length lows₀ → n ≤ length highs₀
-      → length lows ≡ length lows₀ → length highs ≡ length highs₀ → Ranges er seq p (b + 1) (set lows at (s .low)) (set highs at (s .high))
-  ranges-go lows highs b at s x es ea q n lows₀ highs₀ h hl hh el eh = record {
-    rise = λ i m. by-lt i b (λ k. x .rise i k) (λ k. (let w : i ≡ b = omega arith in rw (w, ← es) (not-false (s .rising) q)));
-    low = λ i m. by-lt i b
-        (λ k. getD-set-other lows at i (s .low) 0 (λ z. omega (arith, z, ea, k)) ∙ x .low i k)
-        (λ k. (let w : i ≡ at = omega (arith, ea) in let v : i ≡ b = omega arith in rw (w, getD-set-same lows at (s .low) 0 (omega (arith, ea, h, hl, el))) (rw (← w, v, ← es) refl)));
-    high = λ i m. by-lt i b
-        (λ k. getD-set-other highs at i (s .high) 0 (λ z. omega (arith, z, ea, k)) ∙ x .high i k)
-        (λ k. (let w : i ≡ at = omega (arith, ea) in let v : i ≡ b = omega arith in rw (w, getD-set-same highs at (s .high) 0 (omega (arith, ea, h, hh, eh))) (rw (← w, v, ← es) refl)));
-  }
+pub nearer-same : (low h c w : ℕ) → w ≡ low → c ≤ w → Nearer low h c c
+nearer-same low h c w e k = record { most = omega arith; near = λ m. omega arith }
 
-  pub ranges-end : (lows highs : List ℕ) (b n : ℕ) → Ranges er seq p b lows highs → n ≤ b → Shows true (Ranges er seq p n lows highs)
-  ranges-end lows highs b n x h =
-      shows-some _ (record { rise = λ i k. x .rise i (omega arith); low = λ i k. x .low i (omega arith); high = λ i k. x .high i (omega arith) })
+pub nearer-new : (low h c w : ℕ) → w ≡ low → w < c → Nearer low h c w
+nearer-new low h c w e k = record { most = omega arith; near = λ m. omega arith }
 
 -- two ranges
 module _ (a b c d : ℕ) where
-  pub apart-none : b ≡ 0 → true ≡ apartOf a b c d
-  unfolding apartOf
-  apart-none z = simp (eq-eqb _ _ z)
+  by-zero : (t : Bool) → t ≡ true → pick (eqb b 0) true (pick (eqb d 0) true t) ≡ true
+  by-zero t e = go (eqb b 0) (eqb d 0)
+    where
+      go : (u v : Bool) → pick u true (pick v true t) ≡ true
+      go true v = refl
+      go false true = refl
+      go false false = e
 
-  pub apart-other : (b ≡ 0 → ⊥) → d ≡ 0 → true ≡ apartOf a b c d
+  pub apart-before : b < c → Zero 0 (apartOf a b c d)
   unfolding apartOf
-  apart-other z y = simp (ne-eqb _ _ z, eq-eqb _ _ y)
+  apart-before h = record { passes = λ e. by-zero (pick (ltb b c) true (ltb d a)) (simp (lt-ltb b c h)) }
 
-  pub apart-before : (b ≡ 0 → ⊥) → (d ≡ 0 → ⊥) → b < c → true ≡ apartOf a b c d
+  pub apart-after : d < a → Zero 0 (apartOf a b c d)
   unfolding apartOf
-  apart-before z y h = simp (ne-eqb _ _ z, ne-eqb _ _ y, lt-ltb _ _ h)
+  apart-after h = record { passes = λ e. by-zero (pick (ltb b c) true (ltb d a)) (rw (lt-ltb d a h) (either (ltb b c))) }
+    where
+      either : (t : Bool) → pick t true true ≡ true
+      either true = refl
+      either false = refl
 
-  pub apart-after : (b ≡ 0 → ⊥) → (d ≡ 0 → ⊥) → c ≤ b → ltb d a ≡ apartOf a b c d
+  pub apart-not : Zero 1 (apartOf a b c d)
+  apart-not = record { passes = λ e. absurd (omega (arith, e)) }
+
+  apart-empty : d ≡ 0 → apartOf a b c d ≡ true
   unfolding apartOf
-  apart-after z y h = simp (ne-eqb _ _ z, ne-eqb _ _ y, le-ltb _ _ h)
+  apart-empty e = rw (eq-eqb d 0 e) (go (eqb b 0))
+    where
+      go : (t : Bool) → pick t true true ≡ true
+      go true = refl
+      go false = refl
+
+  apart-none : b ≡ 0 → apartOf a b c d ≡ true
+  unfolding apartOf
+  apart-none e = rw (eq-eqb b 0 e) refl
+
+  apart-under : b < c → apartOf a b c d ≡ true
+  apart-under h = apart-before h .passes refl
+
+  apart-above : d < a → apartOf a b c d ≡ true
+  apart-above h = apart-after h .passes refl
+
+-- a range that lies apart from one that is not empty lies apart from any above that and below `o`
+apart-kept : (a b c d e f o : ℕ) → apartOf a b c d ≡ true → (d ≡ 0 → ⊥) → c ≤ d → d < e → f < o → (d < a → o ≤ a) → apartOf a b e f ≡ true
+unfolding apartOf
+apart-kept a b c d e f o x some h u v k = go (eqb b 0) refl (ltb b c) refl (rw (ne-eqb d 0 some) at x)
+  where
+    go : (z : Bool) → eqb b 0 ≡ z → (t : Bool) → ltb b c ≡ t → pick z true (pick t true (ltb d a)) ≡ true → apartOf a b e f ≡ true
+    go true ez t et y = apart-none a b e f (eqb-true b 0 ez)
+    go false ez true et y = (let w : b < c = ltb-true b c et in apart-under a b e f (omega arith))
+    go false ez false et y = (let w : d < a = ltb-true d a y in apart-above a b e f (omega (arith, k w, v)))
 
 module _ (lows highs : List ℕ) where
-  pub clear-start : (b : ℕ) → ClearTo lows highs b 0
-  clear-start b = record { apart = λ a h. absurd (omega arith) }
+  pub clear-start : (b : ℕ) → Counts lows highs b 0 0
+  clear-start b = record { clear = λ e. record { apart = λ a h. absurd (omega arith) } }
 
-  pub clear-go : (b i : ℕ) (r : Bool) → ClearTo lows highs b i → r ≡ apartOf (getD lows i 0) (getD highs i 0) (getD lows b 0) (getD highs b 0) → not r ≡ false
-      → ClearTo lows highs b (i + 1)
-  clear-go b i r x e q = record { apart = λ a h. by-lt a i (λ k. x .apart a k) (λ k. (let w : a ≡ i = omega arith in rw w (sym e ∙ not-false r q))) }
+  pub clear-go : (b i k r : ℕ) → Counts lows highs b i k → Zero r (apartOf (getD lows i 0) (getD highs i 0) (getD lows b 0) (getD highs b 0))
+      → Counts lows highs b (i + 1) (k + r)
+  clear-go b i k r x y = record {
+    clear = λ e. record {
+      apart = λ a h. by-lt a i (λ m. x .clear (omega arith) .apart a m) (λ m. (let w : a ≡ i = omega arith in rw w (y .passes (omega (arith, e)))));
+    };
+  }
 
-  pub clear-end : (b i : ℕ) → ClearTo lows highs b i → b ≤ i → Shows true (Clear lows highs b)
-  clear-end b i x h = shows-some _ (record { clear = record { apart = λ a k. x .apart a (omega arith) } })
+  pub clear-end : (b i k : ℕ) → Counts lows highs b i k → b ≤ i → Shows (eqb k 0) (Clear lows highs b)
+  clear-end b i k x h = record { holds = λ e. record { clear = record { apart = λ a m. x .clear (eqb-true k 0 e) .apart a (omega arith) } } }
 
-  pub all-start : AllClear lows highs 0
-  all-start = record { each = λ b h. absurd (omega arith) }
+  -- the nearest beginning above
+  pub over-start : (h : ℕ) → Over lows 0 h 4294967296
+  over-start h = record { over = λ a k. absurd (omega arith) }
 
-  pub all-go : (b : ℕ) (r : Bool) → AllClear lows highs b → Shows r (Clear lows highs b) → not r ≡ false → AllClear lows highs (b + 1)
-  all-go b r x s q = record { each = λ i h. by-lt i b (λ k. x .each i k) (λ k. (let w : i ≡ b = omega arith in rw w (s .holds (not-false r q)))) }
+  pub over-go : (i h c r low : ℕ) → Over lows i h c → low ≡ getD lows i 0 → Nearer low h c r → Over lows (i + 1) h r
+  over-go i h c r low x e y = record {
+    over = λ a k m. by-lt a i (λ v. (let w = x .over a v m in omega (arith, w, y .most))) (λ v. (let w : a ≡ i = omega arith in near a w m));
+  }
+    where
+      near : (a : ℕ) → a ≡ i → h < getD lows a 0 → r ≤ getD lows a 0
+      near a w m = (let u : getD lows a 0 ≡ low = rw w (sym e) in rw u (y .near (rw u at m)))
 
-  pub all-end : (b n : ℕ) → AllClear lows highs b → n ≤ b → Shows true (AllClear lows highs n)
-  all-end b n x h = shows-some _ (record { each = λ i k. x .each i (omega arith) })
+  pub over-end : (b i h c : ℕ) → Over lows i h c → b ≤ i → Over lows b h c
+  over-end b i h c x k = record { over = λ a m o. x .over a (omega arith) o }
+
+  -- a block more
+  with-block : (b : ℕ) → AllClear lows highs b → Clear lows highs b → AllClear lows highs (b + 1)
+  with-block b x y = record { each = λ i h. by-lt i b (λ k. x .each i k) (λ k. (let w : i ≡ b = omega arith in rw w y)) }
+
+  module _ (b floor ceiling : ℕ) (x : Spaced lows highs b floor ceiling) where
+    more : (floor′ : ℕ) → floor ≤ floor′ → ((low high : ℕ) → floor′ < low → high < ceiling → apartOf (getD lows b 0) (getD highs b 0) low high ≡ true)
+        → Free lows highs (b + 1) floor′ ceiling
+    more floor′ le new = record {
+      apart = λ a h low high k m. by-lt a b (λ v. x .free .apart a v low high (omega arith) m) (λ v. (let w : a ≡ b = omega arith in rw w (new low high k m)));
+    }
+
+    pub space-empty : getD highs b 0 ≡ 0 → Shows true (Spaced lows highs (b + 1) floor ceiling)
+    space-empty z = shows-some _ (record {
+      clear = with-block b (x .clear) (record { clear = record { apart = λ a h. apart-empty (getD lows a 0) (getD highs a 0) (getD lows b 0) (getD highs b 0) z } });
+      free = more floor (omega arith) (λ low high k m. apart-none (getD lows b 0) (getD highs b 0) low high z);
+    })
+
+    pub space-free : (w : ℕ) → w ≡ getD highs b 0 → getD lows b 0 ≤ getD highs b 0 → floor < getD lows b 0 → w < ceiling
+        → Shows true (Spaced lows highs (b + 1) (getD highs b 0) ceiling)
+    space-free w ew h k m = shows-some _ (record {
+      clear = with-block b (x .clear) (record { clear = record { apart = λ a o. x .free .apart a o (getD lows b 0) (getD highs b 0) k (rw (← ew) m) } });
+      free = more (getD highs b 0) (omega arith) (λ low high u v. apart-under (getD lows b 0) (getD highs b 0) low high u);
+    })
+
+    pub space-known : AllClear lows highs b
+    space-known = x .clear
+
+  pub space-far : (b : ℕ) (t : Bool) (low high c : ℕ) → AllClear lows highs b → Shows t (Clear lows highs b) → Over lows b high c → low ≡ getD lows b 0 → high ≡ getD highs b 0
+      → 1 ≤ high → low ≤ high → Shows t (Spaced lows highs (b + 1) high c)
+  space-far b t low high c x y z el eh some h = record {
+    holds = λ q. record {
+      clear = with-block b x (y .holds q);
+      free = record {
+        apart = λ a o lo hi u v. by-lt a b
+            (λ k. apart-kept (getD lows a 0) (getD highs a 0) low high lo hi c (rw (el, eh) (y .holds q .clear .apart a k)) (omega arith) h u v (z .over a k))
+            (λ k. (let w : a ≡ b = omega arith in rw (w, ← el, ← eh) (apart-under low high lo hi u)));
+      };
+    };
+  }
+
+  pub space-start : Spaced lows highs 0 0 4294967296
+  space-start = record { clear = record { each = λ b h. absurd (omega arith) }; free = record { apart = λ a h. absurd (omega arith) } }
+
+  pub space-go : (b floor ceiling : ℕ) (r : Bool) → Shows r (Spaced lows highs b floor ceiling) → not r ≡ false → Spaced lows highs b floor ceiling
+  space-go b floor ceiling r x q = x .holds (not-false r q)
+
+  pub space-end : (b n floor ceiling : ℕ) → Spaced lows highs b floor ceiling → n ≤ b → Shows true (AllClear lows highs n)
+  space-end b n floor ceiling x h = shows-some _ (record { each = λ i k. x .clear .each i (omega arith) })
 
 pub differ-shown : (er : ℕ → Bool) (seq : ℕ → ℕ) (p n m : ℕ) (lows highs : List ℕ) (a b : Bool) → Shows a (Ranges er seq p n lows highs) → not a ≡ false
     → m ≡ n → Shows b (AllClear lows highs m) → Shows b (Differ er seq (p * n))
 differ-shown er seq p n m lows highs a b x q e y =
     record { holds = λ t. differ er seq p n lows highs (x .holds (not-false a q)) (rw (← e) (y .holds t)) }
 
--- page by page
-unfoldable pub same : (ℕ → Bool) → (ℕ → ℕ) → ℕ → ℕ → Bool
-same er seq s q = not (er q) & eqb (seq q) s
-
-module _ (er : ℕ → Bool) (seq : ℕ → ℕ) where
-  pub same-no : (s q n : ℕ) → n ≡ seq q → (n ≡ s → ⊥) → false ≡ same er seq s q
-  unfolding same
-  same-no s q n e h = fails (not (er q))
-    where
-      fails : (t : Bool) → false ≡ (t & eqb (seq q) s)
-      fails true = simp (← e, ne-eqb _ _ h, and-true)
-      fails false = simp and-false
-
-  pub same-yes : (s q n : ℕ) (b : Bool) → n ≡ seq q → n ≡ s → b ≡ er q → not b ≡ same er seq s q
-  unfolding same
-  same-yes s q n b e h eb = holds b eb
-    where
-      holds : (b : Bool) → b ≡ er q → not b ≡ (not (er q) & eqb (seq q) s)
-      holds true f = simp (← f, and-false)
-      holds false f = simp (← f, ← e, eq-eqb _ _ h, and-true)
-
-  module _ (p : ℕ) (e : Bool) (ee : e ≡ er p) where
-    pub repeated-erased : e ≡ true → false ≡ repeated er seq p
-    unfolding repeated
-    repeated-erased q = simp (← ee, q, and-false)
-
-    module _ (q : e ≡ false) (s : ℕ) (es : s ≡ seq p) where
-      repeated-is : repeated er seq p ≡ any p (same er seq s)
-      unfolding repeated same
-      repeated-is = rw (← ee, q, ← es) (and-true _)
-
-      pub same-hit : (i : ℕ) (r : Bool) → least i (same er seq s) ≡ i → r ≡ same er seq s i → r ≡ true → i < p → true ≡ repeated er seq p
-      same-hit i r x er′ t h = sym (repeated-is ∙ any-hit (same er seq s) p i x (sym er′ ∙ t) h)
-
-      pub same-end : (i : ℕ) → least i (same er seq s) ≡ i → i ≤ p → p ≤ i → false ≡ repeated er seq p
-      same-end i x h k =
-          let w : i ≡ p = omega arith in
-          sym (repeated-is ∙ any-none (same er seq s) p (rw (← w) x))
-
-  pub same-start : (s : ℕ) → least 0 (same er seq s) ≡ 0
-  same-start s = sym (least-zero (same er seq s))
-
-  pub same-go : (s i : ℕ) (r : Bool) → least i (same er seq s) ≡ i → r ≡ same er seq s i → r ≡ false → least (i + 1) (same er seq s) ≡ i + 1
-  same-go s i r x er′ t = least-go (same er seq s) i x (sym er′ ∙ t)
-
-  pub again-start : least 0 (repeated er seq) ≡ 0
-  again-start = sym (least-zero (repeated er seq))
-
-  pub again-go : (i : ℕ) (r : Bool) → least i (repeated er seq) ≡ i → r ≡ repeated er seq i → r ≡ false → least (i + 1) (repeated er seq) ≡ i + 1
-  again-go i r x er′ t = least-go (repeated er seq) i x (sym er′ ∙ t)
-
-  never : (t : ℕ) → Differ er seq t → (p : ℕ) → p < t → repeated er seq p ≡ false
-  unfolding repeated
-  never t d p h = by-er (er p) refl
-    where
-      other : (q : ℕ) → q < p → er p ≡ false → (a b : Bool) → er q ≡ a → eqb (seq q) (seq p) ≡ b → (not a & b) ≡ false
-      other q lt ep true b eq e = and-false b
-      other q lt ep false true eq e = absurd (d .differ p q lt h ep eq (eqb-true (seq q) (seq p) e))
-      other q lt ep false false eq e = and-true false
-
-      by-er : (b : Bool) → er p ≡ b → (not b & any p (λ q. not (er q) & eqb (seq q) (seq p))) ≡ false
-      by-er true e = and-false _
-      by-er false e =
-          and-true _ ∙ any-clear (λ q. not (er q) & eqb (seq q) (seq p)) p (λ q lt. other q lt e (er q) (eqb (seq q) (seq p)) refl refl)
-
 -- R3
-module _ (g : Geometry) (img : List ℕ) (n : ℕ) where
-  pub again-bad : (t i : ℕ) (r : Bool) → t ≡ g .pages * n → least i (repeated (erased g img) (seqAt g img)) ≡ i
-      → r ≡ repeated (erased g img) (seqAt g img) i → r ≡ true → i < t → Bad i ≡ r3 g n img
-  unfolding r3
-  again-bad t i r et x er t′ h = lowest-bad (repeated (erased g img) (seqAt g img)) (g .pages * n) i x (sym er ∙ t′) (rw (← et) h)
+pub ranges-good : (g : Geometry) (img : List ℕ) (n : ℕ) (r : Bool) → Shows r (Differ (erased g img) (seqAt g img) (g .pages * n)) → r ≡ true → Good ≡ r3 g n img
+ranges-good g img n r d q = differ-good g img n (d .holds q)
 
-  pub again-good : (t i : ℕ) → t ≡ g .pages * n → least i (repeated (erased g img) (seqAt g img)) ≡ i → i ≤ t → t ≤ i → Good ≡ r3 g n img
-  unfolding r3
-  again-good t i et x h k =
-      let w : i ≡ g .pages * n = omega (arith, et) in
-      lowest-good (repeated (erased g img) (seqAt g img)) (g .pages * n) (rw (← w) x)
-
-  pub ranges-good : (r : Bool) → Shows r (Differ (erased g img) (seqAt g img) (g .pages * n)) → r ≡ true → Good ≡ r3 g n img
-  unfolding r3
-  ranges-good r d q =
-      lowest-good (repeated (erased g img) (seqAt g img)) (g .pages * n)
-      (least-none (repeated (erased g img) (seqAt g img)) (g .pages * n) (λ p h. never (erased g img) (seqAt g img) (g .pages * n) (d .holds q) p h))
-
-pub ruleset number-laws = (extend-erased, extend-falls, extend-first, extend-more, range-start, range-go, range-end, shows-none, ranges-start, ranges-go, ranges-end, apart-none, apart-other, apart-before, apart-after, clear-start, clear-go, clear-end, all-start, all-go, all-end, differ-shown, same-no, same-yes, repeated-erased, same-hit, same-end, same-start, same-go, again-start, again-go, again-bad, again-good, ranges-good)
+pub ruleset number-laws = (extend-falls, extend-first, extend-more, shows-none, apart-before, apart-after, apart-not, nearer-old, nearer-same, nearer-new, clear-start, clear-go, clear-end, over-start, over-go, over-end, space-empty, space-free, space-known, space-far, space-start, space-go, space-end, differ-shown, ranges-good)

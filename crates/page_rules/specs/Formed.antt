@@ -1,7 +1,7 @@
 -- R1. Assumes nothing.
 use Prim.Native.Nat.{ℕ, _+_, _-_, _*_, _<_, _≤_}
 use mathlib.Core.Bool.{Bool, true, false, not}
-use mathlib.Core.Path.{_≡_, sym}
+use mathlib.Core.Path.{_≡_, sym, _∙_}
 use mathlib.Core.List.{List}
 use native.Mathlib.Omega.{arith}
 use borrow.Author.Tests.{not-true, not-false, le-leb, lt-leb}
@@ -16,31 +16,32 @@ use Rattle.model.specs.Rules.{wellFormed, r1}
 use Rattle.counts.specs.Least.{least-zero, least-go}
 use Rattle.counts.specs.Lowest.{lowest-bad, lowest-good}
 
-module _ (g : Geometry) (img : List ℕ) (p : ℕ) (e : Bool) (ee : e ≡ erased g img p) where
-  pub formed-erased : e ≡ true → true ≡ wellFormed g img p
+module _ (g : Geometry) (img : List ℕ) (p : ℕ) where
+  pub formed-erased : (e : Bool) → e ≡ erased g img p → e ≡ true → true ≡ wellFormed g img p
   unfolding wellFormed
-  formed-erased q = simp (← ee, q)
+  formed-erased e ee q = simp (← ee, q)
 
-  pub formed-high : (t w h : ℕ) → t ≡ g .top → h ≡ heightAt g img p → w ≡ h → e ≡ false → t < w → false ≡ wellFormed g img p
-  unfolding wellFormed
-  formed-high t w h et eh ew q k = simp (← ee, q, ← et, ← eh, lt-leb h t (rw (← ew) k), and-false)
+  pub page-there : (e : Bool) → e ≡ erased g img p → e ≡ false → erased g img p ≡ false
+  page-there e ee q = sym ee ∙ q
 
-  pub formed-tail : (t w h : ℕ) (b : Bool) → t ≡ g .top → h ≡ heightAt g img p → w ≡ h → b ≡ tailAt g img p → e ≡ false → w ≤ t → not b ≡ true
-      → false ≡ wellFormed g img p
+-- a programmed page: t is the top, w its height as a wide number
+module _ (g : Geometry) (img : List ℕ) (p h s : ℕ) (q : erased g img p ≡ false) (eh : h ≡ heightAt g img p) (es : s ≡ seqAt g img p) (t w : ℕ) (et : t ≡ g .top) (ew : w ≡ h) where
+  pub formed-high : t < w → false ≡ wellFormed g img p
   unfolding wellFormed
-  formed-tail t w h b et eh ew eb q k n = simp (← ee, q, ← et, ← eh, le-leb h t (rw (← ew) k), ← eb, not-true b n, and-true, and-false)
+  formed-high k = simp (q, ← et, ← eh, lt-leb h t (rw (← ew) k), and-false)
 
-  pub formed-number : (t w h s : ℕ) (b : Bool) → t ≡ g .top → h ≡ heightAt g img p → w ≡ h → b ≡ tailAt g img p → s ≡ seqAt g img p
-      → e ≡ false → w ≤ t → not b ≡ false → s ≡ 0 → false ≡ wellFormed g img p
+  pub formed-tail : (b : Bool) → b ≡ tailAt g img p → w ≤ t → not b ≡ true → false ≡ wellFormed g img p
   unfolding wellFormed
-  formed-number t w h s b et eh ew eb es q k n z =
-      simp (← ee, q, ← et, ← eh, le-leb h t (rw (← ew) k), ← eb, not-false b n, ← es, z, and-true, and-false)
+  formed-tail b eb k n = simp (q, ← et, ← eh, le-leb h t (rw (← ew) k), ← eb, not-true b n, and-true, and-false)
 
-  pub formed-codes : (t w h s o : ℕ) (b r : Bool) → t ≡ g .top → h ≡ heightAt g img p → w ≡ h → b ≡ tailAt g img p → s ≡ seqAt g img p → o ≡ pageBase g p
-      → r ≡ codesFit g img o (halves g) → e ≡ false → w ≤ t → not b ≡ false → (s ≡ 0 → ⊥) → r ≡ wellFormed g img p
+  pub formed-number : (b : Bool) → b ≡ tailAt g img p → w ≤ t → not b ≡ false → s ≡ 0 → false ≡ wellFormed g img p
   unfolding wellFormed
-  formed-codes t w h s o b r et eh ew eb es eo er q k n z =
-      simp (← ee, q, ← et, ← eh, le-leb h t (rw (← ew) k), ← eb, not-false b n, ← es, le-leb 1 s (omega arith), ← eo, ← er, and-true)
+  formed-number b eb k n z = simp (q, ← et, ← eh, le-leb h t (rw (← ew) k), ← eb, not-false b n, ← es, z, and-true, and-false)
+
+  pub formed-codes : (o : ℕ) (b r : Bool) → b ≡ tailAt g img p → o ≡ pageBase g p → r ≡ codesFit g img o (halves g) → w ≤ t → not b ≡ false → (s ≡ 0 → ⊥)
+      → r ≡ wellFormed g img p
+  unfolding wellFormed
+  formed-codes o b r eb eo er k n z = simp (q, ← et, ← eh, le-leb h t (rw (← ew) k), ← eb, not-false b n, ← es, le-leb 1 s (omega arith), ← eo, ← er, and-true)
 
 -- R1's test, as a name
 unfoldable pub malformed : Geometry → List ℕ → ℕ → Bool
@@ -67,4 +68,4 @@ module _ (g : Geometry) (img : List ℕ) where
       let w : i ≡ g .pages * n = omega (arith, et) in
       lowest-good (malformed g img) (g .pages * n) (rw (← w) e)
 
-pub ruleset formed-laws = (formed-erased, formed-high, formed-tail, formed-number, formed-codes, form-start, form-go, form-bad, form-good)
+pub ruleset formed-laws = (formed-erased, page-there, formed-high, formed-tail, formed-number, formed-codes, form-start, form-go, form-bad, form-good)

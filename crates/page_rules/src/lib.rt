@@ -1,8 +1,9 @@
 // R1 and R2: what each page and each block must look like.
 ghost use mathlib.Core.Path.{_≡_};
 ghost use Prim.Native.Nat.{ℕ, _+_, _*_, _-_, _≤_, _<_};
+ghost use mathlib.Core.Bool.{false};
 ghost use Rattle.geometry.specs.Geometry.{halves};
-ghost use Rattle.model.specs.Bytes.{erased};
+ghost use Rattle.model.specs.Bytes.{erased, seqAt, heightAt};
 ghost use Rattle.model.specs.Codes.{codesFit};
 ghost use Rattle.model.specs.Count.{least};
 ghost use Rattle.model.specs.Next.{mixed, firstIn};
@@ -28,23 +29,33 @@ fn codes_fit(g: Geometry, img: &[u8], b: usize) -> bool
     true
 }
 
-// Whether a page is erased, or its height, tail, number and codes may be.
+// R1 of a programmed page: its height, tail, number and codes.
+pub fn is_formed(g: Geometry, img: &[u8], page: u32, height: u32, seq: u32) -> bool
+    requires { ⌜ (erased g (now img) page ≡ false) × (height ≡ heightAt g (now img) page) × (seq ≡ seqAt g (now img) page) ⌝ }
+    ensures { λ r. ⌜ r ≡ wellFormed g (now (img .entry)) page ⌝ }
+{
+    if geometry::wide(g.top) < geometry::index(height) {
+        return false;
+    }
+    if !chip::tail_blank(g, img, page) {
+        return false;
+    }
+    if seq == 0 {
+        return false;
+    }
+    codes_fit(g, img, geometry::page_base(g, page))
+}
+
+// Whether a page is erased, or as R1 wants a programmed one.
 fn well_formed(g: Geometry, img: &[u8], page: u32) -> bool
     ensures { λ r. ⌜ r ≡ wellFormed g (now (img .entry)) page ⌝ }
 {
     if chip::page_erased(g, img, page) {
         return true;
     }
-    if geometry::wide(g.top) < geometry::index(chip::height_at(g, img, page)) {
-        return false;
-    }
-    if !chip::tail_blank(g, img, page) {
-        return false;
-    }
-    if chip::seq_at(g, img, page) == 0 {
-        return false;
-    }
-    codes_fit(g, img, geometry::page_base(g, page))
+    let height = chip::height_at(g, img, page);
+    let seq = chip::seq_at(g, img, page);
+    is_formed(g, img, page, height, seq)
 }
 
 // R1: the lowest page that is not well formed.

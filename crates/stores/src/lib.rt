@@ -1,8 +1,8 @@
 // The two stores, and stores under an allowance. Only `program_page` and `erase_block` write an image.
 ghost use mathlib.Core.Path.{_≡_};
 ghost use mathlib.Core.List.{[], _∷_};
-ghost use Prim.Native.Nat.{_+_, _*_, _<_};
-ghost use lib.ListN.{set, take};
+ghost use Prim.Native.Nat.{_+_, _*_, _<_, _≤_};
+ghost use lib.ListN.{length, set, take};
 ghost use Rattle.geometry.specs.Geometry.{pageBytes, pageBase};
 ghost use Rattle.model.specs.Bytes.{byteAt};
 ghost use Rattle.model.specs.Stores.{Store, written, applyStore};
@@ -27,7 +27,8 @@ fn put(img: &mut [u8], at: usize, b: u8)
     }
 }
 
-fn copy(img: &mut [u8], at: usize, bytes: &[u8], n: usize)
+// n bytes of a buffer, one by one, where the image or the buffer is too short for them.
+fn copy_bytes(img: &mut [u8], at: usize, bytes: &[u8], n: usize)
     requires { ⌜ at + n < 1152921504606846976 ⌝ }
     ensures { λ _. ⌜ now (img .exit) ≡ written (now (img .entry)) at (byteAt (now (bytes .entry))) n ⌝ }
 {
@@ -38,7 +39,39 @@ fn copy(img: &mut [u8], at: usize, bytes: &[u8], n: usize)
     }
 }
 
-fn blank(img: &mut [u8], at: usize, n: usize)
+// Fills a part with the first bytes of a buffer.
+fn copy_part(part: &mut [u8], bytes: &[u8])
+    requires { ⌜ length (now part) ≤ length (now bytes) ⌝ }
+    ensures { λ _.
+        ⌜ now (part .exit) ≡ written (now (part .entry)) 0 (byteAt (now (bytes .entry))) (length (now (part .entry))) ⌝ }
+{
+    let n = part.len();
+    let mut j: usize = 0;
+    while j < n {
+        part[j] = bytes[j];
+        j += 1;
+    }
+}
+
+// n bytes of a buffer into the image from `at` on; nothing outside it.
+fn copy(img: &mut [u8], at: usize, bytes: &[u8], n: usize)
+    requires { ⌜ at + n < 1152921504606846976 ⌝ }
+    ensures { λ _. ⌜ now (img .exit) ≡ written (now (img .entry)) at (byteAt (now (bytes .entry))) n ⌝ }
+{
+    let end = at + n;
+    if img.len() < end {
+        copy_bytes(&mut *img, at, bytes, n);
+        return;
+    }
+    if bytes.len() < n {
+        copy_bytes(&mut *img, at, bytes, n);
+        return;
+    }
+    copy_part(&mut img[at..end], bytes);
+}
+
+// n bytes of 255, one by one, where the image is too short for them.
+fn blank_bytes(img: &mut [u8], at: usize, n: usize)
     requires { ⌜ at + n < 1152921504606846976 ⌝ }
     ensures { λ _. ⌜ now (img .exit) ≡ written (now (img .entry)) at (λ k. 255) n ⌝ }
 {
@@ -47,6 +80,31 @@ fn blank(img: &mut [u8], at: usize, n: usize)
         put(&mut *img, at + j, 255);
         j += 1;
     }
+}
+
+// Fills a part with 255.
+fn blank_part(part: &mut [u8])
+    ensures { λ _. ⌜ now (part .exit) ≡ written (now (part .entry)) 0 (λ k. 255) (length (now (part .entry))) ⌝ }
+{
+    let n = part.len();
+    let mut j: usize = 0;
+    while j < n {
+        part[j] = 255;
+        j += 1;
+    }
+}
+
+// n bytes of 255 in the image from `at` on; nothing outside it.
+fn blank(img: &mut [u8], at: usize, n: usize)
+    requires { ⌜ at + n < 1152921504606846976 ⌝ }
+    ensures { λ _. ⌜ now (img .exit) ≡ written (now (img .entry)) at (λ k. 255) n ⌝ }
+{
+    let end = at + n;
+    if img.len() < end {
+        blank_bytes(&mut *img, at, n);
+        return;
+    }
+    blank_part(&mut img[at..end]);
 }
 
 // Programs one page, whole.

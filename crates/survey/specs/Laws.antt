@@ -44,7 +44,7 @@ seen-end g img s p n e h k =
     rw (← w) e
 
 -- one page more
-module _ (g : Geometry) (img : List ℕ) (p : ℕ) (s : Seen) (es : s ≡ seenTo g img p) (e : Bool) (ee : e ≡ erased g img p) where
+module _ (g : Geometry) (img : List ℕ) (p : ℕ) (s : Seen) (es : s ≡ seenTo g img p) where
   score : ℕ → ℕ
   score = rootScore g img
 
@@ -80,9 +80,9 @@ module _ (g : Geometry) (img : List ℕ) (p : ℕ) (s : Seen) (es : s ≡ seenTo
   stays-score : score p ≤ s .score → s .score ≡ peak (p + 1) score
   stays-score h = score-is ∙ peak-stays score p (rw (← score-is) h)
 
-  pub see-erased : e ≡ true → record { root = s .root; score = s .score; most = s .most; last = s .last; erased = s .erased + 1 } ≡ seenTo g img (p + 1)
+  pub see-erased : (e : Bool) → e ≡ erased g img p → e ≡ true → record { root = s .root; score = s .score; most = s .most; last = s .last; erased = s .erased + 1 } ≡ seenTo g img (p + 1)
   unfolding rootScore heightOf seqOf score
-  see-erased q =
+  see-erased e ee q =
       let none : rootScore g img p ≡ 0 = simp (← ee, q) in
       let seq : seqOf g img p ≡ 0 = simp (← ee, q) in
       next (s .root) (s .score) (s .most) (s .last) (s .erased + 1)
@@ -92,10 +92,10 @@ module _ (g : Geometry) (img : List ℕ) (p : ℕ) (s : Seen) (es : s ≡ seenTo
       (last-is ∙ arg-stays (seqOf g img) p (rw seq (omega arith)))
       (sym (count-more (erased g img) p ∙ rw (← ee, q, ← erased-is) (omega arith)))
 
-  module _ (q : e ≡ false) (n m : ℕ) (en : n ≡ seqAt g img p) (em : m ≡ max n (s .most)) (l : ℕ) (el : l ≡ pick (ltb (s .most) n) p (s .last)) (h : ℕ) (eh : h ≡ heightAt g img p) where
+  module _ (q : erased g img p ≡ false) (n m : ℕ) (en : n ≡ seqAt g img p) (em : m ≡ max n (s .most)) (l : ℕ) (el : l ≡ pick (ltb (s .most) n) p (s .last)) (h : ℕ) (eh : h ≡ heightAt g img p) where
     seq-is : seqOf g img p ≡ n
     unfolding seqOf
-    seq-is = simp (← ee, q, ← en)
+    seq-is = simp (q, ← en)
 
     most-next : m ≡ peak (p + 1) (seqOf g img)
     most-next = em ∙ sym (peak-more (seqOf g img) p ∙ rw (seq-is, ← most-is))
@@ -108,15 +108,15 @@ module _ (g : Geometry) (img : List ℕ) (p : ℕ) (s : Seen) (es : s ≡ seenTo
         go false x = last-is ∙ arg-stays (seqOf g img) p (rw (← most-is, seq-is) (ltb-false (s .most) n x))
 
     erased-next : s .erased ≡ count (p + 1) (erased g img)
-    erased-next = sym (count-more (erased g img) p ∙ rw (← ee, q, ← erased-is) (omega arith))
+    erased-next = sym (count-more (erased g img) p ∙ rw (q, ← erased-is) (omega arith))
 
     score-none : h ≡ 0 → score p ≡ 0
     unfolding rootScore heightOf score
-    score-none z = simp (← ee, q, ← eh, z)
+    score-none z = simp (q, ← eh, z)
 
     score-some : (h ≡ 0 → ⊥) → score p ≡ n
     unfolding rootScore heightOf score
-    score-some z = simp (seq-is, ← ee, q, ← eh, le-leb 1 h (omega arith))
+    score-some z = simp (seq-is, q, ← eh, le-leb 1 h (omega arith))
 
     stays : score p ≤ s .score → record { root = s .root; score = s .score; most = m; last = l; erased = s .erased } ≡ seenTo g img (p + 1)
     stays k = next (s .root) (s .score) m l (s .erased) (stays-root k) (stays-score k) most-next last-next erased-next
@@ -131,6 +131,10 @@ module _ (g : Geometry) (img : List ℕ) (p : ℕ) (s : Seen) (es : s ≡ seenTo
     see-newer z k =
         let up : peak p score < score p = rw (← score-is, score-some z) k in
         next p n m l (s .erased) (arg-higher score p up) (sym (score-some z) ∙ peak-higher score p up) most-next last-next erased-next
+
+-- a page that is not erased
+pub page-there : (g : Geometry) (img : List ℕ) (p : ℕ) (e : Bool) → e ≡ erased g img p → e ≡ false → erased g img p ≡ false
+page-there g img p e ee q = sym ee ∙ q
 
 pub height-none : (g : Geometry) (img : List ℕ) (p : ℕ) (e : Bool) → e ≡ erased g img p → e ≡ true → 0 ≡ heightOf g img p
 unfolding heightOf
@@ -184,4 +188,4 @@ module _ (g : Geometry) (n : ℕ) (img : List ℕ) (s : Survey) (e : s ≡ surve
   unfolding surveyOf
   makes f = λ i. f (e i .most) (chipWith g img (e i .level) (e i .root))
 
-pub ruleset survey-laws = (larger-right, larger-left, holder-new, holder-old, seen-start, seen-end, see-erased, see-flat, see-older, see-newer, height-none, height-some, survey-is, root-missing, root-there)
+pub ruleset survey-laws = (larger-right, larger-left, holder-new, holder-old, seen-start, seen-end, see-erased, see-flat, see-older, see-newer, page-there, height-none, height-some, survey-is, root-missing, root-there)

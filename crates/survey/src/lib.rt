@@ -1,8 +1,10 @@
 // One pass over the pages of an image: the root, the largest number, the erased pages. And R4.
 ghost use mathlib.Core.Path.{_≡_};
 ghost use Prim.Native.Nat.{ℕ, _+_, _*_, _-_, _≤_, _<_, max};
+ghost use mathlib.Core.Bool.{false};
 ghost use lib.Dec.{ltb};
 ghost use Rattle.geometry.specs.Tests.{pick};
+ghost use Rattle.model.specs.Bytes.{erased, seqAt, heightAt};
 ghost use Rattle.model.specs.Image.{heightOf};
 ghost use Rattle.model.specs.Rules.{r4};
 ghost use Rattle.survey.specs.Survey.{seenTo, surveyOf};
@@ -10,12 +12,12 @@ use geometry::Finding;
 use geometry::Geometry;
 
 // What the pages below some page say: the root's page and number, the largest number and its page, the erased pages.
-struct Seen {
-    root: u32,
-    score: u32,
-    most: u32,
-    last: u32,
-    erased: u32,
+pub struct Seen {
+    pub root: u32,
+    pub score: u32,
+    pub most: u32,
+    pub last: u32,
+    pub erased: u32,
 }
 
 // An image in numbers: the root's page, its height byte and the levels below it, the largest number and
@@ -48,24 +50,14 @@ fn holder(seq: u32, most: u32, page: u32, last: u32) -> u32
     last
 }
 
-// What is seen with one page more.
-fn see(g: Geometry, img: &[u8], page: u32, seen: Seen) -> Seen
-    requires { ⌜ (seen ≡ seenTo g (now img) page) × (seen .erased ≤ page) × (page < 4294967295) ⌝ }
-    ensures { λ r. ⌜ (r ≡ seenTo g (now (img .entry)) (page + 1)) × (r .erased ≤ page + 1) ⌝ }
+// What is seen with one programmed page more.
+pub fn see_page(g: Geometry, img: &[u8], page: u32, height: u32, seq: u32, seen: Seen) -> Seen
+    requires { ⌜ (seen ≡ seenTo g (now img) page) × (erased g (now img) page ≡ false) × (height ≡ heightAt g (now img) page) × (seq ≡ seqAt g (now img) page) ⌝ }
+    ensures { λ r. ⌜ (r ≡ seenTo g (now (img .entry)) (page + 1)) × (r .erased ≡ seen .erased) ⌝ }
 {
-    if chip::page_erased(g, img, page) {
-        return Seen {
-            root: seen.root,
-            score: seen.score,
-            most: seen.most,
-            last: seen.last,
-            erased: seen.erased + 1,
-        };
-    }
-    let seq = chip::seq_at(g, img, page);
     let most = larger(seq, seen.most);
     let last = holder(seq, seen.most, page, seen.last);
-    if chip::height_at(g, img, page) == 0 {
+    if height == 0 {
         return Seen {
             root: seen.root,
             score: seen.score,
@@ -92,6 +84,25 @@ fn see(g: Geometry, img: &[u8], page: u32, seen: Seen) -> Seen
     }
 }
 
+// What is seen with one page more.
+fn see(g: Geometry, img: &[u8], page: u32, seen: Seen) -> Seen
+    requires { ⌜ (seen ≡ seenTo g (now img) page) × (seen .erased ≤ page) × (page < 4294967295) ⌝ }
+    ensures { λ r. ⌜ (r ≡ seenTo g (now (img .entry)) (page + 1)) × (r .erased ≤ page + 1) ⌝ }
+{
+    if chip::page_erased(g, img, page) {
+        return Seen {
+            root: seen.root,
+            score: seen.score,
+            most: seen.most,
+            last: seen.last,
+            erased: seen.erased + 1,
+        };
+    }
+    let height = chip::height_at(g, img, page);
+    let seq = chip::seq_at(g, img, page);
+    see_page(g, img, page, height, seq, seen)
+}
+
 fn see_all(g: Geometry, img: &[u8], pages: u32) -> Seen
     requires { ⌜ pages < 4294967295 ⌝ }
     ensures { λ r. ⌜ r ≡ seenTo g (now (img .entry)) pages ⌝ }
@@ -112,7 +123,7 @@ fn see_all(g: Geometry, img: &[u8], pages: u32) -> Seen
 }
 
 // The height byte of a programmed page, 0 of an erased one.
-fn height_of(g: Geometry, img: &[u8], page: u32) -> u32
+pub fn height_of(g: Geometry, img: &[u8], page: u32) -> u32
     ensures { λ r. ⌜ (r ≡ heightOf g (now (img .entry)) page) × (r < 256) ⌝ }
 {
     if chip::page_erased(g, img, page) {
@@ -121,7 +132,7 @@ fn height_of(g: Geometry, img: &[u8], page: u32) -> u32
     chip::height_at(g, img, page)
 }
 
-fn less_one(x: u32) -> u32
+pub fn less_one(x: u32) -> u32
     ensures { λ r. ⌜ r ≡ x - 1 ⌝ }
 {
     if x == 0 {

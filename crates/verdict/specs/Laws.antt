@@ -1,38 +1,42 @@
 -- R7 and the verdict, in the form in which the code has the premises. Assumes nothing.
-use Prim.Native.Nat.{ℕ, zero, suc, _+_, _-_, _*_, _<_, _≤_}
-use mathlib.Core.Bool.{Bool, true, false, not}
+use Prim.Native.Nat.{ℕ, zero, suc, _+_, _-_, _*_, _/_, _%_, _<_, _≤_}
+use mathlib.Core.Bool.{Bool, true, false, not, false≢true}
 use mathlib.Core.Path.{_≡_, refl, sym, ap, subst, _∙_}
 use mathlib.Core.List.{List}
 use lib.Dec.{leb, ltb}
 use lib.ListN.{length}
 use native.Mathlib.Omega.{arith}
-use native.Mathlib.Nat.{mul-suc, mul-le-mul, mul-le-mul-left}
-use borrow.Author.Tests.{le-leb, lt-leb}
+use native.Mathlib.Nat.{mul-suc, mul-le-mul, mul-le-mul-left, mod-lt, div-add-mod, zero-mul}
+use borrow.Author.Tests.{le-leb, lt-leb, not-true, not-false}
 use Rattle.geometry.specs.declared.Geometry.{Geometry}
 use Rattle.geometry.specs.declared.Finding.{Finding}
 use Rattle.geometry.specs.declared.Finding.the-variants.{Good, Bad}
 use Rattle.geometry.specs.declared.Verdict.{Verdict}
 use Rattle.geometry.specs.declared.Verdict.the-variants.{Sound, Broken}
 use Rattle.geometry.specs.Tests.{pick, _&_, and-true, and-false}
-use Rattle.model.specs.Bytes.{erased}
+use Rattle.model.specs.Bytes.{erased, seqAt}
 use Rattle.model.specs.Count.{count, least, any, arg}
 use Rattle.model.specs.Image.{Chip, chipOf, pagesOf, heightOf, rootOf, rootScore}
 use Rattle.model.specs.Next.{full, inBlock}
 use Rattle.model.specs.Tree.{placesOf, live}
 use Rattle.model.specs.Rules.{unless, r1, r2, r3, r4, r5, r6, r7, spareRoom, ample, r8, orElse, verdict}
 use Rattle.chip.specs.Chip.{chipWith}
-use Rattle.counts.specs.Least.{least-zero, least-go, any-none, any-hit, any-same}
+use Rattle.counts.specs.Least.{by-lt, least-zero, least-go, any-none, any-hit, any-same}
 use Rattle.counts.specs.Lowest.{unless-true, unless-false, broken-sound}
 use Rattle.counts.specs.Peak.{arg-most, arg-less}
 use Rattle.survey.specs.declared.Survey.{Survey}
 use Rattle.survey.specs.Survey.{surveyOf}
 use Rattle.survey.specs.Laws.{chip-is}
+use Rattle.numbers.specs.Ranges.{Shows, Ranges}
+use Rattle.sight.specs.Sight.{Told, Counted, Clear, Flaw}
+use Rattle.judge.specs.Programmed.{Programmed}
+use Rattle.judge.specs.Noted.{Marks}
 use Rattle.walk.specs.Table.{liveIn, Marked}
 use Rattle.walk.specs.Lows.{marked-block, marked-pages}
 use Rattle.loose.specs.Loose.{Inside}
 use Rattle.loose.specs.Judged.{r5-inside}
 use Rattle.verdict.specs.declared.Judgement.{Judgement}
-use Rattle.verdict.specs.Verdict.{clearable, from2, from3, from4, from5, from6, from7, from8, Ready, Tells, Judged}
+use Rattle.verdict.specs.Verdict.{clearable, from2, from3, from4, from5, from6, from7, from8, Ready, Tells, Never, Judged}
 
 -- R7
 module _ (p : ℕ) (er : ℕ → Bool) (tbl : List ℕ) (free b : ℕ) where
@@ -188,9 +192,6 @@ pub tells-broken : (c : Chip) (tbl : List ℕ) (k q : ℕ) → Tells c tbl (Brok
 tells-broken c tbl k q = record { marked = λ e. absurd (broken-sound k q e) }
 
 module _ (g : Geometry) (n : ℕ) (img : List ℕ) (s : Survey) where
-  pub tells-filled : (m : ℕ) (tbl : List ℕ) (v : Verdict) → Ready g n img s m → Marked (chipWith g img (s .level) (s .root)) tbl → Tells (chipOf g n img) tbl v
-  tells-filled m tbl v x y = record { marked = λ e. subst (λ (c : Chip). Marked c tbl) (chip-is g n img s (x .survey)) y }
-
   -- 65536 places have room for 1024 blocks of at most 64 pages
   pub ready-is : (m : ℕ) → s ≡ surveyOf g n img → s .level < 255 → g .pages ≤ 64 → n ≤ 1024 → 65536 ≤ m → Ready g n img s m
   ready-is m e h p k r = record {
@@ -204,8 +205,11 @@ module _ (g : Geometry) (n : ℕ) (img : List ℕ) (s : Survey) where
     pub ready-same : (k : ℕ) → k ≡ m → Ready g n img s k
     ready-same k e = rw e x
 
-    pub marked-chip : (tbl : List ℕ) → Marked (chipWith g img (s .level) (s .root)) tbl → Marked (chipOf g n img) tbl
+    marked-chip : (tbl : List ℕ) → Marked (chipWith g img (s .level) (s .root)) tbl → Marked (chipOf g n img) tbl
     marked-chip tbl y = subst (λ (c : Chip). Marked c tbl) (chip-is g n img s (x .survey)) y
+
+    pub marked-rule : (u : List ℕ) (v : Finding) → Marks v (chipWith g img (s .level) (s .root)) u → v ≡ Good → Marked (chipOf g n img) u
+    marked-rule u v y e = marked-chip u (y .marks e)
 
     pub marked-with : (tbl : List ℕ) → Marked (chipOf g n img) tbl → Marked (chipWith g img (s .level) (s .root)) tbl
     marked-with tbl y = subst (λ (c : Chip). Marked c tbl) (sym (chip-is g n img s (x .survey))) y
@@ -227,8 +231,64 @@ module _ (g : Geometry) (n : ℕ) (img : List ℕ) (s : Survey) where
         subst (λ (c : Chip). Inside c k) (chip-is g n img s (x .survey))
         (r5-inside g t k (chipWith g img (s .level) (s .root)) (omega (arith, et, ek, x .room)) (rw ek root-below) (sym e ∙ f))
 
+    pub tells-rule : (u : List ℕ) (v : Finding) (w : Verdict) → Marks v (chipWith g img (s .level) (s .root)) u → v ≡ Good → Tells (chipOf g n img) u w
+    tells-rule u v w y e = record { marked = λ _. marked-rule u v y e }
+
 pub judged-is : (g : Geometry) (n : ℕ) (img t u : List ℕ) (v : Verdict) (s : Survey) → v ≡ verdict g n img → s ≡ surveyOf g n img → s .level < 255
     → Tells (chipOf g n img) u v → length u ≡ length t → Judged g n img (record { verdict = v; survey = s }) t u
 judged-is g n img t u v s ev es h x e = record { verdict = ev; survey = es; level = h; table = x; same = e }
 
-pub ruleset verdict-laws = (clear-no, clear-is, clear-start, clear-go, clear-hit, clear-end, room-many, room-some, room-none, ample-yes, ample-no, bad-8, good-8, bad-7, good-7, bad-6, good-6, bad-5, good-5, bad-4, good-4, bad-3, good-3, bad-2, good-2, bad-1, good-1, tells-broken, tells-filled, ready-is, ready-same, marked-chip, marked-with, inside-with, inside-good, judged-is)
+-- the programmed pages, page by page
+pub programmed-is : (g : Geometry) (n t : ℕ) (img programmed : List ℕ) → Counted g n img programmed → n ≤ length programmed → t ≡ g .pages * n → Programmed g img t programmed
+programmed-is g n t img programmed x l e = record {
+  some = λ a h. some a (g .pages) (rw (← e) h);
+  inside = λ a h. omega (arith, l, block a (rw (← e) h));
+  kinds = λ a h. ap (erased g img) (sym (div-add-mod a (g .pages))) ∙ x .kinds (a / g .pages) (block a (rw (← e) h)) (a % g .pages) (mod-lt a {m = g .pages} (some a (g .pages) (rw (← e) h)));
+}
+  where
+    some : (a p : ℕ) → a < p * n → 0 < p
+    some a zero h = absurd (omega (arith, h, zero-mul n))
+    some a (suc p) h = omega arith
+
+    block : (a : ℕ) → a < g .pages * n → a / g .pages < n
+    block a h = by-lt (a / g .pages) n (λ k. k) (λ k. absurd (omega (arith, h, div-add-mod a (g .pages), mul-le-mul-left (g .pages) k)))
+
+-- an image that R1 or R2 breaks
+pub never-broken : (k q : ℕ) → Never (Broken k q)
+never-broken k q = record { never = broken-sound k q }
+
+pub order-breaks : (g : Geometry) (n : ℕ) (img : List ℕ) (v : Finding) (q : ℕ) → Flaw g n img → r1 g n img ≡ Good → v ≡ r2 (g .pages) n (erased g img) → v ≡ Good
+    → Broken 2 q ≡ from2 g n img
+order-breaks g n img v q x e f h = absurd (x .flaw e (sym f ∙ h))
+
+pub passed-1 : (g : Geometry) (n : ℕ) (img : List ℕ) (v : Finding) → v ≡ r1 g n img → v ≡ Good → r1 g n img ≡ Good
+passed-1 g n img v e f = sym e ∙ f
+
+pub judged-never : (g : Geometry) (n : ℕ) (img t : List ℕ) (j : Judgement) → j .verdict ≡ verdict g n img → Never (j .verdict) → j .survey ≡ surveyOf g n img
+    → j .survey .level < 255 → Judged g n img j t t
+judged-never g n img t j ev x es h = record { verdict = ev; survey = es; level = h; table = record { marked = λ e. absurd (x .never e) }; same = refl }
+
+-- an image that both pass
+module _ (g : Geometry) (n : ℕ) (img : List ℕ) (t f : Bool) (s : Survey) (programmed lows highs : List ℕ) (x : Told f (Clear g n img t s programmed lows highs) (Flaw g n img)) where
+  pub sight-broken : not f ≡ true → Flaw g n img
+  sight-broken m = x .no (not-true f m)
+
+  module _ (m : not f ≡ false) where
+    c : Clear g n img t s programmed lows highs
+    c = x .yes (not-false f m)
+
+    pub sight-ready : (k : ℕ) → g .pages ≤ 64 → n ≤ 1024 → 65536 ≤ k → Ready g n img s k
+    sight-ready k p o r = ready-is g n img s k (c .survey) (c .level) p o r
+
+    pub sight-counted : Counted g n img programmed
+    sight-counted = c .counted
+
+    pub sight-ranges : Shows t (Ranges (erased g img) (seqAt g img) (g .pages) n lows highs)
+    sight-ranges = c .ranges
+
+    pub sight-judged : (w u : List ℕ) (v : Verdict) → v ≡ from3 g n img → Tells (chipOf g n img) u v → length u ≡ length w
+        → Judged g n img (record { verdict = v; survey = s }) w u
+    sight-judged w u v ev y e =
+        judged-is g n img w u v s (good-1 g n img Good v (sym (c .formed)) refl (good-2 g n img Good v (sym (c .ordered)) refl ev)) (c .survey) (c .level) y e
+
+pub ruleset verdict-laws = (clear-no, clear-is, clear-start, clear-go, clear-hit, clear-end, room-many, room-some, room-none, ample-yes, ample-no, bad-8, good-8, bad-7, good-7, bad-6, good-6, bad-5, good-5, bad-4, good-4, bad-3, good-3, bad-2, good-2, bad-1, good-1, tells-broken, ready-is, ready-same, marked-rule, marked-with, inside-with, inside-good, tells-rule, never-broken, order-breaks, passed-1, judged-never, sight-broken, sight-ready, sight-counted, sight-ranges, sight-judged, programmed-is)

@@ -54,6 +54,10 @@ pub record Ready (g : Geometry) (n : ℕ) (img : List ℕ) (s : Survey) (m : ℕ
 pub record Tells (c : Chip) (tbl : List ℕ) (v : Verdict) : Type 0 where
   pub marked : v ≡ Sound → Marked c tbl
 
+-- a verdict that is not Sound
+pub record Never (v : Verdict) : Type 0 where
+  pub never : v ≡ Sound → ⊥
+
 -- a judgement of n blocks: the verdict, the survey, and the table, as long as before
 pub record Judged (g : Geometry) (n : ℕ) (img : List ℕ) (j : Judgement) (before after : List ℕ) : Type 0 where
   pub verdict : j .verdict ≡ verdict g n img

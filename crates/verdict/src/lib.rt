@@ -2,16 +2,21 @@
 ghost use mathlib.Core.Path.{_≡_};
 ghost use Prim.Native.Nat.{ℕ, _+_, _*_, _-_, _≤_, _<_};
 ghost use lib.ListN.{length};
-ghost use Rattle.model.specs.Bytes.{erased};
+ghost use Rattle.geometry.specs.declared.Finding.{Finding};
+ghost use Rattle.model.specs.Bytes.{erased, seqAt};
 ghost use Rattle.model.specs.Count.{any};
 ghost use Rattle.model.specs.Image.{chipOf};
-ghost use Rattle.model.specs.Rules.{r7, r8, verdict};
+ghost use Rattle.model.specs.Rules.{r1, r7, r8, verdict};
+ghost use Rattle.survey.specs.Survey.{surveyOf};
+ghost use Rattle.numbers.specs.Ranges.{Shows, Ranges};
+ghost use Rattle.sight.specs.Sight.{Told, Counted, Clear, Flaw};
 ghost use Rattle.walk.specs.Table.{Marked};
 ghost use Rattle.loose.specs.Loose.{Inside};
-ghost use Rattle.verdict.specs.Verdict.{clearable, from2, from3, from4, from5, from6, from7, from8, Ready, Tells, Judged};
+ghost use Rattle.verdict.specs.Verdict.{clearable, from2, from3, from4, from5, from6, from7, from8, Ready, Tells, Never, Judged};
 use geometry::Finding;
 use geometry::Geometry;
 use geometry::Verdict;
+use sight::Sight;
 use survey::Survey;
 
 // A verdict, and the survey that came with it.
@@ -115,61 +120,151 @@ fn from_rule_6(g: Geometry, img: &[u8], table: &[u8], n: u16, survey: Survey) ->
     }
 }
 
-fn from_rule_5(g: Geometry, img: &[u8], table: &mut [u8], n: u16, survey: Survey) -> Verdict
+fn from_rule_5(
+    g: Geometry,
+    img: &[u8],
+    table: &mut [u8],
+    n: u16,
+    survey: Survey,
+    programmed: &[u16],
+) -> Verdict
     requires { ⌜ Ready g n (now img) survey (length (now table)) ⌝ }
+    requires { ⌜ Counted g n (now img) (now programmed) ⌝ }
+    requires { ⌜ n ≤ length (now programmed) ⌝ }
     ensures { λ r. ⌜ (r ≡ from5 g n (now (img .entry))) × Tells (chipOf g n (now (img .entry))) (now (table .exit)) r ⌝ }
     ensures { λ _. ⌜ length (now (table .exit)) ≡ length (now (table .entry)) ⌝ }
 {
-    match judge::rule_5(g, img, chip::first_page(g, n), survey.level, survey.root) {
+    match judge::rule_5(
+        g,
+        img,
+        &mut *table,
+        chip::first_page(g, n),
+        survey.level,
+        survey.root,
+        programmed,
+    ) {
         Finding::Bad(page) => Verdict::Broken(5, page),
-        Finding::Good => {
-            walk::fill(g, img, &mut *table, survey.level, survey.root);
-            from_rule_6(g, img, &*table, n, survey)
-        }
+        Finding::Good => from_rule_6(g, img, &*table, n, survey),
     }
 }
 
-fn from_rule_4(g: Geometry, img: &[u8], table: &mut [u8], n: u16, survey: Survey) -> Verdict
+fn from_rule_4(
+    g: Geometry,
+    img: &[u8],
+    table: &mut [u8],
+    n: u16,
+    survey: Survey,
+    programmed: &[u16],
+) -> Verdict
     requires { ⌜ Ready g n (now img) survey (length (now table)) ⌝ }
+    requires { ⌜ Counted g n (now img) (now programmed) ⌝ }
+    requires { ⌜ n ≤ length (now programmed) ⌝ }
     ensures { λ r. ⌜ (r ≡ from4 g n (now (img .entry))) × Tells (chipOf g n (now (img .entry))) (now (table .exit)) r ⌝ }
     ensures { λ _. ⌜ length (now (table .exit)) ≡ length (now (table .entry)) ⌝ }
 {
     match survey::rule_4(g, img, n, survey) {
         Finding::Bad(page) => Verdict::Broken(4, page),
-        Finding::Good => from_rule_5(g, img, &mut *table, n, survey),
+        Finding::Good => from_rule_5(g, img, &mut *table, n, survey, programmed),
     }
 }
 
-fn from_rule_3(g: Geometry, img: &[u8], table: &mut [u8], n: u16, survey: Survey) -> Verdict
+// From R3 on, by what the pass told.
+fn from_rule_3(
+    g: Geometry,
+    img: &[u8],
+    table: &mut [u8],
+    n: u16,
+    survey: Survey,
+    programmed: &[u16],
+    rising: bool,
+    lows: &[u32],
+    highs: &[u32],
+) -> Verdict
     requires { ⌜ Ready g n (now img) survey (length (now table)) ⌝ }
+    requires { ⌜ (n ≤ length (now lows)) × (n ≤ length (now highs)) ⌝ }
+    requires { ⌜ Shows rising (Ranges (erased g (now img)) (seqAt g (now img)) (g .pages) n (now lows) (now highs)) ⌝ }
+    requires { ⌜ Counted g n (now img) (now programmed) ⌝ }
+    requires { ⌜ n ≤ length (now programmed) ⌝ }
     ensures { λ r. ⌜ (r ≡ from3 g n (now (img .entry))) × Tells (chipOf g n (now (img .entry))) (now (table .exit)) r ⌝ }
     ensures { λ _. ⌜ length (now (table .exit)) ≡ length (now (table .entry)) ⌝ }
 {
-    match numbers::rule_3(g, img, n) {
+    match numbers::rule_3(g, img, n, rising, lows, highs) {
         Finding::Bad(page) => Verdict::Broken(3, page),
-        Finding::Good => from_rule_4(g, img, &mut *table, n, survey),
+        Finding::Good => from_rule_4(g, img, &mut *table, n, survey, programmed),
     }
 }
 
-fn from_rule_2(g: Geometry, img: &[u8], table: &mut [u8], n: u16, survey: Survey) -> Verdict
-    requires { ⌜ Ready g n (now img) survey (length (now table)) ⌝ }
-    ensures { λ r. ⌜ (r ≡ from2 g n (now (img .entry))) × Tells (chipOf g n (now (img .entry))) (now (table .exit)) r ⌝ }
-    ensures { λ _. ⌜ length (now (table .exit)) ≡ length (now (table .entry)) ⌝ }
+// R2 of an image that it breaks.
+fn broken_order(g: Geometry, img: &[u8], n: u16) -> Verdict
+    requires { ⌜ Flaw g n (now img) ⌝ }
+    requires { ⌜ r1 g n (now img) ≡ Finding.Good ⌝ }
+    ensures { λ r. ⌜ (r ≡ from2 g n (now (img .entry))) × Never r ⌝ }
 {
     match page_rules::rule_2(g, img, n) {
         Finding::Bad(page) => Verdict::Broken(2, page),
-        Finding::Good => from_rule_3(g, img, &mut *table, n, survey),
+        Finding::Good => Verdict::Broken(2, 0),
     }
 }
 
-fn from_rule_1(g: Geometry, img: &[u8], table: &mut [u8], n: u16, survey: Survey) -> Verdict
-    requires { ⌜ Ready g n (now img) survey (length (now table)) ⌝ }
-    ensures { λ r. ⌜ (r ≡ verdict g n (now (img .entry))) × Tells (chipOf g n (now (img .entry))) (now (table .exit)) r ⌝ }
-    ensures { λ _. ⌜ length (now (table .exit)) ≡ length (now (table .entry)) ⌝ }
+// The verdict of an image that R1 or R2 breaks.
+fn broken_pages(g: Geometry, img: &[u8], n: u16) -> Verdict
+    requires { ⌜ Flaw g n (now img) ⌝ }
+    ensures { λ r. ⌜ (r ≡ verdict g n (now (img .entry))) × Never r ⌝ }
 {
     match page_rules::rule_1(g, img, n) {
         Finding::Bad(page) => Verdict::Broken(1, page),
-        Finding::Good => from_rule_2(g, img, &mut *table, n, survey),
+        Finding::Good => broken_order(g, img, n),
+    }
+}
+
+// Judges n blocks that R1 or R2 breaks.
+fn judge_broken(g: Geometry, img: &[u8], n: u16) -> Judgement
+    requires { ⌜ Flaw g n (now img) ⌝ }
+    ensures { λ r. ⌜ (r .verdict ≡ verdict g n (now (img .entry))) × Never (r .verdict) × (r .survey ≡ surveyOf g n (now (img .entry))) × (r .survey .level < 255) ⌝ }
+{
+    let survey = survey::take_survey(g, img, n);
+    let verdict = broken_pages(g, img, n);
+    Judgement {
+        verdict: verdict,
+        survey: survey,
+    }
+}
+
+// Judges n blocks by what the pass told.
+fn judge_by(
+    g: Geometry,
+    img: &[u8],
+    table: &mut [u8],
+    n: u16,
+    sight: Sight,
+    programmed: &[u16],
+    lows: &[u32],
+    highs: &[u32],
+) -> Judgement
+    requires { ⌜ (g .pages ≤ 64) × (n ≤ 1024) × (65536 ≤ length (now table)) ⌝ }
+    requires { ⌜ (n ≤ length (now programmed)) × (n ≤ length (now lows)) × (n ≤ length (now highs)) ⌝ }
+    requires { ⌜ Told (sight .fine) (Clear g n (now img) (sight .rising) (sight .survey) (now programmed) (now lows) (now highs)) (Flaw g n (now img)) ⌝ }
+    ensures { λ r. ⌜ Judged g n (now (img .entry)) r (now (table .entry)) (now (table .exit)) ⌝ }
+{
+    if !sight.fine {
+        return judge_broken(g, img, n);
+    }
+    let survey = sight.survey;
+    let rising = sight.rising;
+    let verdict = from_rule_3(
+        g,
+        img,
+        &mut *table,
+        n,
+        survey,
+        programmed,
+        rising,
+        lows,
+        highs,
+    );
+    Judgement {
+        verdict: verdict,
+        survey: survey,
     }
 }
 
@@ -178,10 +273,9 @@ pub fn judge_image(g: Geometry, img: &[u8], table: &mut [u8], n: u16) -> Judgeme
     requires { ⌜ (g .pages ≤ 64) × (n ≤ 1024) × (65536 ≤ length (now table)) ⌝ }
     ensures { λ r. ⌜ Judged g n (now (img .entry)) r (now (table .entry)) (now (table .exit)) ⌝ }
 {
-    let survey = survey::take_survey(g, img, n);
-    let verdict = from_rule_1(g, img, &mut *table, n, survey);
-    Judgement {
-        verdict: verdict,
-        survey: survey,
-    }
+    let mut programmed: [u16; 1024] = [0; 1024];
+    let mut lows: [u32; 1024] = [0; 1024];
+    let mut highs: [u32; 1024] = [0; 1024];
+    let sight = sight::take_sight(g, img, n, &mut programmed, &mut lows, &mut highs);
+    judge_by(g, img, &mut *table, n, sight, &programmed, &lows, &highs)
 }

@@ -90,15 +90,15 @@ pub rest-end : (g : Geometry) (img : List ℕ) (l at n i : ℕ) → n ≤ i → 
 unfolding rest gather
 rest-end g img l at n i h = rw (entries-past img at n i h) refl
 
-note-nil : (tbl : List ℕ) → noteAll [] tbl ≡ tbl
+pub note-nil : (tbl : List ℕ) → noteAll [] tbl ≡ tbl
 unfolding noteAll
 note-nil tbl = refl
 
-note-cons : (x : Place) (xs : List Place) (tbl : List ℕ) → noteAll (x ∷ xs) tbl ≡ noteAll xs (noteOne tbl (x .page) (x .level))
+pub note-cons : (x : Place) (xs : List Place) (tbl : List ℕ) → noteAll (x ∷ xs) tbl ≡ noteAll xs (noteOne tbl (x .page) (x .level))
 unfolding noteAll
 note-cons x xs tbl = refl
 
-note-append : (xs ys : List Place) (tbl : List ℕ) → noteAll (xs ++ ys) tbl ≡ noteAll ys (noteAll xs tbl)
+pub note-append : (xs ys : List Place) (tbl : List ℕ) → noteAll (xs ++ ys) tbl ≡ noteAll ys (noteAll xs tbl)
 unfolding noteAll
 note-append [] ys tbl = refl
 note-append (x ∷ xs) ys tbl = note-append xs ys (noteOne tbl (x .page) (x .level))

@@ -50,7 +50,7 @@ fn lower_level(old: u32, level: u32) -> u32
 }
 
 // Notes a level for a page, unless a lower one stands there.
-fn note(table: &mut [u8], page: u32, level: u32)
+pub fn note(table: &mut [u8], page: u32, level: u32)
     requires { ⌜ level < 256 ⌝ }
     ensures { λ _. ⌜ now (table .exit) ≡ noteOne (now (table .entry)) page level ⌝ }
 {
@@ -83,7 +83,8 @@ fn note_nodes(g: Geometry, img: &[u8], table: &mut [u8], level: u32, page: u32)
     }
 }
 
-fn clear(table: &mut [u8])
+// Sets all levels to none.
+pub fn clear(table: &mut [u8])
     ensures { λ _. ⌜ length (now (table .exit)) ≡ length (now (table .entry)) ⌝ }
     ensures { λ _. ⌜ Zeros (now (table .exit)) (length (now (table .entry))) ⌝ }
 {

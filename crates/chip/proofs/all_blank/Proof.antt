@@ -1,15 +1,16 @@
+use borrow.Author.Needs.{needs}
+use Rattle.chip.specs.Laws.{chip-laws}
 use Prim.Native.Nat.{_≤_, _+_}
 use mathlib.Core.Path.{_≡_}
 use lib.ListN.{length}
 use Rattle.model.specs.Bytes.{blank}
-use borrow.Author.Needs.{needs}
-use Rattle.chip.specs.Laws.{chip-laws}
 use Rattle.chip.proofs.all_blank.Statement.{statement}
 use Rattle.chip.proofs.all_blank.Tie as tie
 use Rattle.chip.proofs.all_blank.Reads as reads
 use Rattle.chip.proofs.all_blank.Lts as lts
 use Rattle.chip.proofs.bytes_blank.Reads as bytes-blank-reads
 use Rattle.chip.proofs.eight_blank.Reads as eight-blank-reads
+use Rattle.chip.proofs.lines_blank.Reads as lines-blank-reads
 
 ruleset all = (needs, chip-laws)
 
@@ -28,6 +29,8 @@ all-blank-spec =
     (λ c. search all)
     (λ c κs. search all)
     (λ c. search all)
+    (λ c. search all)
+    (λ c κs. search all)
     (λ c. search all)
     (λ c. search all)
     (λ c κs. search all)

@@ -27,12 +27,12 @@ collect-below t = and 2 collect-kinds.ps (falls 2 collect-kinds.ps _<_ μ-collec
 
 pub +collect-spec : {M : Type 1} → statement M
 +collect-spec = close μ-collect λ t. collect-lts.spec (
-  look-reads.Asked,
-  look-reads.Learnt,
   enough-reads.Asked,
   enough-reads.Learnt,
   clear-reads.Asked,
   clear-reads.Learnt,
+  look-reads.Asked,
+  look-reads.Learnt,
   collect-below t,
   collect.Post,
 )
@@ -40,16 +40,14 @@ pub +collect-spec : {M : Type 1} → statement M
     collect.Post
     (λ c. search all)
     (λ c κs. search all)
+    (λ c. search all)
     (λ c κs. search all)
     (λ c. search all)
     (λ c. search all)
+    (λ c. collect-halt _ _ _ _ _ _ (c .before .before .before .before .before .before .before .before .before .before .before .before .before .before .pre .1 .1) _ (c .before .before .before .before .before .before .before .before .before .before .enough .ensures) _ _ _ _ _ _ (c .before .before .before .before .before .clear .ensures .1) (c .before .before .before .before .before .before .before .before .if2 .left) (c .before .before .before .before .before .before .before .before .before .before .before .if1 .left) (c .before .before .before .before .before .before .before .before .before .before .before .before .before .before .pre .1 .0 .4) (c .if3 .taken))
+    (λ c κs. search all)
     (λ c. search all)
-    (λ c κs. (let p = c .before .before .before .before .before .before .before .before .before .before .before .before .before .pre .1 in let l = c .before .before .before .before .before .before .before .look .ensures in ((omega (arith, l .0, p .0), p .2, p .3, p .4), l .1)))
-    (λ c. search all)
-    (λ c. search all)
-    (λ c. collect-halt _ _ _ _ _ _ (c .before .before .before .before .before .before .before .before .before .before .before .before .before .look .ensures .1) _ (c .before .before .before .before .before .before .before .before .before .before .enough .ensures) _ _ _ _ (c .before .before .before .before .before .clear .ensures .1) (c .before .before .before .before .before .before .before .before .if2 .left) (c .before .before .before .before .before .before .before .before .before .before .before .before .before .before .before .before .if1 .left) (c .before .before .before .before .before .before .before .before .before .before .before .before .before .before .before .before .before .before .before .pre .1 .4) (c .if3 .taken))
-    (λ c. search all)
-    (λ c κs. (let p = c .before .before .before .before .before .before .before .before .before .before .before .before .before .before .before .before .before .before .before .before .before .pre .1 in let w = c .before .before .before .before .before .before .before .clear .ensures in let l = c .before .before .before .before .before .before .before .before .before .before .before .before .before .before .before .look .ensures in (search all, (omega (arith, w .0, l .0, p .0), p .1, p .2, omega (arith, w .1 .total, p .3), c .before .before .if3 .left))))
+    (λ c κs. (let p = c .before .before .before .before .before .before .before .before .before .before .before .before .before .before .before .before .before .before .before .before .before .pre .1 .0 in let w = c .before .before .before .before .before .before .before .before .before .before .before .before .clear .ensures in let l = c .before .before .before .before .look .ensures in let q = c .before .before .before .before .before .before .before .before .before .before .before .before .before .before .before .before .before .before .before .before .before .pre .0 in let z = c .before .before .before .before .before .before .before .before .before .before .before .before .before .before .before .before .before .before .if1 .left in (omega (arith, q, z), ((omega (arith, w .0, l .0, p .0), p .1, p .2, omega (arith, w .1 .total, p .3), (c .before .before .before .before .before .before .before .if3 .left)), l .1))))
     (λ c. search all)
     (λ c. search all)
-    (λ c. (let p = c .before .before .before .before .before .before .before .before .before .before .before .before .before .before .before .before .before .before .before .before .before .before .before .before .before .before .pre .1 in collect-on _ _ _ _ _ _ (c .before .before .before .before .before .before .before .before .before .before .before .before .before .before .before .before .before .before .before .before .look .ensures .1) _ (c .before .before .before .before .before .before .before .before .before .before .before .before .before .before .before .before .before .enough .ensures) _ _ _ _ _ _ (c .before .before .before .before .collect .ensures) (c .before .before .before .before .before .before .before .before .before .before .before .before .clear .ensures .1) (c .before .before .before .before .before .before .before .before .before .before .before .before .before .before .before .if2 .left) (c .before .before .before .before .before .before .before .before .before .before .before .before .before .before .before .before .before .before .before .before .before .before .before .if1 .left) (p .4) (c .before .before .before .before .before .before .before .if3 .left)))
+    (λ c. collect-on _ _ _ _ _ _ (c .before .before .before .before .before .before .before .before .before .before .before .before .before .before .before .before .before .before .before .before .before .before .before .before .before .before .pre .1 .1) _ (c .before .before .before .before .before .before .before .before .before .before .before .before .before .before .before .before .before .before .before .before .before .before .enough .ensures) _ _ _ _ _ _ _ (c .before .before .before .before .collect .ensures) (c .before .before .before .before .before .before .before .before .before .before .before .before .before .before .before .before .before .clear .ensures .1) (c .before .before .before .before .before .before .before .before .before .before .before .before .before .before .before .before .before .before .before .before .if2 .left) (c .before .before .before .before .before .before .before .before .before .before .before .before .before .before .before .before .before .before .before .before .before .before .before .if1 .left) (c .before .before .before .before .before .before .before .before .before .before .before .before .before .before .before .before .before .before .before .before .before .before .before .before .before .before .pre .1 .0 .4) (c .before .before .before .before .before .before .before .before .before .before .before .before .if3 .left))

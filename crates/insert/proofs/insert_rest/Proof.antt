@@ -24,7 +24,7 @@ insert-rest-spec =
     (λ c. search all)
     (λ c. search all)
     (λ c. search all)
-    (λ c κs. search all)
+    (λ c κs. ((search all, search all, search all, search all, search all), search all))
     (λ c κs. search all)
     (λ c. search all)
     (λ c. search all)

@@ -10,17 +10,17 @@ use Rattle.judge.proofs.all_rising.Tie as tie
 use Rattle.judge.proofs.all_rising.Reads as reads
 use Rattle.judge.proofs.all_rising.Lts as lts
 use Rattle.chip.proofs.read_u32.Reads as read-u32-reads
-use Rattle.judge.proofs.key_at.Reads as key-at-reads
+use Rattle.leaves.proofs.key_at.Reads as key-at-reads
 use Rattle.judge.proofs.may_name.Reads as may-name-reads
 
 ruleset all = (needs, judge-laws)
 
 abbrev Inv-loop : tie.InvT-loop
-Inv-loop g img pages level at n lo hi low₀ i₀ low i =
+Inv-loop g img pages level at n lo hi programmed low₀ i₀ low i =
     (i ≤ n) × (rising (names (erased g img) pages level) (entriesAt img at n) lo hi ≡ rising (names (erased g img) pages level) (entriesAt img (at + 8 * i) (n - i)) low hi)
 
 abbrev μ-loop : tie.MeasureT-loop
-μ-loop g img pages level at n lo hi low₀ i₀ low i = n - i
+μ-loop g img pages level at n lo hi programmed low₀ i₀ low i = n - i
 
 pub all-rising-spec : {M : Type 1} → statement M
 all-rising-spec =

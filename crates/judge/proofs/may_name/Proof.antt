@@ -4,7 +4,7 @@ use Rattle.judge.proofs.may_name.Statement.{statement}
 use Rattle.judge.proofs.may_name.Tie as tie
 use Rattle.judge.proofs.may_name.Reads as reads
 use Rattle.judge.proofs.may_name.Lts as lts
-use Rattle.chip.proofs.page_erased.Reads as page-erased-reads
+use Rattle.judge.proofs.is_blank.Reads as is-blank-reads
 
 ruleset all = (needs, judge-laws)
 

@@ -4,7 +4,7 @@ use Rattle.judge.proofs.next_key.Statement.{statement}
 use Rattle.judge.proofs.next_key.Tie as tie
 use Rattle.judge.proofs.next_key.Reads as reads
 use Rattle.judge.proofs.next_key.Lts as lts
-use Rattle.judge.proofs.key_at.Reads as key-at-reads
+use Rattle.leaves.proofs.key_at.Reads as key-at-reads
 
 ruleset all = (needs, judge-laws)
 

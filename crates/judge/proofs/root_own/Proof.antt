@@ -7,7 +7,7 @@ use Rattle.judge.proofs.root_own.Lts as lts
 use Rattle.chip.proofs.node_count.Reads as node-count-reads
 use Rattle.chip.proofs.node_place.Reads as node-place-reads
 use Rattle.geometry.proofs.root_most.Reads as root-most-reads
-use Rattle.judge.proofs.all_rising.Reads as all-rising-reads
+use Rattle.judge.proofs.entries_rise.Reads as entries-rise-reads
 use Rattle.judge.proofs.root_least.Reads as root-least-reads
 
 ruleset all = (needs, judge-laws)

@@ -14,10 +14,10 @@ use Rattle.chip.proofs.page_erased.Reads as page-erased-reads
 ruleset all = (needs, next-laws, block-laws)
 
 abbrev Inv-loop : tie.InvT-loop
-Inv-loop g img i page taken k₀ k = (k ≤ i) × (free (erased g img) taken i page ≡ free (erased g img) taken k page)
+Inv-loop g img taken i page k₀ k = (k ≤ i) × (free (erased g img) taken i page ≡ free (erased g img) taken k page)
 
 abbrev μ-loop : tie.MeasureT-loop
-μ-loop g img i page taken k₀ k = k
+μ-loop g img taken i page k₀ k = k
 
 pub is-free-spec : {M : Type 1} → statement M
 is-free-spec =

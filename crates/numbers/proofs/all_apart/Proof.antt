@@ -1,20 +1,22 @@
-use Prim.Native.Nat.{_≤_, _-_}
-use Rattle.numbers.specs.Ranges.{AllClear}
+use Rattle.numbers.specs.Laws.{space-go}
+use Prim.Native.Nat.{_≤_, _<_, _+_, _*_, _-_}
+use Rattle.numbers.specs.Ranges.{Spaced}
 use borrow.Author.Needs.{needs}
 use Rattle.numbers.specs.Laws.{number-laws}
 use Rattle.numbers.proofs.all_apart.Statement.{statement}
 use Rattle.numbers.proofs.all_apart.Tie as tie
 use Rattle.numbers.proofs.all_apart.Reads as reads
 use Rattle.numbers.proofs.all_apart.Lts as lts
-use Rattle.numbers.proofs.apart_below.Reads as apart-below-reads
+use Rattle.numbers.proofs.next_space.Reads as next-space-reads
 
 ruleset all = (needs, number-laws)
 
 abbrev Inv-loop : tie.InvT-loop
-Inv-loop lows highs n block₀ block = (block ≤ n) × AllClear lows highs block
+Inv-loop lows highs n floor₀ ceiling₀ block₀ floor ceiling block =
+    (block ≤ n) × Spaced lows highs block floor ceiling
 
 abbrev μ-loop : tie.MeasureT-loop
-μ-loop lows highs n block₀ block = n - block
+μ-loop lows highs n floor₀ ceiling₀ block₀ floor ceiling block = n - block
 
 pub all-apart-spec : {M : Type 1} → statement M
 all-apart-spec =
@@ -27,5 +29,5 @@ all-apart-spec =
     (λ c. search all)
     (λ c. search all)
     (λ c. search all)
-    (λ c. search all)
+    (λ c. (search needs, search space-go))
     (λ c. search all))

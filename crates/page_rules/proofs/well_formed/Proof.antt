@@ -7,11 +7,7 @@ use Rattle.page_rules.proofs.well_formed.Lts as lts
 use Rattle.chip.proofs.height_at.Reads as height-at-reads
 use Rattle.chip.proofs.page_erased.Reads as page-erased-reads
 use Rattle.chip.proofs.seq_at.Reads as seq-at-reads
-use Rattle.chip.proofs.tail_blank.Reads as tail-blank-reads
-use Rattle.geometry.proofs.index.Reads as index-reads
-use Rattle.geometry.proofs.page_base.Reads as page-base-reads
-use Rattle.geometry.proofs.wide.Reads as wide-reads
-use Rattle.page_rules.proofs.codes_fit.Reads as codes-fit-reads
+use Rattle.page_rules.proofs.is_formed.Reads as is-formed-reads
 
 ruleset all = (needs, page-laws)
 
@@ -22,13 +18,6 @@ well-formed-spec =
     (λ c κs. search all)
     (λ c. search all)
     (λ c κs. search all)
-    (λ c κs. search all)
-    (λ c κs. search all)
-    (λ c. search all)
-    (λ c κs. search all)
-    (λ c. search all)
-    (λ c κs. search all)
-    (λ c. search all)
     (λ c κs. search all)
     (λ c κs. search all)
     (λ c. search all))

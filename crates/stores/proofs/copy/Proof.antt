@@ -1,37 +1,29 @@
-use Rattle.stores.specs.Runs.{run-laws}
 use borrow.Author.Needs.{needs}
 use Rattle.stores.specs.Laws.{store-laws}
-use mathlib.Core.Path.{_≡_}
-use Prim.Native.Nat.{_+_, _-_, _≤_}
-use Rattle.model.specs.Bytes.{byteAt}
-use Rattle.model.specs.Stores.{written}
+use Rattle.stores.specs.Runs.{run-laws}
 use Rattle.stores.proofs.copy.Statement.{statement}
 use Rattle.stores.proofs.copy.Tie as tie
 use Rattle.stores.proofs.copy.Reads as reads
 use Rattle.stores.proofs.copy.Lts as lts
-use Rattle.stores.proofs.byte_of.Reads as byte-of-reads
-use Rattle.stores.proofs.put.Reads as put-reads
+use Rattle.stores.proofs.copy_bytes.Reads as copy-bytes-reads
+use Rattle.stores.proofs.copy_part.Reads as copy-part-reads
 
 ruleset all = (needs, store-laws, run-laws)
-
-abbrev Inv-loop : tie.InvT-loop
-Inv-loop img₀ at bytes n j₀ img j = (j ≤ n) × (img ≡ written img₀ at (byteAt bytes) j)
-
-abbrev μ-loop : tie.MeasureT-loop
-μ-loop img₀ at bytes n j₀ img j = n - j
 
 pub copy-spec : {M : Type 1} → statement M
 copy-spec =
     tie.close
     (tie.spec
-    Inv-loop
-    μ-loop
+    (λ c. search all)
+    (λ c κs. search all)
     (λ c. search all)
     (λ c. search all)
     (λ c κs. search all)
+    (λ c. search all)
+    (λ c. search all)
+    (λ c. search all)
+    (λ c. search all)
+    (λ c. search all)
     (λ c κs. search all)
-    (λ c. search all)
-    (λ c. search all)
-    (λ c. search all)
     (λ c. search all)
     (λ c. search all))

@@ -1,4 +1,3 @@
-use Rattle.survey.specs.Laws.{see-older}
 use borrow.Author.Needs.{needs}
 use Rattle.survey.specs.Laws.{survey-laws}
 use Rattle.survey.proofs.see.Statement.{statement}
@@ -8,8 +7,7 @@ use Rattle.survey.proofs.see.Lts as lts
 use Rattle.chip.proofs.height_at.Reads as height-at-reads
 use Rattle.chip.proofs.page_erased.Reads as page-erased-reads
 use Rattle.chip.proofs.seq_at.Reads as seq-at-reads
-use Rattle.survey.proofs.holder.Reads as holder-reads
-use Rattle.survey.proofs.larger.Reads as larger-reads
+use Rattle.survey.proofs.see_page.Reads as see-page-reads
 
 ruleset all = (needs, survey-laws)
 
@@ -23,7 +21,4 @@ see-spec =
     (λ c κs. search all)
     (λ c κs. search all)
     (λ c κs. search all)
-    (λ c κs. search all)
-    (λ c. search all)
-    (λ c. (search see-older, search needs))
     (λ c. search all))

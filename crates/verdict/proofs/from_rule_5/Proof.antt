@@ -1,3 +1,4 @@
+use Rattle.verdict.specs.Laws.{bad-5, good-5, tells-broken, tells-rule, ready-same, marked-rule, inside-good}
 use borrow.Author.Needs.{needs}
 use Rattle.verdict.specs.Laws.{verdict-laws}
 use Rattle.verdict.proofs.from_rule_5.Statement.{statement}
@@ -7,7 +8,6 @@ use Rattle.verdict.proofs.from_rule_5.Lts as lts
 use Rattle.chip.proofs.first_page.Reads as first-page-reads
 use Rattle.judge.proofs.rule_5.Reads as rule-5-reads
 use Rattle.verdict.proofs.from_rule_6.Reads as from-rule-6-reads
-use Rattle.walk.proofs.fill.Reads as fill-reads
 
 ruleset all = (needs, verdict-laws)
 
@@ -19,8 +19,8 @@ from-rule-5-spec =
     (λ c κs. search all)
     (λ c. search all)
     (λ c. search all)
-    (λ c κs. search all)
-    (λ c κs. search all)
+    (λ c κs. (search ready-same, (search marked-rule, search inside-good)))
+    (λ c. search all)
     (λ c. search all)
     (λ c. search all)
     (λ c. search all))

@@ -4,11 +4,22 @@ use Rattle.verdict.proofs.judge_image.Statement.{statement}
 use Rattle.verdict.proofs.judge_image.Tie as tie
 use Rattle.verdict.proofs.judge_image.Reads as reads
 use Rattle.verdict.proofs.judge_image.Lts as lts
-use Rattle.survey.proofs.take_survey.Reads as take-survey-reads
-use Rattle.verdict.proofs.from_rule_1.Reads as from-rule-1-reads
+use Rattle.sight.proofs.take_sight.Reads as take-sight-reads
+use Rattle.verdict.proofs.judge_by.Reads as judge-by-reads
 
 ruleset all = (needs, verdict-laws)
 
 pub judge-image-spec : {M : Type 1} → statement M
 judge-image-spec =
-    tie.close (tie.spec (λ c κs. search all) (λ c κs. search all) (λ c. search all) (λ c. search all))
+    tie.close
+    (tie.spec
+    (λ c. search all)
+    (λ c. search all)
+    (λ c. search all)
+    (λ c κs. search all)
+    (λ c. search all)
+    (λ c. search all)
+    (λ c. search all)
+    (λ c κs. (search needs, (search needs, search needs)))
+    (λ c. search all)
+    (λ c. search all))

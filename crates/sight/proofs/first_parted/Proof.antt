@@ -1,0 +1,37 @@
+use Prim.Native.Nat.{_≤_, _<_, _+_, _*_, _-_}
+use mathlib.Core.Path.{_≡_}
+use Rattle.sight.specs.Sight.{Bare}
+use borrow.Author.Needs.{needs}
+use Rattle.sight.specs.Laws.{sight-laws}
+use Rattle.sight.proofs.first_parted.Statement.{statement}
+use Rattle.sight.proofs.first_parted.Tie as tie
+use Rattle.sight.proofs.first_parted.Reads as reads
+use Rattle.sight.proofs.first_parted.Lts as lts
+use Rattle.geometry.proofs.wide.Reads as wide-reads
+use Rattle.sight.proofs.is_parted.Reads as is-parted-reads
+
+ruleset all = (needs, sight-laws)
+
+abbrev Inv-loop : tie.InvT-loop
+Inv-loop pages programmed from n block₀ block =
+    (from ≤ block) × (block ≤ n) × Bare pages programmed from block
+
+abbrev μ-loop : tie.MeasureT-loop
+μ-loop pages programmed from n block₀ block = n - block
+
+pub first-parted-spec : {M : Type 1} → statement M
+first-parted-spec =
+    tie.close
+    (tie.spec
+    Inv-loop
+    μ-loop
+    (λ c. search all)
+    (λ c κs. search all)
+    (λ c. search all)
+    (λ c. search all)
+    (λ c κs. search all)
+    (λ c. search all)
+    (λ c. search all)
+    (λ c. search all)
+    (λ c. search all)
+    (λ c. search all))

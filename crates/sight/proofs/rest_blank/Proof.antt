@@ -1,0 +1,35 @@
+use Prim.Native.Nat.{_≤_, _<_, _+_, _*_, _-_}
+use mathlib.Core.Path.{_≡_}
+use Rattle.sight.specs.Sight.{Back}
+use borrow.Author.Needs.{needs}
+use Rattle.sight.specs.Laws.{sight-laws}
+use Rattle.sight.proofs.rest_blank.Statement.{statement}
+use Rattle.sight.proofs.rest_blank.Tie as tie
+use Rattle.sight.proofs.rest_blank.Reads as reads
+use Rattle.sight.proofs.rest_blank.Lts as lts
+use Rattle.chip.proofs.page_erased.Reads as page-erased-reads
+use Rattle.chip.proofs.page_of.Reads as page-of-reads
+
+ruleset all = (needs, sight-laws)
+
+abbrev Inv-loop : tie.InvT-loop
+Inv-loop g img block from j₀ j =
+    (from ≤ j) × (j ≤ g .pages) × Back g img block from j
+
+abbrev μ-loop : tie.MeasureT-loop
+μ-loop g img block from j₀ j = g .pages - j
+
+pub rest-blank-spec : {M : Type 1} → statement M
+rest-blank-spec =
+    tie.close
+    (tie.spec
+    Inv-loop
+    μ-loop
+    (λ c. search all)
+    (λ c κs. search all)
+    (λ c κs. search all)
+    (λ c. search all)
+    (λ c. search all)
+    (λ c. search all)
+    (λ c. search all)
+    (λ c. search all))
