@@ -16,6 +16,7 @@ pub mod Builds
 pub mod Between
 pub mod Looked
 pub mod Listing
+pub mod Stored
 pub mod Round
 pub mod Reached
 pub mod Inserts
