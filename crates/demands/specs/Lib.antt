@@ -17,6 +17,7 @@ pub mod Between
 pub mod Looked
 pub mod Listing
 pub mod Stored
+pub mod Sums
 pub mod Round
 pub mod Reached
 pub mod Inserts

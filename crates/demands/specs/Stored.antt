@@ -42,15 +42,15 @@ put-end : (k a : ℕ) (m : List Entry) → All (In 0 k) m → put k a m ≡ m ++
 put-end k a m h = sym (ap (put k a) (append-nil m)) ∙ put-local k a .after 0 m [] h
 
 -- after a refusal nothing more is stored
-stays : (g : Geometry) (s : Outcome) (es : List Entry) → (s .answer ≡ 0 → ⊥) → storeAll g s es ≡ s
+pub stays : (g : Geometry) (s : Outcome) (es : List Entry) → (s .answer ≡ 0 → ⊥) → storeAll g s es ≡ s
 unfolding storeAll storeOne
 stays g s [] h = refl
 stays g s (e ∷ es) h = rw (ne-eqb (s .answer) 0 h) (stays g s es h)
 
-abbrev inserted : Geometry → Outcome → Entry → Outcome
+abbrev pub inserted : Geometry → Outcome → Entry → Outcome
 inserted g s e = insert g (s .image) (e .key) (e .addr) largest
 
-store-more : (g : Geometry) (s : Outcome) (e : Entry) (es : List Entry) → s .answer ≡ 0 → storeAll g s (e ∷ es) ≡ storeAll g (counted s (inserted g s e)) es
+pub store-more : (g : Geometry) (s : Outcome) (e : Entry) (es : List Entry) → s .answer ≡ 0 → storeAll g s (e ∷ es) ≡ storeAll g (counted s (inserted g s e)) es
 unfolding storeAll storeOne
 store-more g s e es h = rw (eq-eqb (s .answer) 0 h) refl
 
