@@ -3,23 +3,36 @@ use mathlib.Core.Path.{_≡_, refl, ap, sym, subst, _∙_}
 use mathlib.Core.List.{List, [], _∷_, _++_, append-assoc}
 use mathlib.Core.Bool.{Bool, true, false}
 use mathlib.Core.Option.{Option, none, some, Option·some-injective, Option·none-ne-some}
-use Prim.Native.Nat.{ℕ, zero, suc, _+_, _<_, _≤_}
+use Prim.Native.Nat.{ℕ, zero, suc, _+_, _*_, _<_, _≤_}
 use native.Mathlib.Omega.{arith}
 use lib.Dec.{leb, ltb}
-use lib.ListN.{length}
+use lib.ListN.{length, length-append}
 use borrow.Author.Tests.{leb-true, ltb-true}
 use Rattle.geometry.specs.declared.Entry.{Entry}
 use Rattle.geometry.specs.Tests.{pick}
 use Rattle.texts.specs.Lines.{Pieces, pieces, lines, fields}
 use Rattle.texts.specs.Laws.{joined, pieces-join}
 use Rattle.decimals.specs.Decimals.{largest, numberOf, decimal}
-use Rattle.decimals.specs.Back.{number-back, number-most}
+use Rattle.decimals.specs.Back.{decimal-short, number-back, number-most}
 use Rattle.carrying.specs.Carrying.{recordText, textOf, pair, recordOf, Reading, records, bad, with, mostRecords, readLine, readRest, readLines, readText}
 
 -- keys rise from low on, and all numbers have 32 bits
 abbrev pub Rises : ℕ → List Entry → Type 0
 Rises low [] = Unit {0}
 Rises low (e ∷ es) = (low ≤ e .key) × (e .key < 4294967296) × (e .addr < 4294967296) × Rises (suc (e .key)) es
+
+-- a line has at most 22 bytes
+pub text-short : (low : ℕ) (es : List Entry) → Rises low es → length (textOf es) ≤ 22 * length es
+unfolding textOf
+text-short low [] h = omega arith
+text-short low (e ∷ es) h =
+    let k = decimal-short 9 (e .key) (omega (arith, h .1)) in
+    let a = decimal-short 9 (e .addr) (omega (arith, h .2)) in
+    let i = text-short (suc (e .key)) es (h .3) in
+    let p = length-append (decimal (e .key)) (9 ∷ decimal (e .addr)) in
+    let q = length-append (recordText e) (10 ∷ []) in
+    let w = length-append (recordText e ++ (10 ∷ [])) (textOf es) in
+    omega (arith, k, a, i, p, q, w)
 
 -- what a line is read as: its record's line is the line, and both numbers have 32 bits
 pub record Fits (l : List ℕ) (e : Entry) : Type 0 where

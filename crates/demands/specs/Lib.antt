@@ -18,6 +18,7 @@ pub mod Looked
 pub mod Listing
 pub mod Stored
 pub mod Sums
+pub mod Carrying
 pub mod Round
 pub mod Reached
 pub mod Inserts
