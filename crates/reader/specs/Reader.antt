@@ -54,11 +54,11 @@ unfoldable pub turnOf : List ℕ → Spot → Turn
 turnOf text s = pick (eqb (s .bad) 0 & ltb (s .count) 4096 & ltb (s .at) (length text)) (lineTurn text s) (idle s)
 
 -- n turns: how far the reader has come, and the pairs
-abbrev pub spotAfter : List ℕ → ℕ → Spot → Spot
+unfoldable pub spotAfter : List ℕ → ℕ → Spot → Spot
 spotAfter text zero s = s
 spotAfter text (suc n) s = spotAfter text n (turnOf text s .spot)
 
-abbrev pub pairsOf : List ℕ → ℕ → Spot → List Entry
+unfoldable pub pairsOf : List ℕ → ℕ → Spot → List Entry
 pairsOf text zero s = []
 pairsOf text (suc n) s = turnOf text s .entry ∷ pairsOf text n (turnOf text s .spot)
 

@@ -200,7 +200,7 @@ module _ {M : Type 1} (𝓤 : URA M) (H : Heap 𝓤) (A : Atoms 𝓤) (W : Given
     Turned y = afterTurn 𝓤 H (Below 𝓤 H A Nearer At y) (afterBlock 𝓤 H (afterSeq 𝓤 H (Wp 𝓤 H C Λ En rest (atReturn 𝓤 H En Post′)) (atReturn 𝓤 H En Post′)))
 
     turn-at : (i k : ℕ) (t : Spot) (zs : List Entry) (fs : Facts i k t zs) → Sq W (At (i, k, t, zs, fs)) (runs C Λ En turn (anyQ (Turned (i, k, t, zs, fs))))
-    unfolding afterTurn
+    unfolding afterTurn spotAfter pairsOf
     turn-at i zero t zs fs =
         assigns ! (bin ! (load ! (from ! (stop !)) (look ! 16 refl)) (load ! (from ! (stop !)) (look ! 20 refl)) tt) (from ! (stop !)) (init ! 10 refl (tt, tt)) $
         rewrite ! 10 (λ (c : Bool). ‵ (fat fullShare tyBool l₈ 0 (vbool c))) (fails (ltb i n) (λ less. omega (arith, ltb→lt i n less, fs .0))) refl $
