@@ -17,11 +17,23 @@ use Rattle.carrying.specs.Carrying.{word, counted, storeOne}
 use Rattle.reader.specs.declared.Spot.{Spot}
 use Rattle.importer.specs.Importer.{countedRow, begun}
 
-pub one-yes : (x : Bool) → x ≡ true → 1 ≡ bit x
-one-yes x e = rw e refl
+pub one-record : (n : ℕ) → n ≡ 0 → 1 ≡ bit (eqb n 0)
+one-record n h = rw (eq-eqb n 0 h) refl
 
-pub one-no : (x : Bool) → x ≡ false → 0 ≡ bit x
-one-no x e = rw e refl
+pub no-record : (n : ℕ) → (n ≡ 0 → ⊥) → 0 ≡ bit (eqb n 0)
+no-record n h = rw (ne-eqb n 0 h) refl
+
+pub row-counted : (s w : Row) (x a p e : ℕ) → x ≡ bit (eqb (w .answer) 0) → a ≡ word (s .address + x) → p ≡ word (s .programmed + w .programmed)
+    → e ≡ word (s .erased + w .erased)
+    → record { answer = w .answer; address = a; programmed = p; erased = e; rule = w .rule; page = w .page } ≡ countedRow s w
+row-counted s w x a p e ex ea ep ee = λ i. record {
+  answer = w .answer;
+  address = (ea ∙ ap (λ (m : ℕ). word (s .address + m)) ex) i;
+  programmed = ep i;
+  erased = ee i;
+  rule = w .rule;
+  page = w .page;
+}
 
 module _ (g : Geometry) (img : List ℕ) (s : Row) (e : Entry) where
   pub store-refused : (s .answer ≡ 0 → ⊥) → toldBy s img ≡ storeOne g (toldBy s img) e
@@ -47,4 +59,4 @@ module _ (g : Geometry) (img : List ℕ) (t : Spot) (end : ℕ) where
   unfolding begun
   begun-format out a r h k f e = ap (λ (x : Row). toldBy x out) e ∙ f ∙ rw (eq-eqb (t .bad) 0 h, le-ltb (t .at) end k) refl
 
-pub ruleset importer-laws = (one-yes, one-no, store-refused, store-done, begun-bad, begun-more, begun-format)
+pub ruleset importer-laws = (one-record, no-record, row-counted, store-refused, store-done, begun-bad, begun-more, begun-format)

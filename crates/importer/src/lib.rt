@@ -2,7 +2,9 @@
 ghost use mathlib.Core.Path.{_≡_};
 ghost use mathlib.Core.List.{[]};
 ghost use Prim.Native.Nat.{_+_, _%_, _≤_, min};
+ghost use lib.Dec.{eqb};
 ghost use lib.ListN.{length, take};
+ghost use Rattle.geometry.specs.Tests.{bit};
 ghost use Rattle.geometry.specs.Geometry.{pageBytes};
 ghost use Rattle.answers.specs.Answers.{plain, rowOf, toldBy};
 ghost use Rattle.carrying.specs.Carrying.{word, storeOne, storeAll, readText, importRead, importing};
@@ -20,10 +22,11 @@ fn sum(a: u32, b: u32) -> u32
     ((a as u64 + b as u64) % 4294967296) as u32
 }
 
-fn one_if(x: bool) -> u32
-    ensures { λ r. ⌜ r ≡ Rattle.geometry.specs.Tests.bit x ⌝ }
+// The records that an insert with this answer has stored.
+fn records_of(answer: u32) -> u32
+    ensures { λ r. ⌜ r ≡ bit (eqb answer 0) ⌝ }
 {
-    if x {
+    if answer == 0 {
         return 1;
     }
     0
@@ -35,7 +38,7 @@ fn count_row(s: Row, w: Row) -> Row
 {
     Row {
         answer: w.answer,
-        address: sum(s.address, one_if(w.answer == 0)),
+        address: sum(s.address, records_of(w.answer)),
         programmed: sum(s.programmed, w.programmed),
         erased: sum(s.erased, w.erased),
         rule: w.rule,
@@ -107,4 +110,16 @@ pub fn turns(t: Spot) -> usize
         return 4096;
     }
     t.count as usize
+}
+
+// The array of pairs that the reader fills and the inserter walks. By hand.
+pub fn import_text(g: Geometry, img: &mut [u8], text: &[u8]) -> Row
+    requires { ⌜ (g .pages ≤ 64) × (pageBytes g ≤ 2112) ⌝ }
+    ensures { λ r. ⌜ toldBy r (now (img .exit)) ≡ importRead g (now (img .entry)) (readText (now (text .entry))) ⌝ }
+{
+    let mut pairs: [Entry; 4096] = [Entry { key: 0, addr: 0 }; 4096];
+    let t = reader::read_pairs(text, &mut pairs, 4096, Spot { at: 0, count: 0, low: 0, bad: 0 });
+    let s = begin(g, img, t, text.len());
+    let n = turns(t);
+    store_pairs(g, img, &pairs, n, s)
 }

@@ -1,0 +1,4 @@
+-- What the import's walks share.
+pub mod Rows
+pub mod Again
+pub mod Next
