@@ -18,7 +18,7 @@ use Rattle.texts.specs.Laws.{pieces-more, pieces-last}
 use Rattle.carrying.specs.Carrying.{recordOf, Reading, records, bad, with, mostRecords, readLine, readRest, readLines, readText}
 use Rattle.reader.specs.declared.Spot.{Spot}
 use Rattle.reader.specs.declared.Turn.{Turn}
-use Rattle.reader.specs.Reader.{noPair, start, idle, refusal, taken, recordTurn, lineOf, lineTurn, turnOf, spotAfter, pairsOf}
+use Rattle.reader.specs.Reader.{noPair, start, idle, refusal, taken, recordTurn, lineOf, lineTurn, turnOf, spotAfter, pairsOf, overlay}
 
 -- what a text is read as, where the reader has come so far, with these pairs
 unfoldable pub readAs : List ℕ → Spot → List Entry → Reading
@@ -197,3 +197,38 @@ module _ (text : List ℕ) where
   read-turns n h =
       let q : spotAfter text n start .count - 0 ≡ spotAfter text n start .count = omega arith in
       reads n start refl (zero-add n ∙ h) .1 ∙ ap (λ (m : ℕ). readAs text (spotAfter text n start) (take m (pairsOf text n start))) q
+
+  -- a turn reads at most one record
+  turn-most : (s : Spot) → turnOf text s .spot .count ≤ s .count + 1
+  unfolding turnOf lineTurn recordTurn taken
+  turn-most s = go (eqb (s .bad) 0 & ltb (s .count) 4096 & ltb (s .at) (length text)) (ltb (s .at + reach 10 (drop (s .at) text)) (length text))
+      (recordOf (fields (lineOf text (s .at))))
+    where
+      by-key : (e : Entry) (t : Bool) → pick t (record { entry = e; spot = moved s e }) (refusal s) .spot .count ≤ s .count + 1
+      by-key e true = omega arith
+      by-key e false = omega arith
+
+      by-record : (o : Option Entry) → recordTurn s (after s) o .spot .count ≤ s .count + 1
+      by-record none = omega arith
+      by-record (some e) = by-key e (leb (s .low) (e .key))
+
+      go : (x y : Bool) (o : Option Entry) → pick x (pick y (recordTurn s (after s) o) (refusal s)) (idle s) .spot .count ≤ s .count + 1
+      go true true o = by-record o
+      go true false o = omega arith
+      go false y o = omega arith
+
+  pub count-most : (n : ℕ) (s : Spot) → spotAfter text n s .count ≤ s .count + n
+  unfolding spotAfter
+  count-most zero s = omega arith
+  count-most (suc n) s = let h = count-most n (turnOf text s .spot) in let w = turn-most s in omega (arith, h, w)
+
+  pub pairs-length : (n : ℕ) (s : Spot) → length (pairsOf text n s) ≡ n
+  unfolding pairsOf
+  pairs-length zero s = refl
+  pairs-length (suc n) s = ap suc (pairs-length n (turnOf text s .spot))
+
+pub overlay-all : (es ys : List Entry) → length es ≡ length ys → overlay es ys ≡ es
+overlay-all [] [] h = refl
+overlay-all [] (y ∷ ys) h = absurd (omega (arith, h))
+overlay-all (e ∷ es) [] h = absurd (omega (arith, h))
+overlay-all (e ∷ es) (y ∷ ys) h = ap (λ l. e ∷ l) (overlay-all es ys (omega (arith, h)))
