@@ -2,3 +2,5 @@
 pub mod Rows
 pub mod Again
 pub mod Next
+pub mod Big
+pub mod Arrays
