@@ -1,4 +1,5 @@
--- A text that is read as records is the text of those records; their keys rise, and their numbers have 32 bits. Assumes nothing.
+-- A text that is read as records is the text of those records; their keys rise, and their numbers have 32 bits. And what a
+-- refused insert leaves to those after it. Assumes nothing.
 use mathlib.Core.Path.{_≡_, refl, ap, sym, subst, _∙_}
 use mathlib.Core.List.{List, [], _∷_, _++_, append-assoc}
 use mathlib.Core.Bool.{Bool, true, false}
@@ -7,14 +8,16 @@ use Prim.Native.Nat.{ℕ, zero, suc, _+_, _*_, _<_, _≤_}
 use native.Mathlib.Omega.{arith}
 use lib.Dec.{leb, ltb}
 use lib.ListN.{length, length-append}
-use borrow.Author.Tests.{leb-true, ltb-true}
+use borrow.Author.Tests.{leb-true, ltb-true, ne-eqb}
+use Rattle.geometry.specs.declared.Geometry.{Geometry}
 use Rattle.geometry.specs.declared.Entry.{Entry}
 use Rattle.geometry.specs.Tests.{pick}
+use Rattle.model.specs.Calls.{Outcome}
 use Rattle.texts.specs.Lines.{Pieces, pieces, lines, fields}
 use Rattle.texts.specs.Laws.{joined, pieces-join}
 use Rattle.decimals.specs.Decimals.{largest, numberOf, decimal}
 use Rattle.decimals.specs.Back.{decimal-short, number-back, number-most}
-use Rattle.carrying.specs.Carrying.{recordText, textOf, pair, recordOf, Reading, records, bad, with, mostRecords, readLine, readRest, readLines, readText}
+use Rattle.carrying.specs.Carrying.{recordText, textOf, pair, recordOf, Reading, records, bad, with, mostRecords, readLine, readRest, readLines, readText, storeOne, storeAll}
 
 -- keys rise from low on, and all numbers have 32 bits
 abbrev pub Rises : ℕ → List Entry → Type 0
@@ -119,3 +122,9 @@ module _ (text : List ℕ) (es : List Entry) (h : readText text ≡ records es) 
       go : (es : List Entry) → (1 ≤ length es → 0 + length es ≤ mostRecords) → length es ≤ mostRecords
       go [] f = omega arith
       go (x ∷ xs) f = let w = f (omega arith) in omega (arith, w)
+
+-- ---- after a refusal nothing more is stored
+pub refused-stays : (g : Geometry) (s : Outcome) (es : List Entry) → (s .answer ≡ 0 → ⊥) → storeAll g s es ≡ s
+unfolding storeAll storeOne
+refused-stays g s [] h = refl
+refused-stays g s (e ∷ es) h = rw (ne-eqb (s .answer) 0 h) (refused-stays g s es h)

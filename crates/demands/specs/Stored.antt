@@ -22,7 +22,7 @@ use Rattle.trees.specs.Lists.{All, In, all-append, all-map}
 use Rattle.trees.specs.Insert.{put-local}
 use Rattle.decimals.specs.Decimals.{largest}
 use Rattle.carrying.specs.Carrying.{word, counted, storeOne, storeAll}
-use Rattle.carrying.specs.Back.{Rises}
+use Rattle.carrying.specs.Back.{Rises, refused-stays}
 use Rattle.demands.specs.Words.{Ready, mapAt, Holds, OneOf}
 use Rattle.demands.specs.Demands.{insert-refused, insert-answers, insert-done, insert-stopped}
 
@@ -40,12 +40,6 @@ word-low n h = omega arith
 -- a record above all others is put at the end
 put-end : (k a : ℕ) (m : List Entry) → All (In 0 k) m → put k a m ≡ m ++ (record { key = k; addr = a } ∷ [])
 put-end k a m h = sym (ap (put k a) (append-nil m)) ∙ put-local k a .after 0 m [] h
-
--- after a refusal nothing more is stored
-pub stays : (g : Geometry) (s : Outcome) (es : List Entry) → (s .answer ≡ 0 → ⊥) → storeAll g s es ≡ s
-unfolding storeAll storeOne
-stays g s [] h = refl
-stays g s (e ∷ es) h = rw (ne-eqb (s .answer) 0 h) (stays g s es h)
 
 abbrev pub inserted : Geometry → Outcome → Entry → Outcome
 inserted g s e = insert g (s .image) (e .key) (e .addr) largest
@@ -120,7 +114,7 @@ module _ (g : Geometry) (shape : Shape g) where
           let a = eqb-false _ 0 q in
           let w = length-append xs (e ∷ es) in
           let c = none a in
-          subst (Stored g (xs ++ (e ∷ es))) (sym (stays g (counted s (inserted g s e)) es a)) (record {
+          subst (Stored g (xs ++ (e ∷ es))) (sym (refused-stays g (counted s (inserted g s e)) es a)) (record {
             some = omega (arith, w, c);
             holds = subst (λ x. Holds g x (inserted g s e .image)) (sym (ap (λ m. take m (xs ++ (e ∷ es))) c ∙ take-at xs (e ∷ es) (length xs) refl))
                 (refused-holds (s .image) xs (e .key) (e .addr) i (r .1) (r .2) a);

@@ -20,12 +20,12 @@ use Rattle.model.specs.Update.{needs, tooHigh, insertStores}
 use Rattle.model.specs.Calls.{Outcome, refused, made, worn, roomless, freePages, insert}
 use Rattle.decimals.specs.Decimals.{largest}
 use Rattle.carrying.specs.Carrying.{word, counted, storeOne, storeAll}
-use Rattle.carrying.specs.Back.{Rises}
+use Rattle.carrying.specs.Back.{Rises, refused-stays}
 use Rattle.demands.specs.Words.{Ready, programmedMost, erasedMost}
 use Rattle.demands.specs.Calls.{insert-is, made-all}
 use Rattle.demands.specs.Demands.{insert-done, insert-made, insert-bounds}
 use Rattle.demands.specs.Builds.{storesMost, insert-finishes}
-use Rattle.demands.specs.Stored.{inserted, stays, store-more}
+use Rattle.demands.specs.Stored.{inserted, store-more}
 
 -- the counts of the inserts, one after the other until one is refused
 unfoldable pub sumOf : Geometry → (Outcome → ℕ) → List ℕ → List Entry → ℕ
@@ -110,5 +110,5 @@ module _ (g : Geometry) (shape : Shape g) (allowed : storesMost g ≤ largest) w
             omega (arith, i, m)
         go false q ih =
             let a = eqb-false _ 0 q in
-            let m = ap count (stays g (counted s (inserted g s e)) es a) ∙ next in
+            let m = ap count (refused-stays g (counted s (inserted g s e)) es a) ∙ next in
             omega (arith, m)

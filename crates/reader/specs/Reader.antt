@@ -3,7 +3,7 @@ use Prim.Native.Nat.{ℕ, zero, suc, _+_}
 use mathlib.Core.List.{List, [], _∷_}
 use mathlib.Core.Option.{Option, none, some}
 use lib.Dec.{eqb, leb, ltb}
-use lib.ListN.{length, take, drop, set}
+use lib.ListN.{length, take, drop}
 use Rattle.geometry.specs.declared.Entry.{Entry}
 use Rattle.geometry.specs.Tests.{pick, _&_}
 use Rattle.texts.specs.Lines.{fields, reach}
@@ -63,7 +63,7 @@ pairsOf text zero s = []
 pairsOf text (suc n) s = turnOf text s .entry ∷ pairsOf text n (turnOf text s .spot)
 
 -- pairs in the place of the first of a slice
-unfoldable pub overlay : List Entry → List Entry → List Entry
+abbrev pub overlay : List Entry → List Entry → List Entry
 overlay [] xs = xs
 overlay (e ∷ es) [] = []
 overlay (e ∷ es) (x ∷ xs) = e ∷ overlay es xs
