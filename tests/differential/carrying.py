@@ -108,11 +108,17 @@ def some_text(rng, count):
     return b"".join(b"%d\t%d\n" % (key, rng.choice([rng.randrange(20), rng.randrange(2 ** 32)])) for key in keys)
 
 
+def twice(rng, line):
+    """A key equal to the one before, with the same address or another."""
+    return line + b"\n" + (line if rng.random() < .5 else line.split(b"\t")[0] + b"\t%d" % rng.randrange(20))
+
+
 SPOILERS = [lambda rng, line: b"", lambda rng, line: b"0" + line, lambda rng, line: line.replace(b"\t", b"\t0"),
             lambda rng, line: line.replace(b"\t", b" "), lambda rng, line: line + b"\t", lambda rng, line: line + b"\r",
             lambda rng, line: b" " + line, lambda rng, line: line.replace(b"\t", b"\t\t"), lambda rng, line: line + b"0000000000",
             lambda rng, line: b"4294967296\t1", lambda rng, line: b"1\t4294967296", lambda rng, line: b"18446744073709551617\t1",
-            lambda rng, line: b"-" + line, lambda rng, line: b"0\t0", lambda rng, line: line.split(b"\t")[0]]
+            lambda rng, line: b"-" + line, lambda rng, line: b"0\t0", lambda rng, line: line.split(b"\t")[0],
+            twice, twice, twice]
 
 
 def spoiled(rng, text):

@@ -320,11 +320,11 @@ def tell_met(library, wanted):
 
 def compare(fuzz, geometry, wanted, rng):
     library, m = Library(sys.argv[1], geometry), reference.mu(fuzz, geometry)
-    kinds = [no_chip, worn, texts, flips, full_path, scarce, hand_made, broken, a_log, hand_made]
-    for kind in [clauses, longest_texts] + kinds:
+    kinds = [no_chip, worn, flips, full_path, scarce, hand_made, broken, a_log, hand_made]
+    for kind in [longest_texts, texts, clauses] + kinds:
         kind(library, m, fuzz, rng)
     while library.calls < wanted:
-        rng.choice(kinds)(library, m, fuzz, rng)
+        rng.choice(kinds + [texts])(library, m, fuzz, rng)
     print("differential: %s chip: %d calls agree with the reference model" % (geometry.name, library.calls))
     tell_met(library, wanted)
 

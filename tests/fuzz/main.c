@@ -56,7 +56,7 @@ static size_t text(uint8_t *at)
 {
     uint32_t lines = some(4) ? some(20) : some(700), key = some(50);
     size_t length = 0;
-    for (; lines > 0; lines--, key += 1 + some(some(2) ? 3 : 5000000))
+    for (; lines > 0; lines--, key += (some(60) > 0) + some(some(2) ? 3 : 5000000))
         length += (size_t)sprintf((char *)at + length, "%lu\t%lu\n", (unsigned long)key, (unsigned long)some(4294967295u));
     if (length > 0 && some(2))
         at[some((uint32_t)length)] = some(2) ? (uint8_t)some(256) : (uint8_t)"\t\n0 9\r"[some(6)];

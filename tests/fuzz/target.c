@@ -94,7 +94,9 @@ static struct guarded make_image(const uint8_t *data, size_t size, struct head h
     }
     memset(image.bytes, 255, image.length);
     mutree_format(chip->number, image.bytes, image.length, result, sizeof result);
-    if (head.kind != IMPORT)
+    if (head.kind == IMPORT) /* the rest is the text; the index has something in it */
+        mutree_insert(chip->number, image.bytes, image.length, 5, 5, UINT32_MAX, result, sizeof result);
+    else
         lay_over(image, chip->number, data, size);
     return image;
 }
