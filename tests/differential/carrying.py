@@ -117,8 +117,7 @@ SPOILERS = [lambda rng, line: b"", lambda rng, line: b"0" + line, lambda rng, li
             lambda rng, line: line.replace(b"\t", b" "), lambda rng, line: line + b"\t", lambda rng, line: line + b"\r",
             lambda rng, line: b" " + line, lambda rng, line: line.replace(b"\t", b"\t\t"), lambda rng, line: line + b"0000000000",
             lambda rng, line: b"4294967296\t1", lambda rng, line: b"1\t4294967296", lambda rng, line: b"18446744073709551617\t1",
-            lambda rng, line: b"-" + line, lambda rng, line: b"0\t0", lambda rng, line: line.split(b"\t")[0],
-            twice, twice, twice]
+            lambda rng, line: b"-" + line, lambda rng, line: b"0\t0", lambda rng, line: line.split(b"\t")[0], twice]
 
 
 def spoiled(rng, text):
@@ -140,6 +139,15 @@ def spoiled(rng, text):
         else:
             text = text[:rng.randrange(len(text) + 1)]
     return text
+
+
+def each_defect(library, m, rng):
+    """Every spoiler in each of three lines."""
+    for spoil in SPOILERS:
+        for i in range(3):
+            lines = some_text(rng, 3).split(b"\n")[:-1]
+            lines[i] = spoil(rng, lines[i])
+            hold_import(library, m, rng, b"\x77" * (3 * m.G.block_size), b"".join(line + b"\n" for line in lines), bytes(RESULT))
 
 
 def imports(library, m, fuzz, rng, buffer):

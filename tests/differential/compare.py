@@ -290,7 +290,8 @@ def texts(library, m, fuzz, rng):
     carrying.imports(library, m, fuzz, rng, buffer)
 
 
-def longest_texts(library, m, fuzz, rng):
+def bad_and_long_texts(library, m, fuzz, rng):
+    carrying.each_defect(library, m, rng)
     carrying.lines_too_many(library, m, rng)
     carrying.halfway(library, m, rng)
 
@@ -321,7 +322,7 @@ def tell_met(library, wanted):
 def compare(fuzz, geometry, wanted, rng):
     library, m = Library(sys.argv[1], geometry), reference.mu(fuzz, geometry)
     kinds = [no_chip, worn, flips, full_path, scarce, hand_made, broken, a_log, hand_made]
-    for kind in [longest_texts, texts, clauses] + kinds:
+    for kind in [bad_and_long_texts, texts, clauses] + kinds:
         kind(library, m, fuzz, rng)
     while library.calls < wanted:
         rng.choice(kinds + [texts])(library, m, fuzz, rng)
