@@ -6,6 +6,7 @@
 # make wear       play a year of a camera's life and draw how often each block is erased (bench/wear.c, docs/WEAR.md)
 # make bound      insert keys in several orders and print how many pages go beyond one a key (bench/bound.c, docs/BENCHMARKS.md)
 # make cost       count what a list costs after the image is judged (bench/cost.c, docs/BENCHMARKS.md)
+# make cuts       lose power 10,000,000 times between the stores of long logs on a simulated chip (tests/nand/many.sh); an hour or two
 # make install    header, library, pkg-config file and tool, under PREFIX; make uninstall takes them away
 # make clean      remove all that was built and proved
 #
@@ -45,7 +46,7 @@ PROOFS = crates.txt $(shell find crates -type f)
 # What is asked for before ten minutes of proving, and not after: the archive alone needs no compiler.
 NEEDS = rt $(if $(filter library,$(MAKECMDGOALS)),,"$(COMPILER)")
 
-.PHONY: day build library check search wear bound cost install uninstall clean settings
+.PHONY: day build library check search wear bound cost cuts install uninstall clean settings
 .DELETE_ON_ERROR:
 
 ifeq ($(TARGET),$(HOST))
@@ -108,6 +109,9 @@ build/$(TARGET)/cost: bench/cost.c c/mutree.h $(LIBRARY)
 
 cost: build/$(TARGET)/cost
 	$(RUN) $<
+
+cuts: $(LIBRARY)
+	sh tests/nand/many.sh
 
 install: build
 	install -d $(DESTDIR)$(PREFIX)/include $(DESTDIR)$(PREFIX)/lib/pkgconfig $(DESTDIR)$(PREFIX)/bin

@@ -1,5 +1,6 @@
 #include "help.h"
 #include "geometry.h"
+#include "mtd_commands.h"
 
 static void print_commands(FILE *out, const struct command *commands, size_t count)
 {
@@ -24,10 +25,14 @@ void print_help(FILE *out, const struct command *commands, size_t count)
 {
     fputs("usage: mutree COMMAND FILE ..       the index at the bench\n\n", out);
     print_commands(out, commands, count);
+    mtd_print_help(out);
     fputs("  mutree help, mutree --version\n\n"
           "FILE is a raw dump with spare bytes, as nanddump --oob writes it: a regular file. KEY, ADDRESS, LOW, HIGH\n"
           "and N are 0 to 4294967295 without leading zeros. A change holds a lock and replaces the file whole, or leaves\n"
           "it as it was; a second change waits for the first, and with --no-wait it is refused.\n\n", out);
+    fputs("DEVICE is a NAND chip under Linux's MTD, /dev/mtd0 for example, read and written raw with its spare bytes. All its\n"
+          "blocks are the index's, and none may be marked bad. A change goes to it store by store, so that a loss of power\n"
+          "between two stores leaves the old index or the new one.\n\n", out);
     print_chips(out);
     fputs("apply reads a command a line: insert KEY ADDRESS, delete KEY or lookup KEY; empty lines and lines that begin\n"
           "with # are passed over, the last line ends like the others. Every line must be understood and DONE, else\n"

@@ -4,6 +4,7 @@
 
 #include "commands.h"
 #include "help.h"
+#include "mtd_commands.h"
 #include "mutree.h"
 #include "nearest.h"
 #include "say.h"
@@ -93,6 +94,8 @@ static int run(int count, char **words)
         puts("mutree " MUTREE_VERSION);
         return 0;
     }
+    if (strcmp(words[1], "--mtd") == 0)
+        return mtd_run(count - 2, words + 2);
     command = nearest_command(words[1]);
     if (strcmp(words[1], command->name) != 0) {
         complain("there is no command '%s'; the nearest is '%s', and 'mutree help' lists them all", words[1], command->name);

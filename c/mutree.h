@@ -63,6 +63,10 @@
  * bytes (sequence number, height, counts) have no code: a changed one is found only where it breaks a rule. Where more than two
  * flips of a half and its code are to be feared, do not call.
  * Images made before version 0.5.0 have no codes: every call but mutree_format and mutree_patrol answers DAMAGED, rule 1.
+ *
+ * From the image to a chip: the stores of an update must reach the NAND one by one and in their order. c/nand.h and c/nand.c do that
+ * through callbacks. What differs between the image before and after an update is not its stores, and an allowance of 1 again and
+ * again may never end it; docs/USING.md says more.
  */
 #ifndef MUTREE_H
 #define MUTREE_H

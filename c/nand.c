@@ -137,10 +137,13 @@ static struct mutree_nand_result carry(struct mutree_nand *nand, struct order or
     do {
         memcpy(nand->copy, nand->image, nand->length);
         run = ask(nand, nand->copy, order, made + 1);
-        if (made == 0 && run.answer != MUTREE_DONE && run.answer != MUTREE_STOPPED)
-            return told(run); /* refused: nothing is stored */
         result.answer = run.answer;
-        make_next(nand, chip, &result);
+        if (run.answer == MUTREE_DONE || run.answer == MUTREE_STOPPED)
+            make_next(nand, chip, &result);
+        else if (made == 0)
+            return told(run); /* refused, and nothing is stored */
+        else
+            result.answer = MUTREE_NAND_CHANGED;
         made = result.programmed + result.erased;
     } while (result.answer == MUTREE_STOPPED);
     if (result.answer == MUTREE_DONE)

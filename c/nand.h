@@ -61,8 +61,8 @@ struct mutree_nand_result {
     int failure;                 /* with MUTREE_NAND_FAILED what the callback returned; else 0 */
 };
 
-/* Fills the image from the chip, page by page. Answers DONE, LENGTH or MUTREE_NAND_FAILED; then the image is not to be used. It does not
- * judge: patrol the image next (mutree_nand_patrol), and a lookup or list says whether it is sound. */
+/* Fills the image from the chip, page by page. Answers DONE, LENGTH, or MUTREE_NAND_FAILED, and then the image is not to be used. It does
+ * not judge: any lookup or list does. Where that is DAMAGED with rule 1, patrol (mutree_nand_patrol) and judge again. */
 struct mutree_nand_result mutree_nand_read(struct mutree_nand *nand);
 
 /* Calls mutree_patrol on every half of every page of the image. `found` counts what was found, by enum mutree_finding. What is

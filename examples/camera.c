@@ -21,7 +21,7 @@ static uint32_t frame[SLOTS]; /* stands for the frames: the time at which each w
 static struct mutree_nand nand;
 static uint32_t next_slot, pairs[2 * SLOTS];
 static uint8_t result[MUTREE_RESULT_BYTES];
-static unsigned crashes, rebuilt, full;
+static unsigned crashes, rebuilt, full; /* for the last line */
 
 static struct mutree_listed list(uint32_t low, uint32_t high)
 {
@@ -36,25 +36,38 @@ static uint32_t find_frame(uint32_t time)
                ? frame[mutree_read_result(result).address] : 0;
 }
 
-/* DAMAGED or WORN: a new index, made from the frames themselves. Power may be lost here too; the next start begins it again. */
+/* Whether the index is sound and every key leads to the frame of its time. */
+static int fits_frames(void)
+{
+    struct mutree_listed listed = list(0, UINT32_MAX);
+    uint32_t i;
+    for (i = 0; i < listed.written; i++)
+        if (frame[pairs[2 * i + 1] % SLOTS] != pairs[2 * i])
+            return 0;
+    return listed.answer == MUTREE_DONE;
+}
+
+/* DAMAGED or WORN: a new index from the frames themselves, newest first. Power may be lost here too; the next start begins it again. */
 static enum todo rebuild(void)
 {
-    uint32_t slot;
+    uint32_t answer = mutree_nand_format(&nand).answer, newest = 0, slot, i;
     rebuilt++;
-    if (mutree_nand_format(&nand).answer != MUTREE_DONE)
-        return RESTART;
-    for (slot = 0; slot < SLOTS; slot++)
-        if (frame[slot] != 0 && mutree_nand_insert(&nand, frame[slot], slot).answer != MUTREE_DONE)
-            return RESTART;
-    return GO_ON;
+    for (slot = 1; slot < SLOTS; slot++)
+        newest = frame[slot] > frame[newest] ? slot : newest;
+    for (i = 0; i < SLOTS && answer == MUTREE_DONE; i++) {
+        slot = (newest + SLOTS - i) % SLOTS;
+        if (frame[slot] != 0)
+            answer = mutree_nand_insert(&nand, frame[slot], slot).answer;
+    }
+    return answer == MUTREE_DONE || answer == MUTREE_ROOM || answer == MUTREE_HEIGHT ? GO_ON : RESTART;
 }
 
 /* What to do at each answer of an update. */
 static enum todo act_on(struct mutree_nand_result made)
 {
     switch (made.answer) {
-    case MUTREE_DONE: return GO_ON;
-    case MUTREE_ABSENT: return GO_ON; /* a delete: a crash came between it and the frame */
+    case MUTREE_DONE:
+    case MUTREE_ABSENT: return GO_ON; /* ABSENT: a crash came between delete and insert */
     case MUTREE_ROOM:
     case MUTREE_HEIGHT: /* the index is full before the ring is: the oldest frame goes */
         full++;
@@ -62,9 +75,8 @@ static enum todo act_on(struct mutree_nand_result made)
         return act_on(mutree_nand_delete(&nand, pairs[0])) == GO_ON ? AGAIN : RESTART;
     case MUTREE_WORN:
     case MUTREE_DAMAGED: return rebuild() == GO_ON ? AGAIN : RESTART;
-    case MUTREE_NAND_FAILED:             /* the old map is on the chip and in RAM. Here power is gone; where it is not, try again */
-    case MUTREE_NAND_CHANGED: return RESTART;
-    default: abort(); /* LENGTH: the program is wrong. STOPPED is never given by nand.h */
+    case MUTREE_NAND_FAILED: return RESTART; /* the old map is on the chip and in RAM. Here power is gone; where it is not, try again */
+    default: abort(); /* LENGTH, MUTREE_NAND_CHANGED: the program is wrong. nand.h never gives STOPPED */
     }
 }
 
@@ -73,47 +85,39 @@ static enum todo put_frame(uint32_t time)
 {
     enum todo todo = GO_ON;
     if (frame[next_slot] != 0)
-        todo = act_on(mutree_nand_delete(&nand, frame[next_slot]));
-    if (todo != GO_ON)
-        return todo;
-    frame[next_slot] = time;
-    while ((todo = act_on(mutree_nand_insert(&nand, time, next_slot))) == AGAIN)
-        continue;
+        while ((todo = act_on(mutree_nand_delete(&nand, frame[next_slot]))) == AGAIN)
+            continue;
+    if (todo == GO_ON) {
+        frame[next_slot] = time;
+        while ((todo = act_on(mutree_nand_insert(&nand, time, next_slot))) == AGAIN)
+            continue;
+    }
     next_slot = todo == GO_ON ? (next_slot + 1) % SLOTS : next_slot;
     return todo;
 }
 
-/* After the power came back: read the chip, judge, and find where the ring stood. */
+/* After the power came back: read the chip, judge it, and find where the ring stood. A flipped bit is mended; a page that was cut in the
+ * middle may look like one, so the frames are asked once more. */
 static enum todo start(void)
 {
-    struct mutree_listed listed;
-    uint32_t found[4];
-    simulated_start(&chip);
+    uint32_t found[4], newest;
     if (mutree_nand_read(&nand).answer != MUTREE_DONE)
         return RESTART;
-    listed = list(0, UINT32_MAX);
-    if (listed.answer == MUTREE_DAMAGED && listed.rule == 1) { /* a flipped bit, or a page that was cut in the middle */
+    if (!fits_frames())
         mutree_nand_patrol(&nand, found);
-        if (found[MUTREE_BEYOND_REPAIR] == 0 && found[MUTREE_DATA_MENDED] + found[MUTREE_CODE_MENDED] == 1)
-            listed = list(0, UINT32_MAX);
-    }
-    if (listed.answer == MUTREE_DAMAGED && rebuild() != GO_ON)
+    if (!fits_frames() && rebuild() != GO_ON)
         return RESTART;
-    listed = list(0, UINT32_MAX);
-    next_slot = listed.written > 0 ? (pairs[2 * listed.written - 1] + 1) % SLOTS : 0; /* after the newest frame */
+    newest = list(0, UINT32_MAX).written;
+    next_slot = newest > 0 ? (pairs[2 * newest - 1] + 1) % SLOTS : 0;
     return GO_ON;
 }
 
-/* Every key leads to the frame of its time. */
 static void look_at_all(void)
 {
-    struct mutree_listed listed = list(0, UINT32_MAX);
-    uint32_t i;
-    for (i = 0; i < listed.written; i++)
-        if (frame[pairs[2 * i + 1]] != pairs[2 * i] || find_frame(pairs[2 * i]) != pairs[2 * i]) {
-            printf("camera: the key %u leads to another frame\n", (unsigned)pairs[2 * i]);
-            exit(1);
-        }
+    if (fits_frames() && find_frame(pairs[0]) == pairs[0])
+        return;
+    printf("camera: a key leads to another frame\n");
+    exit(1);
 }
 
 int main(int words, char **word)
@@ -133,12 +137,13 @@ int main(int words, char **word)
         if (put_frame(time) == GO_ON)
             continue;
         crashes++;
-        while (start() != GO_ON)
-            continue;
+        do
+            simulated_start(&chip); /* power is back */
+        while (start() != GO_ON);
         look_at_all();
     }
     look_at_all();
-    printf("camera: chip %u: %u frames taken, %u crashes, the index made anew %u times, full %u times; %u keys, each with its own frame\n",
+    printf("camera: chip %u: %u frames taken, %u crashes, the index made anew %u times, %u old frames given up; %u keys with their own frames\n",
            (unsigned)g->number, (unsigned)frames, crashes, rebuilt, full, (unsigned)list(0, UINT32_MAX).exist);
     return 0;
 }

@@ -90,7 +90,7 @@ static void bad_numbers(void)
     size_t i;
     memcpy(kept, nand.image, chip.length);
     for (i = 0; i < 5; i++) {
-        bad.length = i < 3 ? blocks[i] * g->block_bytes : i == 3 ? chip.length - 1 : chip.length;
+        bad.length = i < 3 ? blocks[i] * g->block_bytes : i == 3 ? chip.length + 1 : chip.length;
         bad.geometry = i == 4 ? MUTREE_GEOMETRIES : g->number;
         is_refused(mutree_nand_format(&bad), MUTREE_LENGTH, stores, "format of a bad length");
         is_refused(mutree_nand_insert(&bad, 1, 1), MUTREE_LENGTH, stores, "insert with a bad length");
@@ -211,11 +211,16 @@ static void patrol(void)
          "the new key is not on the chip");
 }
 
-/* A callback that keeps the order of main and spare bytes to its promise, and one that breaks a rule: it writes to the image. */
+/* A callback that breaks a rule: it writes to the image. What it leaves is another sound index, or a damaged one. */
+static const uint8_t *other;
+
 static int meddling(void *context, uint32_t page, const uint8_t *main_bytes, const uint8_t *spare_bytes)
 {
     need(spare_bytes == main_bytes + g->main_bytes, "the spare bytes do not follow the main bytes");
-    memset(nand.image + chip.length - g->page_bytes, 0, g->page_bytes);
+    if (other != NULL)
+        memcpy(nand.image, other, chip.length);
+    else
+        memset(nand.image + chip.length - g->page_bytes, 0, g->page_bytes);
     return simulated_program(context, page, main_bytes, spare_bytes);
 }
 
@@ -232,6 +237,38 @@ static void meddled(void)
     need(chip.stores == stores + made && result.programmed == 1, "a store was made from a changed image");
     nand.program = simulated_program;
     need(mutree_nand_read(&nand).answer == MUTREE_DONE && lookup(1) == 1001, "the old map is not on the chip");
+}
+
+/* The other index is an empty one. */
+static void meddled_twice(void)
+{
+    uint8_t *empty = room_for(chip.length);
+    other = NULL;
+    meddled();
+    format();
+    memcpy(empty, nand.image, chip.length);
+    other = empty;
+    meddled();
+    free(empty);
+}
+
+/* The simulated chip keeps a chip's laws. */
+static void laws(void)
+{
+    uint32_t refused = chip.refused, pages = BLOCKS * g->pages;
+    const uint8_t *page = nand.image, *spare = nand.image + g->main_bytes;
+    format();
+    need(simulated_program(&chip, 0, page, spare) == SIMULATED_NOT_ERASED, "a page was programmed twice");
+    need(simulated_program(&chip, 2, page, spare) == SIMULATED_OUT_OF_ORDER, "a page was programmed before the one in front of it");
+    need(simulated_program(&chip, pages, page, spare) == SIMULATED_NO_SUCH, "a page that is not there was programmed");
+    need(simulated_erase(&chip, BLOCKS) == SIMULATED_NO_SUCH, "a block that is not there was erased");
+    need(chip.refused == refused + 4, "the chip does not count what it refused");
+    same_as_chip("a refused store changed the chip");
+    chip.refused = refused;
+    chip.power_after = 0;
+    need(simulated_program(&chip, 1, page, spare) == SIMULATED_NO_POWER && simulated_erase(&chip, 0) == SIMULATED_NO_POWER,
+         "the chip stored without power");
+    same_as_chip("a store without power changed the chip");
 }
 
 int main(int words, char **word)
@@ -252,7 +289,8 @@ int main(int words, char **word)
     failing_format();
     failing_read();
     patrol();
-    meddled();
+    meddled_twice();
+    laws();
     printf("nand: chip %u: every call of nand.h as it should be\n", (unsigned)g->number);
     free(kept);
     free(nand.image);

@@ -99,7 +99,7 @@ static void every_cut(struct change change)
 static void one_log(uint32_t geometry, uint64_t seed, unsigned long cuts)
 {
     const struct mutree_geometry *g = mutree_geometry_of(geometry);
-    uint32_t blocks = 3 + (uint32_t)(seed % 3), eighths = 1 + (uint32_t)(seed * 5 % (geometry == MUTREE_SMALL ? 9 : 3));
+    uint32_t blocks = 3 + (uint32_t)(seed % 3), eighths = 1 + (uint32_t)((seed + 8) * 5 % (geometry == MUTREE_SMALL ? 9 : 3));
     uint32_t most = g->pages * g->slots / 2 * 7 / 10 * eighths / 8, updates = 1000;
     most *= geometry == MUTREE_SMALL ? blocks - 2 : 1; /* large pages hold more keys than is to be listed so often */
     log_begin(&now, geometry, blocks, most + most / 4, most, seed);

@@ -89,7 +89,7 @@ static void every_tear(struct change change)
 static void one_log(uint32_t geometry, uint64_t seed, unsigned long most_cuts)
 {
     const struct mutree_geometry *g = mutree_geometry_of(geometry);
-    uint32_t most = g->pages * g->slots / 8, updates = 500;
+    uint32_t most = 3 * g->slots, updates = 1000;
     log_begin(&now, geometry, 3, most + most / 4, most, seed);
     now.nand.program = program;
     now.nand.erase = erase;
@@ -125,8 +125,11 @@ int main(int words, char **word)
     while (cuts < most_cuts)
         one_log(geometry, seed++, most_cuts);
     printf("nand: chip %u: %lu cuts in the middle of a store\n", (unsigned)geometry, cuts);
+    need(most_cuts < 50 || counts[TEAR_BITS][LAST_PAGE][0][DAMAGED] > 0, "no torn page was refused");
     for (place = 0; place < PLACES; place++)
         for (tear = TEAR_FRONT; tear <= TEAR_BITS; tear++)
             print_row(tear, place);
+    for (place = 0; place < PLACES; place++)
+        need(counts[TEAR_FRONT][place][0][OTHER_MAP] + counts[TEAR_BITS][place][0][OTHER_MAP] == 0, "a torn image, as read, holds another map");
     return 0;
 }

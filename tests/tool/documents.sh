@@ -60,6 +60,24 @@ if have awk; then
     }
     END { if (row == 0 || row != line) { print "tool: docs/bench.svg has " line " lines for " row " figures"; wrong = 1 } exit wrong }
     ' "$root/docs/BENCHMARKS.md" "$root/docs/bench.svg" || bad=1
+
+    # The times of docs/USING.md are those of docs/BENCHMARKS.md: each row has the three figures of the small chip and then the large one's.
+    awk '
+    FNR == NR && /^\| .* \([0-9.]*\) \|/ {
+        split($0, part, "|")
+        for (i = 3; i <= 5; i++) { split(part[i], word, " "); times[part[2]] = times[part[2]] " " word[1] }
+    }
+    FNR != NR && /^\| microseconds a call/ { inside = 1 }
+    FNR != NR && inside && /^\| .* [0-9.]+ \|$/ {
+        split($0, part, "|")
+        row = ""
+        for (i = 3; i <= 8; i++) { split(part[i], word, " "); row = row " " word[1] }
+        if (row != times[part[2]]) { print "tool: docs/USING.md: " part[2] ":" row ", in docs/BENCHMARKS.md:" times[part[2]]; wrong = 1 }
+        rows++
+    }
+    FNR != NR && inside && !/^\|/ { inside = 0 }
+    END { if (rows < 6) { print "tool: docs/USING.md has " rows + 0 " rows of times"; wrong = 1 } exit wrong }
+    ' "$root/docs/BENCHMARKS.md" "$root/docs/USING.md" || bad=1
 else
-    left_out "the plot, there is no awk here"
+    left_out "the plot and the times of docs/USING.md, there is no awk here"
 fi
