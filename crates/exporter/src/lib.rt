@@ -1,4 +1,5 @@
 // Export of request 13: judged first, then the text of the map, measured before any byte of it is written.
+ghost use mathlib.Core.List.{[], _∷_};
 ghost use mathlib.Core.Path.{_≡_};
 ghost use Prim.Native.Nat.{_+_, _*_, _≤_, _<_};
 ghost use lib.ListN.{length};
@@ -8,6 +9,7 @@ ghost use Rattle.model.specs.Bytes.{nodeAt};
 ghost use Rattle.model.specs.Tree.{under, mapOf};
 ghost use Rattle.answers.specs.Answers.{plain, toldBy};
 ghost use Rattle.chip.specs.Chip.{chipWith};
+ghost use Rattle.decimals.specs.Decimals.{decimal};
 ghost use Rattle.carrying.specs.Carrying.{textOf, word, exports, exporting};
 ghost use Rattle.exporter.specs.Exporter.{lineText, after, exportedIn};
 use answers::Answer;
@@ -28,17 +30,39 @@ fn wide(x: u32) -> u64
     x as u64
 }
 
+// A number's digits from a place on. Gives the place after them.
+fn put_value(text: &mut [u8], at: usize, n: u32) -> usize
+    requires { ⌜ at ≤ 1000000000011 ⌝ }
+    ensures place { λ r. ⌜ (r ≡ at + length (decimal n)) × (r ≤ at + 10) ⌝ }
+    ensures bytes { λ _. ⌜ now (text .exit) ≡ sets (now (text .entry)) at (decimal n) ⌝ }
+{
+    decimals::put_number(&mut *text, at, wide(n))
+}
+
 // A record's line from a place on. Gives the place after it. Nothing is put outside the text.
 fn put_record(text: &mut [u8], at: usize, entry: Entry) -> usize
     requires { ⌜ at ≤ 1000000000000 ⌝ }
     ensures place { λ r. ⌜ (r ≡ at + length (lineText entry)) × (r ≤ at + 22) ⌝ }
     ensures bytes { λ _. ⌜ now (text .exit) ≡ sets (now (text .entry)) at (lineText entry) ⌝ }
 {
-    let tab = decimals::put_number(&mut *text, at, wide(entry.key));
+    let tab = put_value(&mut *text, at, entry.key);
     texts::put_byte(&mut *text, tab, 9);
-    let end = decimals::put_number(&mut *text, tab + 1, wide(entry.addr));
+    let end = put_value(&mut *text, tab + 1, entry.addr);
     texts::put_byte(&mut *text, end, 10);
     end + 1
+}
+
+// One record more.
+fn write_record(text: &mut [u8], w: Written, entry: Entry) -> Written
+    requires { ⌜ (w .at ≤ 22 * w .records) × (w .records < 4294967296) ⌝ }
+    ensures count { λ r. ⌜ (r ≡ after w (entry ∷ [])) × (r .at ≤ 22 * r .records) ⌝ }
+    ensures bytes { λ _. ⌜ now (text .exit) ≡ sets (now (text .entry)) (w .at) (textOf (entry ∷ [])) ⌝ }
+{
+    let end = put_record(&mut *text, w.at, entry);
+    Written {
+        records: w.records + 1,
+        at: end,
+    }
 }
 
 // The lines of the records under an entry at a level, after those written so far.
@@ -48,11 +72,7 @@ fn write_under(g: Geometry, img: &[u8], text: &mut [u8], w: Written, level: u32,
     ensures bytes { λ _. ⌜ now (text .exit) ≡ sets (now (text .entry)) (w .at) (textOf (under (nodeAt g (now (img .entry))) level entry)) ⌝ }
 {
     if level == 0 {
-        let end = put_record(&mut *text, w.at, entry);
-        return Written {
-            records: w.records + 1,
-            at: end,
-        };
+        return write_record(&mut *text, w, entry);
     }
     let at = chip::node_place(g, entry.addr, level);
     let n = chip::node_count(g, img, entry.addr, level);
