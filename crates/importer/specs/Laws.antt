@@ -11,9 +11,12 @@ use Rattle.geometry.specs.declared.Entry.{Entry}
 use Rattle.geometry.specs.Tests.{pick, bit}
 use Rattle.model.specs.Calls.{Outcome, gives, format, insert}
 use Rattle.answers.specs.declared.Answer.{Answer}
+use Rattle.answers.specs.declared.Answer.the-variants.{Length}
 use Rattle.answers.specs.declared.Row.{Row}
 use Rattle.answers.specs.Answers.{plain, rowOf, toldBy, told}
-use Rattle.carrying.specs.Carrying.{word, counted, storeOne}
+use Rattle.chip.specs.Chip.{goodBlocks}
+use Rattle.chip.specs.Blocks.{none-good, some-good}
+use Rattle.carrying.specs.Carrying.{word, counted, storeOne, readText, importRead, importing}
 use Rattle.reader.specs.declared.Spot.{Spot}
 use Rattle.importer.specs.Importer.{countedRow, begun}
 
@@ -59,4 +62,14 @@ module _ (g : Geometry) (img : List ℕ) (t : Spot) (end : ℕ) where
   unfolding begun
   begun-format out a r h k f e = ap (λ (x : Row). toldBy x out) e ∙ f ∙ rw (eq-eqb (t .bad) 0 h, le-ltb (t .at) end k) refl
 
-pub ruleset importer-laws = (one-record, no-record, row-counted, store-refused, store-done, begun-bad, begun-more, begun-format)
+-- ---- LENGTH first
+module _ (g : Geometry) (img text : List ℕ) (n : ℕ) (en : n ≡ goodBlocks g img) where
+  pub import-length : (r : Row) → n ≡ 0 → r ≡ rowOf Length → toldBy r img ≡ importing g img text
+  unfolding importing
+  import-length r z e = ap (λ (x : Row). toldBy x img) e ∙ sym (simp (none-good g img n en z))
+
+  pub import-blocks : (o : Outcome) → (n ≡ 0 → ⊥) → o ≡ importRead g img (readText text) → o ≡ importing g img text
+  unfolding importing
+  import-blocks o h e = e ∙ sym (simp (some-good g img n en h))
+
+pub ruleset importer-laws = (one-record, no-record, row-counted, store-refused, store-done, begun-bad, begun-more, begun-format, import-length, import-blocks)

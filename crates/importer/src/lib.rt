@@ -1,12 +1,11 @@
 // Import of request 13: LENGTH first, then the text to its end, then format and an insert for each pair of a lent slice.
 ghost use mathlib.Core.Path.{_≡_};
-ghost use mathlib.Core.List.{[]};
-ghost use Prim.Native.Nat.{_+_, _%_, _≤_, min};
+ghost use Prim.Native.Nat.{_+_, _≤_, min};
 ghost use lib.Dec.{eqb};
 ghost use lib.ListN.{length, take};
 ghost use Rattle.geometry.specs.Tests.{bit};
 ghost use Rattle.geometry.specs.Geometry.{pageBytes};
-ghost use Rattle.answers.specs.Answers.{plain, rowOf, toldBy};
+ghost use Rattle.answers.specs.Answers.{plain, toldBy};
 ghost use Rattle.carrying.specs.Carrying.{word, storeOne, storeAll, readText, importRead, importing};
 ghost use Rattle.importer.specs.Importer.{countedRow, begun};
 use answers::Answer;
@@ -122,4 +121,16 @@ pub fn import_text(g: Geometry, img: &mut [u8], text: &[u8]) -> Row
     let s = begin(g, img, t, text.len());
     let n = turns(t);
     store_pairs(g, img, &pairs, n, s)
+}
+
+// Import on a chip with blocks of at most 64 pages.
+pub fn import_on(g: Geometry, img: &mut [u8], text: &[u8]) -> Row
+    requires { ⌜ (g .pages ≤ 64) × (pageBytes g ≤ 2112) ⌝ }
+    ensures { λ r. ⌜ toldBy r (now (img .exit)) ≡ importing g (now (img .entry)) (now (text .entry)) ⌝ }
+{
+    let n = chip::good_blocks(g, &*img);
+    if n == 0 {
+        return answers::row_of(Answer::Length);
+    }
+    import_text(g, &mut *img, text)
 }
