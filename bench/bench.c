@@ -281,7 +281,7 @@ static uint32_t carry(int kind, struct carrying *c)
 static double time_carry(int kind, struct carrying *c)
 {
     double total = 0;
-    int i, rounds = kind == CARRY_IMPORT ? 3 : 200;
+    int i, rounds = kind != CARRY_IMPORT ? 200 : c->length > 4000000 ? 1 : 3;
     for (i = 0; i < rounds; i++) {
         uint32_t answer;
         double from;
@@ -313,6 +313,7 @@ static void carry_row(const struct mutree_geometry *chip, unsigned blocks)
     printf("| %s, %u blocks | %.1f | %.1f | %.1f | %.1f | %.0f |\n", chip_names[chip->number], blocks, 1e6 * time[CARRY_INSERT],
            1e6 * time[CARRY_EXPORT], 1e6 * time[CARRY_IMPORT], 1e6 * time[CARRY_IMPORT] / MUTREE_MOST_RECORDS,
            time[CARRY_IMPORT] / time[CARRY_INSERT]);
+    fflush(stdout);
     free(c.image);
     free(c.made);
     free(c.text);
