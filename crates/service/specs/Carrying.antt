@@ -118,14 +118,15 @@ module _ (kind : ℕ) (g : Geometry) (is : chosenOf kind ≡ Of g) where
     finished : importing g image text .answer ≡ 0
     finished = sym (ap (λ (l : Left). l .answer) (import-call image text result room)) ∙ done
 
-    read : (es : List Entry) × (goodLength g image ≡ true) × (readText text ≡ records es)
-    read = import-finished g image text finished
+    -- the text was read as records
+    pub was-read : (es : List Entry) × (goodLength g image ≡ true) × (readText text ≡ records es)
+    was-read = import-finished g image text finished
 
     pub round-trip : exportsText kind (importsText kind image text result .image) buffer other
-        ≡ whole (gives 0 (length (read .0)) (length text) (length text) (text ++ drop (length text) buffer)) other
+        ≡ whole (gives 0 (length (was-read .0)) (length text) (length text) (text ++ drop (length text) buffer)) other
     round-trip = ap (λ (l : Left). exportsText kind (l .image) buffer other) (import-call image text result room)
         ∙ export-call (importing g image text .image) buffer other other-room
-        ∙ ap (λ (o : Outcome). whole o other) (carried-call g known image text (read .1) bytes (read .0) (read .2) buffer finished takes)
+        ∙ ap (λ (o : Outcome). whole o other) (carried-call g known image text (was-read .1) bytes (was-read .0) (was-read .2) buffer finished takes)
 
     -- the lent text begins with the text, and what is beyond stays
     pub round-trip-text : exportsText kind (importsText kind image text result .image) buffer other .image ≡ text ++ drop (length text) buffer
@@ -133,15 +134,15 @@ module _ (kind : ℕ) (g : Geometry) (is : chosenOf kind ≡ Of g) where
 
     text-low : length text < 4294967296
     text-low =
-        let s = text-short 0 (read .0) (read-rises text (read .0) (read .2)) in
-        let f = read-few text (read .0) (read .2) in
-        let q = ap length (text-of-read text (read .0) (read .2)) in
+        let s = text-short 0 (was-read .0) (read-rises text (was-read .0) (was-read .2)) in
+        let f = read-few text (was-read .0) (was-read .2) in
+        let q = ap length (text-of-read text (was-read .0) (was-read .2)) in
         omega (arith, s, f, q)
 
     pub round-trip-bytes : bytesIn (exportsText kind (importsText kind image text result .image) buffer other .result) ≡ length text
     round-trip-bytes = ap (λ (l : Left). bytesIn (l .result)) round-trip
-        ∙ told-number (gives 0 (length (read .0)) (length text) (length text) (text ++ drop (length text) buffer)) other other-room 2 (omega arith) text-low
+        ∙ told-number (gives 0 (length (was-read .0)) (length text) (length text) (text ++ drop (length text) buffer)) other other-room 2 (omega arith) text-low
 
     pub round-trip-written : writtenBytesIn (exportsText kind (importsText kind image text result .image) buffer other .result) ≡ length text
     round-trip-written = ap (λ (l : Left). writtenBytesIn (l .result)) round-trip
-        ∙ told-number (gives 0 (length (read .0)) (length text) (length text) (text ++ drop (length text) buffer)) other other-room 3 (omega arith) text-low
+        ∙ told-number (gives 0 (length (was-read .0)) (length text) (length text) (text ++ drop (length text) buffer)) other other-room 3 (omega arith) text-low
