@@ -3,7 +3,7 @@
 use mathlib.Core.Path.{_≡_, ap, sym, subst, _∙_}
 use mathlib.Core.List.{List, _++_}
 use mathlib.Core.Bool.{true, false}
-use Prim.Native.Nat.{ℕ, _+_, _*_, _<_, _≤_}
+use Prim.Native.Nat.{ℕ, _+_, _<_, _≤_}
 use native.Mathlib.Omega.{arith}
 use lib.ListN.{length, take, drop}
 use Rattle.geometry.specs.declared.Geometry.{Geometry}
@@ -16,15 +16,14 @@ use Rattle.geometry.specs.Shape.{Known, chosen-known}
 use Rattle.model.specs.Bytes.{byteAt}
 use Rattle.model.specs.Image.{blocksOf, goodLength}
 use Rattle.model.specs.Rules.{verdict}
-use Rattle.model.specs.Calls.{Outcome, gives, refused, damaged, chosenCall, format}
-use Rattle.carrying.specs.Carrying.{textOf, Reading, records, bad, readText, exports, exporting, exportOf, importing, importOf}
+use Rattle.model.specs.Calls.{Outcome, gives, refused, damaged, chosenCall}
+use Rattle.carrying.specs.Carrying.{records, bad, readText, exports, exporting, exportOf, importing, importOf}
 use Rattle.carrying.specs.Back.{text-short, text-of-read, read-rises, read-few}
 use Rattle.demands.specs.Words.{Ready, mapAt, Holds}
 use Rattle.demands.specs.Stored.{Stored}
-use Rattle.demands.specs.Sums.{sumOf}
-use Rattle.demands.specs.Carrying.{export-bad-length, export-not-sound, export-exports, import-bad-length, import-bad-text, import-stored, import-programmed, import-erased, import-finished, carried-call}
+use Rattle.demands.specs.Carrying.{export-bad-length, export-not-sound, export-exports, import-bad-length, import-bad-text, import-stored, import-finished, carried-call}
 use Rattle.camera.specs.Camera.{Left, returned}
-use Rattle.service.specs.Left.{on, other-unknown, numberIn, answerIn, short, whole, told-whole, told-short, told-number}
+use Rattle.service.specs.Left.{on, other-unknown, numberIn, short, whole, told-whole, told-short, told-number}
 
 -- mutree_export and mutree_import; what an export leaves has the lent text where the other calls have the image
 abbrev pub exportsText : ℕ → List ℕ → List ℕ → List ℕ → Left
