@@ -1,10 +1,10 @@
 -- A text that is read as records is the text of those records; their keys rise, and their numbers have 32 bits. And what a
 -- refused insert leaves to those after it. Assumes nothing.
-use mathlib.Core.Path.{_≡_, refl, ap, sym, subst, _∙_}
+use mathlib.Core.Path.{_≡_, refl, sym, subst, _∙_}
 use mathlib.Core.List.{List, [], _∷_, _++_, append-assoc}
 use mathlib.Core.Bool.{Bool, true, false}
 use mathlib.Core.Option.{Option, none, some, Option·some-injective, Option·none-ne-some}
-use Prim.Native.Nat.{ℕ, zero, suc, _+_, _*_, _<_, _≤_}
+use Prim.Native.Nat.{ℕ, suc, _+_, _*_, _<_, _≤_}
 use native.Mathlib.Omega.{arith}
 use lib.Dec.{leb, ltb}
 use lib.ListN.{length, length-append}
@@ -13,9 +13,9 @@ use Rattle.geometry.specs.declared.Geometry.{Geometry}
 use Rattle.geometry.specs.declared.Entry.{Entry}
 use Rattle.geometry.specs.Tests.{pick}
 use Rattle.model.specs.Calls.{Outcome}
-use Rattle.texts.specs.Lines.{Pieces, pieces, lines, fields}
+use Rattle.texts.specs.Lines.{pieces, lines, fields}
 use Rattle.texts.specs.Laws.{joined, pieces-join}
-use Rattle.decimals.specs.Decimals.{largest, numberOf, decimal}
+use Rattle.decimals.specs.Decimals.{numberOf, decimal}
 use Rattle.decimals.specs.Back.{decimal-short, number-back, number-most}
 use Rattle.carrying.specs.Carrying.{recordText, textOf, pair, recordOf, Reading, records, bad, with, mostRecords, readLine, readRest, readLines, readText, storeOne, storeAll}
 

@@ -1,6 +1,6 @@
 -- Request 13 of document 02, "Carry an index across": the text of a map, a text read line by line, and the calls export and import on every
 -- image. Definitions alone; assumes nothing.
-use Prim.Native.Nat.{ℕ, zero, suc, _+_, _%_}
+use Prim.Native.Nat.{ℕ, suc, _+_, _%_}
 use mathlib.Core.Bool.{Bool}
 use mathlib.Core.List.{List, [], _∷_, _++_}
 use mathlib.Core.Option.{Option, none, some}

@@ -2,9 +2,9 @@
 -- text, and on images of bytes. `textOf`, `readText`, `exports` are of that crate; Ready, mapAt, Holds are the words of the demands, `Stored`
 -- and `sumOf` stand in Stored and Sums. `Known g`: the small chip or the large one. Assumes nothing.
 use mathlib.Core.Path.{_≡_, refl, ap, sym, subst, _∙_}
-use mathlib.Core.List.{List, [], _∷_, _++_}
+use mathlib.Core.List.{List, [], _++_}
 use mathlib.Core.Bool.{Bool, true, false}
-use Prim.Native.Nat.{ℕ, _+_, _*_, _<_, _≤_}
+use Prim.Native.Nat.{ℕ, _+_, _<_, _≤_}
 use native.Mathlib.Omega.{arith}
 use lib.Dec.{lit≤}
 use lib.ListN.{length, take, drop}
@@ -16,15 +16,14 @@ use Rattle.geometry.specs.declared.Verdict.the-variants.{Broken}
 use Rattle.geometry.specs.Shape.{Known, is-small, is-large, shape}
 use Rattle.geometry.specs.Tests.{pick}
 use Rattle.model.specs.Bytes.{byteAt}
-use Rattle.model.specs.Image.{blocksOf, goodLength, chipOf}
-use Rattle.model.specs.Tree.{mapOf}
+use Rattle.model.specs.Image.{blocksOf, goodLength}
 use Rattle.model.specs.Rules.{verdict}
 use Rattle.model.specs.Stores.{applyAll}
 use Rattle.model.specs.Update.{formatStores}
 use Rattle.model.specs.Calls.{Outcome, gives, refused, damaged, byVerdict, judged, format}
 use Rattle.decimals.specs.Decimals.{largest}
 use Rattle.carrying.specs.Carrying.{textOf, Reading, records, bad, readText, word, exports, exporting, counted, storeAll, importRead, importing}
-use Rattle.carrying.specs.Back.{Rises, text-short, text-of-read, read-rises, read-few}
+use Rattle.carrying.specs.Back.{text-short, text-of-read, read-rises, read-few}
 use Rattle.images.specs.Lengths.{good-blocks}
 use Rattle.demands.specs.Words.{Ready, mapAt, Holds, programmedMost, erasedMost}
 use Rattle.demands.specs.Builds.{storesMost, format-holds}

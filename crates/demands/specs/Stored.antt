@@ -1,9 +1,9 @@
 -- Request 13: what an import's inserts leave. Proofs for Carrying. Assumes nothing.
 use mathlib.Core.Path.{_≡_, refl, ap, sym, subst, _∙_}
 use mathlib.Core.List.{List, [], _∷_, _++_, append-assoc, append-nil}
-use mathlib.Core.Logic.{_⊎_, inl, inr}
+use mathlib.Core.Logic.{inl, inr}
 use mathlib.Core.Bool.{Bool, true, false}
-use Prim.Native.Nat.{ℕ, zero, suc, _+_, _*_, _%_, _<_, _≤_}
+use Prim.Native.Nat.{ℕ, suc, _+_, _<_, _≤_}
 use native.Mathlib.Omega.{arith}
 use lib.Dec.{eqb}
 use lib.ListN.{length, take, length-append}
@@ -11,19 +11,15 @@ use lib.Seq.{take-at}
 use borrow.Author.Tests.{eq-eqb, ne-eqb, eqb-true, eqb-false}
 use Rattle.geometry.specs.declared.Geometry.{Geometry}
 use Rattle.geometry.specs.declared.Entry.{Entry}
-use Rattle.geometry.specs.Tests.{pick, bit}
 use Rattle.geometry.specs.Shape.{Shape}
-use Rattle.model.specs.Image.{blocksOf}
 use Rattle.model.specs.Edit.{put}
-use Rattle.model.specs.Stores.{programs, erases}
-use Rattle.model.specs.Update.{insertStores}
 use Rattle.model.specs.Calls.{Outcome, insert}
 use Rattle.trees.specs.Lists.{All, In, all-append, all-map}
 use Rattle.trees.specs.Insert.{put-local}
 use Rattle.decimals.specs.Decimals.{largest}
 use Rattle.carrying.specs.Carrying.{word, counted, storeOne, storeAll}
 use Rattle.carrying.specs.Back.{Rises, refused-stays}
-use Rattle.demands.specs.Words.{Ready, mapAt, Holds, OneOf}
+use Rattle.demands.specs.Words.{Holds, OneOf}
 use Rattle.demands.specs.Demands.{insert-refused, insert-answers, insert-done, insert-stopped}
 
 -- what the inserts of records leave: a sound image with the first of them, as many as are stored; all of them where the answer is 0

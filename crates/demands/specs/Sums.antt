@@ -1,15 +1,15 @@
 -- Request 13: an import's counts are the sums of format's and its inserts' counts. Proofs for Carrying. Assumes nothing.
-use mathlib.Core.Path.{_≡_, refl, ap, sym, subst, _∙_}
+use mathlib.Core.Path.{_≡_, refl, ap, sym, _∙_}
 use mathlib.Core.List.{List, [], _∷_}
-use mathlib.Core.Logic.{_⊎_, inl, inr}
+use mathlib.Core.Logic.{inl}
 use mathlib.Core.Bool.{Bool, true, false}
-use Prim.Native.Nat.{ℕ, zero, suc, _+_, _*_, _<_, _≤_}
+use Prim.Native.Nat.{ℕ, suc, _+_, _*_, _<_, _≤_}
 use native.Mathlib.Omega.{arith}
 use native.Mathlib.Nat.{mul-suc}
 use lib.Dec.{eqb}
-use lib.ListN.{length, take}
+use lib.ListN.{length}
 use lib.Seq.{take-all}
-use borrow.Author.Tests.{eq-eqb, ne-eqb, eqb-true, eqb-false, leb-true}
+use borrow.Author.Tests.{eqb-true, eqb-false}
 use Rattle.geometry.specs.declared.Geometry.{Geometry}
 use Rattle.geometry.specs.declared.Entry.{Entry}
 use Rattle.geometry.specs.Tests.{pick}
@@ -19,7 +19,7 @@ use Rattle.model.specs.Stores.{Store, programs, erases}
 use Rattle.model.specs.Update.{needs, tooHigh, insertStores}
 use Rattle.model.specs.Calls.{Outcome, refused, made, worn, roomless, freePages, insert}
 use Rattle.decimals.specs.Decimals.{largest}
-use Rattle.carrying.specs.Carrying.{word, counted, storeOne, storeAll}
+use Rattle.carrying.specs.Carrying.{word, counted, storeAll}
 use Rattle.carrying.specs.Back.{Rises, refused-stays}
 use Rattle.demands.specs.Words.{Ready, programmedMost, erasedMost}
 use Rattle.demands.specs.Calls.{insert-is, made-all}
@@ -64,10 +64,13 @@ module _ (g : Geometry) (shape : Shape g) (allowed : storesMost g ≤ largest) w
     insert-limits = go (worn g n img) (tooHigh g (chipOf g n img) k) (roomless g (freePages g n (chipOf g n img)) (needs g (chipOf g n img) k)) refl refl refl
       where
         small : (j : ℕ) → j ≤ 6 → insert g img k a largest ≡ refused j img → Limits g (insert g img k a largest) × (insert g img k a largest .answer ≡ 7 → ⊥)
-        small j h e = (record {
-          programmed = let q = ap (λ (o : Outcome). o .programmed) e in omega (arith, q);
-          erased = let q = ap (λ (o : Outcome). o .erased) e in omega (arith, q);
-        }, λ z. let q = ap (λ (o : Outcome). o .answer) e in omega (arith, q, z, h))
+        small j h e = (
+          record {
+            programmed = let q = ap (λ (o : Outcome). o .programmed) e in omega (arith, q);
+            erased = let q = ap (λ (o : Outcome). o .erased) e in omega (arith, q);
+          },
+          λ z. let q = ap (λ (o : Outcome). o .answer) e in omega (arith, q, z, h),
+        )
 
         go : (x y z : Bool) → worn g n img ≡ x → tooHigh g (chipOf g n img) k ≡ y
             → roomless g (freePages g n (chipOf g n img)) (needs g (chipOf g n img) k) ≡ z → Limits g (insert g img k a largest) × (insert g img k a largest .answer ≡ 7 → ⊥)

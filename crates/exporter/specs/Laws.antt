@@ -1,26 +1,23 @@
 -- Laws by which the export's code is proved. Assumes nothing.
 use Prim.Native.Nat.{ℕ, zero, suc, _+_, _-_, _*_, _<_, _≤_}
-use mathlib.Core.Bool.{Bool, true, false}
 use mathlib.Core.Path.{_≡_, refl, sym, ap, subst, _∙_}
 use mathlib.Core.List.{List, [], _∷_, _++_, append-assoc, append-nil}
 use native.Mathlib.Omega.{arith}
 use native.Mathlib.Nat.{zero-add}
 use native.Mathlib.Numerals.{add-one, sub-one}
-use lib.Dec.{leb}
-use lib.ListN.{length, take, drop, set, length-append}
+use lib.ListN.{length, drop, set, length-append}
 use lib.Seq.{sets, sets-eq, length-sets}
 use borrow.Author.Tests.{lt-leb, le-leb}
 use Rattle.geometry.specs.declared.Geometry.{Geometry}
 use Rattle.geometry.specs.declared.Entry.{Entry}
 use Rattle.geometry.specs.declared.Verdict.the-variants.{Sound, Broken}
 use Rattle.geometry.specs.Shape.{Known, shape}
-use Rattle.geometry.specs.Tests.{pick}
-use Rattle.model.specs.Bytes.{entriesAt, nodePlace, nodeCount, nodeAt}
-use Rattle.model.specs.Image.{Nodes, Chip, chipOf}
+use Rattle.model.specs.Bytes.{nodePlace, nodeCount, nodeAt}
+use Rattle.model.specs.Image.{Nodes, Chip}
 use Rattle.model.specs.Tree.{gather, under, mapOf}
 use Rattle.model.specs.Rules.{verdict}
 use Rattle.model.specs.Calls.{Outcome, gives, byVerdict, judged}
-use Rattle.answers.specs.declared.Answer.the-variants.{Done, Length, Damaged}
+use Rattle.answers.specs.declared.Answer.the-variants.{Length, Damaged}
 use Rattle.answers.specs.declared.Row.{Row}
 use Rattle.answers.specs.Answers.{plain, rowOf, toldBy}
 use Rattle.chip.specs.Chip.{entryAt, goodBlocks, chipWith, named}
@@ -33,7 +30,7 @@ use Rattle.listing.specs.Few.{few-map}
 use Rattle.texts.specs.Laws.{sets-append, sets-snoc}
 use Rattle.decimals.specs.Decimals.{decimal}
 use Rattle.decimals.specs.Back.{decimal-short}
-use Rattle.carrying.specs.Carrying.{recordText, textOf, word, fits, exports, exporting}
+use Rattle.carrying.specs.Carrying.{recordText, textOf, word, exports, exporting}
 use Rattle.exporter.specs.declared.Written.{Written}
 use Rattle.exporter.specs.Exporter.{lineText, after, rest, exportedIn}
 
@@ -218,7 +215,7 @@ module _ (g : Geometry) (img : List ℕ) (l p : ℕ) where
           let q = size-is in
           let fit : length (textOf all) ≤ length b = omega (arith, q, h) in
           let f : d ≡ textOf all ++ drop (length (textOf all)) b =
-              ed ∙ ap (λ (es : List Entry). sets b 0 (textOf es)) tree-is ∙ sets-eq (textOf all) b 0 (omega (arith, fit)) ∙ ap (λ (j : ℕ). textOf all ++ drop j b) (zero-add (length (textOf all))) in
+          ed ∙ ap (λ (es : List Entry). sets b 0 (textOf es)) tree-is ∙ sets-eq (textOf all) b 0 (omega (arith, fit)) ∙ ap (λ (j : ℕ). textOf all ++ drop j b) (zero-add (length (textOf all))) in
           ap (λ (x : Row). toldBy x d) e ∙ (λ i. gives 0 (n-is i) (s-is i) (s-is i) (f i)) ∙ sym (rw (le-leb (length (textOf all)) (length b) fit) refl)
 
 -- ---- a judged image

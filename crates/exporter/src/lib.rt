@@ -66,7 +66,14 @@ fn write_record(text: &mut [u8], w: Written, entry: Entry) -> Written
 }
 
 // The lines of the records under an entry at a level, after those written so far.
-fn write_under(g: Geometry, img: &[u8], text: &mut [u8], w: Written, level: u32, entry: Entry) -> Written
+fn write_under(
+    g: Geometry,
+    img: &[u8],
+    text: &mut [u8],
+    w: Written,
+    level: u32,
+    entry: Entry,
+) -> Written
     requires { ⌜ (w .at ≤ 22 * w .records) × (w .records + length (under (nodeAt g (now img)) level entry) < 4294967296) ⌝ }
     ensures count { λ r. ⌜ (r ≡ after w (under (nodeAt g (now (img .entry))) level entry)) × (r .at ≤ 22 * r .records) ⌝ }
     ensures bytes { λ _. ⌜ now (text .exit) ≡ sets (now (text .entry)) (w .at) (textOf (under (nodeAt g (now (img .entry))) level entry)) ⌝ }

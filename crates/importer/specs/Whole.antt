@@ -1,7 +1,7 @@
 -- What the reader, `begin` and the inserter leave one after the other is the import. Assumes nothing.
-use Prim.Native.Nat.{ℕ, suc, _≤_, min}
+use Prim.Native.Nat.{ℕ, suc, min}
 use mathlib.Core.Bool.{Bool, true, false}
-use mathlib.Core.Path.{_≡_, refl, sym, ap, subst, _∙_}
+use mathlib.Core.Path.{_≡_, refl, sym, ap, _∙_}
 use mathlib.Core.List.{List}
 use native.Mathlib.Omega.{arith}
 use lib.Dec.{eqb, ltb}
@@ -9,12 +9,11 @@ use lib.ListN.{length, take}
 use Rattle.geometry.specs.declared.Geometry.{Geometry}
 use Rattle.geometry.specs.declared.Entry.{Entry}
 use Rattle.geometry.specs.Tests.{pick}
-use borrow.Author.Tests.{eqb-false}
 use Rattle.model.specs.Calls.{Outcome, gives, format}
-use Rattle.carrying.specs.Carrying.{Reading, records, bad, mostRecords, readText, storeAll, importRead}
+use Rattle.carrying.specs.Carrying.{records, bad, mostRecords, readText, storeAll, importRead}
 use Rattle.carrying.specs.Back.{refused-stays}
 use Rattle.reader.specs.declared.Spot.{Spot}
-use Rattle.reader.specs.Reader.{start, spotAfter, pairsOf, overlay, filled}
+use Rattle.reader.specs.Reader.{start, spotAfter, pairsOf, filled}
 use Rattle.reader.specs.Turns.{readAs, read-turns, count-most, pairs-length, overlay-all}
 use Rattle.importer.specs.Importer.{begun}
 

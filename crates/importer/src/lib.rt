@@ -117,7 +117,17 @@ pub fn import_text(g: Geometry, img: &mut [u8], text: &[u8]) -> Row
     ensures { λ r. ⌜ toldBy r (now (img .exit)) ≡ importRead g (now (img .entry)) (readText (now (text .entry))) ⌝ }
 {
     let mut pairs: [Entry; 4096] = [Entry { key: 0, addr: 0 }; 4096];
-    let t = reader::read_pairs(text, &mut pairs, 4096, Spot { at: 0, count: 0, low: 0, bad: 0 });
+    let t = reader::read_pairs(
+        text,
+        &mut pairs,
+        4096,
+        Spot {
+            at: 0,
+            count: 0,
+            low: 0,
+            bad: 0,
+        },
+    );
     let s = begin(g, img, t, text.len());
     let n = turns(t);
     store_pairs(g, img, &pairs, n, s)

@@ -1,7 +1,7 @@
 -- Laws on lists of pairs for the walks: `holds` and `fails`, a truth value that is known; `one-more`, i + 1 is suc i; `put-from i es zs`, es stored into zs
 -- one after the other from place i on, which is what `read_pairs` does, and `put-over`, that from place 0 on it is `overlay`. Assumes nothing.
 use mathlib.Core.Path.{_≡_, refl, _∙_, ap}
-use Prim.Native.Nat.{ℕ, zero, suc, _+_}
+use Prim.Native.Nat.{ℕ, suc, _+_}
 use native.Mathlib.Omega.{arith}
 use mathlib.Core.Bool.{Bool, true, false}
 use mathlib.Core.List.{List, [], _∷_}

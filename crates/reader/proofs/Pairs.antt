@@ -1,6 +1,6 @@
 -- Machine values of a pair, of how far the reader has come, and of a turn: `mach e` is the value, `Fine e` that its numbers fit, `typed` that it
 -- then has the MIR type. `in-bytes`: a place within a slice of pairs has an offset that a usize holds. `typed` takes `Given`; the rest assumes nothing.
-use mathlib.Core.Path.{_≡_, refl}
+use mathlib.Core.Path.{refl}
 use Prim.Native.Nat.{ℕ, _*_, _<_, _^_}
 use native.Mathlib.Omega.{arith}
 use mathlib.Core.List.{[], _∷_}

@@ -1,18 +1,17 @@
 -- Laws by which the reader's code is proved. Assumes nothing.
-use Prim.Native.Nat.{ℕ, zero, suc, _+_, _-_, _<_, _≤_}
+use Prim.Native.Nat.{ℕ, suc, _+_, _-_, _<_, _≤_}
 use mathlib.Core.Path.{_≡_, refl, sym, ap, _∙_}
 use mathlib.Core.List.{List, [], _∷_, _++_}
-use mathlib.Core.Option.{Option, none, some}
+use mathlib.Core.Option.{none, some}
 use native.Mathlib.Omega.{arith}
 use native.Mathlib.Nat.{zero-add}
 use native.Mathlib.Numerals.{add-one}
-use lib.Dec.{eqb, leb, ltb}
 use lib.ListN.{length, take, drop, length-drop}
 use lib.Seq.{length-take-le}
 use borrow.Rule.Slice.PartAt.{part-to-end}
 use borrow.Author.Tests.{lt-leb, le-leb, lt-ltb, le-ltb, eq-eqb, ne-eqb}
 use Rattle.geometry.specs.declared.Entry.{Entry}
-use Rattle.geometry.specs.Tests.{pick, _&_}
+use Rattle.geometry.specs.Tests.{_&_}
 use Rattle.texts.specs.Lines.{pieces, fields, reach}
 use Rattle.texts.specs.Laws.{fields-more, fields-last}
 use Rattle.decimals.specs.declared.Number.the-variants.{Value, Nothing}
@@ -24,7 +23,7 @@ use Rattle.reader.specs.declared.Line.{Line}
 use Rattle.reader.specs.declared.Line.the-variants.{Pair, Nothing as NoPair}
 use Rattle.reader.specs.declared.Spot.{Spot}
 use Rattle.reader.specs.declared.Turn.{Turn}
-use Rattle.reader.specs.Reader.{pairIs, noPair, idle, refusal, taken, recordTurn, lineOf, lineTurn, turnOf}
+use Rattle.reader.specs.Reader.{pairIs, idle, refusal, taken, recordTurn, lineTurn, turnOf}
 
 -- ---- the record of a line
 pub count-take : (xs : List ℕ) (n : ℕ) → n ≤ length xs → n ≡ length (take n xs)

@@ -2,7 +2,7 @@
 use Prim.Native.Nat.{ℕ, zero, suc, _+_, _-_, _<_, _≤_}
 use mathlib.Core.Bool.{Bool, true, false}
 use mathlib.Core.Path.{_≡_, refl, sym, ap, subst, _∙_}
-use mathlib.Core.List.{List, [], _∷_, _++_}
+use mathlib.Core.List.{List, [], _∷_}
 use mathlib.Core.Option.{Option, none, some}
 use native.Mathlib.Omega.{arith}
 use native.Mathlib.Nat.{zero-add}
@@ -13,7 +13,7 @@ use lib.Seq.{drop-drop}
 use borrow.Author.Tests.{lt-ltb, le-ltb, eq-eqb, ne-eqb, ltb-true, ltb-false}
 use Rattle.geometry.specs.declared.Entry.{Entry}
 use Rattle.geometry.specs.Tests.{pick, _&_}
-use Rattle.texts.specs.Lines.{Pieces, pieces, lines, fields, reach}
+use Rattle.texts.specs.Lines.{Pieces, pieces, fields, reach}
 use Rattle.texts.specs.Laws.{pieces-more, pieces-last}
 use Rattle.carrying.specs.Carrying.{recordOf, Reading, records, bad, with, mostRecords, readLine, readRest, readLines, readText}
 use Rattle.reader.specs.declared.Spot.{Spot}
@@ -106,18 +106,20 @@ module _ (text : List ℕ) where
   came-bad : (n : ℕ) (s : Spot) → readFrom text s ≡ bad (suc (s .count)) → Came n s (refusal s)
   unfolding readAs
   came-bad n s e =
-      let q = bad-stays n (refusal s .spot) (λ z. omega (arith, z)) in
-      (subst (λ (t : Spot). s .count ≤ t .count) (sym q) (omega arith),
-      e ∙ sym (ap (λ (t : Spot). readAs text t (take (spotAfter text n (refusal s .spot) .count - s .count) (noPair ∷ pairsOf text n (refusal s .spot)))) q
-      ∙ rw (ne-eqb (s .count + 1) 0 (λ z. omega (arith, z)), add-one) refl))
+      let q = bad-stays n (refusal s .spot) (λ z. omega (arith, z)) in (
+        subst (λ (t : Spot). s .count ≤ t .count) (sym q) (omega arith),
+        e ∙ sym (ap (λ (t : Spot). readAs text t (take (spotAfter text n (refusal s .spot) .count - s .count) (noPair ∷ pairsOf text n (refusal s .spot)))) q
+            ∙ rw (ne-eqb (s .count + 1) 0 (λ z. omega (arith, z)), add-one) refl),
+      )
 
   came-end : (n : ℕ) (s : Spot) → s .bad ≡ 0 → length text ≤ s .at → Came n s (idle s)
   unfolding readAs
   came-end n s z h =
-      let q = end-stays n s h in
-      (subst (λ (t : Spot). s .count ≤ t .count) (sym q) (omega arith),
-      end-reads s h ∙ sym (ap (λ (t : Spot). readAs text t (take (t .count - s .count) (noPair ∷ pairsOf text n s))) q
-      ∙ (let d : s .count - s .count ≡ 0 = omega arith in rw (eq-eqb (s .bad) 0 z, le-ltb (s .at) (length text) h, d) refl)))
+      let q = end-stays n s h in (
+        subst (λ (t : Spot). s .count ≤ t .count) (sym q) (omega arith),
+        end-reads s h ∙ sym (ap (λ (t : Spot). readAs text t (take (t .count - s .count) (noPair ∷ pairsOf text n s))) q
+            ∙ (let d : s .count - s .count ≡ 0 = omega arith in rw (eq-eqb (s .bad) 0 z, le-ltb (s .at) (length text) h, d) refl)),
+      )
 
   -- one record more before what is read
   with-as : (e : Entry) (t : Spot) (es : List Entry) → with e (readAs text t es) ≡ readAs text t (e ∷ es)
@@ -146,10 +148,11 @@ module _ (text : List ℕ) where
   came-more n s e c k r ih =
       let t = spotAfter text n (moved s e) in
       let i = ih .0 in
-      let q : t .count - s .count ≡ suc (t .count - (s .count + 1)) = omega (arith, i) in
-      (omega (arith, i),
-      r ∙ rw (lt-ltb (s .count) mostRecords c, k) (rw (← (add-one (s .count)), ← (add-one (e .key))) (ap (with e) (ih .1)
-      ∙ with-as e t (take (t .count - (s .count + 1)) (pairsOf text n (moved s e))) ∙ ap (λ (m : ℕ). readAs text t (take m (e ∷ pairsOf text n (moved s e)))) (sym q))))
+      let q : t .count - s .count ≡ suc (t .count - (s .count + 1)) = omega (arith, i) in (
+        omega (arith, i),
+        r ∙ rw (lt-ltb (s .count) mostRecords c, k) (rw (← (add-one (s .count)), ← (add-one (e .key))) (ap (with e) (ih .1)
+            ∙ with-as e t (take (t .count - (s .count + 1)) (pairsOf text n (moved s e))) ∙ ap (λ (m : ℕ). readAs text t (take m (e ∷ pairsOf text n (moved s e)))) (sym q))),
+      )
 
   -- n turns from s on
   abbrev Reads : ℕ → Spot → Type 0

@@ -3,8 +3,7 @@ ghost use mathlib.Core.Path.{_≡_};
 ghost use Prim.Native.Nat.{_+_, _≤_, _<_};
 ghost use lib.ListN.{length};
 ghost use Rattle.texts.specs.Lines.{fields};
-ghost use Rattle.decimals.specs.Reading.{numberIs};
-ghost use Rattle.carrying.specs.Carrying.{pair, recordOf};
+ghost use Rattle.carrying.specs.Carrying.{recordOf};
 ghost use Rattle.reader.specs.Reader.{pairIs, idle, refusal, taken, lineTurn, turnOf, filled};
 use decimals::Number;
 use geometry::Entry;
@@ -51,7 +50,10 @@ pub fn read_record(line: &[u8]) -> Line
     let Number::Value(addr) = second else {
         return Line::Nothing;
     };
-    Line::Pair(Entry { key: key, addr: addr })
+    Line::Pair(Entry {
+        key: key,
+        addr: addr,
+    })
 }
 
 fn wide(x: u32) -> u64

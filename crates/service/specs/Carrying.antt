@@ -3,7 +3,7 @@
 use mathlib.Core.Path.{_≡_, ap, sym, subst, _∙_}
 use mathlib.Core.List.{List, _++_}
 use mathlib.Core.Bool.{true, false}
-use Prim.Native.Nat.{ℕ, _+_, _*_, _<_, _≤_}
+use Prim.Native.Nat.{ℕ, _+_, _<_, _≤_}
 use native.Mathlib.Omega.{arith}
 use lib.ListN.{length, take, drop}
 use Rattle.geometry.specs.declared.Geometry.{Geometry}
@@ -16,15 +16,14 @@ use Rattle.geometry.specs.Shape.{Known, chosen-known}
 use Rattle.model.specs.Bytes.{byteAt}
 use Rattle.model.specs.Image.{blocksOf, goodLength}
 use Rattle.model.specs.Rules.{verdict}
-use Rattle.model.specs.Calls.{Outcome, gives, refused, damaged, chosenCall, format}
-use Rattle.carrying.specs.Carrying.{textOf, Reading, records, bad, readText, exports, exporting, exportOf, importing, importOf}
+use Rattle.model.specs.Calls.{Outcome, gives, refused, damaged, chosenCall}
+use Rattle.carrying.specs.Carrying.{records, bad, readText, exports, exporting, exportOf, importing, importOf}
 use Rattle.carrying.specs.Back.{text-short, text-of-read, read-rises, read-few}
 use Rattle.demands.specs.Words.{Ready, mapAt, Holds}
 use Rattle.demands.specs.Stored.{Stored}
-use Rattle.demands.specs.Sums.{sumOf}
-use Rattle.demands.specs.Carrying.{export-bad-length, export-not-sound, export-exports, import-bad-length, import-bad-text, import-stored, import-programmed, import-erased, import-finished, carried-call}
+use Rattle.demands.specs.Carrying.{export-bad-length, export-not-sound, export-exports, import-bad-length, import-bad-text, import-stored, import-finished, carried-call}
 use Rattle.camera.specs.Camera.{Left, returned}
-use Rattle.service.specs.Left.{on, other-unknown, numberIn, answerIn, short, whole, told-whole, told-short, told-number}
+use Rattle.service.specs.Left.{on, other-unknown, numberIn, short, whole, told-whole, told-short, told-number}
 
 -- mutree_export and mutree_import; what an export leaves has the lent text where the other calls have the image
 abbrev pub exportsText : ℕ → List ℕ → List ℕ → List ℕ → Left
@@ -118,14 +117,15 @@ module _ (kind : ℕ) (g : Geometry) (is : chosenOf kind ≡ Of g) where
     finished : importing g image text .answer ≡ 0
     finished = sym (ap (λ (l : Left). l .answer) (import-call image text result room)) ∙ done
 
-    read : (es : List Entry) × (goodLength g image ≡ true) × (readText text ≡ records es)
-    read = import-finished g image text finished
+    -- the text was read as records
+    pub was-read : (es : List Entry) × (goodLength g image ≡ true) × (readText text ≡ records es)
+    was-read = import-finished g image text finished
 
     pub round-trip : exportsText kind (importsText kind image text result .image) buffer other
-        ≡ whole (gives 0 (length (read .0)) (length text) (length text) (text ++ drop (length text) buffer)) other
+        ≡ whole (gives 0 (length (was-read .0)) (length text) (length text) (text ++ drop (length text) buffer)) other
     round-trip = ap (λ (l : Left). exportsText kind (l .image) buffer other) (import-call image text result room)
         ∙ export-call (importing g image text .image) buffer other other-room
-        ∙ ap (λ (o : Outcome). whole o other) (carried-call g known image text (read .1) bytes (read .0) (read .2) buffer finished takes)
+        ∙ ap (λ (o : Outcome). whole o other) (carried-call g known image text (was-read .1) bytes (was-read .0) (was-read .2) buffer finished takes)
 
     -- the lent text begins with the text, and what is beyond stays
     pub round-trip-text : exportsText kind (importsText kind image text result .image) buffer other .image ≡ text ++ drop (length text) buffer
@@ -133,15 +133,15 @@ module _ (kind : ℕ) (g : Geometry) (is : chosenOf kind ≡ Of g) where
 
     text-low : length text < 4294967296
     text-low =
-        let s = text-short 0 (read .0) (read-rises text (read .0) (read .2)) in
-        let f = read-few text (read .0) (read .2) in
-        let q = ap length (text-of-read text (read .0) (read .2)) in
+        let s = text-short 0 (was-read .0) (read-rises text (was-read .0) (was-read .2)) in
+        let f = read-few text (was-read .0) (was-read .2) in
+        let q = ap length (text-of-read text (was-read .0) (was-read .2)) in
         omega (arith, s, f, q)
 
     pub round-trip-bytes : bytesIn (exportsText kind (importsText kind image text result .image) buffer other .result) ≡ length text
     round-trip-bytes = ap (λ (l : Left). bytesIn (l .result)) round-trip
-        ∙ told-number (gives 0 (length (read .0)) (length text) (length text) (text ++ drop (length text) buffer)) other other-room 2 (omega arith) text-low
+        ∙ told-number (gives 0 (length (was-read .0)) (length text) (length text) (text ++ drop (length text) buffer)) other other-room 2 (omega arith) text-low
 
     pub round-trip-written : writtenBytesIn (exportsText kind (importsText kind image text result .image) buffer other .result) ≡ length text
     round-trip-written = ap (λ (l : Left). writtenBytesIn (l .result)) round-trip
-        ∙ told-number (gives 0 (length (read .0)) (length text) (length text) (text ++ drop (length text) buffer)) other other-room 3 (omega arith) text-low
+        ∙ told-number (gives 0 (length (was-read .0)) (length text) (length text) (text ++ drop (length text) buffer)) other other-room 3 (omega arith) text-low

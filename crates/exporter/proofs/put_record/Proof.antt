@@ -25,6 +25,7 @@ put-record-spec =
     let one = c .before .before .before .before .before .before .before .before .before .before .before .before .before .before .put-value .ensures in
     let tab = c .before .before .before .before .before .before .before .before .before .before .put-byte .ensures in
     let two = c .before .before .before .before .before .before .put-value2 .ensures in
-    let end = c .before .before .put-byte2 .ensures in
-    ((line-place _ _ _ _ (one .0 .0) (two .0 .0), omega (arith, one .0 .1, two .0 .1)),
-    line-bytes _ _ _ _ (one .0 .0) (two .0 .0) _ _ _ _ _ (one .1) tab (two .1) end)))
+    let end = c .before .before .put-byte2 .ensures in (
+      (line-place _ _ _ _ (one .0 .0) (two .0 .0), omega (arith, one .0 .1, two .0 .1)),
+      line-bytes _ _ _ _ (one .0 .0) (two .0 .0) _ _ _ _ _ (one .1) tab (two .1) end,
+    )))
