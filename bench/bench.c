@@ -1,7 +1,9 @@
 /* bench.c: how long the calls take, in one run, at 3, 64 and 1,024 blocks of both chips; beside them memcpy of the image as the
- * yardstick, and get and put of the same keys in LMDB (built with -DWITH_LMDB -llmdb) as what a user might pick instead.
+ * yardstick, and get and put of the same keys in LMDB (built with -DWITH_LMDB -llmdb) as what a user might pick instead. Then a table of
+ * carrying 4,096 records as a text (request 13), beside one judged insert.
  *
  * usage: bench [--svg OUT]      prints a table for each chip; OUT takes a plot of time against blocks
+ *        bench --carry          the table of carrying alone
  */
 #define _POSIX_C_SOURCE 200809L
 #include "../c/mutree.h"
@@ -306,6 +308,78 @@ static void measure_worst(uint32_t number)
     free(image);
 }
 
+/* ---- carrying 4,096 records, rising by 16, on the fewest blocks that take them and on 64 */
+struct carrying {
+    const struct mutree_geometry *chip;
+    size_t length, text_length;
+    uint8_t *image, *made, *text; /* `made` is what the import leaves */
+};
+
+enum { CARRY_INSERT, CARRY_EXPORT, CARRY_IMPORT, CARRY_KINDS };
+
+static uint32_t carry(int kind, struct carrying *c)
+{
+    uint8_t result[MUTREE_RESULT_BYTES];
+    uint32_t number = c->chip->number, key = 16 * (1 + some(MUTREE_MOST_RECORDS)); /* a present one */
+    switch (kind) {
+    case CARRY_INSERT: return mutree_insert(number, c->image, c->length, key, key, UINT32_MAX, result, sizeof result);
+    case CARRY_EXPORT: return mutree_export(number, c->image, c->length, c->text, c->text_length, result, sizeof result);
+    default: return mutree_import(number, c->image, c->length, c->text, c->text_length, result, sizeof result);
+    }
+}
+
+static double time_carry(int kind, struct carrying *c)
+{
+    double total = 0;
+    int i, rounds = kind != CARRY_IMPORT ? 200 : c->length > 4000000 ? 1 : 3;
+    for (i = 0; i < rounds; i++) {
+        uint32_t answer;
+        double from;
+        memcpy(c->image, c->made, c->length);
+        from = now();
+        answer = carry(kind, c);
+        total += now() - from;
+        need(answer == 0, "a call was refused");
+    }
+    return total / rounds;
+}
+
+static void carry_row(const struct mutree_geometry *chip, unsigned blocks)
+{
+    struct carrying c = { chip, (size_t)blocks * chip->block_bytes, 0, NULL, NULL, NULL };
+    double time[CARRY_KINDS];
+    uint32_t i;
+    int kind;
+    c.image = malloc(c.length);
+    c.made = malloc(c.length);
+    c.text = malloc(MUTREE_MOST_RECORDS * MUTREE_LINE_BYTES + 1);
+    need(c.image != NULL && c.made != NULL && c.text != NULL, "out of memory");
+    for (i = 1; i <= MUTREE_MOST_RECORDS; i++)
+        c.text_length += (size_t)sprintf((char *)c.text + c.text_length, "%lu\t%lu\n", 16 * (unsigned long)i, (unsigned long)i);
+    need(carry(CARRY_IMPORT, &c) == 0, "the import was refused");
+    memcpy(c.made, c.image, c.length);
+    for (kind = 0; kind < CARRY_KINDS; kind++)
+        time[kind] = time_carry(kind, &c);
+    printf("| %s, %u blocks | %.1f | %.1f | %.1f | %.1f | %.0f |\n", chip_names[chip->number], blocks, 1e6 * time[CARRY_INSERT],
+           1e6 * time[CARRY_EXPORT], 1e6 * time[CARRY_IMPORT], 1e6 * time[CARRY_IMPORT] / MUTREE_MOST_RECORDS,
+           time[CARRY_IMPORT] / time[CARRY_INSERT]);
+    fflush(stdout);
+    free(c.image);
+    free(c.made);
+    free(c.text);
+}
+
+static void carry_table(void)
+{
+    printf("| carrying %u records: microseconds | one insert, judged | export | import | import, a record | import, in inserts |\n"
+           "|---|---|---|---|---|---|\n", MUTREE_MOST_RECORDS);
+    carry_row(mutree_geometry_of(MUTREE_SMALL), 10);
+    carry_row(mutree_geometry_of(MUTREE_SMALL), 64);
+    carry_row(mutree_geometry_of(MUTREE_LARGE), 3);
+    carry_row(mutree_geometry_of(MUTREE_LARGE), 64);
+    printf("\n");
+}
+
 #ifdef WITH_LMDB
 struct store {
     char folder[24];
@@ -501,6 +575,10 @@ int main(int count, char **words)
 {
     uint32_t chip;
     int at;
+    if (count == 2 && strcmp(words[1], "--carry") == 0) {
+        carry_table();
+        return 0;
+    }
     for (chip = 0; chip < CHIPS; chip++)
         for (at = 0; at < SIZES; at++) {
             measure(mutree_geometry_of(chip), at);
@@ -514,6 +592,8 @@ int main(int count, char **words)
         tell_largest(chip);
     for (chip = 0; chip < CHIPS; chip++)
         tell_worst(chip);
+    printf("\n");
+    carry_table();
     if (count == 3 && strcmp(words[1], "--svg") == 0)
         plot(words[2]);
     return 0;

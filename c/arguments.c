@@ -88,7 +88,8 @@ static int take(const struct command *command, const struct option *option, cons
 /* Whether so many words will do. */
 static int enough(const struct command *command, int found)
 {
-    return found == command->word_count || ((command->takes & TAKES_RANGE) && found == command->word_count - 2);
+    int fewer = command->word_count - found;
+    return fewer == 0 || (fewer == 1 && (command->takes & TAKES_NAME)) || (fewer == 2 && (command->takes & TAKES_RANGE));
 }
 
 int arguments_read(const struct command *command, int count, char **words, struct arguments *arguments)

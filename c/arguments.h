@@ -10,7 +10,8 @@ enum { MOST_WORDS = 3 };
 
 /* Which options a command takes. */
 enum { TAKES_ALLOW = 1, TAKES_FORCE = 2, TAKES_NO_WAIT = 4, TAKES_PAGES = 8, TAKES_SVG = 16, TAKES_CHIP = 32, TAKES_MEND = 64 };
-enum { TAKES_COUNT = 128, TAKES_RANGE = 256 }; /* with TAKES_RANGE the last two words may be left out, both of them */
+enum { TAKES_COUNT = 128, TAKES_RANGE = 256, TAKES_NAME = 512 };
+/* with TAKES_RANGE the last two words may be left out, both of them; with TAKES_NAME the last one */
 
 struct arguments {
     const char *word[MOST_WORDS]; /* FILE and what follows, without the options; NULL where left out */

@@ -9,6 +9,8 @@ int insert_command(const struct arguments *arguments);
 int delete_command(const struct arguments *arguments);
 int lookup_command(const struct arguments *arguments);
 int list_command(const struct arguments *arguments);
+int export_command(const struct arguments *arguments);
+int import_command(const struct arguments *arguments);
 int apply_command(const struct arguments *arguments);
 int show_command(const struct arguments *arguments);
 int cut_command(const struct arguments *arguments);

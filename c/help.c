@@ -38,7 +38,11 @@ void print_help(FILE *out, const struct command *commands, size_t count)
           "with # are passed over, the last line ends like the others. Every line must be understood and DONE, else\n"
           "nothing is changed and the line is named. Lookups print key and address.\n\n"
           "list prints a line for each entry: key, tab, address. LOW above HIGH gives none, and status 0 as well.\n\n"
-          "Exit status: 0 DONE, 1 LENGTH, 2 DAMAGED, 3 WORN, 4 ABSENT, 5 HEIGHT, 6 ROOM, 7 STOPPED; 64 the command was\n"
+          "export and import carry an index from one chip to another as a text: a line for each entry, key, tab, address,\n"
+          "keys rising, each line ended by byte 10. TEXT - is standard output or input; export without TEXT prints. import\n"
+          "takes at most 4096 lines. A line that does not fit is named; then, and where the blocks are too few (ROOM),\n"
+          "nothing is changed. import makes small pages if nothing is said.\n\n"
+          "Exit status: 0 DONE, 1 LENGTH, 2 DAMAGED, 3 WORN, 4 ABSENT, 5 HEIGHT, 6 ROOM, 7 STOPPED, 9 TEXT; 64 the command was\n"
           "not understood or needs --force, 65 patrol found flipped bits and not all are mended in the file, 66 a file can't\n"
           "be read or written, 71 out of memory, 74 the output can't be printed, 75 another process is changing the file.\n", out);
 }

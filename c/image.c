@@ -90,6 +90,20 @@ struct mutree_result image_patrol(struct image *image, uint32_t page, uint32_t h
     return mutree_read_result(result);
 }
 
+struct mutree_exported image_export(const struct image *image, uint8_t *text, size_t room)
+{
+    uint8_t result[MUTREE_RESULT_BYTES];
+    mutree_export(image->geometry->number, image->bytes, image->length, text, room, result, sizeof result);
+    return mutree_read_exported(result);
+}
+
+struct mutree_imported image_import(struct image *image, const uint8_t *text, size_t length)
+{
+    uint8_t result[MUTREE_RESULT_BYTES];
+    mutree_import(image->geometry->number, image->bytes, image->length, text, length, result, sizeof result);
+    return mutree_read_imported(result);
+}
+
 struct mutree_result image_judge(const struct image *image)
 {
     struct mutree_result result = image_lookup(image, 0);

@@ -37,5 +37,7 @@ struct mutree_listed image_list(const struct image *image, uint32_t low, uint32_
 struct mutree_result image_insert(struct image *image, uint32_t key, uint32_t address, uint32_t allowance);
 struct mutree_result image_delete(struct image *image, uint32_t key, uint32_t allowance);
 struct mutree_result image_patrol(struct image *image, uint32_t page, uint32_t half);
+struct mutree_exported image_export(const struct image *image, uint8_t *text, size_t room);
+struct mutree_imported image_import(struct image *image, const uint8_t *text, size_t length);
 
 #endif

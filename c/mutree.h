@@ -12,9 +12,9 @@
  * and is safe for any numbers, any bytes and any lengths.
  *
  * Every call returns its answer number and writes 24 bytes to the caller's result buffer: answer, address, pages
- * programmed, blocks erased, rule, page, 32 bits each, least byte first; mutree_list has two counts in place of address and
- * pages programmed. Bytes after the 24 stay as they were. With a shorter buffer the call returns MUTREE_LENGTH and changes no
- * buffer at all.
+ * programmed, blocks erased, rule, page, 32 bits each, least byte first; mutree_list, mutree_export and mutree_import have other
+ * counts in place of address, pages programmed and blocks erased. Bytes after the 24 stay as they were. With a shorter buffer the
+ * call returns MUTREE_LENGTH and changes no buffer at all.
  *
  * With MUTREE_DAMAGED rule is the first broken rule of a sound image, 1 to 8, and page says where; in all other answers both are
  * 0. mutree_rule_words says each rule in words. The page of each, a page number of the image:
@@ -38,15 +38,17 @@
  *               138,412,032 bytes of a large one. Any alignment will do where the processor takes unaligned reads (on
  *               ARM64: normal memory, not device memory).
  *   stack       measured, in bytes, on the large chip, whose trees are deeper; it does not grow with the image:
- *                              format   lookup      list    insert    delete   patrol
- *                     ARM64     5,568  112,256   112,288   179,568   170,032      760
- *                     x86-64    2,240  160,240         -   178,080   169,920        -
+ *                              format   lookup      list    export    insert    delete   patrol
+ *                     ARM64     5,568  112,256   112,288   112,352   179,568   170,032      760
+ *                     x86-64    2,240  160,240         -         -   178,080   169,920        -
  *               x86-64 was measured with version 0.3.0, before the codes and the one pass of judging.
- *               192 KiB serve every call, 160 KiB on the small chip. Large frames are touched page by page as they are
- *               made, so a guard page below the stack catches a stack that is too small.
+ *               An import takes what its inserts do and 32,768 for its pairs. 224 KiB serve every call, 192 KiB on the small chip;
+ *               without import 192 and 160 KiB.
+ *               Large frames are touched page by page as they are made, so a guard page below the stack catches a stack that is
+ *               too small.
  *
- * Two calls at once: on different images always; on one image lookups and lists together, but no call beside an insert, delete
- * or format. Interrupts: a call may be interrupted at any place. A handler that calls the library is a second call at
+ * Two calls at once: on different images always; on one image lookups, lists and exports together, but no call beside an insert,
+ * delete, format or import. Interrupts: a call may be interrupted at any place. A handler that calls the library is a second call at
  * once, and the same holds for it: no update of an image that a call was interrupted on, and no call at all on one that
  * is being updated. No call ends early or gives way; docs/BENCHMARKS.md says how long each takes.
  *
@@ -74,7 +76,7 @@
 #include <stddef.h>
 #include <stdint.h>
 
-#define MUTREE_VERSION "0.6.0"
+#define MUTREE_VERSION "0.7.0"
 
 /* Lengths are 64 bits in the library. This line does not compile where size_t has another width. */
 typedef char mutree_needs_size_t_of_64_bits[sizeof(size_t) == 8 ? 1 : -1];
@@ -90,6 +92,8 @@ extern "C" {
 #define MUTREE_SLOT_BYTES 8u /* a key and an address */
 #define MUTREE_HALF_BYTES 256u /* of a page's main bytes, what one code is of */
 #define MUTREE_CODE_BYTES 3u
+#define MUTREE_MOST_RECORDS 4096u /* that one import takes */
+#define MUTREE_LINE_BYTES 22u     /* of the longest line of an export: two numbers of ten digits, a tab and byte 10 */
 
 /* The chips' numbers, and what an array of a fixed size needs: uint8_t image[3 * MUTREE_LARGE_BLOCK_BYTES]. */
 #define MUTREE_SMALL 0u
@@ -141,7 +145,8 @@ static inline const struct mutree_geometry *mutree_geometry_of(uint32_t number)
     return number < MUTREE_GEOMETRIES ? &geometries[number] : NULL;
 }
 
-/* The lowest number that applies is given. 1 to 6 leave the image untouched. */
+/* The lowest number that applies is given; of an import TEXT comes right after LENGTH. 1 to 6 and 9 leave the image untouched, but
+ * for an import that an insert's 3 to 6 ended halfway. 8 is not given yet. */
 enum mutree_answer {
     MUTREE_DONE = 0,    /* it is done */
     MUTREE_LENGTH = 1,  /* the geometry's number is neither 0 nor 1; or the image's length is not 3 to 1,024 times the
@@ -153,8 +158,9 @@ enum mutree_answer {
     MUTREE_ABSENT = 4,  /* lookup, delete: there is no such key */
     MUTREE_HEIGHT = 5,  /* insert: the tree can grow no higher (5, 7) */
     MUTREE_ROOM = 6,    /* insert, where it needs two pages or more: too few pages are free of live nodes */
-    MUTREE_STOPPED = 7  /* insert, delete: the allowance was smaller than the stores needed; exactly that many of
+    MUTREE_STOPPED = 7, /* insert, delete: the allowance was smaller than the stores needed; exactly that many of
                            its first stores are made, and the index holds the old map */
+    MUTREE_TEXT = 9     /* import: a line of the text is refused; the result has its number */
 };
 
 /* What mutree_patrol found on a half. */
@@ -212,6 +218,52 @@ static inline struct mutree_listed mutree_read_listed(const uint8_t *bytes)
     listed.rule = r.rule;
     listed.page = r.page;
     return listed;
+}
+
+/* The result of mutree_export. */
+struct mutree_exported {
+    uint32_t answer;
+    uint32_t records; /* of the index */
+    uint32_t bytes;   /* of the whole text */
+    uint32_t written; /* bytes written: all of them, or 0 where text_len is smaller */
+    uint32_t rule;    /* as in struct mutree_result */
+    uint32_t page;
+};
+
+/* The result of mutree_export, read from the 24 bytes that it wrote. */
+static inline struct mutree_exported mutree_read_exported(const uint8_t *bytes)
+{
+    struct mutree_result r = mutree_read_result(bytes);
+    struct mutree_exported exported;
+    exported.answer = r.answer;
+    exported.records = r.address;
+    exported.bytes = r.programmed;
+    exported.written = r.erased;
+    exported.rule = r.rule;
+    exported.page = r.page;
+    return exported;
+}
+
+/* The result of mutree_import. Its rule and page are always 0. */
+struct mutree_imported {
+    uint32_t answer;
+    uint32_t records;    /* stored: all of the text with DONE, those before the refused one with 3 to 6, else 0 */
+    uint32_t line;       /* with TEXT the lowest line that is refused, counted from 1; else 0 */
+    uint32_t programmed; /* pages, by format and all inserts */
+    uint32_t erased;     /* blocks, by format and all inserts */
+};
+
+/* The result of mutree_import, read from the 24 bytes that it wrote. */
+static inline struct mutree_imported mutree_read_imported(const uint8_t *bytes)
+{
+    struct mutree_result r = mutree_read_result(bytes);
+    struct mutree_imported imported;
+    imported.answer = r.answer;
+    imported.records = r.answer == MUTREE_TEXT ? 0 : r.address;
+    imported.line = r.answer == MUTREE_TEXT ? r.address : 0;
+    imported.programmed = r.programmed;
+    imported.erased = r.erased;
+    return imported;
 }
 
 /* What a patrol found, and the bit that it put right. */
@@ -302,6 +354,51 @@ uint32_t mutree_delete(uint32_t geometry, uint8_t *image, size_t image_len, uint
  * store: a page that was mended stays wrong on the chip until it is programmed again elsewhere. What it does with more than one
  * flipped bit is told above. */
 uint32_t mutree_patrol(uint32_t geometry, uint8_t *image, size_t image_len, uint32_t page, uint32_t half, uint8_t *result,
+                       size_t result_len);
+
+/* The whole map as a text, to be carried to another index, of either chip: a line for each record, in rising key order: key, tab
+ * (byte 9), address, byte 10. Numbers are decimal, without leading zeros. An empty map is the empty text. A line has 4 to
+ * MUTREE_LINE_BYTES bytes. No byte 0 is put after the text.
+ *
+ * Bytes 4 to 7 of the result have the records of the index, 8 to 11 the bytes of its whole text, 12 to 15 the bytes written
+ * (mutree_read_exported). All of the text is written, or none of it: none where text_len is smaller than the text, and the answer
+ * is DONE all the same. So look at `written`, not at the answer alone. Bytes of `text` after those written stay as they were.
+ *
+ * How long the text is: text_len 0, with any non-null pointer. Then lend that many bytes, and call again.
+ *
+ * Answers DONE, LENGTH or DAMAGED. LENGTH and DAMAGED come with three counts of 0 and leave `text` as it was. With a result buffer
+ * that is too short the call returns LENGTH, and both buffers stay. The image is only read; image, text and result must not overlap. */
+uint32_t mutree_export(uint32_t geometry, const uint8_t *image, size_t image_len, uint8_t *text, size_t text_len, uint8_t *result,
+                       size_t result_len);
+
+/* Makes the image the index of a text, as mutree_export writes it: formats it and inserts the records, each with no limit of stores.
+ * WHAT STOOD IN THE IMAGE IS GONE, whatever it was; it is not judged. After DONE an export of the image gives the same text, byte for
+ * byte. The empty text gives an empty index.
+ *
+ * First the text is read to its end, or to the first line that is refused: one that is not key, tab, address and byte 10; a number
+ * that is not decimal, has a leading zero or is above 4,294,967,295; a key not above the one before; line 4,097, as at most
+ * MUTREE_MOST_RECORDS records are taken; a last line without byte 10. Blanks, a carriage return, signs and empty lines do not fit.
+ *
+ * Bytes 4 to 7 of the result have the records stored, with TEXT the line; 8 to 11 the pages programmed and 12 to 15 the blocks erased,
+ * by format and all inserts; 16 to 23 are 0 (mutree_read_imported). The answers, and what is left:
+ *
+ *   DONE      all records are stored
+ *   LENGTH    as everywhere. Image and text stay; nothing else is looked at
+ *   TEXT      the lowest line that is refused is told; counts 0, and the image is as it was. Mend the text
+ *   ROOM      the image has too few blocks. The image is a sound index of the records before the one that was refused, and `records` says
+ *             how many these are: begin again with more blocks
+ *   HEIGHT, WORN   the same, but neither can come: 4,096 rising keys end before the tree and the sequence numbers do
+ *
+ * How many records an image takes depends on its blocks alone, not on the keys, as they rise (measured; the large chip takes all
+ * 4,096 on 3 blocks):
+ *     small chip, blocks      3      4      5      6      7      8      9     10
+ *     records               528  1,056  1,568  2,080  2,592  3,104  3,616  4,096
+ *
+ * More than 4,096 records can be exported and not imported by one call: import the first 4,096 lines, and insert the others.
+ *
+ * With a result buffer that is too short the call returns LENGTH, and all buffers stay. Image, text and result must not overlap. The
+ * text is only read; with text_len 0 any non-null pointer will do. */
+uint32_t mutree_import(uint32_t geometry, uint8_t *image, size_t image_len, const uint8_t *text, size_t text_len, uint8_t *result,
                        size_t result_len);
 
 #ifdef __cplusplus

@@ -12,7 +12,7 @@ static int changed;
 
 const char *answer_name(uint32_t answer)
 {
-    static const char *const names[] = { "DONE", "LENGTH", "DAMAGED", "WORN", "ABSENT", "HEIGHT", "ROOM", "STOPPED" };
+    static const char *const names[] = { "DONE", "LENGTH", "DAMAGED", "WORN", "ABSENT", "HEIGHT", "ROOM", "STOPPED", "8", "TEXT" };
     return names[answer];
 }
 
@@ -36,7 +36,9 @@ const char *answer_meaning(struct mutree_result result)
         "there is no such key",
         "the tree can grow no higher",
         "the insert needs two pages or more, and too few are free of live nodes",
-        "the allowance was smaller than the stores needed; the old map is whole"
+        "the allowance was smaller than the stores needed; the old map is whole",
+        "",
+        "a line of the text is refused"
     };
     return result.answer == MUTREE_DAMAGED ? damage_words(result) : meanings[result.answer];
 }
@@ -44,6 +46,11 @@ const char *answer_meaning(struct mutree_result result)
 const char *entries_word(size_t count)
 {
     return count == 1 ? "entry" : "entries";
+}
+
+const char *records_word(size_t count)
+{
+    return count == 1 ? "record" : "records";
 }
 
 void complain(const char *format, ...)

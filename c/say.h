@@ -18,6 +18,9 @@ const char *damage_words(struct mutree_result verdict);
 /* "1 entry", "2 entries": the ending for a count. */
 const char *entries_word(size_t count);
 
+/* The same of "1 record", "2 records". */
+const char *records_word(size_t count);
+
 /* A line on standard error, after all that was printed before it: "mutree: " and what is wrong. */
 void complain(const char *format, ...);
 

@@ -1,4 +1,4 @@
-/* status.h: exit statuses beside the answer numbers 0 to 7. */
+/* status.h: exit statuses beside the answer numbers 0 to 7 and 9. */
 #ifndef MUTREE_STATUS_H
 #define MUTREE_STATUS_H
 

@@ -12,16 +12,21 @@
  * 17 a patrol that mends the bit beside   18 a patrol that takes two flips for one and turns bit 0 over
  * 19 a lookup that passes over codes that do not fit
  * 20 a list without the pair at its high key   21 one pair too many where a list is cut short at an odd length
- * 22 a list that passes over the root's subtree that low lies in (listing.c has 20 to 22) */
+ * 22 a list that passes over the root's subtree that low lies in (listing.c has 20 to 22)
+ * 23 an import takes a key equal to the one before   24 the line that is refused is one off
+ * 25 an image is formatted before its text is read to the end   26 a last line without byte 10 is taken
+ * 27 an export writes what fits into too few bytes   28 a byte 0 after the text   29 an export needs one byte more than the text has
+ * 30 a key with a leading zero is taken   31 an import that lacks room leaves the image as it was
+ * 32 an import reads one byte past its text   33 an import does not count format's page (carrying.c has 23 to 33) */
 #include "../../c/mutree.h"
 #include "../independent/code.h"
+#include "carrying.h"
 #include "damage.h"
 #include "listing.h"
 
 #include <stdlib.h>
 #include <string.h>
 
-uint32_t real_format(uint32_t geometry, uint8_t *image, size_t image_len, uint8_t *result, size_t result_len);
 uint32_t real_lookup(uint32_t geometry, const uint8_t *image, size_t image_len, uint32_t key, uint8_t *result, size_t result_len);
 uint32_t real_insert(uint32_t geometry, uint8_t *image, size_t image_len, uint32_t key, uint32_t address,
                      uint32_t allowance, uint8_t *result, size_t result_len);
@@ -85,6 +90,20 @@ uint32_t mutree_list(uint32_t geometry, const uint8_t *image, size_t image_len, 
     uint32_t answer = list_wrongly(FAULT, chip_of(geometry), image, image_len, low, high, pairs, pairs_len, result, result_len);
     tell_wrongly(FAULT, geometry, image, image_len, answer, result);
     return answer;
+}
+
+uint32_t mutree_export(uint32_t geometry, const uint8_t *image, size_t image_len, uint8_t *text, size_t text_len, uint8_t *result,
+                       size_t result_len)
+{
+    uint32_t answer = export_wrongly(FAULT, chip_of(geometry), image, image_len, text, text_len, result, result_len);
+    tell_wrongly(FAULT, geometry, image, image_len, answer, result);
+    return answer;
+}
+
+uint32_t mutree_import(uint32_t geometry, uint8_t *image, size_t image_len, const uint8_t *text, size_t text_len, uint8_t *result,
+                       size_t result_len)
+{
+    return import_wrongly(FAULT, chip_of(geometry), image, image_len, text, text_len, result, result_len);
 }
 
 /* The image as it was, where the call pretends. */

@@ -1,4 +1,4 @@
-"""Runs the definitions of crates/geometry/specs and crates/model/specs as they stand.
+"""Runs the definitions of crates/geometry/specs and crates/model/specs as they stand, and those of texts (crates/texts, decimals, carrying).
 
 A small translator for the part of antt that these files use: clauses by patterns, records, data, `pick`, `let`, `λ`.
 Arguments are worked out only where they are needed, as in mathematics. `blank`, `written`, `least`, `arg` and `freshCode`,
@@ -7,6 +7,7 @@ meaning (`plainCode` is `freshCode` as it stands); a few values are kept once kn
 """
 import re
 import sys
+from collections import ChainMap
 from functools import lru_cache
 
 sys.setrecursionlimit(200000)
@@ -255,7 +256,8 @@ class Definitions:
     def __init__(self, root):
         self.names = dict(self.library())
         for crate, files in (("geometry", ["Tests", "Geometry"]),
-                             ("model", ["Bytes", "Codes", "Count", "Image", "Tree", "Next", "Rules", "Page", "Stores", "Edit", "Collect", "Update", "Calls", "Listing"])):
+                             ("model", ["Bytes", "Codes", "Count", "Image", "Tree", "Next", "Rules", "Page", "Stores", "Edit", "Collect", "Update", "Calls", "Listing"]),
+                             ("texts", ["Lines"]), ("decimals", ["Decimals"]), ("carrying", ["Carrying"])):
             for f in files:
                 self.read("%s/crates/%s/specs/%s.antt" % (root, crate, f))
         self.names.update(self.quick())
@@ -286,7 +288,7 @@ class Definitions:
         yield "suc", Function(1, lambda n: force(n) + 1)
         yield "[]", ()
         for name, arity in (("none", 0), ("some", 1), ("Good", 0), ("Bad", 1), ("Sound", 0), ("Broken", 2), ("program", 2), ("erase", 1),
-                            ("Of", 1), ("Unknown", 0), ("Clean", 0), ("DataMended", 1), ("CodeMended", 1), ("Beyond", 0)):
+                            ("Of", 1), ("Unknown", 0), ("records", 1), ("bad", 1), ("Clean", 0), ("DataMended", 1), ("CodeMended", 1), ("Beyond", 0)):
             CONSTRUCTORS[name] = arity
             yield name, Function(arity, lambda *a, name=name: (name,) + a) if arity else (name,)
 
@@ -339,7 +341,8 @@ class Definitions:
         return Function(f.arity, lambda g, *args: at(geometry_mark(force(g)), *[force(a) for a in args]))
 
     def read(self, path):
-        clauses = {}
+        clauses, own = {}, {}  # a name that another file has already is this file's alone
+        scope = ChainMap(own, self.names)
         for text in declarations(open(path, encoding="utf-8").read()):
             words = tokens(text)
             k = words.index("=")
@@ -348,9 +351,9 @@ class Definitions:
             while i < len(left):
                 p, i = pattern(left, i)
                 patterns.append(p)
-            clauses.setdefault(name, []).append((patterns, Parser(words[k + 1:], self.names).expression()))
+            clauses.setdefault(name, []).append((patterns, Parser(words[k + 1:], scope).expression()))
         for name, cs in clauses.items():
-            self.names[name] = self.define(name, cs)
+            (own if name in self.names else self.names)[name] = self.define(name, cs)
 
     def define(self, name, cs):
         arity = len(cs[0][0])

@@ -11,13 +11,16 @@ import subprocess
 import sys
 
 sys.path.insert(0, os.path.dirname(os.path.dirname(os.path.abspath(__file__))))
+import carrying
 import damage
 import listing
 import reference
 
-CALLS = {"format": 0, "lookup": 1, "insert": 2, "delete": 3, "patrol": 4, "list": 5}
+CALLS = {"format": 0, "lookup": 1, "insert": 2, "delete": 3, "patrol": 4, "list": 5, "export": 6, "import": 7}
+LENDS = "list", "export", "import"  # calls with a third buffer: numbers, or a text
 FOUND = ["clean", "data mended", "code mended", "beyond repair"]
-ANSWERS = ["DONE", "LENGTH", "DAMAGED", "WORN", "ABSENT", "HEIGHT", "ROOM", "STOPPED"]
+ANSWERS = ["DONE", "LENGTH", "DAMAGED", "WORN", "ABSENT", "HEIGHT", "ROOM", "STOPPED", "8", "TEXT"]
+GIVEN = [0, 1, 2, 3, 4, 5, 6, 7, 9]
 LARGEST = 2 ** 32 - 1
 RESULT = 24  # bytes of the result: six numbers
 
@@ -33,6 +36,7 @@ class Library:
         self.geometry = geometry
         self.calls, self.met = 0, {}
         self.listed = {}  # kinds of lists (listing.KINDS), and how many there were
+        self.carried = {}  # kinds of exports and imports (carrying.KINDS)
         self.patrols = [0] * len(FOUND)  # halves by what a patrol found there
         self.clauses = {}  # clauses of request 5, and how many images broke each
         self.edges, self.beyond = 0, 0  # sound images with T - L = 64 (128), and images that break R8 alone
@@ -40,13 +44,13 @@ class Library:
     def call(self, name, img, buf, key=0, address=0, allowance=LARGEST, number=None, pairs=b""):
         p = self.process
         number = self.geometry.number if number is None else number
-        p.stdin.write(struct.pack("<8I", CALLS[name], number, key, address, allowance, len(img), len(buf), len(pairs) // 4) + img + buf + pairs)
+        p.stdin.write(struct.pack("<8I", CALLS[name], number, key, address, allowance, len(img), len(buf), len(pairs)) + img + buf + pairs)
         p.stdin.flush()
         out = p.stdout.read(4 + len(img) + len(buf) + len(pairs))
         if len(out) != 4 + len(img) + len(buf) + len(pairs):
             sys.exit("differential: the library died in %s" % name)
         out, left = out[:len(out) - len(pairs)], out[len(out) - len(pairs):]
-        return (struct.unpack("<I", out[:4])[0], out[4:4 + len(img)], out[4 + len(img):]) + ((left,) if name == "list" else ())
+        return (struct.unpack("<I", out[:4])[0], out[4:4 + len(img)], out[4 + len(img):]) + ((left,) if name in LENDS else ())
 
     def hold(self, wanted, name, img, buf, **args):
         got = self.call(name, img, buf, **args)
@@ -56,10 +60,12 @@ class Library:
         if got != wanted:
             with open("build/differs.img", "wb") as f:
                 f.write(img)
-            args.pop("pairs", None)
+            lent = args.pop("pairs", b"")
+            with open("build/differs.lent", "wb") as f:
+                f.write(lent)
             sys.exit("differential: %s chip: %s %s: returned %d, wanted %d; image %s; numbers %s, wanted %s%s; the image is in build/differs.img" % (
                 self.geometry.name, name, args, got[0], wanted[0], "alike" if got[1] == wanted[1] else "differs", numbers(got[2]), numbers(wanted[2]),
-                "" if got[3:] == wanted[3:] else "; the pairs differ"))
+                "" if got[3:] == wanted[3:] else "; what else was lent (build/differs.lent) differs"))
 
 
 def buffer(rng):
@@ -123,6 +129,8 @@ def a_log(library, m, fuzz, rng):
         lookups(library, m, rng, img, [key])
         if rng.random() < .2:
             listing.lists(library, m, rng, img, buffer, 1)
+            carrying.exports(library, m, rng, img, buffer, 1)
+    carrying.back(library, m, rng, img, buffer)
 
 
 def hand_made(library, m, fuzz, rng):
@@ -133,6 +141,7 @@ def hand_made(library, m, fuzz, rng):
         call = fuzz.some_call(rng, m, img, model)
         lookups(library, m, rng, img, [call[1], rng.choice(list(model) or [0])])
         listing.lists(library, m, rng, img, buffer, 4)
+        carrying.exports(library, m, rng, img, buffer, 2)
         img = every_update(library, m, rng, img, call)
 
 
@@ -162,6 +171,7 @@ def full_path(library, m, fuzz, rng):
     gone = rng.choice(keys)
     img = every_update(library, m, rng, img, ("delete", gone))
     listing.lists(library, m, rng, img, buffer, 6)
+    carrying.exports(library, m, rng, img, buffer, 3)
     every_update(library, m, rng, img, ("insert", gone, 5))
 
 
@@ -225,6 +235,7 @@ def every_call(library, m, rng, img):
         library.clauses[clause] = library.clauses.get(clause, 0) + 1
     lookups(library, m, rng, img, [rng.randrange(2 ** 32)])
     listing.lists(library, m, rng, img, buffer, 1)
+    carrying.exports(library, m, rng, img, buffer, 1)
     every_update(library, m, rng, img, ("insert", rng.randrange(2 ** 32), 5))
     every_update(library, m, rng, img, ("delete", rng.randrange(2 ** 32)))
     if m.good_length(img):
@@ -269,25 +280,39 @@ def no_chip(library, m, fuzz, rng):
     for name in CALLS:
         buf = buffer(rng)
         number = rng.choice([2, 3, 256, 2 ** 31, LARGEST, rng.randrange(2, 2 ** 32)])
-        pairs = rng.randbytes(4 * rng.randrange(6)) if name == "list" else b""
-        wanted = result(1, 0, 0, img, buf) + ((pairs,) if name == "list" else ())
+        pairs = rng.randbytes(4 * rng.randrange(6)) if name in LENDS else b""
+        wanted = result(1, 0, 0, img, buf) + ((pairs,) if name in LENDS else ())
         library.hold(wanted, name, img, buf, key=rng.randrange(2 ** 32), address=LARGEST, number=number, pairs=pairs)
+
+
+def texts(library, m, fuzz, rng):
+    """Imports of good and bad texts (request 13)."""
+    carrying.imports(library, m, fuzz, rng, buffer)
+
+
+def bad_and_long_texts(library, m, fuzz, rng):
+    carrying.each_defect(library, m, rng)
+    carrying.lines_too_many(library, m, rng)
+    carrying.halfway(library, m, rng)
 
 
 def tell_met(library, wanted):
     """The count of each answer. A run of 5,000 calls must have met all of them."""
-    counts = [sum(n for (_, answer), n in library.met.items() if answer == a) for a in range(8)]
-    print("  answers: " + ", ".join("%s %d" % x for x in zip(ANSWERS, counts)))
+    counts = [sum(n for (_, answer), n in library.met.items() if answer == a) for a in range(len(ANSWERS))]
+    print("  answers: " + ", ".join("%s %d" % (ANSWERS[a], counts[a]) for a in GIVEN))
     print("  by call: " + ", ".join("%s %s: %d" % (call, ANSWERS[a], n) for (call, a), n in sorted(library.met.items())))
     print("  damaged images: " + ", ".join("%s: %d" % (c, library.clauses[c]) for c in damage.CLAUSES))
     print("  lists: " + ", ".join("%s: %d" % (k, library.listed.get(k, 0)) for k in listing.KINDS))
+    print("  carried: " + ", ".join("%s: %d" % (k, library.carried.get(k, 0)) for k in carrying.KINDS))
     print("  patrols: " + ", ".join("%s %d" % x for x in zip(FOUND, library.patrols)))
     print("  T - L = %d on %d sound images; %d images refused by R8 alone" % (
         library.geometry.r8_least, library.edges, library.beyond))
-    if wanted >= 5000 and 0 in counts:
-        sys.exit("differential: never met " + ", ".join(name for name, n in zip(ANSWERS, counts) if n == 0))
+    if wanted >= 5000 and 0 in [counts[a] for a in GIVEN]:
+        sys.exit("differential: never met " + ", ".join(ANSWERS[a] for a in GIVEN if counts[a] == 0))
     if wanted >= 5000 and set(library.listed) != set(listing.KINDS):
         sys.exit("differential: a kind of list was never met")
+    if wanted >= 5000 and carrying.missing(library, library.geometry):
+        sys.exit("differential: never met " + ", ".join(carrying.missing(library, library.geometry)))
     if 0 in library.patrols:
         sys.exit("differential: a patrol never found " + ", ".join(name for name, n in zip(FOUND, library.patrols) if n == 0))
     if wanted >= 5000 and 0 in (library.edges, library.beyond):
@@ -297,10 +322,10 @@ def tell_met(library, wanted):
 def compare(fuzz, geometry, wanted, rng):
     library, m = Library(sys.argv[1], geometry), reference.mu(fuzz, geometry)
     kinds = [no_chip, worn, flips, full_path, scarce, hand_made, broken, a_log, hand_made]
-    for kind in [clauses] + kinds:
+    for kind in [bad_and_long_texts, texts, clauses] + kinds:
         kind(library, m, fuzz, rng)
     while library.calls < wanted:
-        rng.choice(kinds)(library, m, fuzz, rng)
+        rng.choice(kinds + [texts])(library, m, fuzz, rng)
     print("differential: %s chip: %d calls agree with the reference model" % (geometry.name, library.calls))
     tell_met(library, wanted)
 

@@ -1,10 +1,11 @@
 /* driver.c: calls the library on what standard input says, so that a script can hold it against another implementation.
  *
- * A request: eight 32-bit numbers (call 0 to 5: format, lookup, insert, delete, patrol, list; geometry; key; address; allowance;
- * image length; result length; how many numbers list is lent), least byte first, then the image, the result buffer and list's
- * numbers. A patrol's page and half, and a list's low and high, stand for key and address. The reply: the returned number, then
- * these three as the call left them. All stand against a guard page (guarded.h), so that a byte read too far ends the driver:
- * with an even key the one behind them, with an odd key the one before. The numbers are this processor's, least byte first. */
+ * A request: eight 32-bit numbers (call 0 to 7: format, lookup, insert, delete, patrol, list, export, import; geometry; key; address;
+ * allowance; image length; result length; bytes of what else is lent), least byte first, then the image, the result buffer and what
+ * else is lent: list's numbers, or the text of an export or import. A patrol's page and half, and a list's low and high, stand for
+ * key and address. The reply: the returned number, then these three as the call left them. All stand against a guard page
+ * (guarded.h), so that a byte read too far ends the driver: with an even key the one behind them, with an odd key the one before. The
+ * numbers are this processor's, least byte first. */
 #define _DEFAULT_SOURCE
 #include "../../c/mutree.h"
 #include "../guarded.h"
@@ -17,7 +18,7 @@ static uint32_t number(const uint8_t *at)
 }
 
 /* The eight numbers of a request. */
-enum { CALL, GEOMETRY, KEY, ADDRESS, ALLOWANCE, IMAGE_LENGTH, RESULT_LENGTH, PAIRS_LENGTH, NUMBERS };
+enum { CALL, GEOMETRY, KEY, ADDRESS, ALLOWANCE, IMAGE_LENGTH, RESULT_LENGTH, LENT_LENGTH, NUMBERS };
 
 static int read_request(uint32_t *n)
 {
@@ -30,7 +31,7 @@ static int read_request(uint32_t *n)
     return 1;
 }
 
-static uint32_t call(const uint32_t *n, uint8_t *image, uint8_t *result, uint32_t *pairs)
+static uint32_t call(const uint32_t *n, uint8_t *image, uint8_t *result, uint8_t *lent)
 {
     switch (n[CALL]) {
     case 0: return mutree_format(n[GEOMETRY], image, n[IMAGE_LENGTH], result, n[RESULT_LENGTH]);
@@ -39,13 +40,15 @@ static uint32_t call(const uint32_t *n, uint8_t *image, uint8_t *result, uint32_
         return mutree_insert(n[GEOMETRY], image, n[IMAGE_LENGTH], n[KEY], n[ADDRESS], n[ALLOWANCE], result, n[RESULT_LENGTH]);
     case 4: return mutree_patrol(n[GEOMETRY], image, n[IMAGE_LENGTH], n[KEY], n[ADDRESS], result, n[RESULT_LENGTH]);
     case 5:
-        return mutree_list(n[GEOMETRY], image, n[IMAGE_LENGTH], n[KEY], n[ADDRESS], pairs, n[PAIRS_LENGTH], result,
-                           n[RESULT_LENGTH]);
+        return mutree_list(n[GEOMETRY], image, n[IMAGE_LENGTH], n[KEY], n[ADDRESS], (uint32_t *)(void *)lent, n[LENT_LENGTH] / 4,
+                           result, n[RESULT_LENGTH]);
+    case 6: return mutree_export(n[GEOMETRY], image, n[IMAGE_LENGTH], lent, n[LENT_LENGTH], result, n[RESULT_LENGTH]);
+    case 7: return mutree_import(n[GEOMETRY], image, n[IMAGE_LENGTH], lent, n[LENT_LENGTH], result, n[RESULT_LENGTH]);
     default: return mutree_delete(n[GEOMETRY], image, n[IMAGE_LENGTH], n[KEY], n[ALLOWANCE], result, n[RESULT_LENGTH]);
     }
 }
 
-static void reply(uint32_t answer, const struct guarded *image, const struct guarded *result, const struct guarded *pairs)
+static void reply(uint32_t answer, const struct guarded *image, const struct guarded *result, const struct guarded *lent)
 {
     uint8_t bytes[4];
     int i;
@@ -54,7 +57,7 @@ static void reply(uint32_t answer, const struct guarded *image, const struct gua
     fwrite(bytes, 1, 4, stdout);
     fwrite(image->bytes, 1, image->length, stdout);
     fwrite(result->bytes, 1, result->length, stdout);
-    fwrite(pairs->bytes, 1, pairs->length, stdout);
+    fwrite(lent->bytes, 1, lent->length, stdout);
     fflush(stdout);
 }
 
@@ -64,15 +67,15 @@ int main(void)
     while (read_request(n)) {
         int at_end = n[KEY] % 2 == 0;
         struct guarded image = guarded_make(n[IMAGE_LENGTH], at_end), result = guarded_make(n[RESULT_LENGTH], at_end);
-        struct guarded pairs = guarded_make(4 * (size_t)n[PAIRS_LENGTH], at_end);
+        struct guarded lent = guarded_make(n[LENT_LENGTH], at_end);
         if (fread(image.bytes, 1, image.length, stdin) != image.length
             || fread(result.bytes, 1, result.length, stdin) != result.length
-            || fread(pairs.bytes, 1, pairs.length, stdin) != pairs.length)
+            || fread(lent.bytes, 1, lent.length, stdin) != lent.length)
             return 1;
-        reply(call(n, image.bytes, result.bytes, (uint32_t *)(void *)pairs.bytes), &image, &result, &pairs);
+        reply(call(n, image.bytes, result.bytes, lent.bytes), &image, &result, &lent);
         guarded_free(&image);
         guarded_free(&result);
-        guarded_free(&pairs);
+        guarded_free(&lent);
     }
     return 0;
 }

@@ -51,10 +51,30 @@ static void only_inserts(uint8_t *changes, size_t size)
         changes[i] |= 1;
 }
 
-/* The first bytes at random, then the image. */
+/* Lines of rising keys; now and then a byte is changed, and the end is cut off. Gives the length. */
+static size_t text(uint8_t *at)
+{
+    uint32_t lines = some(4) ? some(20) : some(700), key = some(50);
+    size_t length = 0;
+    for (; lines > 0; lines--, key += (some(60) > 0) + some(some(2) ? 3 : 5000000))
+        length += (size_t)sprintf((char *)at + length, "%lu\t%lu\n", (unsigned long)key, (unsigned long)some(4294967295u));
+    if (length > 0 && some(2))
+        at[some((uint32_t)length)] = some(2) ? (uint8_t)some(256) : (uint8_t)"\t\n0 9\r"[some(6)];
+    return some(8) ? length : some((uint32_t)length + 1);
+}
+
+/* Whether the first bytes ask for an import over a formatted image. */
+static int is_import(const uint8_t *data)
+{
+    return (data[7] >> 2 & 3) == 3 && !(data[0] & 1) && data[7] & 1;
+}
+
+/* The first bytes at random, then the image, or the text. */
 static size_t input(uint8_t *data)
 {
-    size_t size = data[7] & 1 ? some(400) : some_length(mutree_geometry_of(data[0] >> 2 & 1));
+    size_t size = is_import(data) ? text(data + 8) : data[7] & 1 ? some(400) : some_length(mutree_geometry_of(data[0] >> 2 & 1));
+    if (is_import(data))
+        return 8 + size;
     if (data[7] & 1)
         fill(data + 8, size);
     if (data[7] & 1 && some(2))

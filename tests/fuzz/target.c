@@ -7,10 +7,12 @@
  * ends the run. Checked besides: a number that is no chip's gives LENGTH, refused calls leave the image, a finished call leaves
  * one that is not DAMAGED, a short result buffer stays as it was, and so do the bytes after the 24; rule and page are 0 but for
  * DAMAGED, and then a rule's number and a page of the image. A patrol that mended is clean when it is called again, and what it
- * changed is one bit; else it changes nothing. listing.c has what is checked of a list. */
+ * changed is one bit; else it changes nothing. listing.c has what is checked of a list, carrying.c of an export and an import; the text
+ * of an import is what follows the first bytes too. */
 #define _DEFAULT_SOURCE
 #include "../../c/mutree.h"
 #include "../guarded.h"
+#include "carrying.h"
 #include "listing.h"
 
 #include <stdlib.h>
@@ -22,21 +24,33 @@ struct head {
     int kind, over_format, at_end;
     int lists; /* a list in place of a lookup */
     struct wish wish;
+    size_t lent; /* bytes for an export */
+    const uint8_t *text;
+    size_t text_length;
     size_t room;
     uint32_t key, allowance;
 };
 
-enum { HEAD = 8, PATROL = 4 };
+enum { HEAD = 8, PATROL = 4, EXPORT = 5, IMPORT = 6, MOST_TEXT = 100000 };
 
 static uint32_t number(const uint8_t *at)
 {
     return (uint32_t)at[0] | (uint32_t)at[1] << 8 | (uint32_t)at[2] << 16 | (uint32_t)at[3] << 24;
 }
 
-static struct head head_of(const uint8_t *data)
+static int kind_of(const uint8_t *data)
+{
+    switch (data[7] >> 2 & 3) {
+    case 1: return PATROL;
+    case 3: return data[0] & 1 ? EXPORT : IMPORT;
+    default: return data[0] & 3;
+    }
+}
+
+static struct head head_of(const uint8_t *data, size_t size)
 {
     struct head head;
-    head.kind = (data[7] >> 2 & 3) == 1 ? PATROL : data[0] & 3;
+    head.kind = kind_of(data);
     head.geometry = data[0] >> 2 & 1;
     if (data[0] >> 3 == 31) /* now and then no chip */
         head.geometry = data[1] + MUTREE_GEOMETRIES;
@@ -49,6 +63,9 @@ static struct head head_of(const uint8_t *data)
     head.wish.low = head.key;
     head.wish.high = data[7] >> 4 == 15 ? UINT32_MAX : number(data + 2) >> 12 & 1023;
     head.wish.numbers = data[6];
+    head.lent = data[7] >> 4 == 15 ? 20000 : (size_t)data[6] << (data[7] >> 6);
+    head.text = data + HEAD;
+    head.text_length = size - HEAD < MOST_TEXT ? size - HEAD : MOST_TEXT;
     return head;
 }
 
@@ -77,7 +94,10 @@ static struct guarded make_image(const uint8_t *data, size_t size, struct head h
     }
     memset(image.bytes, 255, image.length);
     mutree_format(chip->number, image.bytes, image.length, result, sizeof result);
-    lay_over(image, chip->number, data, size);
+    if (head.kind == IMPORT) /* the rest is the text; the index has something in it */
+        mutree_insert(chip->number, image.bytes, image.length, 5, 5, UINT32_MAX, result, sizeof result);
+    else
+        lay_over(image, chip->number, data, size);
     return image;
 }
 
@@ -94,6 +114,8 @@ static uint32_t call(struct head head, struct guarded image, struct guarded resu
                              result.length);
     case PATROL:
         return mutree_patrol(head.geometry, image.bytes, image.length, head.key % 256, head.key / 256 % 10, result.bytes, result.length);
+    case EXPORT: return export_checked(head.geometry, image, head.lent, head.at_end, result);
+    case IMPORT: return import_checked(head.geometry, image, head.text, head.text_length, head.at_end, result);
     default: return mutree_delete(head.geometry, image.bytes, image.length, head.key, head.allowance, result.bytes, result.length);
     }
 }
@@ -119,14 +141,22 @@ static void check_result(struct guarded result)
             abort();
 }
 
+/* An import that an insert ended: the only refused call that writes. */
+static int is_halfway(int kind, uint32_t answer)
+{
+    return kind == IMPORT && answer >= MUTREE_WORN && answer <= MUTREE_ROOM;
+}
+
 static void check_image(int kind, uint32_t geometry, uint32_t answer, struct guarded image, const uint8_t *before)
 {
     uint8_t judged[MUTREE_RESULT_BYTES];
     if (geometry >= MUTREE_GEOMETRIES && answer != MUTREE_LENGTH)
         abort();
-    if (answer >= MUTREE_LENGTH && answer <= MUTREE_ROOM && memcmp(before, image.bytes, image.length) != 0)
+    if (answer == MUTREE_TEXT ? kind != IMPORT : answer > MUTREE_STOPPED)
         abort();
-    if (kind != PATROL && (answer == MUTREE_DONE || answer == MUTREE_STOPPED)
+    if (answer >= MUTREE_LENGTH && answer != MUTREE_STOPPED && !is_halfway(kind, answer) && memcmp(before, image.bytes, image.length) != 0)
+        abort();
+    if (kind != PATROL && (answer == MUTREE_DONE || answer == MUTREE_STOPPED || is_halfway(kind, answer))
         && mutree_lookup(geometry, image.bytes, image.length, 0, judged, sizeof judged) == MUTREE_DAMAGED)
         abort();
 }
@@ -166,7 +196,7 @@ int LLVMFuzzerTestOneInput(const uint8_t *data, size_t size)
     uint32_t answer;
     if (size < HEAD)
         return 0;
-    head = head_of(data);
+    head = head_of(data, size);
     image = make_image(data + HEAD, size - HEAD, head);
     result = guarded_make(head.room, head.at_end);
     before = malloc(image.length ? image.length : 1);

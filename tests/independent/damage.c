@@ -2,6 +2,7 @@
  * changed by chance. Of each the judge and every call of the library say the same rule and page. Edits of main bytes are given
  * fitting codes, or R1 (request 4) would be broken before the rule that is meant. */
 #include "built.h"
+#include "carry.h"
 #include "code.h"
 #include "demands.h"
 #include "listing.h"
@@ -16,7 +17,7 @@ static struct tree state;
 static unsigned long met[RULES + 1];
 
 /* ---- every call */
-enum { LOOKUP, LIST, INSERT, STOPPED_INSERT, DELETE, STOPPED_DELETE, CALLS };
+enum { LOOKUP, LIST, EXPORT, INSERT, STOPPED_INSERT, DELETE, STOPPED_DELETE, CALLS };
 
 static uint32_t call(int which, uint8_t *now, size_t length, uint32_t key, uint8_t *result)
 {
@@ -24,6 +25,7 @@ static uint32_t call(int which, uint8_t *now, size_t length, uint32_t key, uint8
     switch (which) {
     case LOOKUP: return mutree_lookup(chip->number, now, length, key, result, RESULT + 4);
     case LIST: return list_of_all(chip->number, now, length, result, RESULT + 4);
+    case EXPORT: return export_any(chip->number, now, length, result, RESULT + 4);
     case INSERT:
     case STOPPED_INSERT: return mutree_insert(chip->number, now, length, key, 5, allowance, result, RESULT + 4);
     default: return mutree_delete(chip->number, now, length, key, allowance, result, RESULT + 4);
@@ -66,7 +68,7 @@ int is_judged_alike(const uint8_t *image, size_t length, uint32_t key)
         else if (answer == MUTREE_DAMAGED || number_at(result + 16) || number_at(result + 20))
             fail("a sound image is refused, or has a rule or page");
         if (memcmp(now, image, length))
-            fail("a refused call, a lookup or a list wrote");
+            fail("a refused call, a lookup, a list or an export wrote");
     }
     free(now);
     met[rule]++;

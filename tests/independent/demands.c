@@ -8,6 +8,7 @@
  *        quick: of an update of over 60 stores only the last three allowances are tried, and one of 97 differences of a code
  */
 #include "built.h"
+#include "carry.h"
 #include "demands.h"
 #include "listing.h"
 
@@ -430,6 +431,7 @@ static void one_step(struct update u, uint8_t *image, size_t length)
     if (entries)
         look(image, length, oracle[some((uint32_t)entries)].key);
     some_lists(image, length, oracle, entries);
+    some_exports(image, length, oracle, entries);
 }
 
 static void day(unsigned blocks, int way, unsigned steps)
@@ -444,6 +446,7 @@ static void day(unsigned blocks, int way, unsigned steps)
     entries = 0;
     for (step = 1; step <= steps; step++)
         one_step(some_update(way, step), image, length);
+    is_carried_across(image, length, oracle, entries);
     free(image);
 }
 
@@ -487,6 +490,8 @@ static void test_chip(unsigned rounds)
     delete_is_never_short_of_room();
     damage_is_named();
     lists_are_the_maps_part();
+    exports_are_the_maps_text();
+    texts_are_imported(quick);
     halves_are_patrolled(quick ? 97 : 1);
     if (met.least_spare != chip->room + 1 || met.rooms == 0)
         fail("T - L of 64 (128), or ROOM, was not met");
@@ -496,6 +501,8 @@ static void test_chip(unsigned rounds)
         fail("a choice among several wholly erased blocks, or one past the end, was not met");
     report();
     tell_lists();
+    tell_exports();
+    tell_imports();
 }
 
 int main(int count, char **words)

@@ -1,5 +1,6 @@
 /* numbers.c: the geometry's number. 0 and 1 are the two chips, another gives LENGTH, and its result is written all the same. What
  * c/mutree.h says of a chip is what the documents say. */
+#include "carry.h"
 #include "demands.h"
 #include "listing.h"
 
@@ -31,9 +32,9 @@ static void rules_are_the_documents(void)
     }
 }
 
-enum { CALLS = 6 };
+enum { CALLS = 8 };
 
-/* One call with a number that is no chip's: 0 format, 1 lookup, 2 insert, 3 delete, 4 patrol, 5 list. */
+/* One call with a number that is no chip's: 0 format, 1 lookup, 2 insert, 3 delete, 4 patrol, 5 export, 6 import, 7 list. */
 static uint32_t call(int which, uint32_t number, uint8_t *image, size_t length, uint8_t *result, size_t room)
 {
     switch (which) {
@@ -42,6 +43,8 @@ static uint32_t call(int which, uint32_t number, uint8_t *image, size_t length, 
     case 2: return mutree_insert(number, image, length, 1, 1, UINT32_MAX, result, room);
     case 3: return mutree_delete(number, image, length, 1, UINT32_MAX, result, room);
     case 4: return mutree_patrol(number, image, length, 0, 0, result, room);
+    case 5: return export_any(number, image, length, result, room);
+    case 6: return import_any(number, image, length, result, room);
     default: return list_of_all(number, image, length, result, room);
     }
 }

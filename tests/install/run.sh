@@ -14,6 +14,7 @@ cat > "$folder/user.c" <<'END'
 #include <mutree.h>
 
 #include <stdio.h>
+#include <string.h>
 
 static uint32_t pairs[3]; /* of an odd length: one pair has room */
 static uint8_t image[MUTREE_LEAST_BLOCKS * MUTREE_LARGE_BLOCK_BYTES], result[MUTREE_RESULT_BYTES];
@@ -29,6 +30,21 @@ static int mends(const struct mutree_geometry *chip, size_t length)
     return mutree_found(found) == MUTREE_DATA_MENDED && mutree_bit(found) == 2;
 }
 
+/* The index as a text, and the same text from an index that was made of it. */
+static int carries(const struct mutree_geometry *chip, size_t length)
+{
+    uint8_t text[2 * MUTREE_LINE_BYTES], again[sizeof text];
+    uint32_t bytes;
+    if (mutree_export(chip->number, image, length, text, sizeof text, result, sizeof result) != MUTREE_DONE)
+        return 0;
+    bytes = mutree_read_exported(result).written;
+    if (mutree_import(chip->number, image, length, text, bytes, result, sizeof result) != MUTREE_DONE
+        || mutree_read_imported(result).records != 1 || mutree_read_imported(result).line != 0
+        || mutree_export(chip->number, image, length, again, sizeof again, result, sizeof result) != MUTREE_DONE)
+        return 0;
+    return bytes > 0 && mutree_read_exported(result).written == bytes && memcmp(text, again, bytes) == 0;
+}
+
 /* An address stored and read again on a chip of three blocks, by a lookup and by a list, or 0. */
 static unsigned address_on(const struct mutree_geometry *chip, uint32_t key)
 {
@@ -37,7 +53,7 @@ static unsigned address_on(const struct mutree_geometry *chip, uint32_t key)
         || mutree_insert(chip->number, image, length, key, 1000 + key, UINT32_MAX, result, sizeof result) != MUTREE_DONE
         || !mends(chip, length)
         || mutree_lookup(chip->number, image, length, key, result, sizeof result) != MUTREE_DONE
-        || mutree_read_result(result).address != 1000 + key)
+        || mutree_read_result(result).address != 1000 + key || !carries(chip, length))
         return 0;
     if (mutree_list(chip->number, image, length, key, UINT32_MAX, pairs, 3, result, sizeof result) != MUTREE_DONE
         || mutree_read_listed(result).exist != 1 || mutree_read_listed(result).written != 1 || pairs[0] != key || pairs[2] != 0)

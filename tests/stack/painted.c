@@ -20,10 +20,15 @@ uint32_t __real_mutree_patrol(uint32_t geometry, uint8_t *image, size_t image_le
 uint32_t __real_mutree_list(uint32_t geometry, const uint8_t *image, size_t image_len, uint32_t low, uint32_t high, uint32_t *pairs,
                             size_t pairs_len, uint8_t *result, size_t result_len);
 
-enum { FORMAT, LOOKUP, INSERT, DELETE, PATROL, LIST, NOTHING, CALLS };
+uint32_t __real_mutree_export(uint32_t geometry, const uint8_t *image, size_t image_len, uint8_t *text, size_t text_len, uint8_t *result,
+                              size_t result_len);
+uint32_t __real_mutree_import(uint32_t geometry, uint8_t *image, size_t image_len, const uint8_t *text, size_t text_len, uint8_t *result,
+                              size_t result_len);
+
+enum { FORMAT, LOOKUP, INSERT, DELETE, PATROL, LIST, EXPORT, IMPORT, NOTHING, CALLS };
 enum { ROOM = 1 << 20, PAINT = 0xA5 };
 
-static const char *const names[CALLS] = { "format", "lookup", "insert", "delete", "patrol", "list", "nothing" };
+static const char *const names[CALLS] = { "format", "lookup", "insert", "delete", "patrol", "list", "export", "import", "nothing" };
 static unsigned long most[CALLS], made[CALLS];
 static unsigned char *stack;
 static ucontext_t caller, callee;
@@ -36,6 +41,8 @@ static struct {
     uint32_t geometry, key, address, allowance, answer;
     uint32_t *pairs; /* list's; its low and high are key and address */
     size_t pairs_len;
+    uint8_t *text; /* of an export or an import */
+    size_t text_len;
 } now;
 
 static void make_call(void)
@@ -59,6 +66,12 @@ static void make_call(void)
     case LIST:
         now.answer = __real_mutree_list(now.geometry, now.image, now.image_len, now.key, now.address, now.pairs, now.pairs_len, now.result,
                                         now.result_len);
+        break;
+    case EXPORT:
+        now.answer = __real_mutree_export(now.geometry, now.image, now.image_len, now.text, now.text_len, now.result, now.result_len);
+        break;
+    case IMPORT:
+        now.answer = __real_mutree_import(now.geometry, now.image, now.image_len, now.text, now.text_len, now.result, now.result_len);
         break;
     }
 }
@@ -140,6 +153,24 @@ uint32_t __wrap_mutree_list(uint32_t geometry, const uint8_t *image, size_t imag
     now.pairs = pairs;
     now.pairs_len = pairs_len;
     return on_painted_stack(LIST);
+}
+
+uint32_t __wrap_mutree_export(uint32_t geometry, const uint8_t *image, size_t image_len, uint8_t *text, size_t text_len, uint8_t *result,
+                              size_t result_len)
+{
+    set_buffers(geometry, image, image_len, result, result_len);
+    now.text = text;
+    now.text_len = text_len;
+    return on_painted_stack(EXPORT);
+}
+
+uint32_t __wrap_mutree_import(uint32_t geometry, uint8_t *image, size_t image_len, const uint8_t *text, size_t text_len, uint8_t *result,
+                              size_t result_len)
+{
+    set_buffers(geometry, image, image_len, result, result_len);
+    now.text = (uint8_t *)text;
+    now.text_len = text_len;
+    return on_painted_stack(IMPORT);
 }
 
 uint32_t __wrap_mutree_delete(uint32_t geometry, uint8_t *image, size_t image_len, uint32_t key, uint32_t allowance, uint8_t *result,

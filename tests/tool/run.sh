@@ -127,7 +127,7 @@ parts() {
 
 for chip_name in small large; do
     use_chip "$chip_name"
-    parts words overwriting lengths apply list pictures damage patrol
+    parts words overwriting lengths apply list carry pictures damage patrol
 done
 use_chip small
 parts chips links kinds writers interrupts printing documents

@@ -1,5 +1,5 @@
--- A call of the camera service: the number returned, the image and the result buffer afterwards; a listing has its lent pairs where the other
--- calls have the image. Definitions alone; assumes nothing.
+-- A call of the camera service: the number returned, the image and the result buffer afterwards; a listing has its lent pairs, and an
+-- export its lent text, where the other calls have the image. Definitions alone; assumes nothing.
 use mathlib.Core.List.{List, [], _∷_}
 use Prim.Native.Nat.{ℕ, _+_}
 use lib.Dec.{ltb}
@@ -8,7 +8,8 @@ use Rattle.geometry.specs.Tests.{pick}
 use Rattle.model.specs.Page.{putU32}
 use Rattle.model.specs.Calls.{Outcome}
 use Rattle.answers.specs.declared.Answer.{Answer}
-use Rattle.answers.specs.Answers.{told}
+use Rattle.answers.specs.declared.Row.{Row}
+use Rattle.answers.specs.Answers.{rowOf, toldBy}
 
 pub record Left : Type 0 where
   pub answer : ℕ
@@ -24,9 +25,12 @@ putNumbers buf at (v ∷ vs) = putNumbers (putU32 buf at v) (at + 4) vs
 abbrev pub numbersOf : Outcome → List ℕ
 numbersOf o = o .answer ∷ o .address ∷ o .programmed ∷ o .erased ∷ o .rule ∷ o .page ∷ []
 
--- an answer's numbers in a buffer
-unfoldable pub reportOf : Answer → List ℕ → List ℕ
-reportOf a buf = putNumbers buf 0 (numbersOf (told a []))
+-- a row's numbers in a buffer, and an answer's
+unfoldable pub reportRow : Row → List ℕ → List ℕ
+reportRow w buf = putNumbers buf 0 (numbersOf (toldBy w []))
+
+abbrev pub reportOf : Answer → List ℕ → List ℕ
+reportOf a buf = reportRow (rowOf a) buf
 
 -- "The C result buffer becomes 24 bytes"; "a buffer shorter than 24 now gives 1", and nothing changes
 unfoldable pub returned : Outcome → List ℕ → List ℕ → Left

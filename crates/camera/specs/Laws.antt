@@ -12,7 +12,7 @@ use Rattle.model.specs.Calls.{Outcome}
 use Rattle.answers.specs.declared.Answer.{Answer}
 use Rattle.answers.specs.declared.Row.{Row}
 use Rattle.answers.specs.Answers.{rowOf, toldBy, told}
-use Rattle.camera.specs.Camera.{putNumbers, numbersOf, reportOf, returned}
+use Rattle.camera.specs.Camera.{putNumbers, numbersOf, reportRow, reportOf, returned}
 
 -- ---- the loop that puts six numbers: what is to come leads to the whole. vs the numbers, i of them put, d the buffer
 pub put-go : (w m d vs : List ℕ) (i v : ℕ) → w ≡ putNumbers m (4 * i) (drop i vs) → d ≡ putU32 m (4 * i) v → v ≡ getD vs i 0 → length vs ≡ 6 → i < 6
@@ -34,9 +34,15 @@ length-numbers b at (v ∷ vs) = length-numbers (putU32 b at v) (at + 4) vs ∙ 
 pub put-same : (b d vs ws : List ℕ) (i j : ℕ) → putNumbers b i vs ≡ putNumbers d j ws → length d ≡ length b
 put-same b d vs ws i j e = sym (length-numbers d j ws) ∙ ap length (sym e) ∙ length-numbers b i vs
 
-pub report-is : (a : Answer) (w : Row) (b d : List ℕ) → d ≡ putNumbers b 0 (numbersOf (toldBy w [])) → w ≡ rowOf a → d ≡ reportOf a b
-unfolding reportOf
-report-is a w b d e f = e ∙ ap (λ (x : Row). putNumbers b 0 (numbersOf (toldBy x []))) f
+pub row-is : (w : Row) (b d : List ℕ) → d ≡ putNumbers b 0 (numbersOf (toldBy w [])) → d ≡ reportRow w b
+unfolding reportRow
+row-is w b d e = e
+
+pub report-is : (a : Answer) (w : Row) (b d : List ℕ) → d ≡ reportRow w b → w ≡ rowOf a → d ≡ reportOf a b
+report-is a w b d e f = e ∙ ap (λ (x : Row). reportRow x b) f
+
+pub report-number : (a : Answer) (w : Row) (n : ℕ) → n ≡ w .answer → w ≡ rowOf a → n ≡ rowOf a .answer
+report-number a w n e f = e ∙ ap (λ (x : Row). x .answer) f
 
 -- a buffer that is too short
 module _ (o : Outcome) (img buf : List ℕ) (h : length buf < 24) where
@@ -53,17 +59,30 @@ module _ (o : Outcome) (img buf : List ℕ) (h : length buf < 24) where
   short-result = rw (lt-ltb _ _ h)
 
 -- a call made, o its outcome
+module _ (o : Outcome) (img out buf : List ℕ) (w : Row) (e : toldBy w out ≡ o) (h : 24 ≤ length buf) where
+  pub row-answer : (n : ℕ) → n ≡ w .answer → n ≡ returned o img buf .answer
+  unfolding returned
+  row-answer n f = rw (le-ltb _ _ h) (f ∙ ap (λ (x : Outcome). x .answer) e)
+
+  pub row-image : out ≡ returned o img buf .image
+  unfolding returned
+  row-image = rw (le-ltb _ _ h) (ap (λ (x : Outcome). x .image) e)
+
+  pub row-result : (b : List ℕ) → b ≡ reportRow w buf → b ≡ returned o img buf .result
+  unfolding returned reportRow
+  row-result b f = rw (le-ltb _ _ h) (f ∙ ap (λ (x : Outcome). putNumbers buf 0 (numbersOf x)) e)
+
 module _ (o : Outcome) (img out buf : List ℕ) (a : Answer) (e : told a out ≡ o) (h : 24 ≤ length buf) where
   pub made-answer : (n : ℕ) → n ≡ rowOf a .answer → n ≡ returned o img buf .answer
-  unfolding returned
-  made-answer n f = rw (le-ltb _ _ h) (f ∙ ap (λ (x : Outcome). x .answer) e)
+  made-answer n f = row-answer o img out buf (rowOf a) e h n f
 
   pub made-image : out ≡ returned o img buf .image
-  unfolding returned
-  made-image = rw (le-ltb _ _ h) (ap (λ (x : Outcome). x .image) e)
+  made-image = row-image o img out buf (rowOf a) e h
 
   pub made-result : (b : List ℕ) → b ≡ reportOf a buf → b ≡ returned o img buf .result
-  unfolding returned reportOf
-  made-result b f = rw (le-ltb _ _ h) (f ∙ ap (λ (x : Outcome). putNumbers buf 0 (numbersOf x)) e)
+  made-result b f = row-result o img out buf (rowOf a) e h b f
 
-pub ruleset camera-laws = (put-go, put-end, put-same, report-is, short-answer, short-image, short-result, made-answer, made-image, made-result)
+pub ruleset camera-laws = (put-go, put-end, put-same, row-is, report-is, report-number, short-answer, short-image, short-result, made-answer, made-image, made-result)
+
+-- of calls that give a row
+pub ruleset row-laws = (short-answer, short-image, short-result, row-answer, row-image, row-result)

@@ -3,8 +3,10 @@ ghost use mathlib.Core.Path.{_≡_};
 ghost use Rattle.model.specs.Calls.{formatOf, lookupOf, insertOf, deleteOf, patrolOf};
 ghost use Rattle.model.specs.Listing.{listOf, asOutcome};
 ghost use Rattle.answers.specs.Answers.{rowOf};
-ghost use Rattle.camera.specs.Camera.{putNumbers, reportOf, returned};
+ghost use Rattle.carrying.specs.Carrying.{exportOf, importOf};
+ghost use Rattle.camera.specs.Camera.{putNumbers, reportRow, reportOf, returned};
 use answers::Answer;
+use answers::Row;
 
 fn long(v: u32) -> u64
     ensures { λ r. ⌜ r ≡ v ⌝ }
@@ -23,17 +25,24 @@ fn put_numbers(buf: &mut [u8], numbers: [u32; 6])
     }
 }
 
-// An answer's row in the result buffer. Gives the answer number.
-fn report(result: &mut [u8], a: Answer) -> u32
-    ensures number { λ r. ⌜ r ≡ rowOf a .answer ⌝ }
-    ensures bytes { λ _. ⌜ now (result .exit) ≡ reportOf a (now (result .entry)) ⌝ }
+// A row in the result buffer. Gives the answer number.
+fn report_row(result: &mut [u8], w: Row) -> u32
+    ensures number { λ r. ⌜ r ≡ w .answer ⌝ }
+    ensures bytes { λ _. ⌜ now (result .exit) ≡ reportRow w (now (result .entry)) ⌝ }
 {
-    let w = answers::row_of(a);
     put_numbers(
         &mut *result,
         [w.answer, w.address, w.programmed, w.erased, w.rule, w.page],
     );
     w.answer
+}
+
+// An answer's row in the result buffer. Gives the answer number.
+fn report(result: &mut [u8], a: Answer) -> u32
+    ensures number { λ r. ⌜ r ≡ rowOf a .answer ⌝ }
+    ensures bytes { λ _. ⌜ now (result .exit) ≡ reportOf a (now (result .entry)) ⌝ }
+{
+    report_row(&mut *result, answers::row_of(a))
 }
 
 #[no_mangle]
@@ -137,4 +146,30 @@ pub extern "C" fn mutree_patrol(
     }
     let a = index::patrol(kind, &mut *image, page, half);
     report(&mut *result, a)
+}
+
+#[no_mangle]
+pub extern "C" fn mutree_export(kind: u32, image: &[u8], text: &mut [u8], result: &mut [u8]) -> u32
+    ensures answer { λ r. ⌜ r ≡ returned (exportOf kind (now (image .entry)) (now (text .entry))) (now (text .entry)) (now (result .entry)) .answer ⌝ }
+    ensures text { λ _. ⌜ now (text .exit) ≡ returned (exportOf kind (now (image .entry)) (now (text .entry))) (now (text .entry)) (now (result .entry)) .image ⌝ }
+    ensures result { λ _. ⌜ now (result .exit) ≡ returned (exportOf kind (now (image .entry)) (now (text .entry))) (now (text .entry)) (now (result .entry)) .result ⌝ }
+{
+    if result.len() < 24 {
+        return 1;
+    }
+    let w = index::export_text(kind, image, &mut *text);
+    report_row(&mut *result, w)
+}
+
+#[no_mangle]
+pub extern "C" fn mutree_import(kind: u32, image: &mut [u8], text: &[u8], result: &mut [u8]) -> u32
+    ensures answer { λ r. ⌜ r ≡ returned (importOf kind (now (image .entry)) (now (text .entry))) (now (image .entry)) (now (result .entry)) .answer ⌝ }
+    ensures image { λ _. ⌜ now (image .exit) ≡ returned (importOf kind (now (image .entry)) (now (text .entry))) (now (image .entry)) (now (result .entry)) .image ⌝ }
+    ensures result { λ _. ⌜ now (result .exit) ≡ returned (importOf kind (now (image .entry)) (now (text .entry))) (now (image .entry)) (now (result .entry)) .result ⌝ }
+{
+    if result.len() < 24 {
+        return 1;
+    }
+    let w = index::import_text(kind, &mut *image, text);
+    report_row(&mut *result, w)
 }

@@ -126,13 +126,17 @@ module _ (g : Geometry) (ss : List Store) (al : ℕ) (img : List ℕ) where
       go true = inl refl
       go false = inr refl
 
+  pub made-all : made g ss al img .answer ≡ 0 → length ss ≤ al
+  unfolding made
+  made-all h = leb-true (length ss) al (by-answer (leb (length ss) al) 0 h .0 refl)
+
   pub made-done : made g ss al img .answer ≡ 0 → made g ss al img .image ≡ applyAll g ss img
   unfolding made
-  made-done h = ap (λ (x : List Store). applyAll g x img) (take-all al ss (leb-true (length ss) al (by-answer (leb (length ss) al) 0 h .0 refl)))
+  made-done h = ap (λ (x : List Store). applyAll g x img) (take-all al ss (made-all h))
 
   pub made-counts : made g ss al img .answer ≡ 0 → made g ss al img .programmed ≡ programs ss
   unfolding made
-  made-counts h = ap programs (take-all al ss (leb-true (length ss) al (by-answer (leb (length ss) al) 0 h .0 refl)))
+  made-counts h = ap programs (take-all al ss (made-all h))
 
   pub made-stopped : made g ss al img .answer ≡ 7 → al < length ss
   unfolding made

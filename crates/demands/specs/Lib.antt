@@ -1,4 +1,4 @@
--- Demands 1, 2 and 3 of the definitions: read Words, then Refusals (demand 1) and Demands; Listing for request 1, Round for request 2, Patrol for request 4,
+-- Demands 1, 2 and 3 of the definitions: read Words, then Refusals (demand 1) and Demands; Listing for request 1, Carrying for request 13, Round for request 2, Patrol for request 4,
 -- Named for request 5, Reached for request 11, Inserts and Many for request 10. The other files are their proofs.
 pub mod Words
 pub mod Maps
@@ -16,6 +16,9 @@ pub mod Builds
 pub mod Between
 pub mod Looked
 pub mod Listing
+pub mod Stored
+pub mod Sums
+pub mod Carrying
 pub mod Round
 pub mod Reached
 pub mod Inserts

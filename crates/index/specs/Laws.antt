@@ -12,7 +12,9 @@ use Rattle.geometry.specs.Shape.{Known, Shape, shape, page-most, chosen-known}
 use Rattle.model.specs.Calls.{Outcome, refused, chosenCall, format, lookup, insert, delete, patrol, formatOf, lookupOf, insertOf, deleteOf, patrolOf}
 use Rattle.model.specs.Listing.{listsNone, listing, listOf, asOutcome}
 use Rattle.answers.specs.declared.Answer.the-variants.{Length}
-use Rattle.answers.specs.Answers.{told}
+use Rattle.answers.specs.declared.Row.{Row}
+use Rattle.answers.specs.Answers.{rowOf, toldBy, told}
+use Rattle.carrying.specs.Carrying.{exporting, exportOf, importing, importOf}
 
 module _ (kind : ℕ) (c : Chosen) (ec : c ≡ chosenOf kind) (g : Geometry) (e : c ≡ Of g) where
   pub of-known : Known g
@@ -53,6 +55,14 @@ module _ (kind : ℕ) (c : Chosen) (ec : c ≡ chosenOf kind) (g : Geometry) (e 
   unfolding patrolOf
   of-patrol img page half o h = called (λ x. patrol x img page half) (refused 1 img) o h
 
+  pub of-export : (img b : List ℕ) (o : Outcome) → o ≡ exporting g img b → o ≡ exportOf kind img b
+  unfolding exportOf
+  of-export img b o h = called (λ x. exporting x img b) (refused 1 b) o h
+
+  pub of-import : (img text : List ℕ) (o : Outcome) → o ≡ importing g img text → o ≡ importOf kind img text
+  unfolding importOf
+  of-import img text o h = called (λ x. importing x img text) (refused 1 img) o h
+
 -- no such geometry. A `let .. else` leaves that the choice is no Of, whatever geometry
 module _ (kind : ℕ) (c : Chosen) (ec : c ≡ chosenOf kind) (e : c ≡ Unknown) (img : List ℕ) where
   unknown : {A : Type 0} (call : Geometry → A) (other : A) → other ≡ chosenCall (chosenOf kind) call other
@@ -83,4 +93,12 @@ module _ (kind : ℕ) (c : Chosen) (ec : c ≡ chosenOf kind) (e : c ≡ Unknown
   unfolding patrolOf
   no-patrol page half = unknown (λ x. patrol x img page half) (refused 1 img)
 
-pub ruleset index-laws = (of-known, of-pages, of-page, of-format, of-lookup, of-list, of-insert, of-delete, of-patrol, no-format, no-lookup, no-list, no-insert, no-delete, no-patrol)
+  pub no-export : (b : List ℕ) (w : Row) → w ≡ rowOf Length → toldBy w b ≡ exportOf kind img b
+  unfolding exportOf
+  no-export b w f = ap (λ (x : Row). toldBy x b) f ∙ unknown (λ x. exporting x img b) (refused 1 b)
+
+  pub no-import : (text : List ℕ) (w : Row) → w ≡ rowOf Length → toldBy w img ≡ importOf kind img text
+  unfolding importOf
+  no-import text w f = ap (λ (x : Row). toldBy x img) f ∙ unknown (λ x. importing x img text) (refused 1 img)
+
+pub ruleset index-laws = (of-export, of-import, no-export, no-import, of-known, of-pages, of-page, of-format, of-lookup, of-list, of-insert, of-delete, of-patrol, no-format, no-lookup, no-list, no-insert, no-delete, no-patrol)

@@ -3,8 +3,10 @@
 ghost use mathlib.Core.Path.{_≡_};
 ghost use Rattle.model.specs.Calls.{formatOf, lookupOf, insertOf, deleteOf, patrolOf};
 ghost use Rattle.model.specs.Listing.{listOf, asOutcome};
-ghost use Rattle.answers.specs.Answers.{told};
+ghost use Rattle.answers.specs.Answers.{told, toldBy};
+ghost use Rattle.carrying.specs.Carrying.{exportOf, importOf};
 use answers::Answer;
+use answers::Row;
 use geometry::Chosen;
 
 pub fn format(kind: u32, img: &mut [u8]) -> Answer
@@ -66,4 +68,26 @@ pub fn patrol(kind: u32, img: &mut [u8], page: u32, half: u32) -> Answer
         return Answer::Length;
     };
     patrols::patrol_on(g, &mut *img, page, half)
+}
+
+// The map as a text of lines, into a lent text: the row has records, bytes of the whole text and bytes written, all or none.
+pub fn export_text(kind: u32, img: &[u8], text: &mut [u8]) -> Row
+    ensures { λ r. ⌜ toldBy r (now (text .exit)) ≡ exportOf kind (now (img .entry)) (now (text .entry)) ⌝ }
+{
+    let chosen = geometry::choose(kind);
+    let Chosen::Of(g) = chosen else {
+        return answers::row_of(Answer::Length);
+    };
+    exporter::export_on(g, img, &mut *text)
+}
+
+// The records of a text into an image that is formatted first: the row has the records stored, or the line that is refused.
+pub fn import_text(kind: u32, img: &mut [u8], text: &[u8]) -> Row
+    ensures { λ r. ⌜ toldBy r (now (img .exit)) ≡ importOf kind (now (img .entry)) (now (text .entry)) ⌝ }
+{
+    let chosen = geometry::choose(kind);
+    let Chosen::Of(g) = chosen else {
+        return answers::row_of(Answer::Length);
+    };
+    importer::import_on(g, &mut *img, text)
 }

@@ -69,15 +69,21 @@ sound-r5 : (g : Geometry) (n : ℕ) (img : List ℕ) → verdict g n img ≡ Sou
 unfolding verdict
 sound-r5 g n img e = or-sound _ _ _ (or-sound _ _ _ (or-sound _ _ _ (or-sound _ _ _ (or-sound _ _ _ e .1) .1) .1) .1) .0
 
-pub few-pairs : (g : Geometry) (n : ℕ) (img : List ℕ) (low high : ℕ) → Known g → verdict g n img ≡ Sound → length (rangedOf (chipOf g n img) low high) < 4294967296
-few-pairs g n img low high known e =
+pub few-map : (g : Geometry) (n : ℕ) (img : List ℕ) → Known g → verdict g n img ≡ Sound → length (mapOf (chipOf g n img)) < 4294967296
+few-map g n img known e =
     let c = chipOf g n img in
     let t = pagesOf g n in
     let rules = sound-r5 g n img e in
     let up = r5-rises g (shape g known) t c rules in
-    let fit = fitOf t (c .er) in
-    let room : ℕ → ℕ = λ j. 2 * half g j in
-    let is = ap length (ranged-root fit room (c .nodes) low high (c .level) 4294967296 (c .root) up) in
+    let b = root-most (fitOf t (c .er)) (λ j. 2 * half g j) (c .nodes) (c .level) 4294967296 (rootMost g (suc (c .level))) (c .root) up (r5-most g (shape g known) t c rules) in
+    omega (arith, b, known-few g known (c .level))
+
+pub few-pairs : (g : Geometry) (n : ℕ) (img : List ℕ) (low high : ℕ) → Known g → verdict g n img ≡ Sound → length (rangedOf (chipOf g n img) low high) < 4294967296
+few-pairs g n img low high known e =
+    let c = chipOf g n img in
+    let t = pagesOf g n in
+    let up = r5-rises g (shape g known) t c (sound-r5 g n img e) in
+    let is = ap length (ranged-root (fitOf t (c .er)) (λ j. 2 * half g j) (c .nodes) low high (c .level) 4294967296 (c .root) up) in
     let a = between-fewer low high (mapOf c) in
-    let b = root-most fit room (c .nodes) (c .level) 4294967296 (rootMost g (suc (c .level))) (c .root) up (r5-most g (shape g known) t c rules) in
-    omega (arith, is, a, b, known-few g known (c .level))
+    let b = few-map g n img known e in
+    omega (arith, is, a, b)

@@ -1,7 +1,8 @@
--- From the C calls to what is proved of them, with nothing in between: read Left, then Calls for the demands, Listing for request 1, Many for request 10 and
--- Patrol for request 4.
+-- From the C calls to what is proved of them, with nothing in between: read Left, then Calls for the demands, Listing for request 1, Carrying for request 13, Many for
+-- request 10 and Patrol for request 4.
 pub mod Left
 pub mod Calls
 pub mod Listing
+pub mod Carrying
 pub mod Many
 pub mod Patrol

@@ -5,7 +5,7 @@ use Rattle.camera.proofs.report.Tie as tie
 use Rattle.camera.proofs.report.Reads as reads
 use Rattle.camera.proofs.report.Lts as lts
 use Rattle.answers.proofs.row_of.Reads as row-of-reads
-use Rattle.camera.proofs.put_numbers.Reads as put-numbers-reads
+use Rattle.camera.proofs.report_row.Reads as report-row-reads
 
 ruleset all = (needs, camera-laws)
 

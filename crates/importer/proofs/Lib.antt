@@ -1,0 +1,6 @@
+-- What the import's walks share.
+pub mod Rows
+pub mod Again
+pub mod Next
+pub mod Big
+pub mod Arrays
