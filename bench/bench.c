@@ -1,9 +1,12 @@
 /* bench.c: how long the calls take, in one run, at 3, 64 and 1,024 blocks of both chips; beside them memcpy of the image as the
  * yardstick, and get and put of the same keys in LMDB (built with -DWITH_LMDB -llmdb) as what a user might pick instead. Then a table of
- * carrying 4,096 records as a text (request 13), beside one judged insert.
+ * carrying 4,096 records as a text (request 13), beside one judged insert, and one of inserts that collect so many pages (request 7).
  *
  * usage: bench [--svg OUT]      prints a table for each chip; OUT takes a plot of time against blocks
  *        bench --carry          the table of carrying alone
+ *        bench --collect        the table of collecting alone
+ *
+ * Put into a checkout of before request 7 it builds there too, so that both can be measured in one sitting.
  */
 #define _POSIX_C_SOURCE 200809L
 #include "../c/mutree.h"
@@ -18,6 +21,14 @@
 #include <lmdb.h>
 #include <sys/stat.h>
 #include <unistd.h>
+#endif
+
+/* What inserts and deletes are lent for live pages. The header of before request 7 has no such number, and its calls no such words. */
+#ifdef MUTREE_MOST_LIVE_WORDS
+static uint32_t live[MUTREE_MOST_LIVE_WORDS];
+#define LENT live, MUTREE_MOST_LIVE_WORDS,
+#else
+#define LENT
 #endif
 
 enum { SIZES = 3 };
@@ -160,9 +171,9 @@ static unsigned height_of_tree(const struct mutree_geometry *chip, uint32_t leav
     return height;
 }
 
-static uint8_t *built(const struct mutree_geometry *chip, unsigned blocks, uint32_t erased)
+static uint8_t *built(const struct mutree_geometry *chip, unsigned blocks, uint32_t erased, uint32_t leaves)
 {
-    struct builder b = { chip, NULL, chip->pages * blocks - erased, leaves_of(chip, blocks), 0, 0 };
+    struct builder b = { chip, NULL, chip->pages * blocks - erased, leaves, 0, 0 };
     size_t length = (size_t)blocks * chip->block_bytes;
     unsigned height = height_of_tree(chip, b.leaves);
     uint8_t result[MUTREE_RESULT_BYTES];
@@ -185,7 +196,7 @@ static uint8_t *built(const struct mutree_geometry *chip, unsigned blocks, uint3
 /* The same image, and the number of its first dead page has a bit more: no block's numbers are repeated, but they don't rise. */
 static uint8_t *disordered(const struct mutree_geometry *chip, unsigned blocks, uint32_t erased)
 {
-    uint8_t *image = built(chip, blocks, erased), *spare = image + chip->main_bytes;
+    uint8_t *image = built(chip, blocks, erased, leaves_of(chip, blocks)), *spare = image + chip->main_bytes;
     while (spare[5] != 0)
         spare += chip->page_bytes;
     spare[2] |= 64;
@@ -238,9 +249,9 @@ static uint32_t call(int kind, uint32_t chip, const uint8_t *start, uint8_t *ima
     case PATROL: return patrol_all(mutree_geometry_of(chip), image, length);
     case LOOKUP:
     case DISORDER: return mutree_lookup(chip, image, length, key, result, sizeof result);
-    case DELETE: return mutree_delete(chip, image, length, key, UINT32_MAX, result, sizeof result);
+    case DELETE: return mutree_delete(chip, image, length, LENT key, UINT32_MAX, result, sizeof result);
     case FORMAT: return mutree_format(chip, image, length, result, sizeof result);
-    default: return mutree_insert(chip, image, length, key + 1, key, UINT32_MAX, result, sizeof result);
+    default: return mutree_insert(chip, image, length, LENT key + 1, key, UINT32_MAX, result, sizeof result);
     }
 }
 
@@ -266,12 +277,13 @@ static void measure(const struct mutree_geometry *chip, int at)
 {
     size_t length = (size_t)sizes[at] * chip->block_bytes;
     uint8_t *image = malloc(length);
-    uint8_t *roomy = built(chip, sizes[at], chip->pages * 3 / 2), *tight = built(chip, sizes[at], chip->pages);
+    uint32_t leaves = leaves_of(chip, sizes[at]);
+    uint8_t *roomy = built(chip, sizes[at], chip->pages * 3 / 2, leaves), *tight = built(chip, sizes[at], chip->pages, leaves);
     uint8_t *unsorted = disordered(chip, sizes[at], chip->pages * 3 / 2);
     struct figures *f = &measured[chip->number][at];
     int kind;
     need(image != NULL, "out of memory");
-    f->keys = (unsigned long)leaves_of(chip, sizes[at]) * keys_a_leaf(chip);
+    f->keys = (unsigned long)leaves * keys_a_leaf(chip);
     for (kind = MEMCPY; kind <= PATROL; kind++)
         f->time[kind] = time_call(kind, chip->number, kind == COLLECT ? tight : kind == DISORDER ? unsorted : roomy, image, length,
                                   (uint32_t)f->keys);
@@ -299,7 +311,7 @@ static void measure_worst(uint32_t number)
         memcpy(image, start, length);
         w->copy += (now() - from) / ROUNDS;
         from = now();
-        need(mutree_insert(number, image, length, 3, 99, UINT32_MAX, result, sizeof result) == MUTREE_DONE, "the worst insert was refused");
+        need(mutree_insert(number, image, length, LENT 3, 99, UINT32_MAX, result, sizeof result) == MUTREE_DONE, "the worst insert was refused");
         w->time += (now() - from) / ROUNDS;
     }
     w->pages = mutree_read_result(result).programmed;
@@ -322,7 +334,7 @@ static uint32_t carry(int kind, struct carrying *c)
     uint8_t result[MUTREE_RESULT_BYTES];
     uint32_t number = c->chip->number, key = 16 * (1 + some(MUTREE_MOST_RECORDS)); /* a present one */
     switch (kind) {
-    case CARRY_INSERT: return mutree_insert(number, c->image, c->length, key, key, UINT32_MAX, result, sizeof result);
+    case CARRY_INSERT: return mutree_insert(number, c->image, c->length, LENT key, key, UINT32_MAX, result, sizeof result);
     case CARRY_EXPORT: return mutree_export(number, c->image, c->length, c->text, c->text_length, result, sizeof result);
     default: return mutree_import(number, c->image, c->length, c->text, c->text_length, result, sizeof result);
     }
@@ -377,6 +389,68 @@ static void carry_table(void)
     carry_row(mutree_geometry_of(MUTREE_SMALL), 64);
     carry_row(mutree_geometry_of(MUTREE_LARGE), 3);
     carry_row(mutree_geometry_of(MUTREE_LARGE), 64);
+    printf("\n");
+}
+
+/* ---- inserts that collect so many pages. Each block without an erased page has as many live pages as is moved from it, all on images of 64
+ * and 1,024 blocks. Of 1,024 small blocks no more than 2 pages a block are live, as the tree has no more leaves; there one block has 1, and
+ * after it one with 2 is collected too. Of 64 small blocks 32 pages are moved from two blocks. */
+struct collection {
+    uint32_t number;
+    unsigned blocks;
+    uint32_t leaves, erased, moved, erases;
+};
+
+static const struct collection collections[] = {
+    { MUTREE_SMALL, 64, 3 * 63, 32, 3, 1 },     { MUTREE_SMALL, 64, 13 * 63, 32, 13, 1 },     { MUTREE_SMALL, 64, 16 * 63 + 8, 16, 32, 2 },
+    { MUTREE_SMALL, 1024, 2046, 1, 3, 2 },      { MUTREE_LARGE, 64, 3 * 63, 64, 3, 1 },       { MUTREE_LARGE, 64, 13 * 63, 64, 13, 1 },
+    { MUTREE_LARGE, 64, 32 * 63, 64, 32, 1 },   { MUTREE_LARGE, 1024, 3 * 1023, 64, 3, 1 },   { MUTREE_LARGE, 1024, 13 * 1023, 64, 13, 1 },
+    { MUTREE_LARGE, 1024, 32 * 1023, 64, 32, 1 },
+};
+
+static void print_collection(uint32_t number, unsigned blocks, uint32_t moved, uint32_t erases, double time, double copy)
+{
+    printf("| %s, %u blocks | %u | %u | %.1f | %.2f |\n", chip_names[number], blocks, (unsigned)moved, (unsigned)erases, 1e6 * time, time / copy);
+    fflush(stdout);
+}
+
+/* The planned pages are moved, and one more is programmed, the insert's own. */
+static void moves_as_planned(const struct collection *c, const uint8_t *start, uint8_t *image, size_t length)
+{
+    uint8_t result[MUTREE_RESULT_BYTES];
+    struct mutree_result made;
+    memcpy(image, start, length);
+    need(mutree_insert(c->number, image, length, LENT 17, 1, UINT32_MAX, result, sizeof result) == MUTREE_DONE, "an insert was refused");
+    made = mutree_read_result(result);
+    need(made.programmed == c->moved + 1 && made.erased == c->erases, "an insert does not move as many pages as planned");
+}
+
+static void collect_row(const struct collection *c)
+{
+    const struct mutree_geometry *chip = mutree_geometry_of(c->number);
+    size_t length = (size_t)c->blocks * chip->block_bytes;
+    uint8_t *start = built(chip, c->blocks, c->erased, c->leaves), *image = malloc(length);
+    uint32_t keys = c->leaves * keys_a_leaf(chip);
+    need(image != NULL, "out of memory");
+    moves_as_planned(c, start, image, length);
+    print_collection(c->number, c->blocks, c->moved, c->erases, time_call(COLLECT, c->number, start, image, length, keys),
+                     time_call(MEMCPY, c->number, start, image, length, keys));
+    free(start);
+    free(image);
+}
+
+/* Last the inserts with the most stores, measured before. */
+static void collect_table(void)
+{
+    size_t i;
+    uint32_t number;
+    printf("| inserts that collect | pages moved | blocks erased | microseconds | times memcpy |\n|---|---|---|---|---|\n");
+    for (i = 0; i < sizeof collections / sizeof *collections; i++)
+        collect_row(&collections[i]);
+    for (number = 0; number < CHIPS; number++) {
+        const struct worst *w = &worst[number];
+        print_collection(number, w->blocks, w->pages - chips[number].own_pages, w->erases, w->time, w->copy);
+    }
     printf("\n");
 }
 
@@ -580,12 +654,16 @@ int main(int count, char **words)
         return 0;
     }
     for (chip = 0; chip < CHIPS; chip++)
+        measure_worst(chip);
+    if (count == 2 && strcmp(words[1], "--collect") == 0) {
+        collect_table();
+        return 0;
+    }
+    for (chip = 0; chip < CHIPS; chip++)
         for (at = 0; at < SIZES; at++) {
             measure(mutree_geometry_of(chip), at);
             measure_lmdb(&measured[chip][at]);
         }
-    for (chip = 0; chip < CHIPS; chip++)
-        measure_worst(chip);
     for (chip = 0; chip < CHIPS; chip++)
         table(chip);
     for (chip = 0; chip < CHIPS; chip++)
@@ -594,6 +672,7 @@ int main(int count, char **words)
         tell_worst(chip);
     printf("\n");
     carry_table();
+    collect_table();
     if (count == 3 && strcmp(words[1], "--svg") == 0)
         plot(words[2]);
     return 0;

@@ -145,8 +145,9 @@ static uint32_t next_key(struct run *r)
 /* ---- an insert, and what is held against it */
 static struct mutree_result insert(uint8_t *image, size_t length, uint32_t key, uint32_t allowance)
 {
+    static uint32_t live[MUTREE_MOST_LIVE_WORDS];
     uint8_t result[MUTREE_RESULT_BYTES];
-    mutree_insert(MUTREE_SMALL, image, length, key, 1, allowance, result, sizeof result);
+    mutree_insert(MUTREE_SMALL, image, length, live, MUTREE_MOST_LIVE_WORDS, key, 1, allowance, result, sizeof result);
     return mutree_read_result(result);
 }
 

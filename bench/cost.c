@@ -50,6 +50,7 @@ static void need(int ok, const char *what)
 
 static void build(int which)
 {
+    static uint32_t live[MUTREE_MOST_LIVE_WORDS];
     uint8_t result[MUTREE_RESULT_BYTES];
     uint32_t i;
     chip = mutree_geometry_of(images[which].chip);
@@ -61,7 +62,8 @@ static void build(int which)
     memset(pairs, 0, 2 * (size_t)keys * sizeof *pairs);
     mutree_format(chip->number, image, length, result, sizeof result);
     for (i = 1; i <= keys; i++)
-        need(mutree_insert(chip->number, image, length, STEP * i, i, UINT32_MAX, result, sizeof result) == MUTREE_DONE, "a key was refused");
+        need(mutree_insert(chip->number, image, length, live, MUTREE_MOST_LIVE_WORDS, STEP * i, i, UINT32_MAX, result, sizeof result) == MUTREE_DONE,
+             "a key was refused");
 }
 
 /* The height byte of the page with the largest sequence number: an insert programs the root last. */

@@ -50,11 +50,12 @@ static uint8_t *room(void)
 
 static struct mutree_result call(uint8_t *image, struct update u, uint32_t allowance)
 {
+    static uint32_t live[BLOCKS * MUTREE_SMALL_BLOCK_WORDS];
     uint8_t result[MUTREE_RESULT_BYTES];
     if (u.kind == INSERT)
-        mutree_insert(MUTREE_SMALL, image, LENGTH, u.key, u.address, allowance, result, sizeof result);
+        mutree_insert(MUTREE_SMALL, image, LENGTH, live, BLOCKS * MUTREE_SMALL_BLOCK_WORDS, u.key, u.address, allowance, result, sizeof result);
     else
-        mutree_delete(MUTREE_SMALL, image, LENGTH, u.key, allowance, result, sizeof result);
+        mutree_delete(MUTREE_SMALL, image, LENGTH, live, BLOCKS * MUTREE_SMALL_BLOCK_WORDS, u.key, allowance, result, sizeof result);
     return mutree_read_result(result);
 }
 

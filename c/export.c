@@ -78,16 +78,12 @@ static int export_image(const struct arguments *arguments, const struct stat *in
 
 int export_command(const struct arguments *arguments)
 {
-    struct file file;
+    struct stat state;
     struct image image;
-    int status = file_open_to_read(arguments->word[0], &file);
+    int status = file_load_with_state(arguments->word[0], arguments->geometry, &image, &state);
     if (status != 0)
         return status;
-    status = file_load(&file, arguments->geometry, &image);
-    file_close(&file);
-    if (status != 0)
-        return status;
-    status = export_image(arguments, &file.state, &image);
+    status = export_image(arguments, &state, &image);
     image_free(&image);
     return status;
 }

@@ -178,15 +178,22 @@ int file_load(const struct file *file, const struct mutree_geometry *geometry, s
     return say_either(file->name);
 }
 
-int file_load_named(const char *name, const struct mutree_geometry *geometry, struct image *image)
+int file_load_with_state(const char *name, const struct mutree_geometry *geometry, struct image *image, struct stat *state)
 {
     struct file file;
     int status = file_open_to_read(name, &file);
     if (status != 0)
         return status;
     status = file_load(&file, geometry, image);
+    *state = file.state;
     file_close(&file);
     return status;
+}
+
+int file_load_named(const char *name, const struct mutree_geometry *geometry, struct image *image)
+{
+    struct stat ignored;
+    return file_load_with_state(name, geometry, image, &ignored);
 }
 
 void file_close(struct file *file)

@@ -27,8 +27,9 @@ int file_read(const struct file *file, struct image *image);
  * names; with NULL it is told from the file, and a file that could be of either chip is refused with a line. */
 int file_load(const struct file *file, const struct mutree_geometry *geometry, struct image *image);
 
-/* Opens, loads and closes. */
+/* Opens, loads and closes; the second one gives the file's state as well. */
 int file_load_named(const char *name, const struct mutree_geometry *geometry, struct image *image);
+int file_load_with_state(const char *name, const struct mutree_geometry *geometry, struct image *image, struct stat *state);
 
 /* Closes the file. One that this process made and that is still empty is removed. */
 void file_close(struct file *file);

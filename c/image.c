@@ -69,17 +69,21 @@ struct mutree_listed image_list(const struct image *image, uint32_t low, uint32_
     return mutree_read_listed(result);
 }
 
+/* What inserts and deletes are lent for the live pages; enough for every image. */
+static uint32_t live[MUTREE_MOST_LIVE_WORDS];
+
 struct mutree_result image_insert(struct image *image, uint32_t key, uint32_t address, uint32_t allowance)
 {
     uint8_t result[MUTREE_RESULT_BYTES];
-    mutree_insert(image->geometry->number, image->bytes, image->length, key, address, allowance, result, sizeof result);
+    mutree_insert(image->geometry->number, image->bytes, image->length, live, MUTREE_MOST_LIVE_WORDS, key, address, allowance, result,
+                  sizeof result);
     return mutree_read_result(result);
 }
 
 struct mutree_result image_delete(struct image *image, uint32_t key, uint32_t allowance)
 {
     uint8_t result[MUTREE_RESULT_BYTES];
-    mutree_delete(image->geometry->number, image->bytes, image->length, key, allowance, result, sizeof result);
+    mutree_delete(image->geometry->number, image->bytes, image->length, live, MUTREE_MOST_LIVE_WORDS, key, allowance, result, sizeof result);
     return mutree_read_result(result);
 }
 

@@ -95,14 +95,10 @@ static int say_carried(struct loaded *loaded, struct mutree_nand_result made)
 }
 
 /* An insert (address given) or a delete (none). */
-static int update(const struct arguments *arguments, const uint32_t *address)
+static int update(const struct arguments *arguments, uint32_t key, const uint32_t *address)
 {
     struct loaded loaded;
-    uint32_t key;
-    int status;
-    if (read_number(arguments->word[0], "key", &key))
-        return BAD_USAGE;
-    status = load_device(&loaded, arguments, 1);
+    int status = load_device(&loaded, arguments, 1);
     if (status != 0)
         return status;
     status = say_carried(&loaded, address != NULL ? mutree_nand_insert(&loaded.nand, key, *address) : mutree_nand_delete(&loaded.nand, key));
@@ -112,13 +108,16 @@ static int update(const struct arguments *arguments, const uint32_t *address)
 
 static int insert_on_mtd(const struct arguments *arguments)
 {
-    uint32_t address;
-    return read_number(arguments->word[1], "address", &address) ? BAD_USAGE : update(arguments, &address);
+    uint32_t key, address;
+    if (read_number(arguments->word[0], "key", &key) || read_number(arguments->word[1], "address", &address))
+        return BAD_USAGE;
+    return update(arguments, key, &address);
 }
 
 static int delete_on_mtd(const struct arguments *arguments)
 {
-    return update(arguments, NULL);
+    uint32_t key;
+    return read_number(arguments->word[0], "key", &key) ? BAD_USAGE : update(arguments, key, NULL);
 }
 
 static int lookup_on_mtd(const struct arguments *arguments)

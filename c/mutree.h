@@ -28,8 +28,16 @@
  *   6   the lowest page that breaks it
  *   4, 7, 8   0: they speak of the whole image (mutree_rule_has_page)
  *
+ * mutree_insert and mutree_delete are lent a table of live pages as well: words of 32 bits, page p being bit p % 32 of word p / 32, so
+ * one word for each block of the small chip and two for each of the large one (mutree_live_words). A page is live where the tree
+ * that the image holds has a node on it. What stands in the words beforehand does not matter: a call works them out from the image at
+ * its start, and a collection carries them on from page to page instead of walking the tree for each. After every answer but LENGTH and
+ * DAMAGED, refusals and STOPPED among them, they are those of the image as it then is. LENGTH and DAMAGED leave every word, and words
+ * past the image's always stay. Fewer words than the image needs give LENGTH, before the image is judged.
+ *
  * The caller owns all buffers. They must not overlap. Each pointer must be valid for its length; a call with a length of 0 may
- * pass any non-null pointer. mutree_list's buffer of numbers is aligned as uint32_t is; the others need no alignment.
+ * pass any non-null pointer. mutree_list's buffer of numbers and the words of live pages are aligned as uint32_t is; the others need
+ * no alignment.
  *
  * What a call needs
  *   processor   x86-64 or ARM64 with 64-bit size_t; an archive for each. Beside its calls the archive asks the C
@@ -39,7 +47,7 @@
  *               ARM64: normal memory, not device memory).
  *   stack       measured, in bytes, on the large chip, whose trees are deeper; it does not grow with the image:
  *                              format   lookup      list    export    insert    delete   patrol
- *                     ARM64     5,568  112,256   112,288   112,352   179,568   170,032      760
+ *                     ARM64     5,568  112,256   112,288   112,352   185,648   176,448      760
  *                     x86-64    2,240  160,240         -         -   178,080   169,920        -
  *               x86-64 was measured with version 0.3.0, before the codes and the one pass of judging.
  *               An import takes what its inserts do and 32,768 for its pairs. 224 KiB serve every call, 192 KiB on the small chip;
@@ -76,7 +84,7 @@
 #include <stddef.h>
 #include <stdint.h>
 
-#define MUTREE_VERSION "0.7.0"
+#define MUTREE_VERSION "0.8.0"
 
 /* Lengths are 64 bits in the library. This line does not compile where size_t has another width. */
 typedef char mutree_needs_size_t_of_64_bits[sizeof(size_t) == 8 ? 1 : -1];
@@ -92,6 +100,7 @@ extern "C" {
 #define MUTREE_SLOT_BYTES 8u /* a key and an address */
 #define MUTREE_HALF_BYTES 256u /* of a page's main bytes, what one code is of */
 #define MUTREE_CODE_BYTES 3u
+#define MUTREE_WORD_PAGES 32u /* of a word of live pages, one bit each */
 #define MUTREE_MOST_RECORDS 4096u /* that one import takes */
 #define MUTREE_LINE_BYTES 22u     /* of the longest line of an export: two numbers of ten digits, a tab and byte 10 */
 
@@ -102,6 +111,7 @@ extern "C" {
 #define MUTREE_SMALL_SPARE_BYTES 16u
 #define MUTREE_SMALL_PAGE_BYTES (MUTREE_SMALL_MAIN_BYTES + MUTREE_SMALL_SPARE_BYTES)
 #define MUTREE_SMALL_BLOCK_BYTES (MUTREE_SMALL_PAGES * MUTREE_SMALL_PAGE_BYTES)
+#define MUTREE_SMALL_BLOCK_WORDS (MUTREE_SMALL_PAGES / MUTREE_WORD_PAGES)
 
 #define MUTREE_LARGE 1u
 #define MUTREE_LARGE_PAGES 64u
@@ -109,9 +119,11 @@ extern "C" {
 #define MUTREE_LARGE_SPARE_BYTES 64u
 #define MUTREE_LARGE_PAGE_BYTES (MUTREE_LARGE_MAIN_BYTES + MUTREE_LARGE_SPARE_BYTES)
 #define MUTREE_LARGE_BLOCK_BYTES (MUTREE_LARGE_PAGES * MUTREE_LARGE_PAGE_BYTES)
+#define MUTREE_LARGE_BLOCK_WORDS (MUTREE_LARGE_PAGES / MUTREE_WORD_PAGES)
 
 #define MUTREE_GEOMETRIES 2u /* their numbers are those below it */
 #define MUTREE_MOST_TOP 7u   /* the greatest height of all chips */
+#define MUTREE_MOST_LIVE_WORDS (MUTREE_MOST_BLOCKS * MUTREE_LARGE_BLOCK_WORDS) /* 2,048: enough for every image of both chips */
 
 /* The numbers of a chip. */
 struct mutree_geometry {
@@ -119,6 +131,7 @@ struct mutree_geometry {
     uint32_t pages;                               /* of a block: 32, 64 */
     uint32_t main_bytes, spare_bytes, page_bytes; /* of a page: 512 + 16 = 528, 2,048 + 64 = 2,112 */
     uint32_t block_bytes;                         /* 16,896, 135,168 */
+    uint32_t block_words;                         /* words of live pages: 1, 2 */
     uint32_t slots;                               /* of a page: 64, 256 */
     uint32_t top;                                 /* the greatest height: 5, 7 */
     uint32_t worn;                                /* a larger sequence number is WORN: 4,294,967,000, 4,294,966,000 */
@@ -136,13 +149,29 @@ static inline const struct mutree_geometry *mutree_geometry_of(uint32_t number)
 {
     static const struct mutree_geometry geometries[MUTREE_GEOMETRIES] = {
         { MUTREE_SMALL, MUTREE_SMALL_PAGES, MUTREE_SMALL_MAIN_BYTES, MUTREE_SMALL_SPARE_BYTES, MUTREE_SMALL_PAGE_BYTES,
-          MUTREE_SMALL_BLOCK_BYTES, MUTREE_SMALL_MAIN_BYTES / MUTREE_SLOT_BYTES, 5, 4294967000u,
+          MUTREE_SMALL_BLOCK_BYTES, MUTREE_SMALL_BLOCK_WORDS, MUTREE_SMALL_MAIN_BYTES / MUTREE_SLOT_BYTES, 5, 4294967000u,
           MUTREE_SMALL_MAIN_BYTES / MUTREE_HALF_BYTES, 10, 5, 191, 6, 191 + 6 },
         { MUTREE_LARGE, MUTREE_LARGE_PAGES, MUTREE_LARGE_MAIN_BYTES, MUTREE_LARGE_SPARE_BYTES, MUTREE_LARGE_PAGE_BYTES,
-          MUTREE_LARGE_BLOCK_BYTES, MUTREE_LARGE_MAIN_BYTES / MUTREE_SLOT_BYTES, MUTREE_MOST_TOP, 4294966000u,
+          MUTREE_LARGE_BLOCK_BYTES, MUTREE_LARGE_BLOCK_WORDS, MUTREE_LARGE_MAIN_BYTES / MUTREE_SLOT_BYTES, MUTREE_MOST_TOP,
+          4294966000u,
           MUTREE_LARGE_MAIN_BYTES / MUTREE_HALF_BYTES, 12, 7, 511, 8, 511 + 8 },
     };
     return number < MUTREE_GEOMETRIES ? &geometries[number] : NULL;
+}
+
+/* How many words of live pages an image of this length needs: 3 to 1,024 on the small chip, 6 to 2,048 on the large one. 0 where it is no
+ * index's length or the number no chip's; such a call is LENGTH. */
+static inline size_t mutree_live_words(uint32_t geometry, size_t image_len)
+{
+    const struct mutree_geometry *chip = mutree_geometry_of(geometry);
+    size_t blocks = chip != NULL && image_len % chip->block_bytes == 0 ? image_len / chip->block_bytes : 0;
+    return blocks >= MUTREE_LEAST_BLOCKS && blocks <= MUTREE_MOST_BLOCKS ? blocks * chip->block_words : 0;
+}
+
+/* Whether a page of the image is live, by the words that an insert or a delete left. */
+static inline int mutree_is_live(const uint32_t *live, uint32_t page)
+{
+    return (int)(live[page / MUTREE_WORD_PAGES] >> page % MUTREE_WORD_PAGES & 1);
 }
 
 /* The lowest number that applies is given; of an import TEXT comes right after LENGTH. 1 to 6 and 9 leave the image untouched, but
@@ -150,8 +179,9 @@ static inline const struct mutree_geometry *mutree_geometry_of(uint32_t number)
 enum mutree_answer {
     MUTREE_DONE = 0,    /* it is done */
     MUTREE_LENGTH = 1,  /* the geometry's number is neither 0 nor 1; or the image's length is not 3 to 1,024 times the
-                           chip's block (16,896, 135,168); or patrol's page or half is none; or the result buffer is too
-                           short. But for the short buffer the result is written */
+                           chip's block (16,896, 135,168); or patrol's page or half is none; or an insert's or delete's
+                           words are too few; or the result buffer is too short. But for the short buffer the result is
+                           written */
     MUTREE_DAMAGED = 2, /* the image is not a sound index of this chip: rule and page of the result say what is broken, and
                            where. Calls from format on always leave a sound one */
     MUTREE_WORN = 3,    /* insert, delete: the sequence numbers are used up, the largest is above the chip's `worn` */
@@ -328,21 +358,25 @@ uint32_t mutree_lookup(uint32_t geometry, const uint8_t *image, size_t image_len
 uint32_t mutree_list(uint32_t geometry, const uint8_t *image, size_t image_len, uint32_t low, uint32_t high, uint32_t *pairs,
                      size_t pairs_len, uint8_t *result, size_t result_len);
 
-/* Gives a key an address, a new one if the key is there. `allowance` is how many stores (pages programmed and blocks
- * erased together) the call may make; UINT32_MAX sets no limit. A battery loss after any store leaves a sound index
- * with the old map, and with the new one after the last store. Answers all but ABSENT; ROOM never for a present key.
+/* Gives a key an address, a new one if the key is there. `live` lends `live_len` words for the live pages, which are right after every
+ * answer but LENGTH and DAMAGED (above). `allowance` is how many stores (pages programmed and blocks erased together) the call may
+ * make; UINT32_MAX sets no limit. A battery loss after any store leaves a sound index with the old map, and with the new one after the
+ * last store. Answers all but ABSENT; ROOM never for a present key.
+ *
+ *   static uint32_t live[3 * MUTREE_LARGE_BLOCK_WORDS];
+ *   mutree_insert(MUTREE_LARGE, image, 3 * MUTREE_LARGE_BLOCK_BYTES, live, 3 * MUTREE_LARGE_BLOCK_WORDS, key, address, UINT32_MAX, ..);
  *
  * A stopped update is not gone on with: the next call begins it again on the image as it then is. Called again and
  * again with less than the stores that it needs it may never end, and it wears the chip (measured on the small chip: an
  * insert that needs 3 stores, called 100,000 times with allowance 1, was STOPPED each time and programmed 96,969 pages). The
  * least allowance that is sure to end an update is the stores that it needs, at most the chip's most_stores (197, 519). */
-uint32_t mutree_insert(uint32_t geometry, uint8_t *image, size_t image_len, uint32_t key, uint32_t address,
-                       uint32_t allowance, uint8_t *result, size_t result_len);
+uint32_t mutree_insert(uint32_t geometry, uint8_t *image, size_t image_len, uint32_t *live, size_t live_len, uint32_t key,
+                       uint32_t address, uint32_t allowance, uint8_t *result, size_t result_len);
 
-/* Takes a key out; allowance as for insert. It is never short of room: answers DONE, LENGTH, DAMAGED, WORN, ABSENT or
+/* Takes a key out; words and allowance as for insert. It is never short of room: answers DONE, LENGTH, DAMAGED, WORN, ABSENT or
  * STOPPED. */
-uint32_t mutree_delete(uint32_t geometry, uint8_t *image, size_t image_len, uint32_t key, uint32_t allowance,
-                       uint8_t *result, size_t result_len);
+uint32_t mutree_delete(uint32_t geometry, uint8_t *image, size_t image_len, uint32_t *live, size_t live_len, uint32_t key,
+                       uint32_t allowance, uint8_t *result, size_t result_len);
 
 /* Compares a half's stored code with a fresh one, and mends the half where one bit is flipped. Answers DONE, with what was found
  * in place of the address and the bit in place of the pages programmed (mutree_found, mutree_bit), or LENGTH: a page that the

@@ -16,15 +16,17 @@ struct store {
 };
 
 /* Every call that stores goes through here. What a caller keeps beside the image is to be handed on here. */
-static struct mutree_result ask(const struct mutree_nand *nand, uint8_t *image, struct order order, uint32_t allowance)
+static struct mutree_result ask(struct mutree_nand *nand, uint8_t *image, struct order order, uint32_t allowance)
 {
     uint8_t result[MUTREE_RESULT_BYTES];
     switch (order.kind) {
     case FORMAT: mutree_format(nand->geometry, image, nand->length, result, sizeof result); break;
     case INSERT:
-        mutree_insert(nand->geometry, image, nand->length, order.key, order.address, allowance, result, sizeof result);
+        mutree_insert(nand->geometry, image, nand->length, nand->live, MUTREE_MOST_LIVE_WORDS, order.key, order.address, allowance, result,
+                      sizeof result);
         break;
-    default: mutree_delete(nand->geometry, image, nand->length, order.key, allowance, result, sizeof result);
+    default:
+        mutree_delete(nand->geometry, image, nand->length, nand->live, MUTREE_MOST_LIVE_WORDS, order.key, allowance, result, sizeof result);
     }
     return mutree_read_result(result);
 }
@@ -41,11 +43,7 @@ static struct mutree_nand_result told(struct mutree_result from)
 /* The chip, or NULL where the length is no index's. */
 static const struct mutree_geometry *chip_of(const struct mutree_nand *nand)
 {
-    const struct mutree_geometry *chip = mutree_geometry_of(nand->geometry);
-    size_t blocks = chip != NULL ? nand->length / chip->block_bytes : 0;
-    if (chip == NULL || nand->length % chip->block_bytes != 0)
-        return NULL;
-    return blocks >= MUTREE_LEAST_BLOCKS && blocks <= MUTREE_MOST_BLOCKS ? chip : NULL;
+    return mutree_live_words(nand->geometry, nand->length) > 0 ? mutree_geometry_of(nand->geometry) : NULL;
 }
 
 static uint32_t blocks_of(const struct mutree_nand *nand, const struct mutree_geometry *chip)

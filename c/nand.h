@@ -4,7 +4,7 @@
  * The library updates an image in RAM. These calls carry an update to the chip, store by store and in the order of its list of
  * stores, so that power lost between two stores leaves the old map or the new one on the chip, never another.
  *
- *   struct mutree_nand nand = { MUTREE_LARGE, image, copy, length, &chip, program, erase, read, { 0 } };
+ *   struct mutree_nand nand = { MUTREE_LARGE, image, copy, length, &chip, program, erase, read, { 0 }, { 0 } };
  *   answer = mutree_nand_read(&nand).answer;                       once, after the start
  *   answer = mutree_nand_insert(&nand, key, address).answer;       instead of mutree_insert
  *   answer = mutree_lookup(nand.geometry, nand.image, ..);         lookups and lists on the image, as ever
@@ -51,7 +51,8 @@ struct mutree_nand {
     int (*erase)(void *context, uint32_t block);
     /* Reads one page. Only mutree_nand_read calls it. */
     int (*read)(void *context, uint32_t page, uint8_t *main_bytes, uint8_t *spare_bytes);
-    uint8_t filled[MUTREE_MOST_BLOCKS]; /* private: while an update runs, how many pages of each block the chip has programmed */
+    uint8_t filled[MUTREE_MOST_BLOCKS];    /* private: while an update runs, how many pages of each block the chip has programmed */
+    uint32_t live[MUTREE_MOST_LIVE_WORDS]; /* private: what inserts and deletes are lent for the live pages */
 };
 
 struct mutree_nand_result {

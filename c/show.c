@@ -79,20 +79,16 @@ static int show_survey(const struct arguments *arguments, const struct stat *ind
 
 int show_command(const struct arguments *arguments)
 {
-    struct file file;
+    struct stat state;
     struct image image;
     struct survey s;
     struct mutree_result verdict;
-    int status = file_open_to_read(arguments->word[0], &file);
-    if (status != 0)
-        return status;
-    status = file_load(&file, arguments->geometry, &image);
-    file_close(&file);
+    int status = file_load_with_state(arguments->word[0], arguments->geometry, &image, &state);
     if (status != 0)
         return status;
     verdict = image_judge(&image);
     s = survey_image(&image, verdict);
-    status = show_survey(arguments, &file.state, &s);
+    status = show_survey(arguments, &state, &s);
     if (status == 0) {
         say_check(&image, verdict);
         status = (int)verdict.answer;

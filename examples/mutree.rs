@@ -74,6 +74,7 @@ struct RawNand {
     erase: extern "C" fn(*mut c_void, u32) -> i32,
     read: extern "C" fn(*mut c_void, u32, *mut u8, *mut u8) -> i32,
     filled: [u8; 1024],
+    live: [u32; 2048],
 }
 
 #[repr(C)]
@@ -200,6 +201,7 @@ impl<C: Chip> Index<C> {
             erase: erase::<C>,
             read: read::<C>,
             filled: [0; 1024],
+            live: [0; 2048],
         };
         settled(run(&mut nand))
     }

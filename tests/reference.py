@@ -20,6 +20,15 @@ def load():
     return importlib.import_module("fuzz_claims")
 
 
+def need(name):
+    """The same, or an end with status 3 after a line that says that the test was left out."""
+    fuzz = load()
+    if fuzz is None:
+        print("%s: NOT RUN, the reference model is not here (docs/TESTING.md says where it is looked for)" % name, file=sys.stderr)
+        sys.exit(3)
+    return fuzz
+
+
 def rules(fuzz):
     """The requests that have landed and that the model tells apart."""
     return fuzz.Rules(wish2=True, wish4=True, wish5=True, wish11=True)

@@ -17,20 +17,21 @@
  * 25 an image is formatted before its text is read to the end   26 a last line without byte 10 is taken
  * 27 an export writes what fits into too few bytes   28 a byte 0 after the text   29 an export needs one byte more than the text has
  * 30 a key with a leading zero is taken   31 an import that lacks room leaves the image as it was
- * 32 an import reads one byte past its text   33 an import does not count format's page (carrying.c has 23 to 33) */
+ * 32 an import reads one byte past its text   33 an import does not count format's page (carrying.c has 23 to 33)
+ * 34 pages that died keep their bits   35 pages that are new have none   36 a word past the image's is written
+ * 37 the words stay as they were where an insert is ROOM   38 a stopped update leaves the words of the finished one
+ * 39 DAMAGED changes a word   40 LENGTH changes a word   41 one word too few is taken   42 the two words of a large block are exchanged
+ * 43 an update reads one word past those that are lent   44 too few words are told only where the image is sound
+ * 45 a page without a leaf stays live when its inner node moves (marking.c has 34 to 45) */
 #include "../../c/mutree.h"
 #include "../independent/code.h"
 #include "carrying.h"
 #include "damage.h"
 #include "listing.h"
+#include "marking.h"
 
 #include <stdlib.h>
 #include <string.h>
-
-uint32_t real_lookup(uint32_t geometry, const uint8_t *image, size_t image_len, uint32_t key, uint8_t *result, size_t result_len);
-uint32_t real_insert(uint32_t geometry, uint8_t *image, size_t image_len, uint32_t key, uint32_t address,
-                     uint32_t allowance, uint8_t *result, size_t result_len);
-uint32_t real_delete(uint32_t geometry, uint8_t *image, size_t image_len, uint32_t key, uint32_t allowance, uint8_t *result, size_t result_len);
 
 uint32_t real_patrol(uint32_t geometry, uint8_t *image, size_t image_len, uint32_t page, uint32_t half, uint8_t *result, size_t result_len);
 
@@ -113,12 +114,19 @@ static void undo(uint8_t *image, const uint8_t *before, size_t length)
         memcpy(image, before, length);
 }
 
-uint32_t mutree_insert(uint32_t geometry, uint8_t *image, size_t image_len, uint32_t key, uint32_t address,
-                       uint32_t allowance, uint8_t *result, size_t result_len)
+/* Faults 34 to 45 are of the words alone. */
+static uint32_t update(struct update u)
+{
+    return FAULT >= 34 ? update_wrongly(FAULT, u) : update_rightly(u);
+}
+
+uint32_t mutree_insert(uint32_t geometry, uint8_t *image, size_t image_len, uint32_t *live, size_t live_len, uint32_t key,
+                       uint32_t address, uint32_t allowance, uint8_t *result, size_t result_len)
 {
     uint8_t *before = FAULT == 1 ? copied(image, image_len) : NULL;
     uint32_t more = FAULT == 6 && allowance < UINT32_MAX;
-    uint32_t answer = real_insert(chip_of(geometry), image, image_len, key, address, allowance + more, result, result_len);
+    struct update u = { 1, chip_of(geometry), image, image_len, live, live_len, key, address, allowance + more, result, result_len };
+    uint32_t answer = update(u);
     undo(image, before, image_len);
     free(before);
     tell_wrongly(FAULT, geometry, image, image_len, answer, result);
@@ -133,16 +141,19 @@ uint32_t mutree_insert(uint32_t geometry, uint8_t *image, size_t image_len, uint
 
 static int insert_lacks_room(uint32_t geometry, const uint8_t *image, size_t length, uint32_t key)
 {
+    static uint32_t live[MUTREE_MOST_LIVE_WORDS];
     uint8_t *copy = copied(image, length), result[MUTREE_RESULT_BYTES];
-    uint32_t answer = real_insert(chip_of(geometry), copy, length, key + 1, 0, 0, result, sizeof result);
+    uint32_t answer = real_insert(chip_of(geometry), copy, length, live, MUTREE_MOST_LIVE_WORDS, key + 1, 0, 0, result, sizeof result);
     free(copy);
     return answer == MUTREE_ROOM;
 }
 
-uint32_t mutree_delete(uint32_t geometry, uint8_t *image, size_t image_len, uint32_t key, uint32_t allowance, uint8_t *result, size_t result_len)
+uint32_t mutree_delete(uint32_t geometry, uint8_t *image, size_t image_len, uint32_t *live, size_t live_len, uint32_t key,
+                       uint32_t allowance, uint8_t *result, size_t result_len)
 {
     uint8_t *before = FAULT == 4 || (FAULT == 9 && insert_lacks_room(geometry, image, image_len, key)) ? copied(image, image_len) : NULL;
-    uint32_t answer = real_delete(chip_of(geometry), image, image_len, key, allowance, result, result_len);
+    struct update u = { 0, chip_of(geometry), image, image_len, live, live_len, key, 0, allowance, result, result_len };
+    uint32_t answer = update(u);
     undo(image, before, image_len);
     if (FAULT == 9 && before != NULL && (answer == MUTREE_DONE || answer == MUTREE_STOPPED)) {
         memset(result, 0, MUTREE_RESULT_BYTES);

@@ -298,11 +298,12 @@ class Definitions:
             return force(img)[at:at + n] == b"\xff" * n
 
         def written(l, at, f, n):
-            out, at, f = bytearray(force(l)), force(at), force(f)
+            old, at, f = force(l), force(at), force(f)
+            out = list(old)
             for k in range(force(n)):
                 if at + k < len(out):
                     out[at + k] = force(f(k))
-            return bytes(out)
+            return type(old)(out)
         def least(n, f):
             f = force(f)
             return next((i for i in range(force(n)) if f(i)), force(n))

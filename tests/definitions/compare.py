@@ -76,10 +76,7 @@ def patrols(d, m, rng, turns, met):
 
 
 def compare(seconds, seed, name):
-    fuzz = reference.load()
-    if fuzz is None:
-        print("definitions: skipped, the reference model is not here")
-        return
+    fuzz = reference.need("definitions")
     geometry = next(g for g in reference.geometries(fuzz) if g.name == name)
     d, m, rng = Definitions(reference.ROOT), reference.mu(fuzz, geometry), random.Random(seed)
     chip, calls, met = force(d[name]), 0, {}

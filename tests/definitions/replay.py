@@ -44,9 +44,7 @@ def same(what, ours, theirs):
 
 
 def compare(seed):
-    fuzz = reference.load()
-    if fuzz is None:
-        sys.exit(3)
+    fuzz = reference.need("definitions of request 3")
     model, m, d, rng = sys.modules["mutree_model"], reference.mu(fuzz, fuzz.SMALL), definitions(), random.Random(seed)
     formed = 0
     for _ in range(4000):

@@ -76,10 +76,7 @@ def imported(d, m, rng):
 
 
 def compare(seconds, seed):
-    fuzz = reference.load()
-    if fuzz is None:
-        print("texts: skipped, the reference model is not here")
-        return
+    fuzz = reference.need("texts")
     d, rng, met = Definitions(reference.ROOT), random.Random(seed), {}
     m = reference.mu(fuzz, fuzz.SMALL)
     count = numbers(d, rng, 2000)

@@ -50,7 +50,7 @@ def exports(library, m, rng, img, buffer, times):
         length = rng.choice([0, size, size, size + rng.randrange(9), max(size - 1, 0), rng.randrange(size + 1)])
         text, buf = rng.randbytes(length), buffer(rng)
         want = wanted_export(m, img, text, buf)
-        library.hold(want, "export", img, buf, key=rng.randrange(2), pairs=text)
+        library.hold(want, "export", img, buf, key=rng.randrange(2), lent=text)
         note(library, kind_of_export(want, buf, text))
 
 
@@ -95,11 +95,13 @@ def kind_of_import(want, buf):
 
 
 def hold_import(library, m, rng, img, text, buf):
+    """Gives the image afterwards."""
     want = wanted_import(m, img, text, buf)
     if len(buf) >= RESULT and len(text) < 300:
         agrees_with_itself(m, img, text, want)
-    library.hold(want, "import", img, buf, key=rng.randrange(2), pairs=text)
+    library.hold(want, "import", img, buf, key=rng.randrange(2), lent=text)
     note(library, kind_of_import(want, buf))
+    return want[1]
 
 
 def some_text(rng, count):
@@ -169,18 +171,18 @@ def back(library, m, rng, img, buffer):
         return
     other, buf = b"\x55" * (3 * m.G.block_size), bytes(RESULT)
     want = wanted_import(m, other, text, buf)
-    library.hold(want, "import", other, buf, pairs=text)
+    library.hold(want, "import", other, buf, lent=text)
     note(library, kind_of_import(want, buf))
     if model().export_text(m, want[1]) != (0, text):
         sys.exit("differential: the model's export of an import is another text")
-    library.hold(wanted_export(m, want[1], bytes(len(text)), buf), "export", want[1], buf, pairs=bytes(len(text)))
+    library.hold(wanted_export(m, want[1], bytes(len(text)), buf), "export", want[1], buf, lent=bytes(len(text)))
 
 
 def halfway(library, m, rng):
-    """Once: more records than three small blocks take. The large chip takes every text that is read."""
+    """Once: more records than three small blocks take. Gives the full image; the large chip takes every text that is read."""
     if m.G.number == 0:
         img, text, buf = rng.randbytes(m.G.block_size) * 3, some_text(rng, 560), bytes(RESULT + 3)
-        hold_import(library, m, rng, img, text, buf)
+        return hold_import(library, m, rng, img, text, buf)
 
 
 def lines_too_many(library, m, rng):

@@ -2,7 +2,7 @@
 
 usage: compare.py DRIVER [calls] [seed] [small|large]       both chips if none is named; on the large one a quarter of the calls
 
-The reference model is no part of this repository (see tests/reference.py); where it is missing the test is skipped.
+The reference model is no part of this repository (see tests/reference.py); where it is missing the test ends with status 3.
 """
 import os
 import random
@@ -14,10 +14,11 @@ sys.path.insert(0, os.path.dirname(os.path.dirname(os.path.abspath(__file__))))
 import carrying
 import damage
 import listing
+import marking
 import reference
 
 CALLS = {"format": 0, "lookup": 1, "insert": 2, "delete": 3, "patrol": 4, "list": 5, "export": 6, "import": 7}
-LENDS = "list", "export", "import"  # calls with a third buffer: numbers, or a text
+LENDS = "insert", "delete", "list", "export", "import"  # calls with a third buffer: words, numbers, or a text
 FOUND = ["clean", "data mended", "code mended", "beyond repair"]
 ANSWERS = ["DONE", "LENGTH", "DAMAGED", "WORN", "ABSENT", "HEIGHT", "ROOM", "STOPPED", "8", "TEXT"]
 GIVEN = [0, 1, 2, 3, 4, 5, 6, 7, 9]
@@ -35,21 +36,22 @@ class Library:
         self.process = subprocess.Popen([driver], stdin=subprocess.PIPE, stdout=subprocess.PIPE)
         self.geometry = geometry
         self.calls, self.met = 0, {}
-        self.listed = {}  # kinds of lists (listing.KINDS), and how many there were
+        self.marked = {}  # kinds of words of live pages (marking.KINDS), and how many there were
+        self.listed = {}  # kinds of lists (listing.KINDS)
         self.carried = {}  # kinds of exports and imports (carrying.KINDS)
         self.patrols = [0] * len(FOUND)  # halves by what a patrol found there
         self.clauses = {}  # clauses of request 5, and how many images broke each
         self.edges, self.beyond = 0, 0  # sound images with T - L = 64 (128), and images that break R8 alone
 
-    def call(self, name, img, buf, key=0, address=0, allowance=LARGEST, number=None, pairs=b""):
+    def call(self, name, img, buf, key=0, address=0, allowance=LARGEST, number=None, lent=b""):
         p = self.process
         number = self.geometry.number if number is None else number
-        p.stdin.write(struct.pack("<8I", CALLS[name], number, key, address, allowance, len(img), len(buf), len(pairs)) + img + buf + pairs)
+        p.stdin.write(struct.pack("<8I", CALLS[name], number, key, address, allowance, len(img), len(buf), len(lent)) + img + buf + lent)
         p.stdin.flush()
-        out = p.stdout.read(4 + len(img) + len(buf) + len(pairs))
-        if len(out) != 4 + len(img) + len(buf) + len(pairs):
+        out = p.stdout.read(4 + len(img) + len(buf) + len(lent))
+        if len(out) != 4 + len(img) + len(buf) + len(lent):
             sys.exit("differential: the library died in %s" % name)
-        out, left = out[:len(out) - len(pairs)], out[len(out) - len(pairs):]
+        out, left = out[:len(out) - len(lent)], out[len(out) - len(lent):]
         return (struct.unpack("<I", out[:4])[0], out[4:4 + len(img)], out[4 + len(img):]) + ((left,) if name in LENDS else ())
 
     def hold(self, wanted, name, img, buf, **args):
@@ -60,7 +62,7 @@ class Library:
         if got != wanted:
             with open("build/differs.img", "wb") as f:
                 f.write(img)
-            lent = args.pop("pairs", b"")
+            lent = args.pop("lent", b"")
             with open("build/differs.lent", "wb") as f:
                 f.write(lent)
             sys.exit("differential: %s chip: %s %s: returned %d, wanted %d; image %s; numbers %s, wanted %s%s; the image is in build/differs.img" % (
@@ -89,7 +91,7 @@ def every_update(library, m, rng, img, call):
     if answer:
         buf = buffer(rng)
         wanted = result(answer, 0, 0, img, buf, *where)
-        library.hold(wanted, call[0], img, buf, allowance=rng.choice([0, 1, LARGEST]), **args)
+        marking.hold(library, m, rng, img, buf, wanted, call[0], allowance=rng.choice([0, 1, LARGEST]), **args)
         return img
     tried = set(range(len(stores) + 2)) if len(stores) < 8 else set(rng.sample(range(len(stores)), 6)) | {0, len(stores), len(stores) + 1}
     now, programmed, erased, after = img, 0, 0, img
@@ -97,7 +99,7 @@ def every_update(library, m, rng, img, call):
         if made in tried:
             buf = buffer(rng)
             wanted = result(7 if made < len(stores) else 0, programmed, erased, now if len(buf) >= RESULT else img, buf)
-            library.hold(wanted, call[0], img, buf, allowance=LARGEST if made > len(stores) else made, **args)
+            marking.hold(library, m, rng, img, buf, wanted, call[0], allowance=LARGEST if made > len(stores) else made, **args)
         if made < len(stores):
             now = m.apply_store(now, stores[made])
             programmed += stores[made][0] == "P"
@@ -189,7 +191,10 @@ def scarce(library, m, fuzz, rng):
         known = m.map_of(img)
         library.edges += m.first_damage(img) is None
         library.beyond += m.first_damage(img) == reference.BREAKS_R8
-        for key in rng.sample(known, 3) + roomless(m, rng, img, known):
+        roomless_ones = roomless(m, rng, img, known)
+        for key, _ in roomless_ones:
+            every_update(library, m, rng, img, ("insert", min(key + 1, LARGEST), 5))
+        for key in rng.sample(known, 3) + roomless_ones:
             lookups(library, m, rng, img, [key[0]])
             every_update(library, m, rng, img, ("delete", key[0]))
             every_update(library, m, rng, img, ("insert", key[0], 5))
@@ -280,9 +285,9 @@ def no_chip(library, m, fuzz, rng):
     for name in CALLS:
         buf = buffer(rng)
         number = rng.choice([2, 3, 256, 2 ** 31, LARGEST, rng.randrange(2, 2 ** 32)])
-        pairs = rng.randbytes(4 * rng.randrange(6)) if name in LENDS else b""
-        wanted = result(1, 0, 0, img, buf) + ((pairs,) if name in LENDS else ())
-        library.hold(wanted, name, img, buf, key=rng.randrange(2 ** 32), address=LARGEST, number=number, pairs=pairs)
+        lent = rng.randbytes(4 * rng.randrange(6)) if name in LENDS else b""
+        wanted = result(1, 0, 0, img, buf) + ((lent,) if name in LENDS else ())
+        library.hold(wanted, name, img, buf, key=rng.randrange(2 ** 32), address=LARGEST, number=number, lent=lent)
 
 
 def texts(library, m, fuzz, rng):
@@ -291,9 +296,12 @@ def texts(library, m, fuzz, rng):
 
 
 def bad_and_long_texts(library, m, fuzz, rng):
+    """Texts that are refused, one that lacks room, and ROOM on the image that it leaves."""
     carrying.each_defect(library, m, rng)
     carrying.lines_too_many(library, m, rng)
-    carrying.halfway(library, m, rng)
+    full = carrying.halfway(library, m, rng)
+    for _ in range(4 if full else 0):
+        every_update(library, m, rng, full, ("insert", LARGEST, 5))
 
 
 def tell_met(library, wanted):
@@ -302,6 +310,7 @@ def tell_met(library, wanted):
     print("  answers: " + ", ".join("%s %d" % (ANSWERS[a], counts[a]) for a in GIVEN))
     print("  by call: " + ", ".join("%s %s: %d" % (call, ANSWERS[a], n) for (call, a), n in sorted(library.met.items())))
     print("  damaged images: " + ", ".join("%s: %d" % (c, library.clauses[c]) for c in damage.CLAUSES))
+    print("  words of live pages: " + ", ".join("%s: %d" % (k, library.marked.get(k, 0)) for k in marking.KINDS))
     print("  lists: " + ", ".join("%s: %d" % (k, library.listed.get(k, 0)) for k in listing.KINDS))
     print("  carried: " + ", ".join("%s: %d" % (k, library.carried.get(k, 0)) for k in carrying.KINDS))
     print("  patrols: " + ", ".join("%s %d" % x for x in zip(FOUND, library.patrols)))
@@ -309,6 +318,8 @@ def tell_met(library, wanted):
         library.geometry.r8_least, library.edges, library.beyond))
     if wanted >= 5000 and 0 in [counts[a] for a in GIVEN]:
         sys.exit("differential: never met " + ", ".join(ANSWERS[a] for a in GIVEN if counts[a] == 0))
+    if wanted >= 5000 and set(library.marked) != set(marking.KINDS):
+        sys.exit("differential: words of live pages: never met " + ", ".join(k for k in marking.KINDS if k not in library.marked))
     if wanted >= 5000 and set(library.listed) != set(listing.KINDS):
         sys.exit("differential: a kind of list was never met")
     if wanted >= 5000 and carrying.missing(library, library.geometry):
@@ -331,10 +342,7 @@ def compare(fuzz, geometry, wanted, rng):
 
 
 def main():
-    fuzz = reference.load()
-    if fuzz is None:
-        print("differential: skipped, the reference model is not here")
-        return
+    fuzz = reference.need("differential")
     wanted = int(sys.argv[2]) if len(sys.argv) > 2 else 20000
     seed = int(sys.argv[3]) if len(sys.argv) > 3 else 1
     for geometry in reference.geometries(fuzz):

@@ -2,10 +2,10 @@
  *
  * A request: eight 32-bit numbers (call 0 to 7: format, lookup, insert, delete, patrol, list, export, import; geometry; key; address;
  * allowance; image length; result length; bytes of what else is lent), least byte first, then the image, the result buffer and what
- * else is lent: list's numbers, or the text of an export or import. A patrol's page and half, and a list's low and high, stand for
- * key and address. The reply: the returned number, then these three as the call left them. All stand against a guard page
- * (guarded.h), so that a byte read too far ends the driver: with an even key the one behind them, with an odd key the one before. The
- * numbers are this processor's, least byte first. */
+ * else is lent: the words of an insert or delete, list's numbers, or the text of an export or import. A patrol's page and half, and a
+ * list's low and high, stand for key and address. The reply: the returned number, then these three as the call left them. All stand
+ * against a guard page (guarded.h), so that a byte read too far ends the driver: with an even key the one behind them, with an odd key
+ * the one before. The numbers are this processor's, least byte first. */
 #define _DEFAULT_SOURCE
 #include "../../c/mutree.h"
 #include "../guarded.h"
@@ -33,18 +33,19 @@ static int read_request(uint32_t *n)
 
 static uint32_t call(const uint32_t *n, uint8_t *image, uint8_t *result, uint8_t *lent)
 {
+    uint32_t *words = (uint32_t *)(void *)lent;
+    size_t count = n[LENT_LENGTH] / 4;
     switch (n[CALL]) {
     case 0: return mutree_format(n[GEOMETRY], image, n[IMAGE_LENGTH], result, n[RESULT_LENGTH]);
     case 1: return mutree_lookup(n[GEOMETRY], image, n[IMAGE_LENGTH], n[KEY], result, n[RESULT_LENGTH]);
     case 2:
-        return mutree_insert(n[GEOMETRY], image, n[IMAGE_LENGTH], n[KEY], n[ADDRESS], n[ALLOWANCE], result, n[RESULT_LENGTH]);
+        return mutree_insert(n[GEOMETRY], image, n[IMAGE_LENGTH], words, count, n[KEY], n[ADDRESS], n[ALLOWANCE], result, n[RESULT_LENGTH]);
     case 4: return mutree_patrol(n[GEOMETRY], image, n[IMAGE_LENGTH], n[KEY], n[ADDRESS], result, n[RESULT_LENGTH]);
     case 5:
-        return mutree_list(n[GEOMETRY], image, n[IMAGE_LENGTH], n[KEY], n[ADDRESS], (uint32_t *)(void *)lent, n[LENT_LENGTH] / 4,
-                           result, n[RESULT_LENGTH]);
+        return mutree_list(n[GEOMETRY], image, n[IMAGE_LENGTH], n[KEY], n[ADDRESS], words, count, result, n[RESULT_LENGTH]);
     case 6: return mutree_export(n[GEOMETRY], image, n[IMAGE_LENGTH], lent, n[LENT_LENGTH], result, n[RESULT_LENGTH]);
     case 7: return mutree_import(n[GEOMETRY], image, n[IMAGE_LENGTH], lent, n[LENT_LENGTH], result, n[RESULT_LENGTH]);
-    default: return mutree_delete(n[GEOMETRY], image, n[IMAGE_LENGTH], n[KEY], n[ALLOWANCE], result, n[RESULT_LENGTH]);
+    default: return mutree_delete(n[GEOMETRY], image, n[IMAGE_LENGTH], words, count, n[KEY], n[ALLOWANCE], result, n[RESULT_LENGTH]);
     }
 }
 

@@ -55,6 +55,6 @@ def lists(library, m, rng, img, buffer, times):
         exist = sum(low <= key <= high for key in keys)
         pairs, buf = some_numbers(rng, exist), buffer(rng)
         want = wanted(m, img, low, high, pairs, buf)
-        library.hold(want, "list", img, buf, key=low, address=high, pairs=pairs)
+        library.hold(want, "list", img, buf, key=low, address=high, lent=pairs)
         met = "short result" if len(buf) < RESULT else kind(want[0], low, high, exist, len(pairs) // 4)
         library.listed[met] = library.listed.get(met, 0) + 1

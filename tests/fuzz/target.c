@@ -1,19 +1,20 @@
 /* target.c: any bytes, any lengths, small buffers, through the calls; for libFuzzer with sanitizers, or for main.c.
  *
- * The first bytes choose the call, the chip or a number that is none's, the key, the allowance, the result buffer's length and
- * which guard page the buffers stand against; the rest is the image. Where the input says so the image is a formatted one with
+ * The first bytes choose the call, the chip or a number that is none's, the key, the allowance, the result buffer's length, the words of
+ * live pages and which guard page the buffers stand against; the rest is the image. Where the input says so the image is a formatted one with
  * the rest laid over it, so that sound and nearly sound images are met. The library itself has no sanitizers in it. So the
  * image and the result buffer lie in mapped memory before a guard page, or after one: a byte read or written past their ends
  * ends the run. Checked besides: a number that is no chip's gives LENGTH, refused calls leave the image, a finished call leaves
  * one that is not DAMAGED, a short result buffer stays as it was, and so do the bytes after the 24; rule and page are 0 but for
  * DAMAGED, and then a rule's number and a page of the image. A patrol that mended is clean when it is called again, and what it
- * changed is one bit; else it changes nothing. listing.c has what is checked of a list, carrying.c of an export and an import; the text
- * of an import is what follows the first bytes too. */
+ * changed is one bit; else it changes nothing. marking.c has what is checked of the words of live pages, listing.c of a list, carrying.c of
+ * an export and an import; the text of an import is what follows the first bytes too. */
 #define _DEFAULT_SOURCE
 #include "../../c/mutree.h"
 #include "../guarded.h"
 #include "carrying.h"
 #include "listing.h"
+#include "marking.h"
 
 #include <stdlib.h>
 #include <string.h>
@@ -28,10 +29,14 @@ struct head {
     const uint8_t *text;
     size_t text_length;
     size_t room;
-    uint32_t key, allowance;
+    uint32_t key;
+    struct change change;
 };
 
-enum { HEAD = 8, PATROL = 4, EXPORT = 5, IMPORT = 6, MOST_TEXT = 100000 };
+enum { HEAD = 8, INSERT = 2, DELETE = 3, PATROL = 4, EXPORT = 5, IMPORT = 6, MOST_TEXT = 100000 };
+
+/* What the inserts that make an image are lent. */
+static uint32_t live[MUTREE_MOST_LIVE_WORDS];
 
 static uint32_t number(const uint8_t *at)
 {
@@ -47,6 +52,18 @@ static int kind_of(const uint8_t *data)
     }
 }
 
+/* Around the 3 and 6 words of three blocks, and more than any image that is made here needs. */
+static struct change change_of(const uint8_t *data)
+{
+    static const size_t words[] = { 0, 2, 3, 5, 6, 7, 40, 3000 };
+    struct change change;
+    change.adds = kind_of(data) == INSERT;
+    change.key = number(data + 2) % 1024;
+    change.allowance = data[6] == 255 ? UINT32_MAX : data[6];
+    change.words = words[data[1] / 33];
+    return change;
+}
+
 static struct head head_of(const uint8_t *data, size_t size)
 {
     struct head head;
@@ -56,7 +73,7 @@ static struct head head_of(const uint8_t *data, size_t size)
         head.geometry = data[1] + MUTREE_GEOMETRIES;
     head.room = data[1] % 33;
     head.key = number(data + 2) % 1024;
-    head.allowance = data[6] == 255 ? UINT32_MAX : data[6];
+    head.change = change_of(data);
     head.over_format = data[7] & 1;
     head.at_end = !(data[7] & 2);
     head.lists = (data[7] >> 2 & 3) == 2;
@@ -77,7 +94,7 @@ static void lay_over(struct guarded image, uint32_t geometry, const uint8_t *dat
     for (i = 0; i + 5 <= size; i += 5) {
         uint32_t n = number(data + i + 1);
         if (data[i] & 1)
-            mutree_insert(geometry, image.bytes, image.length, n % 512, n, UINT32_MAX, result, sizeof result);
+            mutree_insert(geometry, image.bytes, image.length, live, MUTREE_MOST_LIVE_WORDS, n % 512, n, UINT32_MAX, result, sizeof result);
         else
             image.bytes[n % image.length] = data[i];
     }
@@ -95,7 +112,7 @@ static struct guarded make_image(const uint8_t *data, size_t size, struct head h
     memset(image.bytes, 255, image.length);
     mutree_format(chip->number, image.bytes, image.length, result, sizeof result);
     if (head.kind == IMPORT) /* the rest is the text; the index has something in it */
-        mutree_insert(chip->number, image.bytes, image.length, 5, 5, UINT32_MAX, result, sizeof result);
+        mutree_insert(chip->number, image.bytes, image.length, live, MUTREE_MOST_LIVE_WORDS, 5, 5, UINT32_MAX, result, sizeof result);
     else
         lay_over(image, chip->number, data, size);
     return image;
@@ -109,14 +126,12 @@ static uint32_t call(struct head head, struct guarded image, struct guarded resu
         if (head.lists)
             return list_checked(head.geometry, image, head.wish, head.at_end, result);
         return mutree_lookup(head.geometry, image.bytes, image.length, head.key, result.bytes, result.length);
-    case 2:
-        return mutree_insert(head.geometry, image.bytes, image.length, head.key, ~head.key, head.allowance, result.bytes,
-                             result.length);
+    case INSERT:
+    case DELETE: return update_checked(head.geometry, image, head.change, head.at_end, result);
     case PATROL:
         return mutree_patrol(head.geometry, image.bytes, image.length, head.key % 256, head.key / 256 % 10, result.bytes, result.length);
     case EXPORT: return export_checked(head.geometry, image, head.lent, head.at_end, result);
-    case IMPORT: return import_checked(head.geometry, image, head.text, head.text_length, head.at_end, result);
-    default: return mutree_delete(head.geometry, image.bytes, image.length, head.key, head.allowance, result.bytes, result.length);
+    default: return import_checked(head.geometry, image, head.text, head.text_length, head.at_end, result);
     }
 }
 

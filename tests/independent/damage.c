@@ -22,13 +22,12 @@ enum { LOOKUP, LIST, EXPORT, INSERT, STOPPED_INSERT, DELETE, STOPPED_DELETE, CAL
 static uint32_t call(int which, uint8_t *now, size_t length, uint32_t key, uint8_t *result)
 {
     uint32_t allowance = which == STOPPED_INSERT || which == STOPPED_DELETE ? 0 : UINT32_MAX;
+    struct update u = { which == INSERT || which == STOPPED_INSERT, key, 5 };
     switch (which) {
     case LOOKUP: return mutree_lookup(chip->number, now, length, key, result, RESULT + 4);
     case LIST: return list_of_all(chip->number, now, length, result, RESULT + 4);
     case EXPORT: return export_any(chip->number, now, length, result, RESULT + 4);
-    case INSERT:
-    case STOPPED_INSERT: return mutree_insert(chip->number, now, length, key, 5, allowance, result, RESULT + 4);
-    default: return mutree_delete(chip->number, now, length, key, allowance, result, RESULT + 4);
+    default: return update_with_words(u, chip->number, now, length, allowance, result, RESULT + 4);
     }
 }
 

@@ -31,7 +31,7 @@ static void make_map(void)
     size_t i;
     for (i = 0; i < LINES; i++) {
         map[i].key = keys[i];
-        map[i].address = import_pick(2) ? import_pick(10) : 4294967295u - import_pick(1000000);
+        map[i].address = pick(2) ? pick(10) : 4294967295u - pick(1000000);
     }
 }
 
@@ -93,8 +93,8 @@ static void two_defects(unsigned rounds)
 {
     uint8_t text[LINES * LONGEST];
     for (; rounds > 0; rounds--) {
-        size_t first = import_pick(LINES - 1), second = first + 1 + import_pick(LINES - 1 - first);
-        const char *form = defects[import_pick(DEFECTS)], *other = defects[import_pick(DEFECTS)];
+        size_t first = pick(LINES - 1), second = first + 1 + pick(LINES - 1 - first);
+        const char *form = defects[pick(DEFECTS)], *other = defects[pick(DEFECTS)];
         if (is_defect(form, first))
             is_refused_at(text, put_text(text, first, form, second, other), first + 1);
     }
@@ -167,7 +167,7 @@ static void long_texts(size_t bytes)
     for (i = 0; i + 1 < sizeof fill; i++) {
         memset(text, fill[i], bytes);
         is_refused_at(text, bytes, 1);
-        length = some_text(1 + import_pick(300), text);
+        length = some_text(1 + pick(300), text);
         memset(text + length, fill[i], bytes - length);
         is_imported(text, bytes, 3);
     }

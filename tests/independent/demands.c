@@ -2,7 +2,8 @@
  * and the judge of judge.c. After every allowance the image must be sound and hold the old map, or the new one after the
  * last store; only erased pages are programmed and only blocks without live pages erased; the counts are the stores made.
  * Where a page is programmed on a wholly erased block, that block is the one that request 2 names. An insert is ROOM exactly
- * where T - L < 63 + k (127 + k), and a delete never (request 11).
+ * where T - L < 63 + k (127 + k), and a delete never (request 11). After every call the words of live pages are those of the image
+ * (request 7).
  *
  * usage: demands [ROUNDS] [SEED] [small|large|both] [quick]
  *        quick: of an update of over 60 stores only the last three allowances are tried, and one of 97 differences of a code
@@ -67,6 +68,13 @@ uint32_t some(uint32_t below)
     return (uint32_t)((seed >> 33) % below);
 }
 
+uint32_t pick(size_t below)
+{
+    static uint32_t turn;
+    turn = turn * 1664525u + 1013904223u;
+    return (turn >> 8) % (uint32_t)below;
+}
+
 /* ---- the map */
 static size_t place_of(uint32_t key)
 {
@@ -123,8 +131,7 @@ struct mutree_result run(struct update u, uint8_t *image, size_t length, uint32_
     uint8_t result[RESULT + 8];
     uint32_t answer;
     memset(result, 77, sizeof result);
-    answer = u.adds ? mutree_insert(chip->number, image, length, u.key, u.address, allowance, result, sizeof result)
-                    : mutree_delete(chip->number, image, length, u.key, allowance, result, sizeof result);
+    answer = update_with_words(u, chip->number, image, length, allowance, result, sizeof result);
     if (answer != mutree_read_result(result).answer || mutree_read_result(result).address != 0)
         fail("the result buffer differs from the answer");
     if (mutree_read_result(result).rule || mutree_read_result(result).page)
@@ -485,6 +492,7 @@ static void test_chip(unsigned rounds)
     unsigned i;
     memset(&met, 0, sizeof met);
     met.least_spare = MOST_PAGES;
+    words_are_the_live_pages();
     reach_bounds();
     roots_grow();
     delete_is_never_short_of_room();
@@ -500,6 +508,7 @@ static void test_chip(unsigned rounds)
     if (met.from_several == 0 || met.past_the_end == 0)
         fail("a choice among several wholly erased blocks, or one past the end, was not met");
     report();
+    tell_words();
     tell_lists();
     tell_exports();
     tell_imports();

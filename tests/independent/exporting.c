@@ -2,55 +2,26 @@
  * records and bytes there are and how many bytes were written. Bytes beyond those stay. The text stands against a guard page, behind it
  * or before it. */
 #define _DEFAULT_SOURCE
-#include "../guarded.h"
 #include "carry.h"
 #include "demands.h"
+#include "marked.h"
 #include "text.h"
 
 #include <stdio.h>
 #include <string.h>
 
-static struct tree state;
-
 static struct {
     unsigned long exports, whole, too_short, asked, empty;
 } met;
 
-/* By chance, but not with the numbers of the days. */
-static uint32_t pick(size_t below)
-{
-    static uint32_t turn;
-    turn = turn * 1664525u + 1013904223u;
-    return (turn >> 8) % (uint32_t)below;
-}
-
-static uint8_t mark(size_t i)
-{
-    return (uint8_t)(2654435769u * (uint32_t)(i + 1) >> 24);
-}
-
-static struct guarded marked(size_t length)
-{
-    struct guarded text = guarded_make(length, (int)pick(2));
-    size_t i;
-    for (i = 0; i < length; i++)
-        text.bytes[i] = mark(i);
-    return text;
-}
-
-static void stay_from(const struct guarded *text, size_t i)
-{
-    for (; i < text->length; i++)
-        if (text->bytes[i] != mark(i))
-            fail("an export changed a byte beyond the text");
-}
+static const char *const beyond = "an export changed a byte beyond the text";
 
 uint32_t export_any(uint32_t number, const uint8_t *image, size_t length, uint8_t *result, size_t room)
 {
     struct guarded text = marked(7);
     uint32_t answer = mutree_export(number, image, length, text.bytes, text.length, result, room);
     if (answer != MUTREE_DONE)
-        stay_from(&text, 0);
+        stay_from(&text, 0, beyond);
     guarded_free(&text);
     return answer;
 }
@@ -83,7 +54,7 @@ static void one_export(const uint8_t *image, size_t length, size_t entries, size
         fail("an export is not the map's text");
     if (number_at(result + RESULT) != 0x09090909u)
         fail("bytes after the 24 changed");
-    stay_from(&text, e.written);
+    stay_from(&text, e.written, beyond);
     guarded_free(&text);
     met.exports++;
     met.whole += e.written > 0;
@@ -145,42 +116,20 @@ static void few_records(void)
     free(image);
 }
 
-/* LENGTH, and neither buffer changes. */
-static void short_results_stay(const uint8_t *image, size_t length)
+static void export_tree(const uint8_t *image, size_t length, const struct entry *map, size_t entries)
 {
-    static const size_t rooms[] = { 0, 1, 16, RESULT - 1 };
-    uint8_t result[RESULT], kept[RESULT];
-    size_t i;
-    memset(kept, 9, sizeof kept);
-    memset(result, 9, sizeof result);
-    for (i = 0; i < sizeof rooms / sizeof *rooms; i++)
-        if (export_any(chip->number, image, length, result, rooms[i]) != MUTREE_LENGTH || memcmp(result, kept, sizeof result))
-            fail("an export with a short result buffer is LENGTH and writes nothing");
+    int times;
+    is_exported(image, length, map, entries);
+    for (times = 0; times < 10; times++)
+        some_exports(image, length, map, entries);
+    short_results_stay(export_any, image, length, "an export with a short result buffer is LENGTH and writes nothing");
 }
 
 void exports_are_the_maps_text(void)
 {
-    unsigned height;
     memset(&met, 0, sizeof met);
     few_records();
-    for (height = 1; height <= chip->top; height++) {
-        enum path path;
-        for (path = FIRST_PATH; path <= LAST_PATH; path++) {
-            size_t length;
-            uint8_t *tree = full_tree(height, path, &length), *kept = copy_of(tree, length);
-            int times;
-            if (judge(&state, chip, tree, length) || state.height != height)
-                fail("the tree to be exported is not sound");
-            is_exported(tree, length, state.map, state.entries);
-            for (times = 0; times < 10; times++)
-                some_exports(tree, length, state.map, state.entries);
-            short_results_stay(tree, length);
-            if (memcmp(tree, kept, length))
-                fail("an export wrote to the image");
-            free(tree);
-            free(kept);
-        }
-    }
+    on_full_trees(export_tree, "an export wrote to the image");
 }
 
 void tell_exports(void)

@@ -66,6 +66,24 @@ uint8_t *full_tree(unsigned height, enum path path, size_t *length)
     return build(plan);
 }
 
+void on_full_trees(void (*look)(const uint8_t *image, size_t length, const struct entry *map, size_t entries), const char *wrote)
+{
+    unsigned height;
+    enum path path;
+    for (height = 1; height <= chip->top; height++)
+        for (path = FIRST_PATH; path <= LAST_PATH; path++) {
+            size_t length;
+            uint8_t *image = full_tree(height, path, &length), *kept = copy_of(image, length);
+            if (judge(&state, chip, image, length) || state.height != height)
+                fail("a built tree is not sound");
+            look(image, length, state.map, state.entries);
+            if (memcmp(image, kept, length))
+                fail(wrote);
+            free(image);
+            free(kept);
+        }
+}
+
 /* A new key and a present one on the full path. */
 static void grows_on(enum path path, unsigned height)
 {

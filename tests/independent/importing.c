@@ -21,14 +21,6 @@ static struct {
     size_t most;
 } met;
 
-/* By chance, but not with the numbers of the days. */
-uint32_t import_pick(size_t below)
-{
-    static uint32_t turn;
-    turn = turn * 1664525u + 1013904223u;
-    return (turn >> 8) % (uint32_t)below;
-}
-
 /* What an import must leave and say. */
 struct expected {
     uint8_t *image;
@@ -43,8 +35,8 @@ static void expect_inserts(struct expected *e, uint32_t number, size_t length)
     e->programmed = mutree_read_result(result).programmed;
     e->erased = mutree_read_result(result).erased;
     while (e->answer == MUTREE_DONE && e->second < records.count) {
-        struct entry r = records.list[e->second];
-        e->answer = mutree_insert(number, e->image, length, r.key, r.address, UINT32_MAX, result, sizeof result);
+        struct update u = { 1, records.list[e->second].key, records.list[e->second].address };
+        e->answer = update_with_words(u, number, e->image, length, UINT32_MAX, result, sizeof result);
         e->programmed += mutree_read_result(result).programmed;
         e->erased += mutree_read_result(result).erased;
         e->second += e->answer == MUTREE_DONE;
@@ -96,7 +88,7 @@ static void said(const struct expected *e, uint32_t answer, const uint8_t *resul
 
 struct guarded guarded_copy(const uint8_t *bytes, size_t length)
 {
-    struct guarded copy = guarded_make(length, (int)import_pick(2));
+    struct guarded copy = guarded_make(length, (int)pick(2));
     if (length)
         memcpy(copy.bytes, bytes, length);
     return copy;
@@ -105,11 +97,11 @@ struct guarded guarded_copy(const uint8_t *bytes, size_t length)
 /* One import on a chip, which need not be the one that is tested, into an image with something in it. */
 static uint32_t import_on(const struct chip *on, const uint8_t *bytes, size_t length, size_t blocks)
 {
-    struct guarded text = guarded_copy(bytes, length), image = guarded_make(length_of(on, blocks), (int)import_pick(2));
-    struct guarded result = guarded_make(RESULT + 4, (int)import_pick(2));
+    struct guarded text = guarded_copy(bytes, length), image = guarded_make(length_of(on, blocks), (int)pick(2));
+    struct guarded result = guarded_make(RESULT + 4, (int)pick(2));
     struct expected e;
     uint32_t answer;
-    memset(image.bytes, (int)import_pick(256), image.length);
+    memset(image.bytes, (int)pick(256), image.length);
     memset(result.bytes, 9, result.length);
     e = expect(on, &text, image.bytes, image.length);
     answer = mutree_import(on->number, image.bytes, image.length, text.bytes, text.length, result.bytes, result.length);
@@ -163,7 +155,7 @@ uint32_t import_any(uint32_t number, uint8_t *image, size_t length, uint8_t *res
 {
     static const uint8_t texts[2][9] = { "1\t2\n3\t4\n", "1\t2\n1\t4\n" };
     uint32_t answer;
-    struct guarded text = guarded_copy(texts[import_pick(2)], 8), kept = guarded_copy(text.bytes, 8);
+    struct guarded text = guarded_copy(texts[pick(2)], 8), kept = guarded_copy(text.bytes, 8);
     answer = mutree_import(number, image, length, text.bytes, text.length, result, room);
     if (memcmp(text.bytes, kept.bytes, 8))
         fail("an import wrote to its text");
@@ -177,16 +169,16 @@ uint32_t import_any(uint32_t number, uint8_t *image, size_t length, uint8_t *res
 size_t some_text(size_t count, uint8_t *text)
 {
     struct entry *map = (struct entry *)(void *)room_for((count + 1) * sizeof *map);
-    uint32_t gap = import_pick(2) ? 1 + import_pick(9) : count ? 4294967295u / (uint32_t)count : 1, key = import_pick(gap);
+    uint32_t gap = pick(2) ? 1 + pick(9) : count ? 4294967295u / (uint32_t)count : 1, key = pick(gap);
     size_t i, length;
     for (i = 0; i < count; i++) {
         map[i].key = key;
-        map[i].address = import_pick(2) ? import_pick(100) : 256 * import_pick(16777216) + import_pick(256);
-        key += 1 + (gap > 1 ? import_pick(gap - 1 < 16777216 ? gap - 1 : 16777216) : 0);
+        map[i].address = pick(2) ? pick(100) : 256 * pick(16777216) + pick(256);
+        key += 1 + (gap > 1 ? pick(gap - 1 < 16777216 ? gap - 1 : 16777216) : 0);
     }
-    if (count && import_pick(4) == 0)
+    if (count && pick(4) == 0)
         map[count - 1].key = 4294967295u;
-    if (import_pick(4) == 0)
+    if (pick(4) == 0)
         map[0].key = 0;
     length = text_of(map, count, text);
     free(map);
@@ -199,7 +191,7 @@ static void round_trips(void)
     uint8_t *text = room_for(MOST_LINE * MOST_RECORDS);
     size_t i;
     for (i = 0; i < sizeof counts / sizeof *counts + 10; i++) {
-        size_t count = i < sizeof counts / sizeof *counts ? counts[i] : import_pick(528);
+        size_t count = i < sizeof counts / sizeof *counts ? counts[i] : pick(528);
         if (is_imported(text, some_text(count, text), 3) != MUTREE_DONE)
             fail("a text of so many records fits on three blocks");
     }
@@ -228,7 +220,7 @@ static void as_many_as_the_header_says(int quick)
 /* ---- what comes before the text */
 static void is_length(size_t length)
 {
-    struct guarded image = guarded_make(length, (int)import_pick(2));
+    struct guarded image = guarded_make(length, (int)pick(2));
     uint8_t result[RESULT + 4], written[RESULT + 4] = { MUTREE_LENGTH }, *kept;
     memset(image.bytes, 77, length);
     kept = copy_of(image.bytes, length + !length);
@@ -259,28 +251,32 @@ static void bad_lengths(void)
 }
 
 /* LENGTH, and no buffer changes. */
-static void short_results_stay(void)
+static uint32_t import_into_copy(uint32_t number, const uint8_t *image, size_t length, uint8_t *result, size_t room)
 {
-    static const size_t rooms[] = { 0, 1, 16, RESULT - 1 };
-    size_t length = length_of(chip, 3), i;
-    uint8_t *image = room_for(length), *kept, result[RESULT], untouched[RESULT];
+    uint8_t *copy = copy_of(image, length);
+    uint32_t answer = import_any(number, copy, length, result, room);
+    if (memcmp(copy, image, length))
+        fail("an import with a short result buffer wrote to the image");
+    free(copy);
+    return answer;
+}
+
+static void short_results(void)
+{
+    size_t length = length_of(chip, 3);
+    uint8_t *image = room_for(length);
+    int times;
     memset(image, 3, length);
-    kept = copy_of(image, length);
-    memset(result, 9, sizeof result);
-    memset(untouched, 9, sizeof untouched);
-    for (i = 0; i < 16; i++)
-        if (import_any(chip->number, image, length, result, rooms[i % 4]) != MUTREE_LENGTH || memcmp(result, untouched, sizeof result)
-            || memcmp(image, kept, length))
-            fail("an import with a short result buffer is LENGTH and writes nothing");
+    for (times = 0; times < 4; times++)
+        short_results_stay(import_into_copy, image, length, "an import with a short result buffer is LENGTH and writes nothing");
     free(image);
-    free(kept);
 }
 
 void texts_are_imported(int quick)
 {
     memset(&met, 0, sizeof met);
     bad_lengths();
-    short_results_stay();
+    short_results();
     round_trips();
     as_many_as_the_header_says(quick);
     bad_texts_are_refused(quick);

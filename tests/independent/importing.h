@@ -4,9 +4,6 @@
 
 #include "judge.h"
 
-/* A number below `below`, by chance. */
-uint32_t import_pick(size_t below);
-
 /* One import into an image of so many blocks with something in it, held to all that is said of it. Gives the answer. */
 uint32_t is_imported(const uint8_t *text, size_t length, size_t blocks);
 

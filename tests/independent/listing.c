@@ -2,14 +2,12 @@
  * exist and how many were written; numbers beyond those stay. The map is a plain sorted array. The buffer of numbers stands against a
  * guard page, behind it or before it. */
 #define _DEFAULT_SOURCE
-#include "../guarded.h"
 #include "demands.h"
 #include "listing.h"
+#include "marked.h"
 
 #include <stdio.h>
 #include <string.h>
-
-static struct tree state;
 
 /* The image that is listed, and its map. */
 static const uint8_t *image;
@@ -20,55 +18,22 @@ static struct {
     unsigned long lists, empty, cut_short, odd, upside_down, joined;
 } met;
 
-/* By chance, but not with the numbers of the days: these stay as they are without the lists. */
-static uint32_t pick(size_t below)
-{
-    static uint32_t turn;
-    turn = turn * 1664525u + 1013904223u;
-    return (turn >> 8) % (uint32_t)below;
-}
-
-/* What stands in number i of a buffer before the call. */
-static uint32_t mark(size_t i)
-{
-    return 2654435769u * (uint32_t)(i + 1);
-}
-
-static struct guarded marked(size_t numbers)
-{
-    struct guarded pairs = guarded_make(4 * numbers, (int)pick(2));
-    size_t i;
-    for (i = 0; i < numbers; i++)
-        ((uint32_t *)(void *)pairs.bytes)[i] = mark(i);
-    return pairs;
-}
-
-static const uint32_t *numbers_of(const struct guarded *pairs)
-{
-    return (const uint32_t *)(const void *)pairs->bytes;
-}
-
-static void stay_from(const struct guarded *pairs, size_t i)
-{
-    for (; i < pairs->length / 4; i++)
-        if (numbers_of(pairs)[i] != mark(i))
-            fail("a list changed a number beyond the pairs written");
-}
+static const char *const beyond = "a list changed a number beyond the pairs written";
 
 static uint32_t list(uint32_t number, uint32_t low, uint32_t high, struct guarded *pairs, uint8_t *result, size_t room)
 {
-    return mutree_list(number, image, length, low, high, (uint32_t *)(void *)pairs->bytes, pairs->length / 4, result, room);
+    return mutree_list(number, image, length, low, high, numbers_of(pairs), pairs->length / 4, result, room);
 }
 
 uint32_t list_of_all(uint32_t number, const uint8_t *of, size_t of_length, uint8_t *result, size_t room)
 {
-    struct guarded pairs = marked(5);
+    struct guarded pairs = marked(5 * 4);
     uint32_t answer;
     image = of;
     length = of_length;
     answer = list(number, 0, 4294967295u, &pairs, result, room);
     if (answer != MUTREE_DONE)
-        stay_from(&pairs, 0);
+        stay_from(&pairs, 0, beyond);
     guarded_free(&pairs);
     return answer;
 }
@@ -102,7 +67,7 @@ static void count(uint32_t low, uint32_t high, size_t numbers, size_t exist)
 /* One list, with all that request 1 says of it. */
 static void is_the_maps_part(uint32_t low, uint32_t high, size_t numbers)
 {
-    struct guarded pairs = marked(numbers);
+    struct guarded pairs = marked(4 * numbers);
     uint8_t result[RESULT + 4];
     uint32_t answer;
     struct mutree_listed r;
@@ -117,7 +82,7 @@ static void is_the_maps_part(uint32_t low, uint32_t high, size_t numbers)
         fail("a list says how many pairs exist, and how many of them were written");
     if (number_at(result + RESULT) != 0x09090909u)
         fail("bytes after the 24 changed");
-    stay_from(&pairs, 2 * (size_t)r.written);
+    stay_from(&pairs, 8 * (size_t)r.written, beyond);
     guarded_free(&pairs);
     count(low, high, numbers, exist);
 }
@@ -160,7 +125,7 @@ static void parts_are_the_whole(size_t numbers)
     size_t done = 0;
     struct mutree_listed r;
     do {
-        struct guarded pairs = marked(numbers);
+        struct guarded pairs = marked(4 * numbers);
         uint8_t result[RESULT];
         size_t i;
         if (list(chip->number, low, 4294967295u, &pairs, result, sizeof result) != MUTREE_DONE)
@@ -178,12 +143,17 @@ static void parts_are_the_whole(size_t numbers)
     met.joined++;
 }
 
-void some_lists(const uint8_t *of, size_t of_length, const struct entry *its_map, size_t its_entries)
+static void take(const uint8_t *of, size_t of_length, const struct entry *its_map, size_t its_entries)
 {
     image = of;
     length = of_length;
     map = its_map;
     entries = its_entries;
+}
+
+void some_lists(const uint8_t *of, size_t of_length, const struct entry *its_map, size_t its_entries)
+{
+    take(of, of_length, its_map, its_entries);
     some_list();
     some_list();
     if (pick(64) == 0)
@@ -206,40 +176,17 @@ static void around_every_key(void)
     parts_are_the_whole(7);
 }
 
-/* LENGTH, and neither buffer changes. */
-static void short_results_stay(void)
+static void list_tree(const uint8_t *of, size_t of_length, const struct entry *its_map, size_t its_entries)
 {
-    static const size_t rooms[] = { 0, 1, 16, RESULT - 1 };
-    uint8_t result[RESULT], kept[RESULT];
-    size_t i;
-    memset(kept, 9, sizeof kept);
-    memset(result, 9, sizeof result);
-    for (i = 0; i < sizeof rooms / sizeof *rooms; i++)
-        if (list_of_all(chip->number, image, length, result, rooms[i]) != MUTREE_LENGTH || memcmp(result, kept, sizeof result))
-            fail("a list with a short result buffer is LENGTH and writes nothing");
+    take(of, of_length, its_map, its_entries);
+    around_every_key();
+    short_results_stay(list_of_all, of, of_length, "a list with a short result buffer is LENGTH and writes nothing");
 }
 
 void lists_are_the_maps_part(void)
 {
-    unsigned height;
     memset(&met, 0, sizeof met);
-    for (height = 1; height <= chip->top; height++) {
-        enum path path;
-        for (path = FIRST_PATH; path <= LAST_PATH; path++) {
-            uint8_t *tree = full_tree(height, path, &length), *kept = copy_of(tree, length);
-            if (judge(&state, chip, tree, length) || state.height != height)
-                fail("the tree to be listed is not sound");
-            image = tree;
-            map = state.map;
-            entries = state.entries;
-            around_every_key();
-            short_results_stay();
-            if (memcmp(tree, kept, length))
-                fail("a list wrote to the image");
-            free(tree);
-            free(kept);
-        }
-    }
+    on_full_trees(list_tree, "a list wrote to the image");
 }
 
 void tell_lists(void)

@@ -12,12 +12,30 @@ static void header_is_the_documents(void)
     const struct mutree_geometry *g = mutree_geometry_of(chip->number);
     if (g == NULL || g->number != chip->number || g->pages != chip->block_pages || g->main_bytes != chip->main
         || g->page_bytes != chip->page || g->main_bytes + g->spare_bytes != chip->page || g->block_bytes != length_of(chip, 1)
+        || g->block_words != chip->block_pages / 32
         || g->slots != chip->slots || g->top != chip->top || g->worn != chip->worn || g->halves != chip->halves
         || g->first_code != chip->code)
         fail("c/mutree.h gives the chip another geometry");
     if (g->most_own_pages != chip->own_pages || g->most_pages != chip->all_pages || g->most_erases != chip->erases
         || g->most_stores != chip->all_pages + chip->erases)
         fail("c/mutree.h gives the chip other bounds");
+}
+
+/* Request 7: one word a block, by request 9 two a large one; none where the length is no index's. */
+static void words_are_the_documents(void)
+{
+    static const size_t blocks[] = { 3, 4, 64, 1023, 1024 }, others[] = { 0, 1, 2, 1025, 2048 };
+    size_t a_block = chip->number == 0 ? 1 : 2, i;
+    for (i = 0; i < sizeof blocks / sizeof *blocks; i++) {
+        size_t length = length_of(chip, blocks[i]);
+        if (mutree_live_words(chip->number, length) != blocks[i] * a_block || mutree_live_words(chip->number, length + 1) != 0
+            || mutree_live_words(chip->number, length - 1) != 0 || mutree_live_words(CHIPS, length) != 0)
+            fail("c/mutree.h gives an image another number of words");
+        if (mutree_live_words(chip->number, length_of(chip, others[i])) != 0)
+            fail("c/mutree.h gives words to a length that is no index's");
+    }
+    if (MUTREE_MOST_LIVE_WORDS != 2048 || MUTREE_SMALL_BLOCK_WORDS != 1 || MUTREE_LARGE_BLOCK_WORDS != 2)
+        fail("c/mutree.h has other numbers of words");
 }
 
 /* R1 to R8 have words, no other number has; R4, R7 and R8 have no page (requests 5 and 11). */
@@ -37,16 +55,29 @@ enum { CALLS = 8 };
 /* One call with a number that is no chip's: 0 format, 1 lookup, 2 insert, 3 delete, 4 patrol, 5 export, 6 import, 7 list. */
 static uint32_t call(int which, uint32_t number, uint8_t *image, size_t length, uint8_t *result, size_t room)
 {
+    struct update insert = { 1, 1, 1 }, delete = { 0, 1, 0 };
     switch (which) {
     case 0: return mutree_format(number, image, length, result, room);
     case 1: return mutree_lookup(number, image, length, 1, result, room);
-    case 2: return mutree_insert(number, image, length, 1, 1, UINT32_MAX, result, room);
-    case 3: return mutree_delete(number, image, length, 1, UINT32_MAX, result, room);
+    case 2: return update_with_words(insert, number, image, length, UINT32_MAX, result, room);
+    case 3: return update_with_words(delete, number, image, length, UINT32_MAX, result, room);
     case 4: return mutree_patrol(number, image, length, 0, 0, result, room);
     case 5: return export_any(number, image, length, result, room);
     case 6: return import_any(number, image, length, result, room);
     default: return list_of_all(number, image, length, result, room);
     }
+}
+
+void short_results_stay(any_call *call, const uint8_t *image, size_t length, const char *what)
+{
+    static const size_t rooms[] = { 0, 1, 16, RESULT - 1 };
+    uint8_t result[RESULT], kept[RESULT];
+    size_t i;
+    memset(kept, 9, sizeof kept);
+    memset(result, 9, sizeof result);
+    for (i = 0; i < sizeof rooms / sizeof *rooms; i++)
+        if (call(chip->number, image, length, result, rooms[i]) != MUTREE_LENGTH || memcmp(result, kept, sizeof result))
+            fail(what);
 }
 
 static void is_no_chip(uint32_t number, const uint8_t *image, size_t length)
@@ -75,6 +106,7 @@ void numbers_are_the_documents(void)
     size_t length = length_of(&chips[CHIPS - 1], 3), i; /* which fits both chips */
     uint8_t *image = room_for(length), result[RESULT];
     header_is_the_documents();
+    words_are_the_documents();
     rules_are_the_documents();
     memset(image, 255, length);
     if (mutree_format(chip->number, image, length, result, sizeof result) != MUTREE_DONE)

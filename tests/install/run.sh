@@ -18,6 +18,7 @@ cat > "$folder/user.c" <<'END'
 
 static uint32_t pairs[3]; /* of an odd length: one pair has room */
 static uint8_t image[MUTREE_LEAST_BLOCKS * MUTREE_LARGE_BLOCK_BYTES], result[MUTREE_RESULT_BYTES];
+static uint32_t live[MUTREE_LEAST_BLOCKS * MUTREE_LARGE_BLOCK_WORDS];
 
 /* A bit of page 1 is flipped, and put right by a patrol of its half. */
 static int mends(const struct mutree_geometry *chip, size_t length)
@@ -45,13 +46,20 @@ static int carries(const struct mutree_geometry *chip, size_t length)
     return bytes > 0 && mutree_read_exported(result).written == bytes && memcmp(text, again, bytes) == 0;
 }
 
+/* Of the first two pages the second one is live, where the insert put its only node. */
+static int tells_live_pages(const struct mutree_geometry *chip, size_t length)
+{
+    return mutree_live_words(chip->number, length) == MUTREE_LEAST_BLOCKS * chip->block_words && !mutree_is_live(live, 0) && mutree_is_live(live, 1);
+}
+
 /* An address stored and read again on a chip of three blocks, by a lookup and by a list, or 0. */
 static unsigned address_on(const struct mutree_geometry *chip, uint32_t key)
 {
     size_t length = MUTREE_LEAST_BLOCKS * (size_t)chip->block_bytes;
     if (mutree_format(chip->number, image, length, result, sizeof result) != MUTREE_DONE
-        || mutree_insert(chip->number, image, length, key, 1000 + key, UINT32_MAX, result, sizeof result) != MUTREE_DONE
-        || !mends(chip, length)
+        || mutree_insert(chip->number, image, length, live, MUTREE_LEAST_BLOCKS * MUTREE_LARGE_BLOCK_WORDS, key, 1000 + key, UINT32_MAX, result,
+                         sizeof result) != MUTREE_DONE
+        || !tells_live_pages(chip, length) || !mends(chip, length)
         || mutree_lookup(chip->number, image, length, key, result, sizeof result) != MUTREE_DONE
         || mutree_read_result(result).address != 1000 + key || !carries(chip, length))
         return 0;

@@ -16,6 +16,7 @@ enum { RISING_KEYS_SMALL = 7456 };
 
 static const struct mutree_geometry *chip;
 static uint8_t *image, result[MUTREE_RESULT_BYTES];
+static uint32_t live[MUTREE_MOST_LIVE_WORDS];
 static size_t length;
 static uint64_t seed = 1;
 
@@ -37,7 +38,7 @@ static void format(size_t blocks)
 
 static uint32_t insert(uint32_t key, uint32_t allowance)
 {
-    return mutree_insert(chip->number, image, length, key, 1, allowance, result, sizeof result);
+    return mutree_insert(chip->number, image, length, live, MUTREE_MOST_LIVE_WORDS, key, 1, allowance, result, sizeof result);
 }
 
 static uint32_t random_key(void)

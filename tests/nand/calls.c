@@ -17,16 +17,16 @@ static struct mutree_nand nand;
 static uint8_t *kept;
 static uint32_t called; /* how often the library's insert was */
 
-uint32_t __real_mutree_insert(uint32_t geometry, uint8_t *image, size_t image_len, uint32_t key, uint32_t address, uint32_t allowance,
-                              uint8_t *result, size_t result_len);
-uint32_t __wrap_mutree_insert(uint32_t geometry, uint8_t *image, size_t image_len, uint32_t key, uint32_t address, uint32_t allowance,
-                              uint8_t *result, size_t result_len);
+uint32_t __real_mutree_insert(uint32_t geometry, uint8_t *image, size_t image_len, uint32_t *live, size_t live_len, uint32_t key,
+                              uint32_t address, uint32_t allowance, uint8_t *result, size_t result_len);
+uint32_t __wrap_mutree_insert(uint32_t geometry, uint8_t *image, size_t image_len, uint32_t *live, size_t live_len, uint32_t key,
+                              uint32_t address, uint32_t allowance, uint8_t *result, size_t result_len);
 
-uint32_t __wrap_mutree_insert(uint32_t geometry, uint8_t *image, size_t image_len, uint32_t key, uint32_t address, uint32_t allowance,
-                              uint8_t *result, size_t result_len)
+uint32_t __wrap_mutree_insert(uint32_t geometry, uint8_t *image, size_t image_len, uint32_t *live, size_t live_len, uint32_t key,
+                              uint32_t address, uint32_t allowance, uint8_t *result, size_t result_len)
 {
     called++;
-    return __real_mutree_insert(geometry, image, image_len, key, address, allowance, result, result_len);
+    return __real_mutree_insert(geometry, image, image_len, live, live_len, key, address, allowance, result, result_len);
 }
 
 /* The chip as the image has it, and nothing asked of it. */
@@ -45,9 +45,10 @@ static void is_refused(struct mutree_nand_result result, uint32_t answer, uint32
 /* An insert on a copy of the image, by the library. */
 static struct mutree_result tried(uint32_t key, uint32_t allowance)
 {
+    static uint32_t live[MUTREE_MOST_LIVE_WORDS];
     uint8_t result[MUTREE_RESULT_BYTES];
     memcpy(kept, nand.image, chip.length);
-    __real_mutree_insert(nand.geometry, kept, nand.length, key, 77, allowance, result, sizeof result);
+    __real_mutree_insert(nand.geometry, kept, nand.length, live, MUTREE_MOST_LIVE_WORDS, key, 77, allowance, result, sizeof result);
     return mutree_read_result(result);
 }
 

@@ -190,6 +190,7 @@ static void carry_one_store(void)
 /* An insert of three stores with an allowance of 1, again and again, each store carried to the chip as it comes. */
 static void allowance_of_one(void)
 {
+    static uint32_t live[MUTREE_MOST_LIVE_WORDS];
     uint8_t result[MUTREE_RESULT_BYTES];
     uint32_t calls = 1000, i, key, erases = 0;
     log_begin(&now, g->number, 3, g->slots + 1, g->slots, 1);
@@ -199,7 +200,8 @@ static void allowance_of_one(void)
         need(mutree_nand_insert(&now.nand, key, key).answer == MUTREE_DONE, "an insert was not DONE");
     for (i = 0; i < calls; i++) {
         memcpy(before, then, now.chip.length);
-        need(mutree_insert(g->number, then, now.chip.length, key, key, 1, result, sizeof result) == MUTREE_STOPPED, "it was not STOPPED");
+        need(mutree_insert(g->number, then, now.chip.length, live, MUTREE_MOST_LIVE_WORDS, key, key, 1, result, sizeof result) == MUTREE_STOPPED,
+             "it was not STOPPED");
         carry_one_store();
         need(memcmp(now.chip.bytes, then, now.chip.length) == 0, "the image is not what the chip has");
     }

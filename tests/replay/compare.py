@@ -29,7 +29,7 @@ def same(program, model, m, text, what):
 
 
 def compare(program, lines, seed):
-    fuzz = reference.load()
+    fuzz = reference.need("replay")
     model = sys.modules["mutree_model"]
     m = reference.mu(fuzz, fuzz.SMALL)
     rng = random.Random(seed)

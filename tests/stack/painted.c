@@ -10,10 +10,10 @@
 
 uint32_t __real_mutree_format(uint32_t geometry, uint8_t *image, size_t image_len, uint8_t *result, size_t result_len);
 uint32_t __real_mutree_lookup(uint32_t geometry, const uint8_t *image, size_t image_len, uint32_t key, uint8_t *result, size_t result_len);
-uint32_t __real_mutree_insert(uint32_t geometry, uint8_t *image, size_t image_len, uint32_t key, uint32_t address, uint32_t allowance,
-                              uint8_t *result, size_t result_len);
-uint32_t __real_mutree_delete(uint32_t geometry, uint8_t *image, size_t image_len, uint32_t key, uint32_t allowance, uint8_t *result,
-                              size_t result_len);
+uint32_t __real_mutree_insert(uint32_t geometry, uint8_t *image, size_t image_len, uint32_t *live, size_t live_len, uint32_t key,
+                              uint32_t address, uint32_t allowance, uint8_t *result, size_t result_len);
+uint32_t __real_mutree_delete(uint32_t geometry, uint8_t *image, size_t image_len, uint32_t *live, size_t live_len, uint32_t key,
+                              uint32_t allowance, uint8_t *result, size_t result_len);
 uint32_t __real_mutree_patrol(uint32_t geometry, uint8_t *image, size_t image_len, uint32_t page, uint32_t half, uint8_t *result,
                               size_t result_len);
 
@@ -39,6 +39,8 @@ static struct {
     uint8_t *image, *result;
     size_t image_len, result_len;
     uint32_t geometry, key, address, allowance, answer;
+    uint32_t *live; /* insert's and delete's */
+    size_t live_len;
     uint32_t *pairs; /* list's; its low and high are key and address */
     size_t pairs_len;
     uint8_t *text; /* of an export or an import */
@@ -55,10 +57,12 @@ static void make_call(void)
         now.answer = __real_mutree_lookup(now.geometry, now.image, now.image_len, now.key, now.result, now.result_len);
         break;
     case INSERT:
-        now.answer = __real_mutree_insert(now.geometry, now.image, now.image_len, now.key, now.address, now.allowance, now.result, now.result_len);
+        now.answer = __real_mutree_insert(now.geometry, now.image, now.image_len, now.live, now.live_len, now.key, now.address, now.allowance,
+                                          now.result, now.result_len);
         break;
     case DELETE:
-        now.answer = __real_mutree_delete(now.geometry, now.image, now.image_len, now.key, now.allowance, now.result, now.result_len);
+        now.answer = __real_mutree_delete(now.geometry, now.image, now.image_len, now.live, now.live_len, now.key, now.allowance, now.result,
+                                          now.result_len);
         break;
     case PATROL: /* page and half stand for key and address */
         now.answer = __real_mutree_patrol(now.geometry, now.image, now.image_len, now.key, now.address, now.result, now.result_len);
@@ -173,10 +177,12 @@ uint32_t __wrap_mutree_import(uint32_t geometry, uint8_t *image, size_t image_le
     return on_painted_stack(IMPORT);
 }
 
-uint32_t __wrap_mutree_delete(uint32_t geometry, uint8_t *image, size_t image_len, uint32_t key, uint32_t allowance, uint8_t *result,
-                              size_t result_len)
+uint32_t __wrap_mutree_delete(uint32_t geometry, uint8_t *image, size_t image_len, uint32_t *live, size_t live_len, uint32_t key,
+                              uint32_t allowance, uint8_t *result, size_t result_len)
 {
     set_buffers(geometry, image, image_len, result, result_len);
+    now.live = live;
+    now.live_len = live_len;
     now.key = key;
     now.allowance = allowance;
     return on_painted_stack(DELETE);
@@ -199,21 +205,24 @@ uint32_t __wrap_mutree_patrol(uint32_t geometry, uint8_t *image, size_t image_le
  * needs the most. */
 static void undo_on_copy(uint32_t geometry, const uint8_t *image, size_t image_len, uint32_t key)
 {
+    static uint32_t live[MUTREE_MOST_LIVE_WORDS];
     uint8_t ignored[MUTREE_RESULT_BYTES], *copy = malloc(image_len);
     if (copy == NULL)
         exit(71);
     memcpy(copy, image, image_len);
-    __wrap_mutree_delete(geometry, copy, image_len, key, UINT32_MAX, ignored, sizeof ignored);
+    __wrap_mutree_delete(geometry, copy, image_len, live, MUTREE_MOST_LIVE_WORDS, key, UINT32_MAX, ignored, sizeof ignored);
     free(copy);
 }
 
-uint32_t __wrap_mutree_insert(uint32_t geometry, uint8_t *image, size_t image_len, uint32_t key, uint32_t address, uint32_t allowance,
-                              uint8_t *result, size_t result_len)
+uint32_t __wrap_mutree_insert(uint32_t geometry, uint8_t *image, size_t image_len, uint32_t *live, size_t live_len, uint32_t key,
+                              uint32_t address, uint32_t allowance, uint8_t *result, size_t result_len)
 {
     uint8_t ignored[MUTREE_RESULT_BYTES];
     uint32_t answer;
     __wrap_mutree_lookup(geometry, image, image_len, key, ignored, sizeof ignored);
     set_buffers(geometry, image, image_len, result, result_len);
+    now.live = live;
+    now.live_len = live_len;
     now.key = key;
     now.address = address;
     now.allowance = allowance;

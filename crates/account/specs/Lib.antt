@@ -2,3 +2,4 @@
 pub mod Account
 pub mod Laws
 pub mod Rest
+pub mod Lent

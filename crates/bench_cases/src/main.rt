@@ -124,11 +124,23 @@ fn found(bench: Bench, img: &[u8], n: u32) {
     line();
 }
 
+// An insert with words of its own.
+fn put(bench: Bench, img: &mut [u8], key: u32, addr: u32, allowance: u32) -> Answer {
+    let mut lent: [u32; 2048] = [0; 2048];
+    index::insert(bench.kind, &mut *img, &mut lent, key, addr, allowance)
+}
+
+// A delete with words of its own.
+fn remove(bench: Bench, img: &mut [u8], key: u32, allowance: u32) -> Answer {
+    let mut lent: [u32; 2048] = [0; 2048];
+    index::delete(bench.kind, &mut *img, &mut lent, key, allowance)
+}
+
 fn insert(bench: Bench, img: &mut [u8], key: u32) {
     io::write_all(1, b"insert");
     number(key);
     io::write_all(1, b":");
-    tell(index::insert(bench.kind, &mut *img, key, key, 4294967295));
+    tell(put(bench, &mut *img, key, key, 4294967295));
 }
 
 fn show_root(bench: Bench, img: &[u8]) {
@@ -176,7 +188,7 @@ fn stopped(bench: Bench, img: &mut [u8], key: u32) {
     io::write_all(1, b"insert");
     number(key);
     io::write_all(1, b" with allowance 1:");
-    tell(index::insert(bench.kind, &mut *img, key, key, 1));
+    tell(put(bench, &mut *img, key, key, 1));
     show_blocks(bench, &*img);
     found(bench, &*img, key);
 }
@@ -220,7 +232,7 @@ fn delete(bench: Bench, img: &mut [u8], key: u32) {
     io::write_all(1, b"delete");
     number(key);
     io::write_all(1, b":");
-    tell(index::delete(bench.kind, &mut *img, key, 4294967295));
+    tell(remove(bench, &mut *img, key, 4294967295));
     show_root(bench, &*img);
     show_root_leaf(bench, &*img);
 }
@@ -287,9 +299,9 @@ fn refused(bench: Bench, img: &mut [u8]) {
     io::write_all(1, b"  lookup:");
     tell(index::lookup(bench.kind, &*img, 7));
     io::write_all(1, b"  insert:");
-    tell(index::insert(bench.kind, &mut *img, 7, 7, 4294967295));
+    tell(put(bench, &mut *img, 7, 7, 4294967295));
     io::write_all(1, b"  delete:");
-    tell(index::delete(bench.kind, &mut *img, 7, 4294967295));
+    tell(remove(bench, &mut *img, 7, 4294967295));
     io::write_all(1, b"  patrol:");
     tell(index::patrol(bench.kind, &mut *img, 0, 0));
     io::write_all(1, b"  format:");

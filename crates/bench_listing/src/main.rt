@@ -52,6 +52,12 @@ fn list(kind: u32, img: &[u8], low: u32, high: u32, lent: usize)
     list_into(kind, img, low, high, &mut buffer, lent);
 }
 
+// An insert with words of its own.
+fn put(kind: u32, img: &mut [u8], key: u32, addr: u32) {
+    let mut lent: [u32; 2048] = [0; 2048];
+    index::insert(kind, &mut *img, &mut lent, key, addr, 4294967295);
+}
+
 // Keys 10, 20, .. to 10 n.
 fn fill(kind: u32, img: &mut [u8], n: u32)
     requires { ⌜ n ≤ 1000 ⌝ }
@@ -59,7 +65,7 @@ fn fill(kind: u32, img: &mut [u8], n: u32)
     let mut i: u32 = 0;
     while i < n {
         i += 1;
-        index::insert(kind, &mut *img, 10 * i, 10 * i + 1, 4294967295);
+        put(kind, &mut *img, 10 * i, 10 * i + 1);
     }
 }
 

@@ -1,5 +1,5 @@
--- A call of the camera service: the number returned, the image and the result buffer afterwards; a listing has its lent pairs, and an
--- export its lent text, where the other calls have the image. Definitions alone; assumes nothing.
+-- A call of the camera service: the number returned, the image, the lent words and the result buffer afterwards; a listing has its lent
+-- pairs, and an export its lent text, where the other calls have the image. Definitions alone; assumes nothing.
 use mathlib.Core.List.{List, [], _∷_}
 use Prim.Native.Nat.{ℕ, _+_}
 use lib.Dec.{ltb}
@@ -10,6 +10,7 @@ use Rattle.model.specs.Calls.{Outcome}
 use Rattle.answers.specs.declared.Answer.{Answer}
 use Rattle.answers.specs.declared.Row.{Row}
 use Rattle.answers.specs.Answers.{rowOf, toldBy}
+use Rattle.live.specs.Live.{Reply}
 
 pub record Left : Type 0 where
   pub answer : ℕ
@@ -37,3 +38,7 @@ unfoldable pub returned : Outcome → List ℕ → List ℕ → Left
 returned o img buf = pick (ltb (length buf) 24)
     (record { answer = 1; image = img; result = buf })
     (record { answer = o .answer; image = o .image; result = putNumbers buf 0 (numbersOf o) })
+
+-- the lent words after a call with them
+unfoldable pub wordsLeft : Reply → List ℕ → List ℕ → List ℕ
+wordsLeft r old buf = pick (ltb (length buf) 24) old (r .words)

@@ -12,7 +12,8 @@ use Rattle.model.specs.Calls.{Outcome}
 use Rattle.answers.specs.declared.Answer.{Answer}
 use Rattle.answers.specs.declared.Row.{Row}
 use Rattle.answers.specs.Answers.{rowOf, toldBy, told}
-use Rattle.camera.specs.Camera.{putNumbers, numbersOf, reportRow, reportOf, returned}
+use Rattle.live.specs.Live.{Reply, reply}
+use Rattle.camera.specs.Camera.{putNumbers, numbersOf, reportRow, reportOf, returned, wordsLeft}
 
 -- ---- the loop that puts six numbers: what is to come leads to the whole. vs the numbers, i of them put, d the buffer
 pub put-go : (w m d vs : List ℕ) (i v : ℕ) → w ≡ putNumbers m (4 * i) (drop i vs) → d ≡ putU32 m (4 * i) v → v ≡ getD vs i 0 → length vs ≡ 6 → i < 6
@@ -82,7 +83,32 @@ module _ (o : Outcome) (img out buf : List ℕ) (a : Answer) (e : told a out ≡
   pub made-result : (b : List ℕ) → b ≡ reportOf a buf → b ≡ returned o img buf .result
   made-result b f = row-result o img out buf (rowOf a) e h b f
 
+-- a call with lent words, r its reply
+pub short-live : (r : Reply) (old buf : List ℕ) → length buf < 24 → old ≡ wordsLeft r old buf
+unfolding wordsLeft
+short-live r old buf h = rw (lt-ltb _ _ h)
+
+module _ (r : Reply) (img out ws buf : List ℕ) (a : Answer) (e : reply (told a out) ws ≡ r) (h : 24 ≤ length buf) where
+  outcome-is : told a out ≡ r .outcome
+  outcome-is = ap (λ (x : Reply). x .outcome) e
+
+  pub lent-answer : (n : ℕ) → n ≡ rowOf a .answer → n ≡ returned (r .outcome) img buf .answer
+  lent-answer n f = made-answer (r .outcome) img out buf a outcome-is h n f
+
+  pub lent-image : out ≡ returned (r .outcome) img buf .image
+  lent-image = made-image (r .outcome) img out buf a outcome-is h
+
+  pub lent-live : (old : List ℕ) → ws ≡ wordsLeft r old buf
+  unfolding wordsLeft
+  lent-live old = rw (le-ltb _ _ h) (ap (λ (x : Reply). x .words) e)
+
+  pub lent-result : (b : List ℕ) → b ≡ reportOf a buf → b ≡ returned (r .outcome) img buf .result
+  lent-result b f = made-result (r .outcome) img out buf a outcome-is h b f
+
 pub ruleset camera-laws = (put-go, put-end, put-same, row-is, report-is, report-number, short-answer, short-image, short-result, made-answer, made-image, made-result)
+
+-- of calls with lent words
+pub ruleset lent-laws = (short-answer, short-image, short-live, short-result, lent-answer, lent-image, lent-live, lent-result)
 
 -- of calls that give a row
 pub ruleset row-laws = (short-answer, short-image, short-result, row-answer, row-image, row-result)

@@ -1,10 +1,11 @@
 // The calls as a camera service in C makes them: the geometry's number, numbers, the lent image, and a lent result buffer.
 ghost use mathlib.Core.Path.{_≡_};
-ghost use Rattle.model.specs.Calls.{formatOf, lookupOf, insertOf, deleteOf, patrolOf};
+ghost use Rattle.model.specs.Calls.{formatOf, lookupOf, patrolOf};
 ghost use Rattle.model.specs.Listing.{listOf, asOutcome};
 ghost use Rattle.answers.specs.Answers.{rowOf};
+ghost use Rattle.live.specs.Live.{insertLiveOf, deleteLiveOf};
 ghost use Rattle.carrying.specs.Carrying.{exportOf, importOf};
-ghost use Rattle.camera.specs.Camera.{putNumbers, reportRow, reportOf, returned};
+ghost use Rattle.camera.specs.Camera.{putNumbers, reportRow, reportOf, returned, wordsLeft};
 use answers::Answer;
 use answers::Row;
 
@@ -94,19 +95,21 @@ pub extern "C" fn mutree_list(
 pub extern "C" fn mutree_insert(
     kind: u32,
     image: &mut [u8],
+    live: &mut [u32],
     key: u32,
     address: u32,
     allowance: u32,
     result: &mut [u8],
 ) -> u32
-    ensures answer { λ r. ⌜ r ≡ returned (insertOf kind (now (image .entry)) key address allowance) (now (image .entry)) (now (result .entry)) .answer ⌝ }
-    ensures image { λ _. ⌜ now (image .exit) ≡ returned (insertOf kind (now (image .entry)) key address allowance) (now (image .entry)) (now (result .entry)) .image ⌝ }
-    ensures result { λ _. ⌜ now (result .exit) ≡ returned (insertOf kind (now (image .entry)) key address allowance) (now (image .entry)) (now (result .entry)) .result ⌝ }
+    ensures answer { λ r. ⌜ r ≡ returned (insertLiveOf kind (now (image .entry)) (now (live .entry)) key address allowance .outcome) (now (image .entry)) (now (result .entry)) .answer ⌝ }
+    ensures image { λ _. ⌜ now (image .exit) ≡ returned (insertLiveOf kind (now (image .entry)) (now (live .entry)) key address allowance .outcome) (now (image .entry)) (now (result .entry)) .image ⌝ }
+    ensures live { λ _. ⌜ now (live .exit) ≡ wordsLeft (insertLiveOf kind (now (image .entry)) (now (live .entry)) key address allowance) (now (live .entry)) (now (result .entry)) ⌝ }
+    ensures result { λ _. ⌜ now (result .exit) ≡ returned (insertLiveOf kind (now (image .entry)) (now (live .entry)) key address allowance .outcome) (now (image .entry)) (now (result .entry)) .result ⌝ }
 {
     if result.len() < 24 {
         return 1;
     }
-    let a = index::insert(kind, &mut *image, key, address, allowance);
+    let a = index::insert(kind, &mut *image, &mut *live, key, address, allowance);
     report(&mut *result, a)
 }
 
@@ -114,18 +117,20 @@ pub extern "C" fn mutree_insert(
 pub extern "C" fn mutree_delete(
     kind: u32,
     image: &mut [u8],
+    live: &mut [u32],
     key: u32,
     allowance: u32,
     result: &mut [u8],
 ) -> u32
-    ensures answer { λ r. ⌜ r ≡ returned (deleteOf kind (now (image .entry)) key allowance) (now (image .entry)) (now (result .entry)) .answer ⌝ }
-    ensures image { λ _. ⌜ now (image .exit) ≡ returned (deleteOf kind (now (image .entry)) key allowance) (now (image .entry)) (now (result .entry)) .image ⌝ }
-    ensures result { λ _. ⌜ now (result .exit) ≡ returned (deleteOf kind (now (image .entry)) key allowance) (now (image .entry)) (now (result .entry)) .result ⌝ }
+    ensures answer { λ r. ⌜ r ≡ returned (deleteLiveOf kind (now (image .entry)) (now (live .entry)) key allowance .outcome) (now (image .entry)) (now (result .entry)) .answer ⌝ }
+    ensures image { λ _. ⌜ now (image .exit) ≡ returned (deleteLiveOf kind (now (image .entry)) (now (live .entry)) key allowance .outcome) (now (image .entry)) (now (result .entry)) .image ⌝ }
+    ensures live { λ _. ⌜ now (live .exit) ≡ wordsLeft (deleteLiveOf kind (now (image .entry)) (now (live .entry)) key allowance) (now (live .entry)) (now (result .entry)) ⌝ }
+    ensures result { λ _. ⌜ now (result .exit) ≡ returned (deleteLiveOf kind (now (image .entry)) (now (live .entry)) key allowance .outcome) (now (image .entry)) (now (result .entry)) .result ⌝ }
 {
     if result.len() < 24 {
         return 1;
     }
-    let a = index::delete(kind, &mut *image, key, allowance);
+    let a = index::delete(kind, &mut *image, &mut *live, key, allowance);
     report(&mut *result, a)
 }
 

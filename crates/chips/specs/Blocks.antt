@@ -1,6 +1,6 @@
 -- The collector's counting: pages by blocks, the victim, why there is one. g is a block's pages.
 -- Assumes nothing.
-use mathlib.Core.Path.{_≡_, refl, ap}
+use mathlib.Core.Path.{_≡_, refl, ap, _∙_}
 use mathlib.Core.Bool.{Bool, true, false}
 use mathlib.Core.Logic.{_⊎_, inl, inr}
 use mathlib.Core.Option.{Option, none, some}
@@ -93,6 +93,19 @@ pub victim-is : (full : ℕ → Bool) (lv : ℕ → ℕ) (b : ℕ) → Found ful
 unfolding victim
 victim-is full lv zero = λ c q. absurd (omega arith)
 victim-is full lv (suc b) = better-is full lv b (victim full lv b) (victim-is full lv b)
+
+-- it hangs on the counts of the blocks below b alone
+better-alike : (full : ℕ → Bool) (lv lw : ℕ → ℕ) (b : ℕ) (o : Option ℕ) → Found full lv b o → ((c : ℕ) → c < suc b → lv c ≡ lw c)
+    → better full lv b o ≡ better full lw b o
+unfolding better
+better-alike full lv lw b none h e = refl
+better-alike full lv lw b (some v) h e = rw (e b (omega arith), e v (omega (arith, h .below)))
+
+pub victim-alike : (full : ℕ → Bool) (lv lw : ℕ → ℕ) (b : ℕ) → ((c : ℕ) → c < b → lv c ≡ lw c) → victim full lv b ≡ victim full lw b
+unfolding victim
+victim-alike full lv lw zero e = refl
+victim-alike full lv lw (suc b) e = better-alike full lv lw b (victim full lv b) (victim-is full lv b) e
+    ∙ ap (better full lw b) (victim-alike full lv lw b (λ c q. e c (omega arith)))
 
 -- with room for k more pages and too few erased ones some full block has a dead page; m is the mixed block, or n
 module _ (g k n : ℕ) (er lv dd : ℕ → Bool) (three : (q : ℕ) → bit (er q) + bit (lv q) + bit (dd q) ≡ 1) (full : ℕ → Bool) (m : ℕ)

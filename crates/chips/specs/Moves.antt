@@ -67,13 +67,13 @@ module _ (g : Geometry) (shape : Shape g) (n : ℕ) (c : Chip) (good : Whole g n
   new-in : new < g .pages * n
   new-in = next-in (g .pages) n (ahead g n c) (some-page g shape) (good .r2) free
 
-  keep : (l b : ℕ) → fitOf (g .pages * n) (c .er) l b → fitOf (g .pages * n) (after new (c .er)) l b
+  pub keep : (l b : ℕ) → fitOf (g .pages * n) (c .er) l b → fitOf (g .pages * n) (after new (c .er)) l b
   keep = fit-after (g .pages * n) new (c .er)
 
-  not-new : (q l : ℕ) → fitOf (g .pages * n) (c .er) (suc l) q → q ≡ new → ⊥
+  pub not-new : (q l : ℕ) → fitOf (g .pages * n) (c .er) (suc l) q → q ≡ new → ⊥
   not-new q l h e = true-false (c .er new) (found .2) (rw (← e) (h .1))
 
-  stays : (q l : ℕ) → fitOf (g .pages * n) (c .er) (suc l) q → c′ .nodes q (suc l) ≡ c .nodes q (suc l)
+  pub stays : (q l : ℕ) → fitOf (g .pages * n) (c .er) (suc l) q → c′ .nodes q (suc l) ≡ c .nodes q (suc l)
   unfolding moveTo
   stays q l h = rw (ne-eqb q new (not-new q l h)) refl
 
@@ -81,7 +81,7 @@ module _ (g : Geometry) (shape : Shape g) (n : ℕ) (c : Chip) (good : Whole g n
   unfolding moveTo
   on-new j = rw (eq-eqb new new refl) refl
 
-  low : Mem (record { page = p; level = lowLevel (placesOf c) p }) (placesOf c) × All (λ x. x .page ≡ p → lowLevel (placesOf c) p ≤ x .level)
+  pub low : Mem (record { page = p; level = lowLevel (placesOf c) p }) (placesOf c) × All (λ x. x .page ≡ p → lowLevel (placesOf c) p ≤ x .level)
       (placesOf c)
   low = low-is (placesOf c) p alive
 
@@ -97,14 +97,14 @@ module _ (g : Geometry) (shape : Shape g) (n : ℕ) (c : Chip) (good : Whole g n
   abbrev fit : ℕ → ℕ → Type 0
   fit = fitOf (g .pages * n) (c .er)
 
-  k-low : k < 4294967296
+  pub k-low : k < 4294967296
   k-low = all-get (λ x. next (c .nodes (x .page) (x .level)) 0 < 4294967296) (record { page = p; level = a }) (placesOf c)
       (root-first fit (λ l. 2 * half g l) (rootMost g) (c .nodes) (c .level) (c .root) 4294967296 (omega arith) (good .sound .rooted)) (low .0)
 
   some-root : 1 ≤ c .level → 0 < length es
   some-root i = let z = good .sound .rooted .least i in omega (arith, z)
 
-  made : MoveMade (c .nodes) (c′ .nodes) k a new (c .level) (chosen k es)
+  pub made : MoveMade (c .nodes) (c′ .nodes) k a new (c .level) (chosen k es)
   unfolding movePart
   made = made-from fit (λ l. 2 * half g l) (c .nodes) k same (λ e. e ∷ []) (renamed a new) (same-as k) (λ j d. a ≤ j → c′ .nodes new j ≡ d)
       (c .level) 4294967296 (theRoot c) k-low some-root (good .sound .rooted .rises)
@@ -114,7 +114,7 @@ module _ (g : Geometry) (shape : Shape g) (n : ℕ) (c : Chip) (good : Whole g n
   a-in = all-get (λ x. (1 ≤ x .level) × (x .level ≤ suc (c .level))) (record { page = p; level = a }) (placesOf c)
       (places-level (c .nodes) (suc (c .level)) (theRoot c)) (low .0) .1
 
-  at-root : c′ .nodes new (suc (c .level)) ≡ splice (moved (c .nodes) k a new (c .level)) k es
+  pub at-root : c′ .nodes new (suc (c .level)) ≡ splice (moved (c .nodes) k a new (c .level)) k es
   unfolding movePart
   at-root = on-new (suc (c .level)) ∙ rw (le-leb a (suc (c .level)) a-in)
       (onPath-top fit (λ l. 2 * half g l) (c .nodes) k same (λ e. e ∷ []) (renamed a new) (same-as k) (c .level) (theRoot c)
@@ -122,7 +122,7 @@ module _ (g : Geometry) (shape : Shape g) (n : ℕ) (c : Chip) (good : Whole g n
       (good .sound .rooted .rises)
       ∙ same-root (c .nodes) k (renamed a new) (c .level) es)
 
-  fit-new : (l : ℕ) → fitOf (g .pages * n) (after new (c .er)) (suc l) new
+  pub fit-new : (l : ℕ) → fitOf (g .pages * n) (after new (c .er)) (suc l) new
   fit-new l = (new-in, rw (eq-eqb new new refl) refl)
 
   the-move : Moved p (lowLevel (placesOf c) p) new 4294967296 (half g) (rootMost g) (c .nodes) (c′ .nodes) (fitOf (g .pages * n) (c .er))

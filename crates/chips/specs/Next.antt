@@ -183,7 +183,7 @@ module _ (g n : ℕ) (w : Ahead) (g-pos : 1 ≤ g) (r2 : R2 g n (w .er)) where
   next-in h = in-range g n (nextBlock g n w) (firstIn g er (nextBlock g n w)) (next-found h .0) (next-found h .1)
 
   -- a mixed block is the next one
-  mixed-next : (b : ℕ) → b < n → mixed g er b ≡ true → b ≡ nextBlock g n w
+  pub mixed-next : (b : ℕ) → b < n → mixed g er b ≡ true → b ≡ nextBlock g n w
   unfolding nextBlock
   mixed-next b q h = go (ltb (least n (mixed g er)) n) refl (least-is (mixed g er) n)
     where
@@ -226,7 +226,7 @@ module _ (g n : ℕ) (w : Ahead) (g-pos : 1 ≤ g) (r2 : R2 g n (w .er)) where
     abbrev er′ : ℕ → Bool
     er′ = after (nextPage g n w) er
 
-    elsewhere : (b j : ℕ) → j < g → ((b ≡ nextBlock g n w) → (j ≡ firstIn g er (nextBlock g n w)) → ⊥) → er′ (g * b + j) ≡ er (g * b + j)
+    pub elsewhere : (b j : ℕ) → j < g → ((b ≡ nextBlock g n w) → (j ≡ firstIn g er (nextBlock g n w)) → ⊥) → er′ (g * b + j) ≡ er (g * b + j)
     elsewhere b j q d = rw (ne-eqb (g * b + j) (nextPage g n w) (λ e. let z = page-inj g b (nextBlock g n w) j
         (firstIn g er (nextBlock g n w)) q inside e in d (z .0) (z .1))) refl
 

@@ -1,28 +1,64 @@
--- One page of the victim, and a collection. Definitions alone; assumes nothing.
-use Prim.Native.Nat.{ℕ}
+-- A run of stores under an allowance, with what is kept beside the image. Definitions alone; assumes nothing.
+use Prim.Native.Nat.{ℕ, suc, _<_}
 use mathlib.Core.Bool.{false}
 use mathlib.Core.Path.{_≡_}
-use mathlib.Core.List.{List, [], _∷_}
+use mathlib.Core.List.{List}
+use lib.ListN.{length}
 use Rattle.geometry.specs.declared.Geometry.{Geometry}
-use Rattle.geometry.specs.Tests.{pick}
-use Rattle.model.specs.Collect.{moveStore, collectStores}
-use Rattle.model.specs.Image.{chipOf}
-use Rattle.model.specs.Stores.{Store}
-use Rattle.model.specs.Tree.{placesOf, live}
+use Rattle.model.specs.Bytes.{erased, nodeAt}
+use Rattle.model.specs.Tree.{next}
+use Rattle.chip.specs.Chip.{named}
+use Rattle.live.specs.Words.{wordsOf, Past}
+use Rattle.beside.specs.Table.{Table, tableIn, tableMoved}
+use Rattle.beside.specs.Beside.{Beside, besideOf, nextAfter}
+use Rattle.beside.specs.Collect.{Run, collectBy}
 use Rattle.stores.specs.declared.Budget.{Budget}
 use Rattle.stores.specs.Run.{Ran}
-use Rattle.victim.specs.Victim.{Looked}
+use Rattle.survey.specs.declared.Survey.{Survey}
+use Rattle.survey.specs.Survey.{surveyOf}
+use Rattle.collect.specs.declared.Kept.{Kept}
 use Rattle.collect.specs.declared.Swept.{Swept}
 
--- the store of page q, if it is live
-unfoldable pub pageStores : Geometry → ℕ → ℕ → List ℕ → List Store
-pageStores g n q i = pick (live (placesOf (chipOf g n i)) q) (moveStore g n q i ∷ []) []
+-- what is kept beside the image, from its parts
+unfoldable pub besideIn : Kept → ℕ → Table → Beside
+besideIn h l t = record { root = h .root; most = h .most; level = l; next = h .next; table = t }
 
-pub record Sweeps (g : Geometry) (n q : ℕ) (b : Budget) (r : Swept) (i o tbl : List ℕ) : Type 0 where
-  pub ran : Ran g (pageStores g n q i) b (r .budget) i o
-  pub seen : Looked g n o (r .survey) tbl
+-- a run whose stores were made as far as the allowance goes; where all were, the image is the run's, and so is what is kept. The table of levels
+-- is as long as before, and the words past the image's stay.
+pub record Makes (A : Type 0) (g : Geometry) (n : ℕ) (run : Run A) (b r : Budget) (i o : List ℕ) (a : A) (tbl tbl′ ws ws′ : List ℕ) : Type 0 where
+  pub ran : Ran g (run .stores) b r i o
+  pub image : r .stopped ≡ false → o ≡ run .image
+  pub kept : r .stopped ≡ false → a ≡ run .kept
+  pub long : length tbl′ ≡ length tbl
+  pub past : Past (wordsOf g n) ws ws′
 
--- a collection: its stores, and, where all were made, the survey and the table of the image that it leaves
-pub record Collects (g : Geometry) (n k m : ℕ) (b : Budget) (r : Swept) (i o tbl : List ℕ) : Type 0 where
-  pub ran : Ran g (collectStores g n k m i) b (r .budget) i o
-  pub seen : r .budget .stopped ≡ false → Looked g n o (r .survey) tbl
+-- the same, of what is kept in a sweep with l levels below the root
+abbrev pub Sweeps : Geometry → ℕ → ℕ → Run Beside → Budget → Budget → List ℕ → List ℕ → Kept → List ℕ → List ℕ → List ℕ → List ℕ → Type 0
+Sweeps g n l run b r i o k tbl tbl′ ws ws′ = Makes Beside g n run b r i o (besideIn k l (tableIn tbl′ ws′)) tbl tbl′ ws ws′
+
+-- the same, of the table alone
+abbrev pub Clears : Geometry → ℕ → Run Table → Budget → Budget → List ℕ → List ℕ → List ℕ → List ℕ → List ℕ → List ℕ → Type 0
+Clears g n run b r i o tbl tbl′ ws ws′ = Makes Table g n run b r i o (tableIn tbl′ ws′) tbl tbl′ ws ws′
+
+-- what is kept at the start of a sweep
+pub record Begins (g : Geometry) (n : ℕ) (img : List ℕ) (s : Survey) (k : Kept) : Type 0 where
+  pub beside : (t : Table) → besideIn k (s .level) t ≡ besideOf g n img t
+
+-- the tables of an image of n blocks once page q, whose lowest live level is low, is moved by its key; img the image before
+pub record Remarks (g : Geometry) (n l q low key : ℕ) (h : Kept) (img tbl tbl′ ws ws′ : List ℕ) : Type 0 where
+  pub first : key ≡ next (nodeAt g img q low) 0
+  pub table : tableIn tbl′ ws′ ≡ tableMoved (wordsOf g n) (nodeAt g img) key low l (named (h .root)) (h .next) (tableIn tbl ws)
+  pub long : length tbl′ ≡ length tbl
+  pub past : Past (wordsOf g n) ws ws′
+
+-- what is kept once the page kept as the next one is programmed; then is the image after
+pub record Onward (g : Geometry) (n : ℕ) (then : List ℕ) (h k : Kept) : Type 0 where
+  pub root : k .root ≡ h .next
+  pub most : k .most ≡ suc (h .most)
+  pub next : k .next ≡ nextAfter (g .pages) n (erased g then) (h .next)
+
+-- a collection; where all its stores were made, with the survey of the image that it leaves
+pub record Collects (g : Geometry) (n k m : ℕ) (b : Budget) (r : Swept) (i o tbl tbl′ ws ws′ : List ℕ) : Type 0 where
+  pub made : Makes Table g n (collectBy g n k m (tableIn tbl ws) i) b (r .budget) i o (tableIn tbl′ ws′) tbl tbl′ ws ws′
+  pub survey : r .budget .stopped ≡ false → r .survey ≡ surveyOf g n o
+  pub low : r .budget .stopped ≡ false → r .survey .level < 255

@@ -1,18 +1,32 @@
 // Collection: the victim's live pages moved, lowest first, then the victim erased, while too few pages are erased.
-// Each store on the image as it then stands; the lent table takes the live pages anew after each.
+// Each store on the image as it then stands. The lent tables follow each move; no tree is walked, and only after an
+// erase is the image surveyed anew.
 ghost use mathlib.Core.Path.{_≡_};
 ghost use mathlib.Core.Bool.{false};
-ghost use Prim.Native.Nat.{_+_, _*_, _-_, _≤_, _<_};
-ghost use lib.ListN.{length};
+ghost use mathlib.Core.Option.{some};
+ghost use Prim.Native.Nat.{_+_, _≤_, _<_, max};
+ghost use lib.ListN.{getD};
 ghost use Rattle.geometry.specs.Geometry.{pageBytes};
-ghost use Rattle.model.specs.Collect.{sweepStores, clearStores, theVictim};
-ghost use Rattle.model.specs.Image.{chipOf};
-ghost use Rattle.stores.specs.Run.{Ran};
-ghost use Rattle.victim.specs.Victim.{Looked};
-ghost use Rattle.collect.specs.Collect.{Sweeps, Collects};
+ghost use Rattle.beside.specs.Table.{tableIn};
+ghost use Rattle.beside.specs.Collect.{moveBy, pageBy, sweepBy, clearBy, victimBy};
+ghost use Rattle.survey.specs.Survey.{surveyOf};
+ghost use Rattle.collect.specs.Collect.{besideIn, Sweeps, Clears, Begins, Remarks, Onward, Collects};
 use geometry::Geometry;
 use stores::Budget;
 use survey::Survey;
+
+// What changes beside the image while pages move: the root's page, the largest number, the next page.
+pub struct Kept {
+    pub root: u32,
+    pub most: u64,
+    pub next: u32,
+}
+
+// What is left of the allowance, and what is kept.
+pub struct Carried {
+    pub budget: Budget,
+    pub kept: Kept,
+}
 
 // What is left of the allowance, and the survey of the image as it then stands.
 pub struct Swept {
@@ -20,34 +34,112 @@ pub struct Swept {
     pub survey: Survey,
 }
 
-// Moves page q, if it is live, and looks at the image anew.
+// What is kept once the next page is programmed.
+fn kept_after(g: Geometry, img: &[u8], n: u16, h: Kept) -> Kept
+    requires { ⌜ (h .most < 8589934592) × (h .next < 4294967295) ⌝ }
+    ensures { λ r. ⌜ Onward g n (now (img .entry)) h r ⌝ }
+    ensures { λ r. ⌜ (r .most ≤ h .most + 1) × (r .next ≤ max (h .next + 1) 4294836225) ⌝ }
+{
+    let next = next::next_after(g, img, n, h.next);
+    Kept {
+        root: h.next,
+        most: h.most + 1,
+        next: next,
+    }
+}
+
+// The marks of the move of a page whose lowest live level is `low`; gives the key of the path that moves.
+fn move_marks(
+    g: Geometry,
+    img: &[u8],
+    table: &mut [u8],
+    words: &mut [u32],
+    n: u16,
+    level: u32,
+    page: u32,
+    low: u32,
+    h: Kept,
+) -> u32
+    requires { ⌜ (level < 255) × (low < 256) ⌝ }
+    ensures { λ r. ⌜ Remarks g n level page low r h (now (img .entry)) (now (table .entry)) (now (table .exit)) (now (words .entry)) (now (words .exit)) ⌝ }
+{
+    let key = moving::first_key(g, img, page, low);
+    let m = words::words_of(g, n);
+    let new = h.next;
+    marks::move_marks(
+        g,
+        img,
+        &mut *table,
+        &mut *words,
+        m,
+        key,
+        low,
+        level,
+        h.root,
+        new,
+    );
+    key
+}
+
+// Moves a live page: its marks first, on the image before the store.
+fn move_live(
+    g: Geometry,
+    img: &mut [u8],
+    table: &mut [u8],
+    words: &mut [u32],
+    n: u16,
+    b: Budget,
+    level: u32,
+    page: u32,
+    low: u32,
+    h: Kept,
+) -> Carried
+    requires { ⌜ (level < 255) × (low < 256) × (pageBytes g ≤ 2112) × (h .most < 8589934592) × (h .next < 4294967295) × (b .left + b .programmed + b .erased < 4294967296) × (b .stopped ≡ false) ⌝ }
+    requires { ⌜ low ≡ getD (now table) page 0 ⌝ }
+    ensures { λ r. ⌜ Sweeps g n level (moveBy g n page (besideIn h level (tableIn (now (table .entry)) (now (words .entry)))) (now (img .entry))) b (r .budget) (now (img .entry)) (now (img .exit)) (r .kept) (now (table .entry)) (now (table .exit)) (now (words .entry)) (now (words .exit)) ⌝ }
+    ensures { λ r. ⌜ (r .kept .most ≤ h .most + 1) × (r .kept .next ≤ max (h .next + 1) 4294836225) ⌝ }
+{
+    let key = move_marks(g, &*img, &mut *table, &mut *words, n, level, page, low, h);
+    let r = moving::move_page(g, &mut *img, b, h.root, h.most, level, h.next, low, key);
+    if r.stopped {
+        return Carried { budget: r, kept: h };
+    }
+    let k = kept_after(g, &*img, n, h);
+    Carried { budget: r, kept: k }
+}
+
+// Moves a page, if it is live.
 fn sweep_page(
     g: Geometry,
     img: &mut [u8],
     table: &mut [u8],
+    words: &mut [u32],
     n: u16,
     b: Budget,
-    q: u32,
-    s: Survey,
-) -> Swept
-    requires { ⌜ (q < length (now table)) × (pageBytes g ≤ 2112) × (b .left + b .programmed + b .erased < 4294967296) ⌝ }
-    requires { ⌜ Looked g n (now img) s (now table) ⌝ }
-    ensures { λ r. ⌜ length (now (table .exit)) ≡ length (now (table .entry)) ⌝ }
-    ensures { λ r. ⌜ Sweeps g n q b r (now (img .entry)) (now (img .exit)) (now (table .exit)) ⌝ }
+    level: u32,
+    page: u32,
+    h: Kept,
+) -> Carried
+    requires { ⌜ (level < 255) × (pageBytes g ≤ 2112) × (h .most < 8589934592) × (h .next < 4294967295) × (b .left + b .programmed + b .erased < 4294967296) × (b .stopped ≡ false) ⌝ }
+    ensures { λ r. ⌜ Sweeps g n level (pageBy g n page (besideIn h level (tableIn (now (table .entry)) (now (words .entry)))) (now (img .entry))) b (r .budget) (now (img .entry)) (now (img .exit)) (r .kept) (now (table .entry)) (now (table .exit)) (now (words .entry)) (now (words .exit)) ⌝ }
+    ensures { λ r. ⌜ (r .kept .most ≤ h .most + 1) × (r .kept .next ≤ max (h .next + 1) 4294836225) ⌝ }
 {
-    let low = walk::noted(&*table, q);
+    let low = walk::noted(&*table, page);
     if low == 0 {
-        return Swept {
-            budget: b,
-            survey: s,
-        };
+        return Carried { budget: b, kept: h };
     }
-    let r = moving::move_page(g, &mut *img, n, b, s, low, q);
-    let t = victim::look(g, &*img, &mut *table, n);
-    Swept {
-        budget: r,
-        survey: t,
-    }
+    move_live(
+        g,
+        &mut *img,
+        &mut *table,
+        &mut *words,
+        n,
+        b,
+        level,
+        page,
+        low,
+        h,
+    )
 }
 
 // Moves the live ones of the last `left` pages of block v, in rising order.
@@ -55,46 +147,114 @@ fn sweep(
     g: Geometry,
     img: &mut [u8],
     table: &mut [u8],
+    words: &mut [u32],
+    n: u16,
+    b: Budget,
+    level: u32,
+    v: u16,
+    left: u16,
+    h: Kept,
+) -> Carried
+    requires { ⌜ (left ≤ g .pages) × (level < 255) × (pageBytes g ≤ 2112) × (h .most + left < 8589934592) × (h .next + left < 4294967296) × (b .left + b .programmed + b .erased < 4294967296) × (b .stopped ≡ false) ⌝ }
+    ensures { λ r. ⌜ Sweeps g n level (sweepBy g n v left (besideIn h level (tableIn (now (table .entry)) (now (words .entry)))) (now (img .entry))) b (r .budget) (now (img .entry)) (now (img .exit)) (r .kept) (now (table .entry)) (now (table .exit)) (now (words .entry)) (now (words .exit)) ⌝ }
+{
+    if left == 0 {
+        return Carried { budget: b, kept: h };
+    }
+    let page = chip::page_of(g, v, g.pages - left);
+    let w = sweep_page(g, &mut *img, &mut *table, &mut *words, n, b, level, page, h);
+    let r = w.budget;
+    let k = w.kept;
+    if r.stopped {
+        return w;
+    }
+    sweep(
+        g,
+        &mut *img,
+        &mut *table,
+        &mut *words,
+        n,
+        r,
+        level,
+        v,
+        left - 1,
+        k,
+    )
+}
+
+fn long(x: u32) -> u64
+    ensures { λ r. ⌜ (r ≡ x) × (r < 4294967296) ⌝ }
+{
+    x as u64
+}
+
+// What is kept at the start of a sweep.
+fn begin(g: Geometry, img: &[u8], n: u16, s: Survey) -> Kept
+    requires { ⌜ s ≡ surveyOf g n (now img) ⌝ }
+    ensures { λ r. ⌜ Begins g n (now (img .entry)) s r ⌝ }
+    ensures { λ r. ⌜ (r .most + g .pages < 8589934592) × (r .next + g .pages < 4294967296) ⌝ }
+{
+    let next = next::next_page(g, img, n, s.last);
+    let most = long(s.most);
+    Kept {
+        root: s.root,
+        most: most,
+        next: next,
+    }
+}
+
+// Clears block v: its live pages moved, then it is erased. No page of it is then live, so the tables stay.
+fn clear_block(
+    g: Geometry,
+    img: &mut [u8],
+    table: &mut [u8],
+    words: &mut [u32],
     n: u16,
     b: Budget,
     v: u16,
-    left: u16,
     s: Survey,
 ) -> Budget
-    requires { ⌜ (left ≤ g .pages) × (g .pages * v + g .pages ≤ length (now table)) × (pageBytes g ≤ 2112) × (b .left + b .programmed + b .erased < 4294967296) × (b .stopped ≡ false) ⌝ }
-    requires { ⌜ Looked g n (now img) s (now table) ⌝ }
-    ensures { λ r. ⌜ length (now (table .exit)) ≡ length (now (table .entry)) ⌝ }
-    ensures { λ r. ⌜ Ran g (sweepStores g n v left (now (img .entry))) b r (now (img .entry)) (now (img .exit)) ⌝ }
+    requires { ⌜ (s ≡ surveyOf g n (now img)) × (s .level < 255) × (pageBytes g ≤ 2112) × (b .left + b .programmed + b .erased < 4294967296) × (b .stopped ≡ false) ⌝ }
+    ensures { λ r. ⌜ Clears g n (clearBy g n (some v) (tableIn (now (table .entry)) (now (words .entry))) (now (img .entry))) b r (now (img .entry)) (now (img .exit)) (now (table .entry)) (now (table .exit)) (now (words .entry)) (now (words .exit)) ⌝ }
 {
-    if left == 0 {
-        return b;
-    }
-    let page = chip::page_of(g, v, g.pages - left);
-    let w = sweep_page(g, &mut *img, &mut *table, n, b, page, s);
+    let h = begin(g, &*img, n, s);
+    let w = sweep(
+        g,
+        &mut *img,
+        &mut *table,
+        &mut *words,
+        n,
+        b,
+        s.level,
+        v,
+        g.pages,
+        h,
+    );
     let r = w.budget;
-    let t = w.survey;
     if r.stopped {
         return r;
     }
-    sweep(g, &mut *img, &mut *table, n, r, v, left - 1, t)
+    stores::put_erase(g, &mut *img, r, v)
 }
 
 // Clears the victim, if there is one.
-fn clear(g: Geometry, img: &mut [u8], table: &mut [u8], n: u16, b: Budget, s: Survey) -> Budget
-    requires { ⌜ (g .pages * n ≤ length (now table)) × (pageBytes g ≤ 2112) × (b .left + b .programmed + b .erased < 4294967296) × (b .stopped ≡ false) ⌝ }
-    requires { ⌜ Looked g n (now img) s (now table) ⌝ }
-    ensures { λ r. ⌜ length (now (table .exit)) ≡ length (now (table .entry)) ⌝ }
-    ensures { λ r. ⌜ Ran g (clearStores g n (theVictim (g .pages) n (chipOf g n (now (img .entry)))) (now (img .entry))) b r (now (img .entry)) (now (img .exit)) ⌝ }
+fn clear(
+    g: Geometry,
+    img: &mut [u8],
+    table: &mut [u8],
+    words: &mut [u32],
+    n: u16,
+    b: Budget,
+    s: Survey,
+) -> Budget
+    requires { ⌜ (s ≡ surveyOf g n (now img)) × (s .level < 255) × (pageBytes g ≤ 2112) × (b .left + b .programmed + b .erased < 4294967296) × (b .stopped ≡ false) ⌝ }
+    ensures { λ r. ⌜ Clears g n (clearBy g n (victimBy g n (tableIn (now (table .entry)) (now (words .entry))) (now (img .entry))) (tableIn (now (table .entry)) (now (words .entry))) (now (img .entry))) b r (now (img .entry)) (now (img .exit)) (now (table .entry)) (now (table .exit)) (now (words .entry)) (now (words .exit)) ⌝ }
 {
-    let v = victim::find_victim(g, &*img, &*table, n);
+    let v = victim::find_victim(g, &*img, &*words, n);
     if !v.found {
         return b;
     }
-    let r = sweep(g, &mut *img, &mut *table, n, b, v.block, g.pages, s);
-    if r.stopped {
-        return r;
-    }
-    stores::put_erase(g, &mut *img, r, v.block)
+    clear_block(g, &mut *img, &mut *table, &mut *words, n, b, v.block, s)
 }
 
 // The erased pages that an update of k pages must find.
@@ -105,21 +265,21 @@ fn enough(g: Geometry, k: u32) -> u32
     (g.pages as u32) + k
 }
 
-// Collects while fewer pages are erased than a block's and k more, in at most m rounds. The survey and the table are those
-// of the image; the ones that come back are those of the image that is left, unless the allowance stopped it.
+// Collects while fewer pages are erased than a block's and k more, in at most m rounds. The survey is that of the image;
+// the one that comes back is that of the image that is left, unless the allowance stopped it.
 pub fn collect(
     g: Geometry,
     img: &mut [u8],
     table: &mut [u8],
+    words: &mut [u32],
     n: u16,
     b: Budget,
     k: u32,
     m: u32,
     s: Survey,
 ) -> Swept
-    requires { ⌜ (g .pages * n ≤ length (now table)) × (k < 65536) × (pageBytes g ≤ 2112) × (b .left + b .programmed + b .erased < 4294967296) × (b .stopped ≡ false) ⌝ }
-    requires { ⌜ Looked g n (now img) s (now table) ⌝ }
-    ensures { λ r. ⌜ Collects g n k m b r (now (img .entry)) (now (img .exit)) (now (table .exit)) ⌝ }
+    requires { ⌜ (s ≡ surveyOf g n (now img)) × (s .level < 255) × (k < 65536) × (pageBytes g ≤ 2112) × (b .left + b .programmed + b .erased < 4294967296) × (b .stopped ≡ false) ⌝ }
+    ensures { λ r. ⌜ Collects g n k m b r (now (img .entry)) (now (img .exit)) (now (table .entry)) (now (table .exit)) (now (words .entry)) (now (words .exit)) ⌝ }
 {
     if m == 0 {
         return Swept {
@@ -133,13 +293,13 @@ pub fn collect(
             survey: s,
         };
     }
-    let r = clear(g, &mut *img, &mut *table, n, b, s);
+    let r = clear(g, &mut *img, &mut *table, &mut *words, n, b, s);
     if r.stopped {
         return Swept {
             budget: r,
             survey: s,
         };
     }
-    let t = victim::look(g, &*img, &mut *table, n);
-    collect(g, &mut *img, &mut *table, n, r, k, m - 1, t)
+    let t = survey::take_survey(g, &*img, n);
+    collect(g, &mut *img, &mut *table, &mut *words, n, r, k, m - 1, t)
 }

@@ -33,6 +33,13 @@ pub struct Summit {
     pub budget: Budget,
 }
 
+// What an update's own stores leave: the allowance, and where the root stands if all were made: its page, and the levels below it.
+pub struct Own {
+    pub budget: Budget,
+    pub page: u32,
+    pub level: u32,
+}
+
 fn one(x: Entry) -> Node
     ensures { λ r. ⌜ (entries r ≡ x ∷ []) × (r .count ≡ 1) ⌝ }
 {
@@ -137,7 +144,7 @@ pub fn settle(
     level: u32,
     c: Node,
 ) -> Summit
-    requires { ⌜ (c .count ≤ 256) × (level < 65536) × (pageBytes g ≤ 2112) × (job .seq < 4294967296) × (b .left + b .programmed + b .erased < 4294967296) ⌝ }
+    requires { ⌜ (c .count ≤ 256) × (level < 65536) × (pageBytes g ≤ 2112) × (job .seq < 8589934592) × (b .left + b .programmed + b .erased < 4294967296) ⌝ }
     ensures { λ r. ⌜ Crowned g job level (entries c) b r (now (img .entry)) (now (img .exit)) (now (page .entry)) (now (page .exit)) ⌝ }
 {
     let s = crown_of(g, job, level, c);

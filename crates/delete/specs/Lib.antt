@@ -1,2 +1,3 @@
 -- Delete, and its laws.
 pub mod Delete
+pub mod Laws

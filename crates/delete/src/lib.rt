@@ -1,44 +1,57 @@
-// Delete on an image: judged first, then refused, or made under its allowance.
+// Delete on an image, with lent words of live pages: judged first, then refused, or made under its allowance.
 ghost use mathlib.Core.Path.{_≡_};
-ghost use Prim.Native.Nat.{_*_, _-_, _≤_, _<_};
+ghost use mathlib.Core.Bool.{true, false};
+ghost use Prim.Native.Nat.{_+_, _*_, _-_, _≤_, _<_};
 ghost use lib.ListN.{length};
 ghost use Rattle.geometry.specs.Geometry.{pageBytes};
-ghost use Rattle.model.specs.Rules.{verdict};
-ghost use Rattle.model.specs.Calls.{damaged, byVerdict, deleteRest, delete};
+ghost use Rattle.geometry.specs.Shape.{Known};
 ghost use Rattle.model.specs.Tree.{sought};
-ghost use Rattle.model.specs.Update.{isNone, deleteStores};
+ghost use Rattle.model.specs.Update.{isNone};
 ghost use Rattle.answers.specs.Answers.{told};
-ghost use Rattle.chip.specs.Chip.{chipWith};
-ghost use Rattle.stores.specs.Run.{Ran};
-ghost use Rattle.account.specs.Account.{freshOf};
+ghost use Rattle.chip.specs.Chip.{goodBlocks, chipWith};
+ghost use Rattle.account.specs.Account.{Makes};
 ghost use Rattle.victim.specs.Victim.{Looked};
+ghost use Rattle.survey.specs.Survey.{surveyOf};
+ghost use Rattle.live.specs.Words.{wordsOf};
+ghost use Rattle.live.specs.Live.{reply, deleteLive};
+ghost use Rattle.beside.specs.Table.{tableIn};
+ghost use Rattle.beside.specs.Update.{deleteBy};
+ghost use Rattle.delete.specs.Delete.{storesBy, crestBy};
 use answers::Answer;
+use crown::Own;
 use geometry::Geometry;
 use geometry::Verdict;
 use search::Found;
-use stores::Budget;
 use survey::Survey;
 
-// Collection for one page, then the delete's own, with the image's survey and table given.
+// Collection for one page, then the delete's own store, with the image's survey, table and words given.
 fn make_stores(
     g: Geometry,
     img: &mut [u8],
     table: &mut [u8],
+    lent: &mut [u32],
     n: u16,
     key: u32,
     allowance: u32,
     s: Survey,
-) -> Budget
-    requires { ⌜ (g .pages * n ≤ length (now table)) × (pageBytes g ≤ 2112) ⌝ }
-    requires { ⌜ Looked g n (now img) s (now table) ⌝ }
-    ensures { λ r. ⌜ Ran g (deleteStores g n (now (img .entry)) key) (freshOf allowance) r (now (img .entry)) (now (img .exit)) ⌝ }
+) -> Own
+    requires { ⌜ (pageBytes g ≤ 2112) × (s ≡ surveyOf g n (now img)) × (s .level < 255) ⌝ }
+    ensures { λ r. ⌜ length (now (table .exit)) ≡ length (now (table .entry)) ⌝ }
+    ensures { λ r.
+        ⌜ Makes g n (storesBy g n (tableIn (now (table .entry)) (now (lent .entry))) (now (img .entry)) key)
+        (crestBy g n (tableIn (now (table .entry)) (now (lent .entry))) (now (img .entry)) key) allowance r (now (img .entry)) (now (img .exit))
+        (now (lent .entry)) (now (lent .exit)) ⌝ }
 {
     let b = account::fresh(allowance);
-    let w = collect::collect(g, &mut *img, &mut *table, n, b, 1, 2, s);
+    let w = collect::collect(g, &mut *img, &mut *table, &mut *lent, n, b, 1, 2, s);
     let r = w.budget;
     let t = w.survey;
     if r.stopped {
-        return r;
+        return Own {
+            budget: r,
+            page: 0,
+            level: 0,
+        };
     }
     deletion::delete_own(g, &mut *img, n, r, t, key)
 }
@@ -54,11 +67,12 @@ fn is_absent(g: Geometry, img: &[u8], level: u32, root: u32, key: u32) -> bool
     }
 }
 
-// The rest on a judged image of n blocks.
+// The rest on a judged image of n blocks, with the table and the words that tell of it.
 fn delete_rest(
     g: Geometry,
     img: &mut [u8],
     table: &mut [u8],
+    lent: &mut [u32],
     n: u16,
     s: Survey,
     key: u32,
@@ -66,7 +80,9 @@ fn delete_rest(
 ) -> Answer
     requires { ⌜ (g .pages * n ≤ length (now table)) × (pageBytes g ≤ 2112) ⌝ }
     requires { ⌜ Looked g n (now img) s (now table) ⌝ }
-    ensures { λ r. ⌜ told r (now (img .exit)) ≡ deleteRest g n (now (img .entry)) key allowance ⌝ }
+    ensures { λ r.
+        ⌜ reply (told r (now (img .exit))) (now (lent .exit))
+        ≡ deleteBy g n (tableIn (now (table .entry)) (now (lent .entry))) (now (img .entry)) key allowance ⌝ }
 {
     if g.worn < s.most {
         return Answer::Worn;
@@ -74,40 +90,59 @@ fn delete_rest(
     if is_absent(g, &*img, s.level, s.root, key) {
         return Answer::Absent;
     }
-    let b = make_stores(g, &mut *img, &mut *table, n, key, allowance, s);
-    account::answer_of(b)
+    let own = make_stores(g, &mut *img, &mut *table, &mut *lent, n, key, allowance, s);
+    account::finish(g, &*img, &mut *table, &mut *lent, n, own)
 }
 
-// Delete on n blocks, with a lent table for the judge and the collector.
+// Delete on n blocks, with words enough, and a lent table for the judge and the collector.
 fn delete_blocks(
     g: Geometry,
     img: &mut [u8],
     table: &mut [u8],
+    lent: &mut [u32],
     n: u16,
     key: u32,
     allowance: u32,
 ) -> Answer
-    requires { ⌜ (g .pages ≤ 64) × (n ≤ 1024) × (65536 ≤ length (now table)) × (pageBytes g ≤ 2112) ⌝ }
-    ensures { λ r. ⌜ told r (now (img .exit)) ≡ byVerdict (verdict g n (now (img .entry))) (damaged (now (img .entry))) (deleteRest g n (now (img .entry)) key allowance) ⌝ }
+    requires { ⌜ Known g ⌝ }
+    requires { ⌜ (n ≡ goodBlocks g (now img)) × (n ≤ 1024) × (n ≡ 0 → ⊥) × (65536 ≤ length (now table)) × (wordsOf g n ≤ length (now lent)) ⌝ }
+    ensures { λ r.
+        ⌜ reply (told r (now (img .exit))) (now (lent .exit)) ≡ deleteLive g (now (img .entry)) (now (lent .entry)) key allowance ⌝ }
 {
     let judgement = verdict::judge_image(g, &*img, &mut *table, n);
     let verdict = judgement.verdict;
     let survey = judgement.survey;
     match verdict {
         Verdict::Broken(rule, page) => Answer::Damaged(rule, page),
-        Verdict::Sound => delete_rest(g, &mut *img, &mut *table, n, survey, key, allowance),
+        Verdict::Sound => {
+            account::fill_words(g, &*table, &mut *lent, n);
+            delete_rest(
+                g,
+                &mut *img,
+                &mut *table,
+                &mut *lent,
+                n,
+                survey,
+                key,
+                allowance,
+            )
+        }
     }
 }
 
-// Delete on a chip with blocks of at most 64 pages of at most 2112 bytes.
-pub fn delete_on(g: Geometry, img: &mut [u8], key: u32, allowance: u32) -> Answer
-    requires { ⌜ (g .pages ≤ 64) × (pageBytes g ≤ 2112) ⌝ }
-    ensures { λ r. ⌜ told r (now (img .exit)) ≡ delete g (now (img .entry)) key allowance ⌝ }
+// Delete on a chip of a known geometry.
+pub fn delete_on(g: Geometry, img: &mut [u8], lent: &mut [u32], key: u32, allowance: u32) -> Answer
+    requires { ⌜ Known g ⌝ }
+    ensures { λ r.
+        ⌜ reply (told r (now (img .exit))) (now (lent .exit)) ≡ deleteLive g (now (img .entry)) (now (lent .entry)) key allowance ⌝ }
 {
     let n = chip::good_blocks(g, &*img);
     if n == 0 {
         return Answer::Length;
     }
+    if lent.len() < words::words_of(g, n) {
+        return Answer::Length;
+    }
     let mut table: [u8; 65536] = [0; 65536];
-    delete_blocks(g, &mut *img, &mut table, n, key, allowance)
+    delete_blocks(g, &mut *img, &mut table, &mut *lent, n, key, allowance)
 }

@@ -30,13 +30,15 @@ use Rattle.step.specs.Step.{storesOf}
 use Rattle.edit.specs.declared.Changed.{Changed}
 use Rattle.edit.specs.Edit.{Changes}
 use Rattle.edit.specs.Laws.{still}
+use Rattle.crown.specs.declared.Own.{Own}
 use Rattle.crown.specs.Crown.{pathStore}
+use Rattle.crown.specs.Owns.{Owns}
 use Rattle.next.specs.Coming.{seen}
 use Rattle.deletion.specs.declared.Top.{Top}
 use Rattle.survey.specs.declared.Survey.{Survey}
 use Rattle.survey.specs.Survey.{surveyOf}
 use Rattle.survey.specs.Laws.{newest-is}
-use Rattle.deletion.specs.Own.{firstOf, Collapses, topStore, rootStore, storeBy, Removes}
+use Rattle.deletion.specs.Own.{firstOf, Collapses, topStore, rootStore, leftAt, storeBy, topBy, Removes}
 
 -- ---- collapse
 first : (e : List Entry) (c : ℕ) → 0 < length e → 0 < c → getD e 0 no-entry ≡ firstOf (take c e)
@@ -99,30 +101,38 @@ top-is g at seq l c bs b r i o run eb =
     rw (eb, s) at run
 
 pub root-stay : (g : Geometry) (j : Job) (l : ℕ) (i p o : List ℕ) (c : List Entry) (t : Top) (b r : Budget) → Ran g (pathStore g (j .page) (j .seq + 1) l c p ∷ []) b r i o
-    → Collapses (nodeAt g i) l c t → t .level ≡ l → Ran g (rootStore g j l i p c ∷ []) b r i o
+    → Collapses (nodeAt g i) l c t → t .level ≡ l → Owns g (rootStore g j l i p c ∷ []) (leftAt g j l i c) b (record { budget = r; page = j .page; level = l }) i o
 unfolding rootStore
 root-stay g j l i p o c t b r run cl q =
     let s : j .seq + 1 ≡ suc (j .seq) = add-one (j .seq) in
-    rw (eq-eqb (collapse (nodeAt g i) l c .level) l (sym (cl .level) ∙ q)) (rw s at run)
+    let e : collapse (nodeAt g i) l c .level ≡ l = sym (cl .level) ∙ q in
+    record { ran = rw (eq-eqb (collapse (nodeAt g i) l c .level) l e) (rw s at run); crest = rw e }
 
 pub root-fall : (g : Geometry) (j : Job) (l : ℕ) (i p o : List ℕ) (c : List Entry) (t : Top) (b r : Budget) → Ran g (topStore g (j .page) (j .seq + 1) (t .level) (entries (t .node)) ∷ []) b r i o
-    → Collapses (nodeAt g i) l c t → (t .level ≡ l → ⊥) → Ran g (rootStore g j l i p c ∷ []) b r i o
+    → Collapses (nodeAt g i) l c t → (t .level ≡ l → ⊥) → Owns g (rootStore g j l i p c ∷ []) (leftAt g j l i c) b (record { budget = r; page = j .page; level = t .level }) i o
 unfolding rootStore
 root-fall g j l i p o c t b r run cl q =
     let s : j .seq + 1 ≡ suc (j .seq) = add-one (j .seq) in
-    rw (ne-eqb (collapse (nodeAt g i) l c .level) l (λ z. q (cl .level ∙ z))) (rw (s, cl .level, cl .list) at run)
+    record {
+      ran = rw (ne-eqb (collapse (nodeAt g i) l c .level) l (λ z. q (cl .level ∙ z))) (rw (s, cl .level, cl .list) at run);
+      crest = rw (cl .level);
+    }
 
 -- ---- the whole
 nothing : (g : Geometry) (j : Job) (m : ℕ) (c : List Entry) → j .change ≡ Remove → storesOf g (j .change) j m c ≡ []
 unfolding storesOf
 nothing g j m c e = ap (λ (v : Change). storesOf g v j m c) e
 
-pub with-is : (g : Geometry) (j : Job) (l : ℕ) (e : Entry) (b r : Budget) (u : Changed) (i h o p q : List ℕ) → Ran g (rootStore g j l h q (entries (u .node)) ∷ []) (u .budget) r h o
-    → Changes g j l e b u i h p q → p ≡ blanks 2112 → j .change ≡ Remove → Ran g (storeBy g j l e i ∷ []) b r i o
+pub with-is : (g : Geometry) (j : Job) (l : ℕ) (e : Entry) (b : Budget) (r : Own) (u : Changed) (i h o p q : List ℕ)
+    → Owns g (rootStore g j l h q (entries (u .node)) ∷ []) (leftAt g j l h (entries (u .node))) (u .budget) r h o
+    → Changes g j l e b u i h p q → p ≡ blanks 2112 → j .change ≡ Remove → Owns g (storeBy g j l e i ∷ []) (topBy g j l e i) b r i o
 unfolding storeBy
-with-is g j l e b r u i h o p q run ch ep ec =
+with-is g j l e b r u i h o p q w ch ep ec =
     let s = still g j l e b u i h p q ch (λ m c. nothing g j m c ec) in
-    ran-then g [] (_ ∷ []) b (u .budget) r i i o (s .1) (rw (s .0, ch .node, ch .page, ep) at run)
+    record {
+      ran = ran-then g [] (_ ∷ []) b (u .budget) (r .budget) i i o (s .1) (rw (s .0, ch .node, ch .page, ep) at (w .ran));
+      crest = w .crest ∙ rw (s .0, ch .node);
+    }
 
 pub removes : (g : Geometry) (n : ℕ) (i : List ℕ) (s : Survey) (k x y : ℕ) (ps : List ℕ) → x ≡ nextPage (g .pages) n (seen (erased g i) (s .last)) → s ≡ surveyOf g n i → y ≡ s .most → y < 4294967296
     → Removes g n i (s .most) k (record { key = k; page = x; seq = y; sides = ps; change = Remove })

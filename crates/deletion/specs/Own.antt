@@ -19,6 +19,7 @@ use Rattle.step.specs.declared.Job.{Job}
 use Rattle.edit.specs.Edit.{changed, partsOf}
 use Rattle.crown.specs.Crown.{pathStore}
 use Rattle.next.specs.Coming.{onImage}
+use Rattle.beside.specs.Update.{Crest}
 use Rattle.deletion.specs.declared.Top.{Top}
 
 -- the entry that names the root
@@ -44,9 +45,16 @@ rootStore g j l i p c = pick (eqb (collapse (nodeAt g i) l c .level) l)
     (pathStore g (j .page) (suc (j .seq)) l c p)
     (topStore g (j .page) (suc (j .seq)) (collapse (nodeAt g i) l c .level) (collapse (nodeAt g i) l c .list))
 
+-- where the root then stands
+abbrev pub leftAt : Geometry → Job → ℕ → List ℕ → List Entry → Crest
+leftAt g j l i c = record { page = j .page; level = collapse (nodeAt g i) l c .level }
+
 -- the whole, with the path laid on a blank buffer
 unfoldable pub storeBy : Geometry → Job → ℕ → Entry → List ℕ → Store
 storeBy g j l e i = rootStore g j l i (laid g (partsOf g j i l e) l (blanks 2112)) (changed g j i l e)
+
+abbrev pub topBy : Geometry → Job → ℕ → Entry → List ℕ → Crest
+topBy g j l e i = leftAt g j l i (changed g j i l e)
 
 -- the job of removing key k
 pub record Removes (g : Geometry) (n : ℕ) (i : List ℕ) (seq k : ℕ) (j : Job) : Type 0 where

@@ -21,18 +21,20 @@ use Rattle.model.specs.Update.{deleteList, deleteTop, deletePart, deleteStore, 
 use Rattle.page.specs.Page.{blanks, laidLevel, laid, bare}
 use Rattle.page.specs.Levels.{laid-more, laid-agree, page-is}
 use Rattle.stores.specs.declared.Budget.{Budget}
-use Rattle.stores.specs.Run.{Ran}
 use Rattle.step.specs.declared.Change.{Change}
 use Rattle.step.specs.declared.Job.{Job}
 use Rattle.step.specs.Step.{leafOf, nameOf, partOf}
 use Rattle.edit.specs.Edit.{changed, pathOf, partsOf}
 use Rattle.edit.specs.Paths.{path-top}
 use Rattle.chip.specs.Chip.{chipWith}
+use Rattle.crown.specs.declared.Own.{Own}
 use Rattle.crown.specs.Crown.{pathStore}
+use Rattle.crown.specs.Owns.{Owns}
+use Rattle.beside.specs.Update.{deleteCrest}
 use Rattle.survey.specs.declared.Survey.{Survey}
 use Rattle.survey.specs.Survey.{surveyOf}
 use Rattle.survey.specs.Laws.{makes}
-use Rattle.deletion.specs.Own.{rootAt, topStore, rootStore, storeBy, Removes}
+use Rattle.deletion.specs.Own.{rootAt, topStore, rootStore, storeBy, topBy, Removes}
 
 -- a root that does not fall keeps its entries
 keeps : (r : Nodes) (l : ℕ) (c : List Entry) → (collapse r l c .level ≤ l) × (collapse r l c .level ≡ l → collapse r l c .list ≡ c)
@@ -43,6 +45,12 @@ keeps r (suc l) (x ∷ []) =
     let h = keeps r l (r (x .addr) (suc l)) in
     (omega (arith, h .0), λ e. absurd (let z : collapse r l (r (x .addr) (suc l)) .level ≡ suc l = e in omega (arith, h .0)))
 keeps r (suc l) (x ∷ y ∷ c) = (omega arith, λ e. refl)
+
+pub crest-low : (g : Geometry) (n k : ℕ) (c : Chip) → c .level < 255 → deleteCrest g n c k .level < 255
+unfolding deleteTop
+crest-low g n k c h =
+    let w = keeps (c .nodes) (c .level) (deleteList c k (sidePage g n c 1) (suc (c .level))) .0 in
+    omega (arith, w)
 
 module _ (g : Geometry) (c : Chip) (k n : ℕ) where
   -- where the root stays
@@ -128,12 +136,20 @@ module _ (g : Geometry) (n : ℕ) (i : List ℕ) (seq l p k : ℕ) (j : Job) (pj
   unfolding deleteStore c at
   own-is le = store-is le ∙ (λ z. program (page z) (built g (suc seq) (suc (deleteTop c k (page z) .level)) (deletePart c k (page z))))
 
+  crest-is : topBy g j l (rootAt p) i ≡ deleteCrest g n (chipWith g i l p) k
+  unfolding c at
+  crest-is = (λ z. record { page = j .page; level = falls z .level }) ∙ (λ z. record { page = page z; level = deleteTop c k (page z) .level })
+
 -- with the survey of the image
-pub deleted : (g : Geometry) (n : ℕ) (i : List ℕ) (s : Survey) (k : ℕ) (j : Job) (b r : Budget) (o : List ℕ) → Ran g (storeBy g j (s .level) (rootAt (s .root)) i ∷ []) b r i o
-    → Removes g n i (s .most) k j → s ≡ surveyOf g n i → pageBytes g ≤ 2112 → Ran g (deleteStore g n (maxSeq g n i) (chipOf g n i) k ∷ []) b r i o
+pub deleted : (g : Geometry) (n : ℕ) (i : List ℕ) (s : Survey) (k : ℕ) (j : Job) (b : Budget) (r : Own) (o : List ℕ)
+    → Owns g (storeBy g j (s .level) (rootAt (s .root)) i ∷ []) (topBy g j (s .level) (rootAt (s .root)) i) b r i o
+    → Removes g n i (s .most) k j → s ≡ surveyOf g n i → pageBytes g ≤ 2112
+    → Owns g (deleteStore g n (maxSeq g n i) (chipOf g n i) k ∷ []) (deleteCrest g n (chipOf g n i) k) b r i o
 deleted g n i s k j b r o run pj es le =
     let e : storeBy g j (s .level) (rootAt (s .root)) i ≡ deleteStore g n (maxSeq g n i) (chipOf g n i) k =
     own-is g n i (s .most) (s .level) (s .root) k j pj le ∙ makes g n i s es (λ y c. deleteStore g n y c k) in
-    rw e at run
+    let t : topBy g j (s .level) (rootAt (s .root)) i ≡ deleteCrest g n (chipOf g n i) k =
+    crest-is g n i (s .most) (s .level) (s .root) k j pj ∙ makes g n i s es (λ y c. deleteCrest g n c k) in
+    rw (e, t) at run
 
 pub ruleset tie-laws = (deleted)

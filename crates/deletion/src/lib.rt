@@ -9,8 +9,11 @@ ghost use Rattle.model.specs.Update.{deleteStore};
 ghost use Rattle.node.specs.Node.{entries};
 ghost use Rattle.stores.specs.Run.{Ran};
 ghost use Rattle.survey.specs.Survey.{surveyOf};
-ghost use Rattle.deletion.specs.Own.{firstOf, Collapses, Removes, topStore, rootStore, storeBy, rootAt};
+ghost use Rattle.crown.specs.Owns.{Owns};
+ghost use Rattle.beside.specs.Update.{deleteCrest};
+ghost use Rattle.deletion.specs.Own.{firstOf, Collapses, Removes, topStore, rootStore, leftAt, storeBy, topBy, rootAt};
 ghost use Rattle.step.specs.declared.Change.{Change};
+use crown::Own;
 use edit::Changed;
 use geometry::Entry;
 use geometry::Geometry;
@@ -66,22 +69,17 @@ fn store_top(g: Geometry, img: &mut [u8], b: Budget, at: u32, seq: u64, t: Top) 
 }
 
 // Page N, once the path is changed.
-fn store_root(
-    g: Geometry,
-    img: &mut [u8],
-    page: &mut [u8],
-    job: Job,
-    level: u32,
-    u: Changed,
-) -> Budget
+fn store_root(g: Geometry, img: &mut [u8], page: &mut [u8], job: Job, level: u32, u: Changed) -> Own
     requires { ⌜ (u .node .count ≤ 256) × (level < 255) × (pageBytes g ≤ 2112) × (job .seq < 4294967296) × (u .budget .left + u .budget .programmed + u .budget .erased < 4294967296) ⌝ }
-    ensures { λ r. ⌜ Ran g (rootStore g job level (now (img .entry)) (now (page .entry)) (entries (u .node)) ∷ []) (u .budget) r (now (img .entry)) (now (img .exit)) ⌝ }
+    ensures { λ r.
+        ⌜ Owns g (rootStore g job level (now (img .entry)) (now (page .entry)) (entries (u .node)) ∷ []) (leftAt g job level (now (img .entry)) (entries (u .node))) (u .budget) r
+        (now (img .entry)) (now (img .exit)) ⌝ }
 {
     let c = u.node;
     let left = u.budget;
     let t = collapse(g, &*img, level, c);
     if t.level == level {
-        return crown::store_path(
+        let made = crown::store_path(
             g,
             &mut *img,
             &mut *page,
@@ -91,14 +89,25 @@ fn store_root(
             level,
             c,
         );
+        return Own {
+            budget: made,
+            page: job.page,
+            level: level,
+        };
     }
-    store_top(g, &mut *img, left, job.page, job.seq + 1, t)
+    let made = store_top(g, &mut *img, left, job.page, job.seq + 1, t);
+    Own {
+        budget: made,
+        page: job.page,
+        level: t.level,
+    }
 }
 
 // The store of a job of removing.
-fn delete_with(g: Geometry, img: &mut [u8], b: Budget, job: Job, level: u32, root: u32) -> Budget
+fn delete_with(g: Geometry, img: &mut [u8], b: Budget, job: Job, level: u32, root: u32) -> Own
     requires { ⌜ (level < 255) × (pageBytes g ≤ 2112) × (job .seq < 4294967296) × (b .left + b .programmed + b .erased < 4294967296) × (job .change ≡ Change.Remove) ⌝ }
-    ensures { λ r. ⌜ Ran g (storeBy g job level (rootAt root) (now (img .entry)) ∷ []) b r (now (img .entry)) (now (img .exit)) ⌝ }
+    ensures { λ r.
+        ⌜ Owns g (storeBy g job level (rootAt root) (now (img .entry)) ∷ []) (topBy g job level (rootAt root) (now (img .entry))) b r (now (img .entry)) (now (img .exit)) ⌝ }
 {
     let mut page = page::blank();
     let u = edit::change(
@@ -136,10 +145,12 @@ fn delete_job(g: Geometry, img: &[u8], n: u16, s: Survey, key: u32) -> Job
     }
 }
 
-// The store of a delete on an image of n blocks, with its survey given.
-pub fn delete_own(g: Geometry, img: &mut [u8], n: u16, b: Budget, s: Survey, key: u32) -> Budget
+// The store of a delete on an image of n blocks, with its survey given; and where the root then stands.
+pub fn delete_own(g: Geometry, img: &mut [u8], n: u16, b: Budget, s: Survey, key: u32) -> Own
     requires { ⌜ (s ≡ surveyOf g n (now img)) × (s .level < 255) × (pageBytes g ≤ 2112) × (b .left + b .programmed + b .erased < 4294967296) ⌝ }
-    ensures { λ r. ⌜ Ran g (deleteStore g n (maxSeq g n (now (img .entry))) (chipOf g n (now (img .entry))) key ∷ []) b r (now (img .entry)) (now (img .exit)) ⌝ }
+    ensures { λ r.
+        ⌜ Owns g (deleteStore g n (maxSeq g n (now (img .entry))) (chipOf g n (now (img .entry))) key ∷ []) (deleteCrest g n (chipOf g n (now (img .entry))) key) b r
+        (now (img .entry)) (now (img .exit)) ⌝ }
 {
     let job = delete_job(g, &*img, n, s, key);
     delete_with(g, &mut *img, b, job, s.level, s.root)

@@ -8,12 +8,12 @@ use native.Mathlib.Omega.{arith}
 use lib.ListN.{length, take}
 use lib.Seq.{take-all}
 use lib.Dec.{leb}
-use borrow.Author.Tests.{ltb-false, leb-true, leb-false}
+use borrow.Author.Tests.{leb-true, leb-false}
 use Rattle.geometry.specs.declared.Geometry.{Geometry}
 use Rattle.geometry.specs.declared.Verdict.{Verdict}
 use Rattle.geometry.specs.declared.Verdict.the-variants.{Sound, Broken}
 use Rattle.geometry.specs.Tests.{pick}
-use Rattle.model.specs.Image.{blocksOf, goodLength, maxSeq, Chip, chipOf}
+use Rattle.model.specs.Image.{blocksOf, goodLength, Chip, chipOf}
 use Rattle.model.specs.Tree.{sought}
 use Rattle.model.specs.Rules.{verdict}
 use Rattle.model.specs.Stores.{Store, applyAll, programs}
@@ -107,10 +107,6 @@ module _ (g : Geometry) (img : List ℕ) (k a al : ℕ) where
     delete-passed b =
         let p = tested-passed img deleteTests del ((omega arith, omega arith), ((omega arith, omega arith), tt)) (subst Began delete-is b) in
         (p .0, delete-is ∙ p .1)
-
-pub not-worn : (g : Geometry) (n : ℕ) (img : List ℕ) → worn g n img ≡ false → maxSeq g n img ≤ g .worn
-unfolding worn
-not-worn g n img h = ltb-false (g .worn) (maxSeq g n img) h
 
 -- ---- what `made` does
 module _ (g : Geometry) (ss : List Store) (al : ℕ) (img : List ℕ) where

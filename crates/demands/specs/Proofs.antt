@@ -26,11 +26,11 @@ use Rattle.chips.specs.Whole.{sought-map}
 use Rattle.chips.specs.Insertion.{Fuller}
 use Rattle.images.specs.Lengths.{blocks-same, length-all}
 use Rattle.updates.specs.Along.{Keeps}
-use Rattle.updates.specs.Lists.{m-top, insert-collected, insert-own, insert-programs-only, insert-updated, delete-collected, delete-updated}
+use Rattle.updates.specs.Lists.{not-worn, m-top, insert-collected, insert-own, insert-programs-only, insert-updated, delete-collected, delete-updated}
 use Rattle.demands.specs.Words.{Ready, mapAt, Holds, Kept, Began, OneOf, Own}
 use Rattle.demands.specs.Bridges.{few, some-pages, ready-keeps, updated-kept}
 use Rattle.demands.specs.Tests.{Met, tested-one, tested-met}
-use Rattle.demands.specs.Calls.{judged-ready, insertTests, deleteTests, insert-is, delete-is, insert-passed, delete-passed, not-worn, made-began, made-done, made-stopped, made-image}
+use Rattle.demands.specs.Calls.{judged-ready, insertTests, deleteTests, insert-is, delete-is, insert-passed, delete-passed, made-began, made-done, made-stopped, made-image}
 
 pub lookup-image : (g : Geometry) (img : List ℕ) (k : ℕ) → lookup g img k .image ≡ img
 unfolding lookup judged byVerdict answered
@@ -187,7 +187,7 @@ module _ (g : Geometry) (shape : Shape g) (img : List ℕ) (ready : Ready g img)
     pub delete-kept : (al : ℕ) → Began (delete g img k al) → Kept g (mapAt g img) (remove k (mapAt g img)) img (deleteStores g n img k)
     delete-kept al b =
         let p = delete-passed g img k 0 al ready b in
-        updated-kept g shape img ready (λ _. Unit {0}) (mapAt g img) (remove k (mapAt g img)) (deleteStores g n img k) 1 (let z = shape .top-low in omega (arith, z))
+        updated-kept g shape img ready _ (mapAt g img) (remove k (mapAt g img)) (deleteStores g n img k) 1 (let z = shape .top-low in omega (arith, z))
         (delete-updated g shape n (few g shape img ready) (mapAt g img) img keeps (not-worn g n img (p .0 .0)) (some-pages g shape img ready) k k-low
         (p .0 .1 .0))
 

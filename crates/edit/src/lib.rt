@@ -42,7 +42,7 @@ fn rejoin(
     t: Taken,
     u: Changed,
 ) -> Changed
-    requires { ⌜ (t .at ≤ t .node .count - 1) × (t .node .count < 256) × (u .node .count ≤ 256) × (pageBytes g ≤ 2112) × (job .seq < 4294967296) × (u .budget .left + u .budget .programmed + u .budget .erased < 4294967296) ⌝ }
+    requires { ⌜ (t .at ≤ t .node .count - 1) × (t .node .count < 256) × (u .node .count ≤ 256) × (pageBytes g ≤ 2112) × (job .seq < 8589934592) × (u .budget .left + u .budget .programmed + u .budget .erased < 4294967296) ⌝ }
     ensures { λ r. ⌜ Rejoined g job below t (entries (u .node)) (u .budget) r (now (img .entry)) (now (img .exit)) (now (page .entry)) (now (page .exit)) ⌝ }
 {
     let c = u.node;
@@ -69,7 +69,7 @@ pub fn change(
     below: u32,
     e: Entry,
 ) -> Changed
-    requires { ⌜ (below < 256) × (pageBytes g ≤ 2112) × (job .seq < 4294967296) × (b .left + b .programmed + b .erased < 4294967296) ⌝ }
+    requires { ⌜ (below < 256) × (pageBytes g ≤ 2112) × (job .seq < 8589934592) × (b .left + b .programmed + b .erased < 4294967296) ⌝ }
     ensures { λ r. ⌜ Changes g job below e b r (now (img .entry)) (now (img .exit)) (now (page .entry)) (now (page .exit)) ⌝ }
 {
     if below == 0 {

@@ -3,10 +3,12 @@ use Prim.Native.Nat.{ℕ, _+_, _<_, _≤_}
 use mathlib.Core.Path.{_≡_, refl, sym, ap, _∙_}
 use mathlib.Core.List.{List}
 use lib.Dec.{eqb}
+use lib.ListN.{length}
 use borrow.Author.Tests.{lt-ltb, le-ltb, eq-eqb, ne-eqb}
 use Rattle.geometry.specs.declared.Geometry.{Geometry}
 use Rattle.geometry.specs.declared.Entry.{Entry}
 use Rattle.geometry.specs.Tests.{bit}
+use Rattle.geometry.specs.Shape.{Known, page-most}
 use Rattle.model.specs.Calls.{Outcome, format, insert}
 use Rattle.answers.specs.declared.Answer.{Answer}
 use Rattle.answers.specs.declared.Answer.the-variants.{Length}
@@ -14,6 +16,8 @@ use Rattle.answers.specs.declared.Row.{Row}
 use Rattle.answers.specs.Answers.{plain, rowOf, toldBy, told}
 use Rattle.chip.specs.Chip.{goodBlocks}
 use Rattle.chip.specs.Blocks.{none-good, some-good}
+use Rattle.live.specs.Live.{Reply, reply, insertLive}
+use Rattle.account.specs.Lent.{insert-outcome}
 use Rattle.carrying.specs.Carrying.{word, counted, storeOne, readText, importRead, importing}
 use Rattle.reader.specs.declared.Spot.{Spot}
 use Rattle.importer.specs.Importer.{countedRow, begun}
@@ -41,11 +45,13 @@ module _ (g : Geometry) (img : List ℕ) (s : Row) (e : Entry) where
   unfolding storeOne
   store-refused h = rw (ne-eqb (s .answer) 0 h) refl
 
-  pub store-done : (out : List ℕ) (a : Answer) (w r : Row) → s .answer ≡ 0 → told a out ≡ insert g img (e .key) (e .addr) 4294967295 → w ≡ rowOf a → r ≡ countedRow s w
-      → toldBy r out ≡ storeOne g (toldBy s img) e
+  pub store-done : (out lent left : List ℕ) (a : Answer) (w r : Row) → s .answer ≡ 0 → reply (told a out) left ≡ insertLive g img lent (e .key) (e .addr) 4294967295 → Known g
+      → 2048 ≤ length lent → w ≡ rowOf a → r ≡ countedRow s w → toldBy r out ≡ storeOne g (toldBy s img) e
   unfolding storeOne counted
-  store-done out a w r z h ew er =
-      ap (λ (x : Row). toldBy x out) (er ∙ ap (countedRow s) ew) ∙ ap (counted (toldBy s img)) h ∙ rw (eq-eqb (s .answer) 0 z) refl
+  store-done out lent left a w r z h known room ew er =
+      let o : told a out ≡ insert g img (e .key) (e .addr) 4294967295 =
+      ap (λ (x : Reply). x .outcome) h ∙ insert-outcome g known img lent room (e .key) (e .addr) 4294967295 in
+      ap (λ (x : Row). toldBy x out) (er ∙ ap (countedRow s) ew) ∙ ap (counted (toldBy s img)) o ∙ rw (eq-eqb (s .answer) 0 z) refl
 
 module _ (g : Geometry) (img : List ℕ) (t : Spot) (end : ℕ) where
   pub begun-bad : (r : Row) → (t .bad ≡ 0 → ⊥) → r ≡ plain 9 (t .bad) 0 0 → toldBy r img ≡ begun g img t end
@@ -70,4 +76,4 @@ module _ (g : Geometry) (img text : List ℕ) (n : ℕ) (en : n ≡ goodBlocks g
   unfolding importing
   import-blocks o h e = e ∙ sym (simp (some-good g img n en h))
 
-pub ruleset importer-laws = (one-record, no-record, row-counted, store-refused, store-done, begun-bad, begun-more, begun-format, import-length, import-blocks)
+pub ruleset importer-laws = (page-most, one-record, no-record, row-counted, store-refused, store-done, begun-bad, begun-more, begun-format, import-length, import-blocks)

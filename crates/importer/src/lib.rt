@@ -5,6 +5,7 @@ ghost use lib.Dec.{eqb};
 ghost use lib.ListN.{length, take};
 ghost use Rattle.geometry.specs.Tests.{bit};
 ghost use Rattle.geometry.specs.Geometry.{pageBytes};
+ghost use Rattle.geometry.specs.Shape.{Known};
 ghost use Rattle.answers.specs.Answers.{plain, toldBy};
 ghost use Rattle.carrying.specs.Carrying.{word, storeOne, storeAll, readText, importRead, importing};
 ghost use Rattle.importer.specs.Importer.{countedRow, begun};
@@ -45,21 +46,22 @@ fn count_row(s: Row, w: Row) -> Row
     }
 }
 
-// One pair, unless one before it was refused.
+// One pair, unless one before it was refused. The words of live pages that an insert fills are this call's own.
 pub fn store_one(g: Geometry, img: &mut [u8], s: Row, e: Entry) -> Row
-    requires { ⌜ (g .pages ≤ 64) × (pageBytes g ≤ 2112) ⌝ }
+    requires { ⌜ Known g ⌝ }
     ensures { λ r. ⌜ toldBy r (now (img .exit)) ≡ storeOne g (toldBy s (now (img .entry))) e ⌝ }
 {
     if s.answer != 0 {
         return s;
     }
-    let a = insert::insert_on(g, &mut *img, e.key, e.addr, 4294967295);
+    let mut lent: [u32; 2048] = [0; 2048];
+    let a = insert::insert_on(g, &mut *img, &mut lent, e.key, e.addr, 4294967295);
     count_row(s, answers::row_of(a))
 }
 
 // The first n pairs of the slice, one after the other. By hand, over `store_one`.
 pub fn store_pairs(g: Geometry, img: &mut [u8], pairs: &[Entry], n: usize, s: Row) -> Row
-    requires { ⌜ (n ≤ length (now pairs)) × (g .pages ≤ 64) × (pageBytes g ≤ 2112) ⌝ }
+    requires { ⌜ (n ≤ length (now pairs)) × Known g ⌝ }
     ensures { λ r. ⌜ toldBy r (now (img .exit)) ≡ storeAll g (toldBy s (now (img .entry))) (take n (now (pairs .entry))) ⌝ }
 {
     let mut i: usize = 0;
@@ -113,7 +115,7 @@ pub fn turns(t: Spot) -> usize
 
 // The array of pairs that the reader fills and the inserter walks. By hand.
 pub fn import_text(g: Geometry, img: &mut [u8], text: &[u8]) -> Row
-    requires { ⌜ (g .pages ≤ 64) × (pageBytes g ≤ 2112) ⌝ }
+    requires { ⌜ Known g ⌝ }
     ensures { λ r. ⌜ toldBy r (now (img .exit)) ≡ importRead g (now (img .entry)) (readText (now (text .entry))) ⌝ }
 {
     let mut pairs: [Entry; 4096] = [Entry { key: 0, addr: 0 }; 4096];
@@ -133,9 +135,9 @@ pub fn import_text(g: Geometry, img: &mut [u8], text: &[u8]) -> Row
     store_pairs(g, img, &pairs, n, s)
 }
 
-// Import on a chip with blocks of at most 64 pages.
+// Import on a chip of a known geometry.
 pub fn import_on(g: Geometry, img: &mut [u8], text: &[u8]) -> Row
-    requires { ⌜ (g .pages ≤ 64) × (pageBytes g ≤ 2112) ⌝ }
+    requires { ⌜ Known g ⌝ }
     ensures { λ r. ⌜ toldBy r (now (img .exit)) ≡ importing g (now (img .entry)) (now (text .entry)) ⌝ }
 {
     let n = chip::good_blocks(g, &*img);

@@ -9,11 +9,12 @@ use Rattle.geometry.specs.declared.Chosen.{Chosen}
 use Rattle.geometry.specs.declared.Chosen.the-variants.{Of, Unknown}
 use Rattle.geometry.specs.Geometry.{chosenOf, pageBytes}
 use Rattle.geometry.specs.Shape.{Known, Shape, shape, page-most, chosen-known}
-use Rattle.model.specs.Calls.{Outcome, refused, chosenCall, format, lookup, insert, delete, patrol, formatOf, lookupOf, insertOf, deleteOf, patrolOf}
+use Rattle.model.specs.Calls.{Outcome, refused, chosenCall, format, lookup, patrol, formatOf, lookupOf, patrolOf}
 use Rattle.model.specs.Listing.{listsNone, listing, listOf, asOutcome}
 use Rattle.answers.specs.declared.Answer.the-variants.{Length}
 use Rattle.answers.specs.declared.Row.{Row}
 use Rattle.answers.specs.Answers.{rowOf, toldBy, told}
+use Rattle.live.specs.Live.{Reply, reply, insertLive, deleteLive, insertLiveOf, deleteLiveOf}
 use Rattle.carrying.specs.Carrying.{exporting, exportOf, importing, importOf}
 
 module _ (kind : ℕ) (c : Chosen) (ec : c ≡ chosenOf kind) (g : Geometry) (e : c ≡ Of g) where
@@ -43,13 +44,13 @@ module _ (kind : ℕ) (c : Chosen) (ec : c ≡ chosenOf kind) (g : Geometry) (e 
   unfolding listOf chosenCall
   of-list img low high b o h = h ∙ ap (λ (x : Chosen). asOutcome (chosenCall x (λ y. listing y img low high b) (listsNone 1 0 0 b))) (sym e ∙ ec)
 
-  pub of-insert : (img : List ℕ) (k a al : ℕ) (o : Outcome) → o ≡ insert g img k a al → o ≡ insertOf kind img k a al
-  unfolding insertOf
-  of-insert img k a al o h = called (λ x. insert x img k a al) (refused 1 img) o h
+  pub of-insert : (img old : List ℕ) (k a al : ℕ) (r : Reply) → r ≡ insertLive g img old k a al → r ≡ insertLiveOf kind img old k a al
+  unfolding insertLiveOf
+  of-insert img old k a al r h = called (λ x. insertLive x img old k a al) (reply (refused 1 img) old) r h
 
-  pub of-delete : (img : List ℕ) (k al : ℕ) (o : Outcome) → o ≡ delete g img k al → o ≡ deleteOf kind img k al
-  unfolding deleteOf
-  of-delete img k al o h = called (λ x. delete x img k al) (refused 1 img) o h
+  pub of-delete : (img old : List ℕ) (k al : ℕ) (r : Reply) → r ≡ deleteLive g img old k al → r ≡ deleteLiveOf kind img old k al
+  unfolding deleteLiveOf
+  of-delete img old k al r h = called (λ x. deleteLive x img old k al) (reply (refused 1 img) old) r h
 
   pub of-patrol : (img : List ℕ) (page half : ℕ) (o : Outcome) → o ≡ patrol g img page half → o ≡ patrolOf kind img page half
   unfolding patrolOf
@@ -81,13 +82,13 @@ module _ (kind : ℕ) (c : Chosen) (ec : c ≡ chosenOf kind) (e : c ≡ Unknown
   unfolding listOf chosenCall
   no-list low high b = ap (λ (x : Chosen). asOutcome (chosenCall x (λ y. listing y img low high b) (listsNone 1 0 0 b))) (sym e ∙ ec)
 
-  pub no-insert : (k a al : ℕ) → told Length img ≡ insertOf kind img k a al
-  unfolding insertOf
-  no-insert k a al = unknown (λ x. insert x img k a al) (refused 1 img)
+  pub no-insert : (old : List ℕ) (k a al : ℕ) → reply (told Length img) old ≡ insertLiveOf kind img old k a al
+  unfolding insertLiveOf
+  no-insert old k a al = unknown (λ x. insertLive x img old k a al) (reply (refused 1 img) old)
 
-  pub no-delete : (k al : ℕ) → told Length img ≡ deleteOf kind img k al
-  unfolding deleteOf
-  no-delete k al = unknown (λ x. delete x img k al) (refused 1 img)
+  pub no-delete : (old : List ℕ) (k al : ℕ) → reply (told Length img) old ≡ deleteLiveOf kind img old k al
+  unfolding deleteLiveOf
+  no-delete old k al = unknown (λ x. deleteLive x img old k al) (reply (refused 1 img) old)
 
   pub no-patrol : (page half : ℕ) → told Length img ≡ patrolOf kind img page half
   unfolding patrolOf

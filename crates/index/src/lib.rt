@@ -1,10 +1,11 @@
 // The index as Rattle calls, on the small-block chip (0) or the large-page chip (1). No call asks anything of its caller, and
 // each contract is one equation: the answer, its numbers and the image afterwards are those of the definition, for every image.
 ghost use mathlib.Core.Path.{_≡_};
-ghost use Rattle.model.specs.Calls.{formatOf, lookupOf, insertOf, deleteOf, patrolOf};
+ghost use Rattle.model.specs.Calls.{formatOf, lookupOf, patrolOf};
 ghost use Rattle.model.specs.Listing.{listOf, asOutcome};
 ghost use Rattle.answers.specs.Answers.{told, toldBy};
 ghost use Rattle.carrying.specs.Carrying.{exportOf, importOf};
+ghost use Rattle.live.specs.Live.{reply, insertLiveOf, deleteLiveOf};
 use answers::Answer;
 use answers::Row;
 use geometry::Chosen;
@@ -40,24 +41,33 @@ pub fn list(kind: u32, img: &[u8], low: u32, high: u32, pairs: &mut [u32]) -> An
     listing::list_on(g, img, low, high, &mut *pairs)
 }
 
-pub fn insert(kind: u32, img: &mut [u8], key: u32, address: u32, allowance: u32) -> Answer
-    ensures { λ r. ⌜ told r (now (img .exit)) ≡ insertOf kind (now (img .entry)) key address allowance ⌝ }
+pub fn insert(
+    kind: u32,
+    img: &mut [u8],
+    lent: &mut [u32],
+    key: u32,
+    address: u32,
+    allowance: u32,
+) -> Answer
+    ensures { λ r.
+        ⌜ reply (told r (now (img .exit))) (now (lent .exit)) ≡ insertLiveOf kind (now (img .entry)) (now (lent .entry)) key address allowance ⌝ }
 {
     let chosen = geometry::choose(kind);
     let Chosen::Of(g) = chosen else {
         return Answer::Length;
     };
-    insert::insert_on(g, &mut *img, key, address, allowance)
+    insert::insert_on(g, &mut *img, &mut *lent, key, address, allowance)
 }
 
-pub fn delete(kind: u32, img: &mut [u8], key: u32, allowance: u32) -> Answer
-    ensures { λ r. ⌜ told r (now (img .exit)) ≡ deleteOf kind (now (img .entry)) key allowance ⌝ }
+pub fn delete(kind: u32, img: &mut [u8], lent: &mut [u32], key: u32, allowance: u32) -> Answer
+    ensures { λ r.
+        ⌜ reply (told r (now (img .exit))) (now (lent .exit)) ≡ deleteLiveOf kind (now (img .entry)) (now (lent .entry)) key allowance ⌝ }
 {
     let chosen = geometry::choose(kind);
     let Chosen::Of(g) = chosen else {
         return Answer::Length;
     };
-    delete::delete_on(g, &mut *img, key, allowance)
+    delete::delete_on(g, &mut *img, &mut *lent, key, allowance)
 }
 
 pub fn patrol(kind: u32, img: &mut [u8], page: u32, half: u32) -> Answer

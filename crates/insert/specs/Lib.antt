@@ -1,2 +1,3 @@
 -- Insert, and its laws.
 pub mod Insert
+pub mod Laws

@@ -1,62 +1,79 @@
-// Insert on an image: judged first, then refused, or made under its allowance.
+// Insert on an image, with lent words of live pages: judged first, then refused, or made under its allowance.
 ghost use mathlib.Core.Path.{_≡_};
+ghost use mathlib.Core.Bool.{true, false};
 ghost use Prim.Native.Nat.{_+_, _*_, _-_, _≤_, _<_};
 ghost use lib.ListN.{length};
 ghost use Rattle.geometry.specs.Geometry.{pageBytes};
-ghost use Rattle.model.specs.Rules.{verdict};
-ghost use Rattle.model.specs.Calls.{damaged, byVerdict, insertRest, insert};
+ghost use Rattle.geometry.specs.Shape.{Known};
 ghost use Rattle.model.specs.Image.{chipOf};
-ghost use Rattle.model.specs.Update.{needs, insertStores};
+ghost use Rattle.model.specs.Update.{needs};
 ghost use Rattle.answers.specs.Answers.{told};
-ghost use Rattle.stores.specs.Run.{Ran};
-ghost use Rattle.account.specs.Account.{freshOf};
+ghost use Rattle.chip.specs.Chip.{goodBlocks};
+ghost use Rattle.account.specs.Account.{Makes};
 ghost use Rattle.victim.specs.Victim.{Looked};
+ghost use Rattle.survey.specs.Survey.{surveyOf};
+ghost use Rattle.live.specs.Words.{wordsOf};
+ghost use Rattle.live.specs.Live.{reply, insertLive};
+ghost use Rattle.beside.specs.Table.{tableIn};
+ghost use Rattle.beside.specs.Update.{insertBy};
+ghost use Rattle.insert.specs.Insert.{storesBy, crestBy};
 use answers::Answer;
+use crown::Own;
 use geometry::Geometry;
 use geometry::Verdict;
-use stores::Budget;
 use survey::Survey;
 
-// Collection for m pages, then the insert's own, with the image's survey and table given.
+// Collection for m pages, then the insert's own stores, with the image's survey, table and words given.
 fn make_stores(
     g: Geometry,
     img: &mut [u8],
     table: &mut [u8],
+    lent: &mut [u32],
     n: u16,
     m: u32,
     key: u32,
     addr: u32,
     allowance: u32,
     s: Survey,
-) -> Budget
-    requires { ⌜ (g .pages * n ≤ length (now table)) × (1 ≤ m) × (m ≤ 256) × (pageBytes g ≤ 2112) × (m ≡ needs g (chipOf g n (now img)) key) ⌝ }
-    requires { ⌜ Looked g n (now img) s (now table) ⌝ }
-    ensures { λ r. ⌜ Ran g (insertStores g n (now (img .entry)) key addr) (freshOf allowance) r (now (img .entry)) (now (img .exit)) ⌝ }
+) -> Own
+    requires { ⌜ (g .top < 256) × (pageBytes g ≤ 2112) × (1 ≤ m) × (m ≤ 256) × (s ≡ surveyOf g n (now img)) × (s .level < 255) ⌝ }
+    ensures { λ r. ⌜ length (now (table .exit)) ≡ length (now (table .entry)) ⌝ }
+    ensures { λ r.
+        ⌜ Makes g n (storesBy g n m (tableIn (now (table .entry)) (now (lent .entry))) (now (img .entry)) key addr)
+        (crestBy g n m (tableIn (now (table .entry)) (now (lent .entry))) (now (img .entry)) key addr) allowance r
+        (now (img .entry)) (now (img .exit)) (now (lent .entry)) (now (lent .exit)) ⌝ }
 {
     let b = account::fresh(allowance);
-    let w = collect::collect(g, &mut *img, &mut *table, n, b, m, m + 1, s);
+    let w = collect::collect(g, &mut *img, &mut *table, &mut *lent, n, b, m, m + 1, s);
     let r = w.budget;
     let t = w.survey;
     if r.stopped {
-        return r;
+        return Own {
+            budget: r,
+            page: 0,
+            level: 0,
+        };
     }
     insertion::insert_own(g, &mut *img, n, r, t, m, key, addr)
 }
 
-// The rest on a judged image of n blocks.
+// The rest on a judged image of n blocks, with the table and the words that tell of it.
 fn insert_rest(
     g: Geometry,
     img: &mut [u8],
     table: &mut [u8],
+    lent: &mut [u32],
     n: u16,
     s: Survey,
     key: u32,
     addr: u32,
     allowance: u32,
 ) -> Answer
-    requires { ⌜ (g .pages * n ≤ length (now table)) × (pageBytes g ≤ 2112) ⌝ }
+    requires { ⌜ (g .pages * n ≤ length (now table)) × (g .top < 256) × (pageBytes g ≤ 2112) ⌝ }
     requires { ⌜ Looked g n (now img) s (now table) ⌝ }
-    ensures { λ r. ⌜ told r (now (img .exit)) ≡ insertRest g n (now (img .entry)) key addr allowance ⌝ }
+    ensures { λ r.
+        ⌜ reply (told r (now (img .exit))) (now (lent .exit))
+        ≡ insertBy g n (tableIn (now (table .entry)) (now (lent .entry))) (now (img .entry)) key addr allowance ⌝ }
 {
     if g.worn < s.most {
         return Answer::Worn;
@@ -65,13 +82,14 @@ fn insert_rest(
     if p.high {
         return Answer::Height;
     }
-    if account::is_roomless(g, &*table, n, p.needs) {
+    if account::is_roomless(g, &*lent, n, p.needs) {
         return Answer::Room;
     }
-    let b = make_stores(
+    let own = make_stores(
         g,
         &mut *img,
         &mut *table,
+        &mut *lent,
         n,
         p.needs,
         key,
@@ -79,40 +97,76 @@ fn insert_rest(
         allowance,
         s,
     );
-    account::answer_of(b)
+    account::finish(g, &*img, &mut *table, &mut *lent, n, own)
 }
 
-// Insert on n blocks, with a lent table for the judge and the collector.
+// Insert on n blocks, with words enough, and a lent table for the judge and the collector.
 fn insert_blocks(
     g: Geometry,
     img: &mut [u8],
     table: &mut [u8],
+    lent: &mut [u32],
     n: u16,
     key: u32,
     addr: u32,
     allowance: u32,
 ) -> Answer
-    requires { ⌜ (g .pages ≤ 64) × (n ≤ 1024) × (65536 ≤ length (now table)) × (pageBytes g ≤ 2112) ⌝ }
-    ensures { λ r. ⌜ told r (now (img .exit)) ≡ byVerdict (verdict g n (now (img .entry))) (damaged (now (img .entry))) (insertRest g n (now (img .entry)) key addr allowance) ⌝ }
+    requires { ⌜ Known g ⌝ }
+    requires { ⌜ (n ≡ goodBlocks g (now img)) × (n ≤ 1024) × (n ≡ 0 → ⊥) × (65536 ≤ length (now table)) × (wordsOf g n ≤ length (now lent)) ⌝ }
+    ensures { λ r.
+        ⌜ reply (told r (now (img .exit))) (now (lent .exit)) ≡ insertLive g (now (img .entry)) (now (lent .entry)) key addr allowance ⌝ }
 {
     let judgement = verdict::judge_image(g, &*img, &mut *table, n);
     let verdict = judgement.verdict;
     let survey = judgement.survey;
     match verdict {
         Verdict::Broken(rule, page) => Answer::Damaged(rule, page),
-        Verdict::Sound => insert_rest(g, &mut *img, &mut *table, n, survey, key, addr, allowance),
+        Verdict::Sound => {
+            account::fill_words(g, &*table, &mut *lent, n);
+            insert_rest(
+                g,
+                &mut *img,
+                &mut *table,
+                &mut *lent,
+                n,
+                survey,
+                key,
+                addr,
+                allowance,
+            )
+        }
     }
 }
 
-// Insert on a chip with blocks of at most 64 pages.
-pub fn insert_on(g: Geometry, img: &mut [u8], key: u32, addr: u32, allowance: u32) -> Answer
-    requires { ⌜ (g .pages ≤ 64) × (pageBytes g ≤ 2112) ⌝ }
-    ensures { λ r. ⌜ told r (now (img .exit)) ≡ insert g (now (img .entry)) key addr allowance ⌝ }
+// Insert on a chip of a known geometry.
+pub fn insert_on(
+    g: Geometry,
+    img: &mut [u8],
+    lent: &mut [u32],
+    key: u32,
+    addr: u32,
+    allowance: u32,
+) -> Answer
+    requires { ⌜ Known g ⌝ }
+    ensures { λ r.
+        ⌜ reply (told r (now (img .exit))) (now (lent .exit)) ≡ insertLive g (now (img .entry)) (now (lent .entry)) key addr allowance ⌝ }
 {
     let n = chip::good_blocks(g, &*img);
     if n == 0 {
         return Answer::Length;
     }
+    if lent.len() < words::words_of(g, n) {
+        return Answer::Length;
+    }
     let mut table: [u8; 65536] = [0; 65536];
-    insert_blocks(g, &mut *img, &mut table, n, key, addr, allowance)
+    insert_blocks(
+        g,
+        &mut *img,
+        &mut table,
+        &mut *lent,
+        n,
+        key,
+        addr,
+        allowance,
+    )
 }

@@ -29,11 +29,12 @@ use Rattle.edit.specs.declared.Changed.{Changed}
 use Rattle.edit.specs.Edit.{changed, partsOf, Changes}
 use Rattle.crown.specs.declared.Summit.{Summit}
 use Rattle.crown.specs.Crown.{topPart, Crowned}
+use Rattle.crown.specs.Owns.{Owns}
 use Rattle.next.specs.Coming.{seen, Coming}
 use Rattle.survey.specs.declared.Survey.{Survey}
 use Rattle.survey.specs.Survey.{surveyOf}
 use Rattle.survey.specs.Laws.{newest-is}
-use Rattle.insertion.specs.Own.{crownParts, ownBy, Climbs, Puts}
+use Rattle.insertion.specs.Own.{crownParts, ownBy, topBy, Climbs, Puts}
 
 append-two : (xs ys zs : List Store) → (xs ++ ys) ++ zs ≡ xs ++ (ys ++ zs)
 append-two [] ys zs = refl
@@ -66,6 +67,14 @@ module _ (g : Geometry) (j : Job) (i : List ℕ) (l : ℕ) (e : Entry) where
       rw (laid-agree g (partsOf g j i l e) (crownParts g j i l e) l p (λ m a h. lower m h), upper (suc l) (omega arith), upper (suc (suc l)) (omega arith), laid-more g (crownParts g j i l e) l p)
       (laid-more g (crownParts g j i l e) (suc l) p)
 
+some-height : (g : Geometry) (l : ℕ) (c : List Entry) → 1 ≤ crownHeight g (suc l) c
+unfolding crownHeight
+some-height g l c = go (fills g (suc l) (length c))
+  where
+    go : (t : Bool) → 1 ≤ pick t (suc (suc l)) (suc l)
+    go true = omega arith
+    go false = omega arith
+
 pub climbs : (g : Geometry) (j : Job) (l : ℕ) (e : Entry) (b : Budget) (u : Changed) (r : Summit) (i h o p d q : List ℕ)
     → Crowned g j (l + 1) (entries (u .node)) (u .budget) r h o d q → Changes g j l e b u i h p d → Climbs g j l e b r i o p q
 climbs g j l e b u r i h o p d q cr ch =
@@ -73,18 +82,23 @@ climbs g j l e b u r i h o p d q cr ch =
     record {
       page = cr .page ∙ rw (s, ch .node, ch .page) (laid-up g j i l e p);
       height = cr .height ∙ rw (s, ch .node);
+      some = rw (cr .height, s) (some-height g l (entries (u .node)));
       ran = ran-then g _ _ _ _ _ _ _ _ (ch .ran) (rw (s, ch .node) at (cr .ran));
     }
 
 pub inserts : (g : Geometry) (j : Job) (l : ℕ) (e : Entry) (b r : Budget) (w : Summit) (last : ℕ) (i h o p q : List ℕ)
     → Ran g (program (j .page) (take (pageBytes g) (sealed g (bare g (l + 2) (g .top - (l + 2)) q) last (w .height))) ∷ []) (w .budget) r h o
-    → Climbs g j l e b w i h p q → p ≡ blanks 2112 → pageBytes g ≤ 2112 → Ran g (ownBy g j i last l e) b r i o
+    → Climbs g j l e b w i h p q → p ≡ blanks 2112 → pageBytes g ≤ 2112
+    → Owns g (ownBy g j i last l e) (topBy g j i l e) b (record { budget = r; page = j .page; level = w .height - 1 }) i o
 unfolding ownBy
 inserts g j l e b r w last i h o p q run c ep le =
     let s : l + 2 ≡ suc (suc l) = omega arith in
     let bytes : take (pageBytes g) (sealed g (bare g (l + 2) (g .top - (l + 2)) q) last (w .height)) ≡ built g last (crownHeight g (suc l) (changed g j i l e)) (crownParts g j i l e) =
     rw (s, c .page, c .height) (page-is g (crownParts g j i l e) (suc (suc l)) last (crownHeight g (suc l) (changed g j i l e)) p _ refl ep le (no-more g j i l e)) in
-    rw (← append-two) (ran-then g _ _ _ _ _ _ _ _ (c .ran) (rw bytes at run))
+    record {
+      ran = rw (← append-two) (ran-then g _ _ _ _ _ _ _ _ (c .ran) (rw bytes at run));
+      crest = rw (c .height);
+    }
 
 pub larger-right : (a b : ℕ) → a < b → b ≡ max a b
 larger-right a b h = omega arith

@@ -20,6 +20,7 @@ use Rattle.edit.specs.Edit.{changed, pathOf, partsOf, sidesUp}
 use Rattle.crown.specs.declared.Summit.{Summit}
 use Rattle.crown.specs.Crown.{topPart}
 use Rattle.next.specs.Coming.{onImage}
+use Rattle.beside.specs.Update.{Crest}
 
 -- the entry that names the root
 abbrev pub rootAt : ℕ → Entry
@@ -39,7 +40,12 @@ ownBy g j i last l e =
 pub record Climbs (g : Geometry) (j : Job) (l : ℕ) (e : Entry) (b : Budget) (r : Summit) (i o p q : List ℕ) : Type 0 where
   pub page : q ≡ laid g (crownParts g j i l e) (suc (suc l)) p
   pub height : r .height ≡ crownHeight g (suc l) (changed g j i l e)
+  pub some : 1 ≤ r .height
   pub ran : Ran g (sidesUp g j (pathOf g j i l e) l ++ crownStore g (j .seq) (j .key) (sideOf j) (suc l) (changed g j i l e)) b (r .budget) i o
+
+-- where the root stands once all are made
+abbrev pub topBy : Geometry → Job → List ℕ → ℕ → Entry → Crest
+topBy g j i l e = record { page = j .page; level = crownHeight g (suc l) (changed g j i l e) - 1 }
 
 -- the job of putting key k at address a
 pub record Puts (g : Geometry) (n : ℕ) (i : List ℕ) (seq l m k a : ℕ) (j : Job) : Type 0 where

@@ -16,20 +16,22 @@ use Rattle.model.specs.Stores.{program}
 use Rattle.model.specs.Edit.{putIn, named, pathPart, onPath}
 use Rattle.model.specs.Update.{insertList, crownPart, crownStore, crownHeight, insertPart, sideStore, splitStore, sideStores, sidePage, ownStores}
 use Rattle.stores.specs.declared.Budget.{Budget}
-use Rattle.stores.specs.Run.{Ran}
 use Rattle.step.specs.declared.Change.{Change}
 use Rattle.step.specs.declared.Job.{Job}
 use Rattle.step.specs.Step.{sideOf, leafOf, nameOf, partOf, storesOf}
 use Rattle.edit.specs.Edit.{changed, pathOf, partsOf, sidesUp}
 use Rattle.edit.specs.Paths.{path-top, path-agree}
+use Rattle.crown.specs.declared.Own.{Own}
 use Rattle.crown.specs.Crown.{topPart}
+use Rattle.crown.specs.Owns.{Owns}
 use Rattle.model.specs.Image.{chipOf, maxSeq}
 use Rattle.chip.specs.Chip.{chipWith}
 use Rattle.next.specs.Coming.{onImage}
 use Rattle.survey.specs.declared.Survey.{Survey}
 use Rattle.survey.specs.Survey.{surveyOf}
 use Rattle.survey.specs.Laws.{makes}
-use Rattle.insertion.specs.Own.{rootAt, crownParts, ownBy, Puts}
+use Rattle.beside.specs.Update.{insertCrest}
+use Rattle.insertion.specs.Own.{rootAt, crownParts, ownBy, topBy, Puts}
 
 -- what is made of a level depends on the page of that level's other half alone
 named-agree : (g : Geometry) (k₁ k₂ n₁ n₂ : ℕ) (f h : ℕ → ℕ) (x : ℕ) (e : Entry) (c : List Entry) → k₁ ≡ k₂ → n₁ ≡ n₂ → f x ≡ h x
@@ -114,12 +116,20 @@ module _ (g : Geometry) (n : ℕ) (i : List ℕ) (seq l p m k a : ℕ) (j : Job)
       ++ (crown-agree g (j .seq) seq (j .key) k (suc l) (sideOf j) (side g n i l p) (changed g j i l (rootAt p)) (lists g n i l p m k a (suc l)) (pj .number) (pj .key) top-is (sides (suc l) (omega arith) (omega arith)) z
       ++ (program (page z) (built g (seq + m) (crownHeight g (suc l) (top-is z)) (λ x. part-is x z)) ∷ []))
 
+  crest-is : topBy g j i l (rootAt p) ≡ insertCrest g n (chipWith g i l p) m k a
+  unfolding lists side
+  crest-is = λ z. record { page = page z; level = crownHeight g (suc l) (top-is z) - 1 }
+
 -- with the survey of the image
-pub inserted : (g : Geometry) (n : ℕ) (i : List ℕ) (s : Survey) (m k a : ℕ) (j : Job) (b r : Budget) (o : List ℕ) (last : ℕ) → Ran g (ownBy g j i last (s .level) (rootAt (s .root))) b r i o
-    → last ≡ s .most + m → Puts g n i (s .most) (s .level) m k a j → s ≡ surveyOf g n i → 1 ≤ m → Ran g (ownStores g n (maxSeq g n i) (chipOf g n i) m k a) b r i o
+pub inserted : (g : Geometry) (n : ℕ) (i : List ℕ) (s : Survey) (m k a : ℕ) (j : Job) (b : Budget) (r : Own) (o : List ℕ) (last : ℕ)
+    → Owns g (ownBy g j i last (s .level) (rootAt (s .root))) (topBy g j i (s .level) (rootAt (s .root))) b r i o
+    → last ≡ s .most + m → Puts g n i (s .most) (s .level) m k a j → s ≡ surveyOf g n i → 1 ≤ m
+    → Owns g (ownStores g n (maxSeq g n i) (chipOf g n i) m k a) (insertCrest g n (chipOf g n i) m k a) b r i o
 inserted g n i s m k a j b r o last run el pj es some =
     let e : ownBy g j i (s .most + m) (s .level) (rootAt (s .root)) ≡ ownStores g n (maxSeq g n i) (chipOf g n i) m k a =
     own-is g n i (s .most) (s .level) (s .root) m k a j pj some ∙ makes g n i s es (λ y c. ownStores g n y c m k a) in
-    rw e at (rw el at run)
+    let t : topBy g j i (s .level) (rootAt (s .root)) ≡ insertCrest g n (chipOf g n i) m k a =
+    crest-is g n i (s .most) (s .level) (s .root) m k a j pj some ∙ makes g n i s es (λ y c. insertCrest g n c m k a) in
+    rw (e, t) at (rw el at run)
 
 pub ruleset tie-laws = (inserted)

@@ -4,9 +4,11 @@ ghost use Prim.Native.Nat.{ℕ, _+_, _*_, _-_, _≤_, _<_, max};
 ghost use Rattle.geometry.specs.Geometry.{pageBytes};
 ghost use Rattle.model.specs.Image.{chipOf, maxSeq};
 ghost use Rattle.model.specs.Update.{ownStores};
-ghost use Rattle.stores.specs.Run.{Ran};
 ghost use Rattle.survey.specs.Survey.{surveyOf};
-ghost use Rattle.insertion.specs.Own.{Climbs, ownBy, rootAt, Puts};
+ghost use Rattle.crown.specs.Owns.{Owns};
+ghost use Rattle.beside.specs.Update.{insertCrest};
+ghost use Rattle.insertion.specs.Own.{Climbs, ownBy, topBy, rootAt, Puts};
+use crown::Own;
 use crown::Summit;
 use geometry::Entry;
 use geometry::Geometry;
@@ -42,7 +44,7 @@ fn climb(
     crown::settle(g, &mut *img, &mut *page, left, job, level + 1, c)
 }
 
-// All stores of a job, page N with the number `last`.
+// All stores of a job, page N with the number `last`; and where the root stands once they are made.
 fn insert_with(
     g: Geometry,
     img: &mut [u8],
@@ -51,14 +53,15 @@ fn insert_with(
     last: u64,
     level: u32,
     root: u32,
-) -> Budget
+) -> Own
     requires { ⌜ (level < 255) × (pageBytes g ≤ 2112) × (job .seq < 4294967296) × (b .left + b .programmed + b .erased < 4294967296) ⌝ }
-    ensures { λ r. ⌜ Ran g (ownBy g job (now (img .entry)) last level (rootAt root)) b r (now (img .entry)) (now (img .exit)) ⌝ }
+    ensures { λ r.
+        ⌜ Owns g (ownBy g job (now (img .entry)) last level (rootAt root)) (topBy g job (now (img .entry)) level (rootAt root)) b r (now (img .entry)) (now (img .exit)) ⌝ }
 {
     let mut page = page::blank();
     let w = climb(g, &mut *img, &mut page, b, job, level, root);
     let left = w.budget;
-    crown::store_last(
+    let made = crown::store_last(
         g,
         &mut *img,
         &mut page,
@@ -67,7 +70,12 @@ fn insert_with(
         level + 2,
         last,
         w.height,
-    )
+    );
+    Own {
+        budget: made,
+        page: job.page,
+        level: w.height - 1,
+    }
 }
 
 fn larger(a: usize, b: usize) -> usize
@@ -104,7 +112,7 @@ fn insert_job(g: Geometry, img: &[u8], n: u16, s: Survey, m: u32, key: u32, addr
     }
 }
 
-// The stores of an insert of m pages on an image of n blocks, with its survey given.
+// The stores of an insert of m pages on an image of n blocks, with its survey given; and where the root then stands.
 pub fn insert_own(
     g: Geometry,
     img: &mut [u8],
@@ -114,9 +122,11 @@ pub fn insert_own(
     m: u32,
     key: u32,
     addr: u32,
-) -> Budget
+) -> Own
     requires { ⌜ (s ≡ surveyOf g n (now img)) × (s .level < 255) × (1 ≤ m) × (m ≤ 256) × (pageBytes g ≤ 2112) × (b .left + b .programmed + b .erased < 4294967296) ⌝ }
-    ensures { λ r. ⌜ Ran g (ownStores g n (maxSeq g n (now (img .entry))) (chipOf g n (now (img .entry))) m key addr) b r (now (img .entry)) (now (img .exit)) ⌝ }
+    ensures { λ r.
+        ⌜ Owns g (ownStores g n (maxSeq g n (now (img .entry))) (chipOf g n (now (img .entry))) m key addr) (insertCrest g n (chipOf g n (now (img .entry))) m key addr) b r
+        (now (img .entry)) (now (img .exit)) ⌝ }
 {
     let job = insert_job(g, &*img, n, s, m, key, addr);
     insert_with(g, &mut *img, b, job, number(s.most, m), s.level, s.root)

@@ -1,5 +1,5 @@
 -- Laws of the store that moves a page, in the form in which the code has the premises. Assumes nothing.
-use Prim.Native.Nat.{ℕ, suc, _+_, _-_, _<_, _≤_}
+use Prim.Native.Nat.{ℕ, suc, _+_, _<_, _≤_}
 use mathlib.Core.Path.{_≡_, refl, ap, _∙_}
 use mathlib.Core.List.{List, [], _∷_}
 use lib.Dec.{leb}
@@ -8,8 +8,7 @@ use borrow.Author.Tests.{le-leb, lt-leb}
 use Rattle.geometry.specs.declared.Geometry.{Geometry}
 use Rattle.geometry.specs.declared.Entry.{Entry}
 use Rattle.geometry.specs.Tests.{pick}
-use Rattle.model.specs.Bytes.{erased, nodeAt}
-use Rattle.model.specs.Next.{nextPage}
+use Rattle.model.specs.Bytes.{nodeAt}
 use Rattle.model.specs.Tree.{next}
 use Rattle.node.specs.declared.Node.{Node}
 use Rattle.node.specs.Node.{entries}
@@ -25,10 +24,6 @@ use Rattle.edit.specs.declared.Changed.{Changed}
 use Rattle.edit.specs.Edit.{Changes}
 use Rattle.edit.specs.Laws.{still}
 use Rattle.crown.specs.Crown.{pathStore}
-use Rattle.next.specs.Coming.{seen}
-use Rattle.survey.specs.declared.Survey.{Survey}
-use Rattle.survey.specs.Survey.{surveyOf}
-use Rattle.survey.specs.Laws.{newest-is}
 use Rattle.moving.specs.Own.{storeBy, Moves}
 
 pub key-is : (g : Geometry) (i : List ℕ) (p l k : ℕ) (c : Node) → k ≡ next (entries c) 0 → entries c ≡ nodeAt g i p l → k ≡ next (nodeAt g i p l) 0
@@ -53,9 +48,10 @@ with-is g j low l e b r u n i h o p q run ch en ep ec =
     let t : j .seq + 1 ≡ suc (j .seq) = add-one (j .seq) in
     ran-then g [] (_ ∷ []) b (u .budget) r i i o (s .1) (rw (s .0, en, a, t, ch .node, ch .page, ep) at run)
 
-pub moves : (g : Geometry) (n : ℕ) (i : List ℕ) (s : Survey) (low q k x y : ℕ) (ps : List ℕ) → k ≡ next (nodeAt g i q low) 0 → x ≡ nextPage (g .pages) n (seen (erased g i) (s .last))
-    → s ≡ surveyOf g n i → y ≡ s .most → y < 4294967296
-    → Moves g n i (s .most) low q (record { key = k; page = x; seq = y; sides = ps; change = Rename low })
-moves g n i s low q k x y ps ek ex es ey h = record { key = ek; change = refl; number = ey; small = h; page = ex ∙ rw (newest-is g n i s es) }
+pub moves : (most m low k : ℕ) (ps : List ℕ) → Moves most m low k (record { key = k; page = m; seq = most; sides = ps; change = Rename low })
+moves most m low k ps = record { key = refl; change = refl; number = refl; page = refl }
 
-pub ruleset moving-laws = (key-is, from-none, from-some, with-is, moves)
+pub seq-low : (most m low k : ℕ) (j : Job) → Moves most m low k j → most < 8589934592 → j .seq < 8589934592
+seq-low most m low k j w h = rw (w .number) h
+
+pub ruleset moving-laws = (key-is, from-none, from-some, with-is, moves, seq-low)

@@ -1,18 +1,16 @@
 // The store that moves a live page: the nodes from the root to its lowest live node, on the next page.
 ghost use mathlib.Core.Path.{_≡_};
 ghost use mathlib.Core.List.{[], _∷_};
-ghost use Prim.Native.Nat.{ℕ, suc, _+_, _*_, _-_, _≤_, _<_};
+ghost use Prim.Native.Nat.{_+_, _≤_, _<_};
 ghost use lib.Dec.{leb};
 ghost use Rattle.geometry.specs.Geometry.{pageBytes};
 ghost use Rattle.geometry.specs.Tests.{pick};
 ghost use Rattle.model.specs.Bytes.{nodeAt};
-ghost use Rattle.model.specs.Collect.{moveStore};
-ghost use Rattle.model.specs.Image.{chipOf};
-ghost use Rattle.model.specs.Tree.{next, placesOf, lowLevel};
+ghost use Rattle.model.specs.Tree.{next};
+ghost use Rattle.chip.specs.Chip.{named};
 ghost use Rattle.node.specs.Node.{entries};
 ghost use Rattle.stores.specs.Run.{Ran};
-ghost use Rattle.survey.specs.Survey.{surveyOf};
-ghost use Rattle.moving.specs.Own.{Moves, storeBy, rootAt};
+ghost use Rattle.moving.specs.Own.{Moves, Moved, storeBy};
 ghost use Rattle.step.specs.declared.Change.{Change};
 use geometry::Entry;
 use geometry::Geometry;
@@ -20,35 +18,24 @@ use node::Node;
 use step::Change;
 use step::Job;
 use stores::Budget;
-use survey::Survey;
 
 // The key by which descent comes to the node at a level of a page: its first.
-fn first_key(g: Geometry, img: &[u8], page: u32, level: u32) -> u32
+pub fn first_key(g: Geometry, img: &[u8], page: u32, level: u32) -> u32
     ensures { λ r. ⌜ r ≡ next (nodeAt g (now (img .entry)) page level) 0 ⌝ }
 {
     let c = load::load_node(g, img, page, level);
     node::first_key(c)
 }
 
-fn long(x: u32) -> u64
-    ensures { λ r. ⌜ (r ≡ x) × (r < 4294967296) ⌝ }
+// The job of moving the path of a key from level `low` up to page `to`, the largest number given.
+fn move_job(most: u64, to: u32, low: u32, key: u32) -> Job
+    ensures { λ r. ⌜ Moves most to low key r ⌝ }
 {
-    x as u64
-}
-
-// The job of moving a page from level `low` up.
-fn move_job(g: Geometry, img: &[u8], n: u16, s: Survey, low: u32, page: u32) -> Job
-    requires { ⌜ s ≡ surveyOf g n (now img) ⌝ }
-    ensures { λ r. ⌜ Moves g n (now (img .entry)) (s .most) low page r ⌝ }
-{
-    let key = first_key(g, img, page, low);
-    let to = next::next_page(g, img, n, s.last);
     let none = next::no_pages();
-    let last = long(s.most);
     Job {
         key: key,
         page: to,
-        seq: last,
+        seq: most,
         sides: none,
         change: Change::Rename(low),
     }
@@ -75,8 +62,8 @@ fn move_with(
     level: u32,
     root: u32,
 ) -> Budget
-    requires { ⌜ (level < 255) × (pageBytes g ≤ 2112) × (job .seq < 4294967296) × (b .left + b .programmed + b .erased < 4294967296) × (job .change ≡ Change.Rename low) ⌝ }
-    ensures { λ r. ⌜ Ran g (storeBy g job low level (rootAt root) (now (img .entry)) ∷ []) b r (now (img .entry)) (now (img .exit)) ⌝ }
+    requires { ⌜ (level < 255) × (pageBytes g ≤ 2112) × (job .seq < 8589934592) × (b .left + b .programmed + b .erased < 4294967296) × (job .change ≡ Change.Rename low) ⌝ }
+    ensures { λ r. ⌜ Ran g (storeBy g job low level (named root) (now (img .entry)) ∷ []) b r (now (img .entry)) (now (img .exit)) ⌝ }
 {
     let mut page = page::blank();
     let u = edit::change(
@@ -103,20 +90,22 @@ fn move_with(
     )
 }
 
-// Moves a page of an image of n blocks, with the image's survey and the page's lowest live level given.
+// Moves a page to page `to`: the path of its key from its lowest live level up. The root's page, the largest number and
+// the levels below the root are given.
 pub fn move_page(
     g: Geometry,
     img: &mut [u8],
-    n: u16,
     b: Budget,
-    s: Survey,
+    root: u32,
+    most: u64,
+    level: u32,
+    to: u32,
     low: u32,
-    page: u32,
+    key: u32,
 ) -> Budget
-    requires { ⌜ (s ≡ surveyOf g n (now img)) × (s .level < 255) × (pageBytes g ≤ 2112) × (b .left + b .programmed + b .erased < 4294967296) ⌝ }
-    requires { ⌜ low ≡ lowLevel (placesOf (chipOf g n (now img))) page ⌝ }
-    ensures { λ r. ⌜ Ran g (moveStore g n page (now (img .entry)) ∷ []) b r (now (img .entry)) (now (img .exit)) ⌝ }
+    requires { ⌜ (level < 255) × (pageBytes g ≤ 2112) × (most < 8589934592) × (b .left + b .programmed + b .erased < 4294967296) ⌝ }
+    ensures { λ r. ⌜ Moved g root most level to low key b r (now (img .entry)) (now (img .exit)) ⌝ }
 {
-    let job = move_job(g, &*img, n, s, low, page);
-    move_with(g, &mut *img, b, job, low, s.level, s.root)
+    let job = move_job(most, to, low, key);
+    move_with(g, &mut *img, b, job, low, level, root)
 }

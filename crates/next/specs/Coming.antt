@@ -10,7 +10,7 @@ use Rattle.geometry.specs.Tests.{pick, _&_}
 use Rattle.model.specs.Bytes.{erased}
 use Rattle.model.specs.Count.{arg}
 use Rattle.model.specs.Image.{pagesOf, seqOf}
-use Rattle.model.specs.Next.{Ahead, taken, nth}
+use Rattle.model.specs.Next.{Ahead, round, taken, nth}
 
 -- page q is erased and not among the first i of the pages chosen
 unfoldable pub free : (ℕ → Bool) → List ℕ → ℕ → ℕ → Bool
@@ -20,6 +20,10 @@ free er ps (suc i) q = pick (eqb q (getD ps i 0)) false (free er ps i q)
 -- block b is block a or a later one, and its first page passes
 unfoldable pub whole : ℕ → (ℕ → Bool) → ℕ → ℕ → Bool
 whole p er a b = leb a b & er (p * b + 0)
+
+-- the first block met whose first page passes, from the one after b on, round past the end to the start
+unfoldable pub wholeAfter : ℕ → ℕ → (ℕ → Bool) → ℕ → ℕ
+wholeAfter p n er b = round n b (λ i. er (p * i + 0))
 
 -- what the choice looks at
 abbrev pub seen : (ℕ → Bool) → ℕ → Ahead

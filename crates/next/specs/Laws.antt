@@ -1,20 +1,23 @@
 -- Laws of the pages to come, in the form in which the code has the premises. Assumes nothing.
-use Prim.Native.Nat.{ℕ, zero, suc, _+_, _-_, _*_, _/_, _<_, _≤_}
+use Prim.Native.Nat.{ℕ, zero, suc, _+_, _-_, _*_, _/_, _%_, _<_, _≤_}
 use mathlib.Core.Bool.{Bool, true, false}
 use mathlib.Core.Path.{_≡_, refl, sym, ap, _∙_}
 use mathlib.Core.List.{List}
-use lib.Dec.{ltb}
+use mir.Syntax.{w16}
+use mir.Val.{Fits}
+use lib.Dec.{eqb, ltb}
 use lib.ListN.{getD, set, length, length-set}
 use lib.Seq.{getD-set-same, getD-set-other}
 use native.Mathlib.Omega.{arith}
-use native.Mathlib.Nat.{div-zero, div-le-self}
+use native.Mathlib.Nat.{div-zero, div-le-self, mod-zero, mul-le-mul-left}
 use native.Mathlib.Numerals.{sub-one, add-one}
 use borrow.Author.Tests.{eq-eqb, ne-eqb, lt-ltb, le-ltb, le-leb, lt-leb}
 use Rattle.geometry.specs.Tests.{_&_, and-true, and-false}
 use Rattle.model.specs.Count.{least}
 use Rattle.model.specs.Next.{mixed, firstIn, Ahead, round, nextBlock, nextPage, taken}
+use Rattle.beside.specs.Beside.{nextAfter}
 use Rattle.counts.specs.Least.{by-lt, least-zero, least-go, least-hit, least-end}
-use Rattle.next.specs.Coming.{free, whole, seen, Coming, lastAt}
+use Rattle.next.specs.Coming.{free, whole, wholeAfter, seen, Coming, lastAt}
 
 -- ---- is_free
 module _ (er : ℕ → Bool) (ps : List ℕ) (q : ℕ) where
@@ -84,21 +87,49 @@ module _ (p : ℕ) (er : ℕ → Bool) where
   unfolding nextBlock
   next-mixed n b last e h = sym (simp (← e, lt-ltb b n h))
 
-  module _ (n m b j last : ℕ) (em : m ≡ least n (mixed p er)) (none : n ≤ m) (eb : b ≡ last / p) (ej : j ≡ least n (whole p er (b + 1))) where
-    later-is : j ≡ least n (λ i. ltb (last / p) i & er (p * i + 0))
+  -- round from the block after b
+  module _ (n b j : ℕ) (ej : j ≡ least n (whole p er (b + 1))) where
+    later-is : j ≡ least n (λ i. ltb b i & er (p * i + 0))
     unfolding whole
-    later-is = ej ∙ rw (add-one b, eb) refl
+    later-is = ej ∙ rw (add-one b) refl
 
-    pub next-later : j < n → j ≡ nextBlock p n (seen er last)
-    unfolding nextBlock round
-    next-later h = sym (rw (← em, le-ltb m n none, ← later-is, lt-ltb j n h) refl)
+    pub round-later : j < n → j ≡ wholeAfter p n er b
+    unfolding wholeAfter round
+    round-later h = sym (rw (← later-is, lt-ltb j n h) refl)
 
-    pub next-round : (v : ℕ) → n ≤ j → v ≡ least n (whole p er 0) → v ≡ nextBlock p n (seen er last)
-    unfolding nextBlock round
-    next-round v h ev = ev ∙ rw whole-all (sym (rw (← em, le-ltb m n none, ← later-is, le-ltb j n h) refl))
+    pub round-start : (v : ℕ) → v ≡ least n (whole p er 0) → n ≤ j → v ≡ wholeAfter p n er b
+    unfolding wholeAfter round
+    round-start v ev h = ev ∙ rw whole-all (sym (rw (← later-is, le-ltb j n h) refl))
+
+  pub next-round : (n m b v last : ℕ) → v ≡ wholeAfter p n er b → b ≡ last / p → m ≡ least n (mixed p er) → n ≤ m → v ≡ nextBlock p n (seen er last)
+  unfolding nextBlock wholeAfter
+  next-round n m b v last ev eb em none = ev ∙ rw eb (sym (rw (← em, le-ltb m n none) refl))
 
   pub after-is : (n b j last r : ℕ) → r ≡ p * b + j → b ≡ nextBlock p n (seen er last) → j ≡ firstIn p er b → r ≡ nextPage p n (seen er last)
   after-is n b j last r e eb ej = e ∙ rw (ej, eb)
+
+-- a page of 16 bits' worth of blocks and of pages in each
+pub page-low : (p b j r : ℕ) → r ≡ p * b + j → j ≤ p → Fits w16 p → Fits w16 b → r ≤ 4294901760
+page-low p b j r e h fp fb =
+    let hp : p ≤ 65535 = omega (arith, fp .fits) in
+    let hb : b ≤ 65535 = omega (arith, fb .fits) in
+    omega (arith, e, h, mul-le-mul-left p hb)
+
+-- ---- the page after one
+pub ends-none : (x p w : ℕ) → w ≡ p → w ≡ 0 → false ≡ eqb (suc x % p) 0
+ends-none x p w e z = sym (ap (λ y. eqb (suc x % y) 0) (sym e ∙ z) ∙ rw (mod-zero (suc x)) (ne-eqb (suc x) 0 (λ q. let r : suc x ≡ 0 = q in omega arith)))
+
+pub ends-is : (x p y w : ℕ) → y ≡ x → w ≡ p → eqb ((y + 1) % w) 0 ≡ eqb (suc x % p) 0
+ends-is x p y w e f = rw (add-one y, e, f)
+
+module _ (p n x : ℕ) (er : ℕ → Bool) (t : Bool) (et : t ≡ eqb (suc x % p) 0) where
+  pub goes-on : t ≡ false → x + 1 ≡ nextAfter p n er x
+  unfolding nextAfter
+  goes-on q = add-one x ∙ sym (rw (← et, q) refl)
+
+  pub goes-round : (b v r : ℕ) (ps : List ℕ) → r ≡ p * v → v ≡ wholeAfter p n (free er ps 0) b → b ≡ x / p → t ≡ true → r ≡ nextAfter p n er x
+  unfolding nextAfter wholeAfter free
+  goes-round b v r ps e ev eb q = e ∙ rw (ev, eb) (sym (rw (← et, q) refl))
 
 -- ---- the pages to come
 pub last-start : (p n : ℕ) (er : ℕ → Bool) (last : ℕ) → last ≡ lastAt p n (seen er last) 0
@@ -142,4 +173,4 @@ module _ (p n : ℕ) (w : Ahead) where
 pub set-length : (ps : List ℕ) (k x m : ℕ) → length ps ≡ m → length (set ps k x) ≡ m
 set-length ps k x m e = length-set ps k x ∙ e
 
-pub ruleset next-laws = (quotient, quotient-low, quotient-none, free-start, free-stop, free-go, free-end, free-none, whole-no, whole-is, whole-start, whole-go, whole-hit, whole-end, next-mixed, next-later, next-round, after-is, last-start, last-more, coming-none, coming-more, coming-done)
+pub ruleset next-laws = (quotient, quotient-low, quotient-none, free-start, free-stop, free-go, free-end, free-none, whole-no, whole-is, whole-start, whole-go, whole-hit, whole-end, next-mixed, round-later, round-start, next-round, after-is, page-low, ends-none, ends-is, goes-on, goes-round, last-start, last-more, coming-none, coming-more, coming-done)

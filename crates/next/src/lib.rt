@@ -1,12 +1,14 @@
 // Which page next, and the pages to come. A page counts as erased if it is so on the image and is not among the pages
 // already chosen, the first i of `taken`.
 ghost use mathlib.Core.Path.{_≡_};
-ghost use Prim.Native.Nat.{_+_, _-_, _/_, _≤_, _<_};
+ghost use Prim.Native.Nat.{suc, _+_, _/_, _%_, _≤_, _<_, max};
+ghost use lib.Dec.{eqb};
 ghost use lib.ListN.{length};
 ghost use Rattle.model.specs.Bytes.{erased};
 ghost use Rattle.model.specs.Count.{least};
 ghost use Rattle.model.specs.Next.{mixed, firstIn, nextBlock, nextPage};
-ghost use Rattle.next.specs.Coming.{free, whole, seen, Coming};
+ghost use Rattle.beside.specs.Beside.{nextAfter};
+ghost use Rattle.next.specs.Coming.{free, whole, wholeAfter, seen, Coming};
 use geometry::Geometry;
 
 // Whether a page is erased and not yet chosen.
@@ -102,6 +104,19 @@ fn first_whole(g: Geometry, img: &[u8], taken: &[u32; 256], i: usize, from: usiz
     block
 }
 
+// The first block met whose first page is free, from the one after block `from` on, round past the end to the start.
+fn round_block(g: Geometry, img: &[u8], taken: &[u32; 256], i: usize, n: u16, from: usize) -> u16
+    requires { ⌜ (i ≤ 256) × (from < 4294967296) ⌝ }
+    ensures { λ r. ⌜ r ≡ wholeAfter (g .pages) n (free (erased g (now (img .entry))) (now (taken .entry)) i) from ⌝ }
+{
+    let after = from + 1;
+    let later = first_whole(g, img, taken, i, after, n);
+    if later < n {
+        return later;
+    }
+    first_whole(g, img, taken, i, 0, n)
+}
+
 // The mixed block, else the first whole one after the block of the page `last`, round past the end to the start.
 fn next_block(g: Geometry, img: &[u8], taken: &[u32; 256], i: usize, n: u16, last: u32) -> u16
     requires { ⌜ i ≤ 256 ⌝ }
@@ -111,18 +126,14 @@ fn next_block(g: Geometry, img: &[u8], taken: &[u32; 256], i: usize, n: u16, las
     if mixed < n {
         return mixed;
     }
-    let after = block_of(g, last) + 1;
-    let later = first_whole(g, img, taken, i, after, n);
-    if later < n {
-        return later;
-    }
-    first_whole(g, img, taken, i, 0, n)
+    round_block(g, img, taken, i, n, block_of(g, last))
 }
 
 // The page that follows the chosen ones; `last` is the last of them, or the page with the largest number.
 fn page_after(g: Geometry, img: &[u8], taken: &[u32; 256], i: usize, n: u16, last: u32) -> u32
     requires { ⌜ i ≤ 256 ⌝ }
     ensures { λ r. ⌜ r ≡ nextPage (g .pages) n (seen (free (erased g (now (img .entry))) (now (taken .entry)) i) last) ⌝ }
+    ensures { λ r. ⌜ r ≤ 4294901760 ⌝ }
 {
     let block = next_block(g, img, taken, i, n, last);
     chip::page_of(g, block, first_in(g, img, taken, i, block))
@@ -137,6 +148,7 @@ pub fn no_pages() -> [u32; 256]
 // The next page of an image of n blocks whose page with the largest number is `last`.
 pub fn next_page(g: Geometry, img: &[u8], n: u16, last: u32) -> u32
     ensures { λ r. ⌜ r ≡ nextPage (g .pages) n (seen (erased g (now (img .entry))) last) ⌝ }
+    ensures { λ r. ⌜ r ≤ 4294901760 ⌝ }
 {
     let none = no_pages();
     page_after(g, img, &none, 0, n, last)
@@ -157,4 +169,29 @@ pub fn coming(g: Geometry, img: &[u8], n: u16, last: u32, count: usize) -> [u32;
         i += 1;
     }
     taken
+}
+
+// Whether a page is the last of its block.
+fn ends_block(g: Geometry, page: u32) -> bool
+    ensures { λ r. ⌜ r ≡ eqb (suc page % g .pages) 0 ⌝ }
+{
+    let pages = geometry::wide(g.pages);
+    if pages == 0 {
+        return false;
+    }
+    (geometry::index(page) + 1) % pages == 0
+}
+
+// The page after one just programmed: the next of its block; past the block's end page 0 of the first wholly erased
+// block after it, round past the end to the start.
+pub fn next_after(g: Geometry, img: &[u8], n: u16, page: u32) -> u32
+    requires { ⌜ page < 4294967295 ⌝ }
+    ensures { λ r. ⌜ (r ≡ nextAfter (g .pages) n (erased g (now (img .entry))) page) × (r ≤ max (page + 1) 4294836225) ⌝ }
+{
+    if ends_block(g, page) {
+        let none = no_pages();
+        let block = round_block(g, img, &none, 0, n, block_of(g, page));
+        return chip::first_page(g, block);
+    }
+    page + 1
 }

@@ -1,12 +1,26 @@
 -- The index's calls on the small chip are an order's. Assumes nothing.
 use mathlib.Core.Path.{_≡_, ap, sym, _∙_}
 use mathlib.Core.List.{List}
-use Prim.Native.Nat.{ℕ}
+use Prim.Native.Nat.{ℕ, _≤_}
+use lib.ListN.{length}
 use Rattle.geometry.specs.Geometry.{small}
+use Rattle.geometry.specs.Shape.{is-small}
 use Rattle.model.specs.Calls.{Outcome, chosenCall, formatOf, lookupOf, insertOf, deleteOf}
+use Rattle.live.specs.Live.{Reply, reply, insertLiveOf, deleteLiveOf}
+use Rattle.account.specs.Lent.{insert-outcome, delete-outcome}
 use Rattle.logs.specs.declared.Order.{Order}
 use Rattle.logs.specs.declared.Order.the-variants.{Format, Insert, Delete, Lookup, Limited}
 use Rattle.logs.specs.Replay.{obeyed}
+
+-- words enough for every image: the outcome is that of the call without them
+module _ (img old new : List ℕ) (o : Outcome) (room : 2048 ≤ length old) where
+  pub put-is : (k a x : ℕ) → reply o new ≡ insertLiveOf 0 img old k a x → o ≡ insertOf 0 img k a x
+  unfolding insertLiveOf insertOf chosenCall
+  put-is k a x e = ap (λ (r : Reply). r .outcome) e ∙ insert-outcome small is-small img old room k a x
+
+  pub remove-is : (k x : ℕ) → reply o new ≡ deleteLiveOf 0 img old k x → o ≡ deleteOf 0 img k x
+  unfolding deleteLiveOf deleteOf chosenCall
+  remove-is k x e = ap (λ (r : Reply). r .outcome) e ∙ delete-outcome small is-small img old room k x
 
 module _ (order : Order) (img : List ℕ) (o : Outcome) where
   pub play-format : order ≡ Format → o ≡ formatOf 0 img → o ≡ obeyed small order img
@@ -29,4 +43,4 @@ module _ (order : Order) (img : List ℕ) (o : Outcome) where
   unfolding insertOf chosenCall obeyed
   play-limited k a allowance e h = h ∙ ap (λ (x : Order). obeyed small x img) (sym e)
 
-pub ruleset playing-laws = (play-format, play-insert, play-delete, play-lookup, play-limited)
+pub ruleset playing-laws = (put-is, remove-is, play-format, play-insert, play-delete, play-lookup, play-limited)

@@ -1,5 +1,5 @@
--- The demands of the C calls, for every image of bytes, every result buffer, and keys, addresses and allowances of 32 bits. `Left` has
--- what a call leaves; Ready, mapAt, Holds, OneOf are the words of the demands. Assumes nothing.
+-- The demands of the C calls, for every image of bytes, lent words, every result buffer, and keys, addresses and allowances of 32 bits.
+-- `Left` has what a call leaves; Ready, mapAt, Holds, OneOf are the words of the demands. Assumes nothing.
 use mathlib.Core.Path.{_≡_, refl, ap, sym, subst, _∙_}
 use mathlib.Core.List.{List, [], _∷_}
 use mathlib.Core.Bool.{Bool, true, false}
@@ -22,25 +22,30 @@ use Rattle.model.specs.Rules.{verdict}
 use Rattle.model.specs.Edit.{put, remove}
 use Rattle.model.specs.Stores.{Store, program, erase, programs, erases}
 use Rattle.model.specs.Update.{insertStores, deleteStores}
-use Rattle.model.specs.Calls.{Outcome, refused, damaged, made, answered, lookup, insert, delete, chosenCall, lookupOf, insertOf, deleteOf}
+use Rattle.model.specs.Calls.{Outcome, refused, damaged, made, answered, lookup, insert, delete, chosenCall, lookupOf}
 use Rattle.demands.specs.Words.{Ready, mapAt, Holds, programmedMost, erasedMost, Began, OneOf}
 use Rattle.demands.specs.Refusals.{Refuses, lookup-refuses, insert-refuses, delete-refuses}
 use Rattle.demands.specs.Demands.{lookup-reads, insert-refused, delete-refused, lookup-answers, insert-answers, delete-answers, insert-done, delete-done, insert-stopped, delete-stopped, insert-made, delete-made, insert-bounds, delete-bounds}
 use Rattle.demands.specs.Named.{first-broken}
 use Rattle.demands.specs.Inside.{page-inside}
+use Rattle.demands.specs.Live.{Lent, insert-live, delete-live}
+use Rattle.counts.specs.Least.{by-lt}
 use Rattle.images.specs.Lengths.{good-blocks, few-pages}
+use Rattle.live.specs.Words.{wordsOf}
+use Rattle.live.specs.Live.{Reply, reply, insertLive, deleteLive, insertLiveOf, deleteLiveOf}
 use Rattle.camera.specs.Camera.{Left, returned}
-use Rattle.service.specs.Left.{looksUp, inserts, deletes, other-unknown, on, answerIn, programmedIn, erasedIn, ruleIn, pageIn, short, whole, told-whole, told-short, told-number}
+use Rattle.service.specs.Left.{looksUp, inserts, deletes, Enough, other-unknown, on, outcome-chosen, answerIn, programmedIn, erasedIn, ruleIn, pageIn, short, whole, told-whole, told-short, told-number}
 
 -- ---- Demand 1: a result buffer that is too short gives 1, and nothing changes. Else a number that is no geometry's or a bad length
--- gives 1, an image that is not sound 2 with the verdict's rule and page, and nothing else gives these. Answers 1 to 6 leave the image
-pub record Refused (kind : ℕ) (image result : List ℕ) (l : Left) : Type 0 where
+-- gives 1, an image that is not sound 2 with the verdict's rule and page, and nothing else gives these, where the lent words are `enough`
+-- (a lookup is lent none; too few give 1: Words). Answers 1 to 6 leave the image
+pub record Refused (kind : ℕ) (image result : List ℕ) (enough : Geometry → Type 0) (l : Left) : Type 0 where
   pub short-buffer : length result < 24 → l ≡ short image result
   pub no-geometry : 24 ≤ length result → 2 ≤ kind → l ≡ whole (refused 1 image) result
   pub bad-length : (g : Geometry) → chosenOf kind ≡ Of g → 24 ≤ length result → goodLength g image ≡ false → l ≡ whole (refused 1 image) result
-  pub not-sound : (g : Geometry) → chosenOf kind ≡ Of g → 24 ≤ length result → goodLength g image ≡ true
+  pub not-sound : (g : Geometry) → chosenOf kind ≡ Of g → enough g → 24 ≤ length result → goodLength g image ≡ true
       → (rule page : ℕ) → verdict g (blocksOf g image) image ≡ Broken rule page → l ≡ whole (damaged image rule page) result
-  pub neither : (g : Geometry) → chosenOf kind ≡ Of g → 24 ≤ length result → goodLength g image ≡ true
+  pub neither : (g : Geometry) → chosenOf kind ≡ Of g → enough g → 24 ≤ length result → goodLength g image ≡ true
       → verdict g (blocksOf g image) image ≡ Sound → 1 ≤ l .answer → 3 ≤ l .answer
   pub untouched : 1 ≤ l .answer → l .answer ≤ 6 → l .image ≡ image
 
@@ -56,7 +61,8 @@ module _ (image result : List ℕ) (o : Outcome) where
       go false p q = same p q
 
 -- a call on any geometry that refuses as it should, and leaves the image where it refuses
-module _ (kind : ℕ) (image result : List ℕ) (call : Geometry → Outcome) (refuses : (g : Geometry) → Refuses g image (call g))
+module _ (kind : ℕ) (image result : List ℕ) (enough : Geometry → Type 0) (call : Geometry → Outcome)
+    (bad : (g : Geometry) → goodLength g image ≡ false → call g ≡ refused 1 image) (refuses : (g : Geometry) → enough g → Refuses g image (call g))
     (same : (g : Geometry) → 1 ≤ call g .answer → call g .answer ≤ 6 → call g .image ≡ image) where
   abbrev chosen : Outcome
   chosen = chosenCall (chosenOf kind) call (refused 1 image)
@@ -77,31 +83,61 @@ module _ (kind : ℕ) (image result : List ℕ) (call : Geometry → Outcome) (r
   leaves : 24 ≤ length result → (o : Outcome) → chosen ≡ o → returned chosen image result ≡ whole o result
   leaves room o e = told-whole chosen image result room ∙ ap (λ (x : Outcome). whole x result) e
 
-  refused-call : Refused kind image result (returned chosen image result)
+  refused-call : Refused kind image result enough (returned chosen image result)
   refused-call = record {
     short-buffer = λ s. told-short chosen image result s;
     no-geometry = λ r h. leaves r (refused 1 image) (nowhere h);
-    bad-length = λ g is r e. leaves r (refused 1 image) (at g is ∙ refuses g .bad-length e);
-    not-sound = λ g is r e rule page d. leaves r (damaged image rule page) (at g is ∙ refuses g .not-sound rule page e d);
-    neither = λ g is r e d. subst (λ (l : Left). 1 ≤ l .answer → 3 ≤ l .answer) (sym (leaves r (call g) (at g is)))
-        (refuses g .neither e d);
+    bad-length = λ g is r e. leaves r (refused 1 image) (at g is ∙ bad g e);
+    not-sound = λ g is w r e rule page d. leaves r (damaged image rule page) (at g is ∙ refuses g w .not-sound rule page e d);
+    neither = λ g is w r e d. subst (λ (l : Left). 1 ≤ l .answer → 3 ≤ l .answer) (sym (leaves r (call g) (at g is)))
+        (refuses g w .neither e d);
     untouched = untouched-call image result chosen (stays (chosenOf kind));
   }
 
-module _ (kind : ℕ) (image result : List ℕ) (key : ℕ) where
-  pub lookup-refused-call : Refused kind image result (looksUp kind image key result)
-  unfolding lookupOf
-  lookup-refused-call = refused-call kind image result (λ g. lookup g image key) (λ g. lookup-refuses g image key)
-      (λ g p q. lookup-reads g image key)
+-- a call with lent words refuses as the call without them, and gives 1 for a bad length and leaves the image whatever the words
+module _ (g : Geometry) (image live : List ℕ) (o : Outcome) (r : Reply) (lent : Lent g image live o r) where
+  lent-bad : Refuses g image o → goodLength g image ≡ false → r .outcome ≡ refused 1 image
+  lent-bad h e = by-lt (length live) (wordsOf g (blocksOf g image)) (λ s. ap (λ (x : Reply). x .outcome) (lent .words-short s))
+      (λ w. lent .outcome-is w ∙ h .bad-length e)
 
-  pub insert-refused-call : (address allowance : ℕ) → Refused kind image result (inserts kind image key address allowance result)
-  unfolding insertOf
-  insert-refused-call address allowance = refused-call kind image result (λ g. insert g image key address allowance)
+  lent-refuses : Refuses g image o → Enough image live g → Refuses g image (r .outcome)
+  lent-refuses h w = subst (Refuses g image) (sym (lent .outcome-is w)) h
+
+  lent-same : (1 ≤ o .answer → o .answer ≤ 6 → o .image ≡ image) → 1 ≤ r .outcome .answer → r .outcome .answer ≤ 6 → r .outcome .image ≡ image
+  lent-same h = by-lt (length live) (wordsOf g (blocksOf g image)) (λ s p q. ap (λ (x : Reply). x .outcome .image) (lent .words-short s))
+      (λ w. subst (λ (x : Outcome). 1 ≤ x .answer → x .answer ≤ 6 → x .image ≡ image) (sym (lent .outcome-is w)) h)
+
+module _ (kind : ℕ) (image live result : List ℕ) (o : Geometry → Outcome) (call : Geometry → Reply)
+    (lent : (g : Geometry) → Lent g image live (o g) (call g)) where
+  lent-refused-call : ((g : Geometry) → Refuses g image (o g)) → ((g : Geometry) → 1 ≤ o g .answer → o g .answer ≤ 6 → o g .image ≡ image)
+      → Refused kind image result (Enough image live) (returned (chosenCall (chosenOf kind) call (reply (refused 1 image) live) .outcome) image result)
+  lent-refused-call refuses same = rw (outcome-chosen (chosenOf kind) call (refused 1 image) live)
+      (refused-call kind image result (Enough image live) (λ g. call g .outcome)
+      (λ g. lent-bad g image live (o g) (call g) (lent g) (refuses g))
+      (λ g. lent-refuses g image live (o g) (call g) (lent g) (refuses g))
+      (λ g. lent-same g image live (o g) (call g) (lent g) (same g)))
+
+  -- with enough words the outcome is that of the call without them
+  lent-outcome : (g : Geometry) → chosenOf kind ≡ Of g → Enough image live g → chosenCall (chosenOf kind) call (reply (refused 1 image) live) .outcome ≡ o g
+  lent-outcome g is w = ap (λ (x : Reply). x .outcome) (on kind g is call (reply (refused 1 image) live)) ∙ lent g .outcome-is w
+
+module _ (kind : ℕ) (image result : List ℕ) (key : ℕ) where
+  pub lookup-refused-call : Refused kind image result (λ g. Unit {0}) (looksUp kind image key result)
+  unfolding lookupOf
+  lookup-refused-call = refused-call kind image result (λ g. Unit {0}) (λ g. lookup g image key)
+      (λ g. lookup-refuses g image key .bad-length) (λ g w. lookup-refuses g image key) (λ g p q. lookup-reads g image key)
+
+  pub insert-refused-call : (live : List ℕ) (address allowance : ℕ)
+      → Refused kind image result (Enough image live) (inserts kind image live key address allowance result)
+  unfolding insertLiveOf
+  insert-refused-call live address allowance = lent-refused-call kind image live result (λ g. insert g image key address allowance)
+      (λ g. insertLive g image live key address allowance) (λ g. insert-live g image live key address allowance)
       (λ g. insert-refuses g image key address allowance) (λ g. insert-refused g image key address allowance)
 
-  pub delete-refused-call : (allowance : ℕ) → Refused kind image result (deletes kind image key allowance result)
-  unfolding deleteOf
-  delete-refused-call allowance = refused-call kind image result (λ g. delete g image key allowance)
+  pub delete-refused-call : (live : List ℕ) (allowance : ℕ) → Refused kind image result (Enough image live) (deletes kind image live key allowance result)
+  unfolding deleteLiveOf
+  delete-refused-call live allowance = lent-refused-call kind image live result (λ g. delete g image key allowance)
+      (λ g. deleteLive g image live key allowance) (λ g. delete-live g image live key allowance)
       (λ g. delete-refuses g image key allowance) (λ g. delete-refused g image key allowance)
 
 -- ---- Request 5: what is read in the result buffer of a call on an image that is not sound: 2, the first broken rule and its page
@@ -117,11 +153,11 @@ module _ (kind : ℕ) (g : Geometry) (is : chosenOf kind ≡ Of g) (image result
   page-low : page < 4294967296
   page-low = omega (arith, few-pages g formed-by (blocksOf g image) (good-blocks g image good .most), page-in)
 
-  pub damaged-call : (l : Left) → Refused kind image result l
+  pub damaged-call : (enough : Geometry → Type 0) → enough g → (l : Left) → Refused kind image result enough l
       → (l .answer ≡ 2) × (l .image ≡ image) × (answerIn (l .result) ≡ 2) × (ruleIn (l .result) ≡ rule) × (pageIn (l .result) ≡ page)
-  damaged-call l h =
+  damaged-call enough w l h =
       let o = damaged image rule page in
-      let e = h .not-sound g is room good rule page broken in
+      let e = h .not-sound g is w room good rule page broken in
       let low = first-broken g (blocksOf g image) image rule page broken .most in (
         ap (λ (x : Left). x .answer) e,
         ap (λ (x : Left). x .image) e,
@@ -194,14 +230,13 @@ module _ (kind : ℕ) (g : Geometry) (is : chosenOf kind ≡ Of g) (image result
       ∙ ap (λ (o : Outcome). whole o result) (lookup-answers g formed image ready key key-low)
 
   -- an update by its number
-  module _ (old new : List Entry) (answers : List ℕ) (stores : List Store) (allowance : ℕ) (call : Geometry → Outcome)
-      (one : OneOf (call g .answer) answers)
-      (done : call g .answer ≡ 0 → Holds g new (call g .image)) (stops : call g .answer ≡ 7 → Holds g old (call g .image))
-      (made-is : Began (call g) → call g ≡ made g stores allowance image)
-      (few : Began (call g) → (programs stores ≤ programmedMost g) × (erases stores ≤ erasedMost g)) where
-    on-geometry : Updates g old new answers stores allowance (returned (call g) image result)
+  module _ (old new : List Entry) (answers : List ℕ) (stores : List Store) (allowance : ℕ) (o : Outcome)
+      (one : OneOf (o .answer) answers)
+      (done : o .answer ≡ 0 → Holds g new (o .image)) (stops : o .answer ≡ 7 → Holds g old (o .image))
+      (made-is : Began o → o ≡ made g stores allowance image)
+      (few : Began o → (programs stores ≤ programmedMost g) × (erases stores ≤ erasedMost g)) where
+    on-geometry : Updates g old new answers stores allowance (returned o image result)
     on-geometry =
-        let o = call g in
         let t = told-whole o image result room in
         let same = ap (λ (l : Left). l .answer) t in
         let left = ap (λ (l : Left). l .image) t in
@@ -215,28 +250,34 @@ module _ (kind : ℕ) (g : Geometry) (is : chosenOf kind ≡ Of g) (image result
               made-erased g known image result room stores allowance o (made-is h) (few h);
         }
 
-    update-call : Updates g old new answers stores allowance (returned (chosenCall (chosenOf kind) call (refused 1 image)) image result)
-    update-call = subst (λ (o : Outcome). Updates g old new answers stores allowance (returned o image result))
-        (sym (on kind g is call (refused 1 image))) on-geometry
+    update-call : (x : Outcome) → x ≡ o → Updates g old new answers stores allowance (returned x image result)
+    update-call x e = subst (λ (y : Outcome). Updates g old new answers stores allowance (returned y image result)) (sym e) on-geometry
 
-  -- mutree_insert
-  pub insert-call : (address allowance : ℕ) → address < 4294967296 → Updates g (mapAt g image) (put key address (mapAt g image))
-      (0 ∷ 3 ∷ 5 ∷ 6 ∷ 7 ∷ []) (insertStores g n image key address) allowance (inserts kind image key address allowance result)
-  unfolding insertOf
-  insert-call address allowance low = update-call (mapAt g image) (put key address (mapAt g image)) (0 ∷ 3 ∷ 5 ∷ 6 ∷ 7 ∷ [])
-      (insertStores g n image key address) allowance (λ x. insert x image key address allowance)
-      (insert-answers g formed image ready key key-low address allowance)
-      (insert-done g formed image ready key key-low address allowance low)
-      (insert-stopped g formed image ready key key-low address allowance low)
-      (insert-made g formed image ready key key-low address allowance)
-      (λ b. let h = insert-bounds g formed image ready key key-low address allowance low b in (h .1, h .2))
+  -- with enough words
+  module _ (live : List ℕ) (enough : Enough image live g) where
+    -- mutree_insert
+    pub insert-call : (address allowance : ℕ) → address < 4294967296 → Updates g (mapAt g image) (put key address (mapAt g image))
+        (0 ∷ 3 ∷ 5 ∷ 6 ∷ 7 ∷ []) (insertStores g n image key address) allowance (inserts kind image live key address allowance result)
+    unfolding insertLiveOf
+    insert-call address allowance low = update-call (mapAt g image) (put key address (mapAt g image)) (0 ∷ 3 ∷ 5 ∷ 6 ∷ 7 ∷ [])
+        (insertStores g n image key address) allowance (insert g image key address allowance)
+        (insert-answers g formed image ready key key-low address allowance)
+        (insert-done g formed image ready key key-low address allowance low)
+        (insert-stopped g formed image ready key key-low address allowance low)
+        (insert-made g formed image ready key key-low address allowance)
+        (λ b. let h = insert-bounds g formed image ready key key-low address allowance low b in (h .1, h .2))
+        (insertLiveOf kind image live key address allowance .outcome)
+        (lent-outcome kind image live result (λ x. insert x image key address allowance) (λ x. insertLive x image live key address allowance)
+        (λ x. insert-live x image live key address allowance) g is enough)
 
-  -- mutree_delete
-  pub delete-call : (allowance : ℕ) → Updates g (mapAt g image) (remove key (mapAt g image)) (0 ∷ 3 ∷ 4 ∷ 7 ∷ [])
-      (deleteStores g n image key) allowance (deletes kind image key allowance result)
-  unfolding deleteOf
-  delete-call allowance = update-call (mapAt g image) (remove key (mapAt g image)) (0 ∷ 3 ∷ 4 ∷ 7 ∷ [])
-      (deleteStores g n image key) allowance (λ x. delete x image key allowance)
-      (delete-answers g formed image ready key key-low allowance) (delete-done g formed image ready key key-low allowance)
-      (delete-stopped g formed image ready key key-low allowance) (delete-made g formed image ready key key-low allowance)
-      (delete-bounds g formed image ready key key-low allowance)
+    -- mutree_delete
+    pub delete-call : (allowance : ℕ) → Updates g (mapAt g image) (remove key (mapAt g image)) (0 ∷ 3 ∷ 4 ∷ 7 ∷ [])
+        (deleteStores g n image key) allowance (deletes kind image live key allowance result)
+    unfolding deleteLiveOf
+    delete-call allowance = update-call (mapAt g image) (remove key (mapAt g image)) (0 ∷ 3 ∷ 4 ∷ 7 ∷ [])
+        (deleteStores g n image key) allowance (delete g image key allowance)
+        (delete-answers g formed image ready key key-low allowance) (delete-done g formed image ready key key-low allowance)
+        (delete-stopped g formed image ready key key-low allowance) (delete-made g formed image ready key key-low allowance)
+        (delete-bounds g formed image ready key key-low allowance) (deleteLiveOf kind image live key allowance .outcome)
+        (lent-outcome kind image live result (λ x. delete x image key allowance) (λ x. deleteLive x image live key allowance)
+        (λ x. delete-live x image live key allowance) g is enough)

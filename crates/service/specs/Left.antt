@@ -1,5 +1,5 @@
--- What the calls of the C library leave, by their contracts in crates/camera/src/lib.rt: the number returned, the image and the
--- result buffer. And how the numbers of a result are read. Assumes nothing.
+-- What the calls of the C library leave, by their contracts in crates/camera/src/lib.rt: the number returned, the image, the lent words
+-- and the result buffer. And how the numbers of a result are read. Assumes nothing.
 use mathlib.Core.Path.{_≡_, refl, ap, _∙_}
 use mathlib.Core.List.{List, [], _∷_}
 use mathlib.Core.Bool.{Bool, true, false}
@@ -16,10 +16,13 @@ use Rattle.geometry.specs.Geometry.{small, large, chosenOf}
 use Rattle.geometry.specs.Tests.{pick}
 use Rattle.model.specs.Bytes.{u32At}
 use Rattle.model.specs.Page.{putU32}
-use Rattle.model.specs.Calls.{Outcome, chosenCall, formatOf, lookupOf, insertOf, deleteOf}
+use Rattle.model.specs.Image.{blocksOf}
+use Rattle.model.specs.Calls.{Outcome, chosenCall, formatOf, lookupOf}
 use Rattle.model.specs.Listing.{listOf, asOutcome}
 use Rattle.images.specs.Bytes.{copy-u32, length-word, word-off, word-same}
-use Rattle.camera.specs.Camera.{Left, putNumbers, numbersOf, returned}
+use Rattle.live.specs.Words.{wordsOf}
+use Rattle.live.specs.Live.{Reply, reply, insertLiveOf, deleteLiveOf}
+use Rattle.camera.specs.Camera.{Left, putNumbers, numbersOf, returned, wordsLeft}
 
 -- mutree_format, mutree_lookup, mutree_insert, mutree_delete; `kind` is the number of the geometry
 abbrev pub formats : ℕ → List ℕ → List ℕ → Left
@@ -28,11 +31,22 @@ formats kind image result = returned (formatOf kind image) image result
 abbrev pub looksUp : ℕ → List ℕ → ℕ → List ℕ → Left
 looksUp kind image key result = returned (lookupOf kind image key) image result
 
-abbrev pub inserts : ℕ → List ℕ → ℕ → ℕ → ℕ → List ℕ → Left
-inserts kind image key address allowance result = returned (insertOf kind image key address allowance) image result
+abbrev pub inserts : ℕ → List ℕ → List ℕ → ℕ → ℕ → ℕ → List ℕ → Left
+inserts kind image live key address allowance result = returned (insertLiveOf kind image live key address allowance .outcome) image result
 
-abbrev pub deletes : ℕ → List ℕ → ℕ → ℕ → List ℕ → Left
-deletes kind image key allowance result = returned (deleteOf kind image key allowance) image result
+abbrev pub deletes : ℕ → List ℕ → List ℕ → ℕ → ℕ → List ℕ → Left
+deletes kind image live key allowance result = returned (deleteLiveOf kind image live key allowance .outcome) image result
+
+-- the lent words afterwards
+abbrev pub insertWords : ℕ → List ℕ → List ℕ → ℕ → ℕ → ℕ → List ℕ → List ℕ
+insertWords kind image live key address allowance result = wordsLeft (insertLiveOf kind image live key address allowance) live result
+
+abbrev pub deleteWords : ℕ → List ℕ → List ℕ → ℕ → ℕ → List ℕ → List ℕ
+deleteWords kind image live key allowance result = wordsLeft (deleteLiveOf kind image live key allowance) live result
+
+-- the lent words are enough for the image
+abbrev pub Enough : List ℕ → List ℕ → Geometry → Type 0
+Enough image live g = wordsOf g (blocksOf g image) ≤ length live
 
 -- mutree_list; what is left has the lent pairs where the others have the image
 abbrev pub listsPairs : ℕ → List ℕ → ℕ → ℕ → List ℕ → List ℕ → Left
@@ -54,6 +68,13 @@ other-unknown (suc (suc kind)) h = refl
 pub on : {A : Type 0} (kind : ℕ) (g : Geometry) → chosenOf kind ≡ Of g → (call : Geometry → A) (other : A) → chosenCall (chosenOf kind) call other ≡ call g
 unfolding chosenCall
 on kind g is call other = ap (λ (c : Chosen). chosenCall c call other) is
+
+-- the outcome of a call with lent words is a call of outcomes
+pub outcome-chosen : (c : Chosen) (call : Geometry → Reply) (o : Outcome) (words : List ℕ)
+    → chosenCall c call (reply o words) .outcome ≡ chosenCall c (λ g. call g .outcome) o
+unfolding chosenCall
+outcome-chosen (Of g) call o words = refl
+outcome-chosen Unknown call o words = refl
 
 -- the numbers of a result, by their places
 abbrev pub numberIn : ℕ → List ℕ → ℕ
@@ -115,6 +136,15 @@ told-whole o image result h = rw (le-ltb (length result) 24 h)
 pub told-short : (o : Outcome) (image result : List ℕ) → length result < 24 → returned o image result ≡ short image result
 unfolding returned
 told-short o image result h = rw (lt-ltb (length result) 24 h)
+
+-- the lent words alike
+pub words-whole : (r : Reply) (old result : List ℕ) → 24 ≤ length result → wordsLeft r old result ≡ r .words
+unfolding wordsLeft
+words-whole r old result h = rw (le-ltb (length result) 24 h)
+
+pub words-kept : (r : Reply) (old result : List ℕ) → length result < 24 → wordsLeft r old result ≡ old
+unfolding wordsLeft
+words-kept r old result h = rw (lt-ltb (length result) 24 h)
 
 -- a number is not touched by those written behind it
 word-before : (b : List ℕ) (i j v : ℕ) → i + 4 ≤ j → u32At (putU32 b j v) i ≡ u32At b i

@@ -1,8 +1,9 @@
 -- From the C calls to what is proved of them, with nothing in between: read Left, then Calls for the demands, Listing for request 1, Carrying for request 13, Many for
--- request 10 and Patrol for request 4.
+-- request 10, Patrol for request 4 and Words for request 7.
 pub mod Left
 pub mod Calls
 pub mod Listing
 pub mod Carrying
 pub mod Many
 pub mod Patrol
+pub mod Words

@@ -1,5 +1,6 @@
 -- Request 10 of the C calls on the small chip: mutree_format, then n calls of mutree_insert, each of a key that mutree_lookup does not find and each
--- answered DONE, with nothing else between. Every image of bytes, every key, address, allowance and result buffer. Assumes nothing.
+-- answered DONE, with nothing else between. Every image of bytes, every key, address, allowance, lent words (DONE says that they were enough)
+-- and result buffer. Assumes nothing.
 use mathlib.Core.Path.{_≡_, refl, ap, sym, subst, _∙_}
 use mathlib.Core.List.{List, [], _∷_, map}
 use mathlib.Core.Bool.{Bool, true, false}
@@ -16,25 +17,30 @@ use Rattle.model.specs.Image.{blocksOf, goodLength}
 use Rattle.model.specs.Tree.{find}
 use Rattle.model.specs.Update.{insertStores, formatStores}
 use Rattle.model.specs.Stores.{Store, applyAll, programs}
-use Rattle.model.specs.Calls.{Outcome, gives, refused, answered, format, lookup, insert, chosenCall, formatOf, lookupOf, insertOf}
+use Rattle.model.specs.Calls.{Outcome, gives, refused, answered, format, lookup, insert, chosenCall, formatOf, lookupOf}
 use Rattle.demands.specs.Words.{Ready, mapAt}
 use Rattle.demands.specs.Calls.{made-counts}
 use Rattle.demands.specs.Demands.{lookup-answers, insert-done, insert-made, insert-bounds}
 use Rattle.demands.specs.Builds.{format-holds}
 use Rattle.demands.specs.Inserts.{Item, moves, Finished, beyond, splitsAndGrowths}
 use Rattle.demands.specs.Many.{many-inserts, many-inserts-are}
+use Rattle.demands.specs.Live.{insert-live}
+use Rattle.counts.specs.Least.{by-lt}
+use Rattle.live.specs.Words.{wordsOf}
+use Rattle.live.specs.Live.{Reply, insertLive, insertLiveOf}
 use Rattle.camera.specs.Camera.{Left}
 use Rattle.service.specs.Left.{formats, looksUp, inserts, programmedIn, Told, told, told-number}
 
--- a call of mutree_insert, with the result buffer that it is lent
+-- a call of mutree_insert, with the words and the result buffer that it is lent
 pub record Call : Type 0 where
   pub key : ℕ
   pub address : ℕ
   pub allowance : ℕ
+  pub live : List ℕ
   pub result : List ℕ
 
 abbrev pub leaves : List ℕ → Call → Left
-leaves image x = inserts 0 image (x .key) (x .address) (x .allowance) (x .result)
+leaves image x = inserts 0 image (x .live) (x .key) (x .address) (x .allowance) (x .result)
 
 -- one after the other: mutree_lookup answers ABSENT (4) before, and mutree_insert DONE (0)
 unfoldable pub Done : List Call → List ℕ → Type 0
@@ -72,9 +78,23 @@ module _ (image : List ℕ) (ready : Ready small image) (x : Call) (k-low : x .k
     abbrev stores : List Store
     stores = insertStores small (blocksOf small image) image (x .key) (x .address)
 
+    abbrev replied : Reply
+    replied = insertLive small image (x .live) (x .key) (x .address) (x .allowance)
+
+    tells-replied : Told (replied .outcome) (x .result) (leaves image x)
+    unfolding chosenCall insertLiveOf
+    tells-replied = told (replied .outcome) image (x .result) (λ z. absurd (omega (arith, z, e)))
+
+    -- too few words would have given 1
+    enough : replied .outcome ≡ outcome
+    enough =
+        let h = insert-live small image (x .live) (x .key) (x .address) (x .allowance) in
+        let q = sym (tells-replied .answer-is) ∙ e in
+        by-lt (length (x .live)) (wordsOf small (blocksOf small image))
+        (λ s. let z = ap (λ (r : Reply). r .outcome .answer) (h .words-short s) in absurd (omega (arith, z, q))) (h .outcome-is)
+
     tells : Told outcome (x .result) (leaves image x)
-    unfolding chosenCall insertOf
-    tells = told outcome image (x .result) (λ z. absurd (omega (arith, z, e)))
+    tells = subst (λ (o : Outcome). Told o (x .result) (leaves image x)) enough tells-replied
 
     done : outcome .answer ≡ 0
     done = sym (tells .answer-is) ∙ e

@@ -188,7 +188,7 @@ pub fn step(g: Geometry, job: Job, level: u32, e: Entry, c: Node) -> Cut
 }
 
 fn number(seq: u64, level: u32) -> u64
-    requires { ⌜ seq < 4294967296 ⌝ }
+    requires { ⌜ seq < 8589934592 ⌝ }
     ensures { λ r. ⌜ r ≡ seq + level ⌝ }
 {
     seq + (level as u64)
@@ -204,7 +204,7 @@ pub fn store_side(
     split: bool,
     n: Node,
 ) -> Budget
-    requires { ⌜ (n .count ≤ 256) × (pageBytes g ≤ 2112) × (job .seq < 4294967296) × (b .left + b .programmed + b .erased < 4294967296) ⌝ }
+    requires { ⌜ (n .count ≤ 256) × (pageBytes g ≤ 2112) × (job .seq < 8589934592) × (b .left + b .programmed + b .erased < 4294967296) ⌝ }
     ensures { λ r. ⌜ Ran g (cutStores g job level split (entries n)) b r (now (img .entry)) (now (img .exit)) ⌝ }
 {
     if split {
@@ -225,7 +225,7 @@ pub fn finish(
     e: Entry,
     c: Node,
 ) -> Climbed
-    requires { ⌜ (c .count ≤ 256) × (pageBytes g ≤ 2112) × (job .seq < 4294967296) × (b .left + b .programmed + b .erased < 4294967296) ⌝ }
+    requires { ⌜ (c .count ≤ 256) × (pageBytes g ≤ 2112) × (job .seq < 8589934592) × (b .left + b .programmed + b .erased < 4294967296) ⌝ }
     ensures { λ r. ⌜ Finished g job level e (entries c) b r (now (img .entry)) (now (img .exit)) (now (page .entry)) (now (page .exit)) ⌝ }
 {
     let s = step(g, job, level, e, c);

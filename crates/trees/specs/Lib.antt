@@ -19,5 +19,9 @@ pub mod Splits
 pub mod Like
 pub mod Live
 pub mod Leaf
+pub mod PathPlaces
+pub mod Swap
+pub mod OnPath
+pub mod Lows
 pub mod Judge
 pub mod Fill

@@ -154,7 +154,7 @@ module _ (n top : ℕ) (half most : ℕ → ℕ) (r s : Nodes) (fit fit′ : ℕ
         )
 
 -- every place's level, and the first key of its node
-all-any : {A : Type 0} (P : A → Type 0) (xs : List A) → ((x : A) → P x) → All P xs
+pub all-any : {A : Type 0} (P : A → Type 0) (xs : List A) → ((x : A) → P x) → All P xs
 all-any P [] f = tt
 all-any P (x ∷ xs) f = (f x, all-any P xs f)
 

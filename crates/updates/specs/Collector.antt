@@ -46,7 +46,7 @@ module _ (g : Geometry) (shape : Shape g) (n : ℕ) (few : pagesOf g n + g .page
   )
 
   -- the moves of a victim's pages
-  sweep-runs : (v : ℕ) → v < n → (j : ℕ) (img : List ℕ) → j ≤ g .pages → Held g n img → Sweeping g n v j (chipOf g n img)
+  pub sweep-runs : (v : ℕ) → v < n → (j : ℕ) (img : List ℕ) → j ≤ g .pages → Held g n img → Sweeping g n v j (chipOf g n img)
       → R8 g n (chipOf g n img) → mapOf (chipOf g n img) ≡ base → maxSeq g n img + j < 4294967295
       → Runs g n base img (sweepStores g n v j img) (sweep g n v j (chipOf g n img)) (livesIn (g .pages) v (chipOf g n img)) 0
   unfolding sweepStores sweep Along applyAll programs erases moveStore
@@ -131,11 +131,11 @@ module _ (g : Geometry) (shape : Shape g) (n : ℕ) (few : pagesOf g n + g .page
       }
 
   -- not ROOM
-  abbrev Roomy : ℕ → Chip → Type 0
+  abbrev pub Roomy : ℕ → Chip → Type 0
   Roomy k c = count t (live (placesOf c)) + (2 * g .pages + k) ≤ suc t
 
   -- one round
-  clear-runs : (k : ℕ) (img : List ℕ) → Keeps g n base img → Roomy k (chipOf g n img) → count t (chipOf g n img .er) < g .pages + k
+  pub clear-runs : (k : ℕ) (img : List ℕ) → Keeps g n base img → Roomy k (chipOf g n img) → count t (chipOf g n img .er) < g .pages + k
       → maxSeq g n img + g .pages < 4294967295
       → Runs g n base img (clearStores g n (theVictim (g .pages) n (chipOf g n img)) img)
       (clear g n (theVictim (g .pages) n (chipOf g n img)) (chipOf g n img)) (g .pages - 1) 1

@@ -27,6 +27,7 @@ use Rattle.chips.specs.Whole.{Whole}
 use Rattle.chips.specs.Collect.{R8}
 use Rattle.chips.specs.Pages.{side-erased, new-side}
 use Rattle.chips.specs.Deletion.{leftList, top-low, delete-done, top-most}
+use Rattle.beside.specs.Update.{deleteCrest}
 use Rattle.images.specs.Bytes.{Fits}
 use Rattle.images.specs.Views.{rooted}
 use Rattle.images.specs.Page.{in-table, Parts, builtView}
@@ -35,7 +36,7 @@ use Rattle.images.specs.Held.{height-most}
 use Rattle.images.specs.Writes.{nextStore}
 use Rattle.updates.specs.Along.{Keeps, runs-none}
 use Rattle.updates.specs.Table.{parts-most}
-use Rattle.updates.specs.Updated.{Updated, updated}
+use Rattle.updates.specs.Updated.{Stands, Updated, updated}
 
 remove-fits : (k : ℕ) (es : List Entry) → All Fits es → All Fits (removeIn k es)
 unfolding removeIn
@@ -179,19 +180,23 @@ module _ (g : Geometry) (shape : Shape g) (n : ℕ) (few : pagesOf g n + g .page
     unfolding rooted taken
     final-is = let z : height - 1 ≡ top .level = omega arith in λ i. record { er = after N (c .er); seq = e′ .seq; nodes = e′ .nodes; level = z i; root = N }
 
-    final-done : Whole g n e′ × (mapOf e′ ≡ remove k (mapOf c)) × R8 g n e′
+    final-done : Whole g n e′ × (mapOf e′ ≡ remove k (mapOf c)) × R8 g n e′ × Stands (deleteCrest g n c k) e′
     final-done =
-        let w = delete-done g shape n k k-low c whole present free (e′ .nodes) (e′ .seq) at-N stays high in
-        (subst (Whole g n) (sym final-is) (w .0), ap mapOf final-is ∙ w .1, subst (R8 g n) (sym final-is) (omega (arith, w .2, keeps .r8)))
+        let w = delete-done g shape n k k-low c whole present free (e′ .nodes) (e′ .seq) at-N stays high in (
+          subst (Whole g n) (sym final-is) (w .0),
+          ap mapOf final-is ∙ w .1,
+          subst (R8 g n) (sym final-is) (omega (arith, w .2, keeps .r8)),
+          record { root-is = ap (λ (x : Chip). x .root) final-is; level-is = ap (λ (x : Chip). x .level) final-is },
+        )
 
   store-is : deleteStore g n (maxSeq g n img) c k ≡ nextStore g n height (leftList g n c k) img
   unfolding deleteStore nextStore taken
   store-is = refl
 
   -- the deletion's own store
-  pub delete-own : Updated g n (λ _. Unit {0}) base (remove k base) img (deleteStore g n (maxSeq g n img) c k ∷ []) 1 0
+  pub delete-own : Updated g n (Stands (deleteCrest g n c k)) base (remove k base) img (deleteStore g n (maxSeq g n img) c k ∷ []) 1 0
   unfolding applyAll
   delete-own =
-      updated g shape n (λ _. Unit {0}) base (remove k base) img [] c 0 0 height (leftList g n c k) (deleteStore g n (maxSeq g n img) c k)
+      updated g shape n (Stands (deleteCrest g n c k)) base (remove k base) img [] c 0 0 height (leftList g n c k) (deleteStore g n (maxSeq g n img) c k)
       (runs-none g n base img 0 0 keeps) room (omega (arith, low)) parts (omega arith) (omega (arith, lower, high)) store-is
-      (λ q. (final-done q .0, final-done q .1 ∙ ap (remove k) (keeps .map-is), final-done q .2, tt))
+      (λ q. (final-done q .0, final-done q .1 ∙ ap (remove k) (keeps .map-is), final-done q .2, final-done q .3))

@@ -30,6 +30,7 @@ use Rattle.chips.specs.Whole.{some-page, Whole}
 use Rattle.chips.specs.Collect.{R8}
 use Rattle.chips.specs.Pages.{side-erased, side-inj, new-side}
 use Rattle.chips.specs.Insertion.{sideList, mainList, cut-levels, needs-is, cuts-le, grow-all, Fuller, insert-done}
+use Rattle.beside.specs.Update.{insertCrest}
 use Rattle.images.specs.Bytes.{Fits}
 use Rattle.images.specs.Views.{rooted, beside}
 use Rattle.images.specs.Page.{in-table, builtView}
@@ -38,7 +39,7 @@ use Rattle.images.specs.Held.{height-most}
 use Rattle.images.specs.Writes.{nextStore, ahead-beside, put-max}
 use Rattle.updates.specs.Along.{Keeps, Runs, runs-end, runs-none, runs-then, runs-as, side-runs}
 use Rattle.updates.specs.Contents.{side-parts, main-parts}
-use Rattle.updates.specs.Updated.{Updated, updated}
+use Rattle.updates.specs.Updated.{Stands, Updated, updated}
 
 -- the chip d after the other halves of levels 1 to i, from the chip c
 pub record Laid (g : Geometry) (n : ℕ) (c : Chip) (k a i : ℕ) (d : Chip) : Type 0 where
@@ -52,6 +53,11 @@ pub record Sided (g : Geometry) (n : ℕ) (base : List Entry) (img : List ℕ) (
   pub runs : Runs g n base img ss chip i 0
   pub laid : Laid g n (chipOf g n img) k a i chip
   pub max-is : maxSeq g n (applyAll g ss img) ≡ maxSeq g n img + i
+
+-- the chip e after an insertion of m pages into c: its nodes, and where its root stands
+pub record Inserted (g : Geometry) (n : ℕ) (c : Chip) (m k a : ℕ) (e : Chip) : Type 0 where
+  pub fuller : Fuller g m c e
+  pub stands : Stands (insertCrest g n c m k a) e
 
 module _ (g : Geometry) (shape : Shape g) (n : ℕ) (few : pagesOf g n + g .pages < 4294967296) (k a : ℕ) (k-low : k < 4294967296)
     (a-low : a < 4294967296)
@@ -316,13 +322,20 @@ module _ (g : Geometry) (shape : Shape g) (n : ℕ) (few : pagesOf g n + g .page
     unfolding rooted
     final-is = λ i. record { er = er-is i; seq = e′ .seq; nodes = e′ .nodes; level = height - 1; root = page-is i }
 
-    pub final-done : Whole g n e′ × (mapOf e′ ≡ put k a (mapOf c)) × R8 g n e′ × Fuller g m c e′
+    pub final-done : Whole g n e′ × (mapOf e′ ≡ put k a (mapOf c)) × R8 g n e′ × Inserted g n c m k a e′
     final-done =
-        let w = insert-done g shape n k a k-low c whole free (e′ .nodes) (e′ .seq) at-N at-side stays high not-high in
-        (subst (Whole g n) (sym final-is) (w .0), ap mapOf final-is ∙ w .1, subst (R8 g n) (sym final-is) (omega (arith, w .2, space)), subst (Fuller g m c) (sym final-is) (w .3))
+        let w = insert-done g shape n k a k-low c whole free (e′ .nodes) (e′ .seq) at-N at-side stays high not-high in (
+          subst (Whole g n) (sym final-is) (w .0),
+          ap mapOf final-is ∙ w .1,
+          subst (R8 g n) (sym final-is) (omega (arith, w .2, space)),
+          record {
+            fuller = subst (Fuller g m c) (sym final-is) (w .3);
+            stands = record { root-is = ap (λ (x : Chip). x .root) final-is; level-is = ap (λ (x : Chip). x .level) final-is };
+          },
+        )
 
   -- the insertion's own stores: m programs
-  pub own-updated : Updated g n (Fuller g m c) base (put k a base) img (ownStores g n seq c m k a) m 0
+  pub own-updated : Updated g n (Inserted g n c m k a) base (put k a base) img (ownStores g n seq c m k a) m 0
   unfolding ownStores
   own-updated =
       let s = all-sided in
@@ -335,14 +348,14 @@ module _ (g : Geometry) (shape : Shape g) (n : ℕ) (few : pagesOf g n + g .page
       let page : nextPage (g .pages) n (ahead g n (chipOf g n x)) ≡ N = ap (λ (y : Chip). nextPage (g .pages) n (ahead g n y)) ci ∙ page-is (s .chip) (s .laid) 0 in
       let st = program N (built g (seq + m) height (mainList g n c k a)) in
       let e = next-is height m (mainList g n c k a) x page (omega (arith, s .max-is, m-is)) in
-      let u = updated g shape n (Fuller g m c) base (put k a base) img ss (s .chip) i 0 height (mainList g n c k a) st (s .runs) (omega (arith, cnt, lf, room, m-is))
+      let u = updated g shape n (Inserted g n c m k a) base (put k a base) img ss (s .chip) i 0 height (mainList g n c k a) st (s .runs) (omega (arith, cnt, lf, room, m-is))
       (omega (arith, s .max-is, low, m-is))
       (main-parts g shape n few k a k-low a-low c whole all-fit high not-high) (height-in .0) (height-in .1) e
       (λ q. let w = final-done (s .chip) (s .laid) q in (w .0, w .1 ∙ ap (put k a) (keeps .map-is), w .2, w .3)) in
       let z : i + 1 ≡ m = omega (arith, m-is) in
-      subst (λ j. Updated g n (Fuller g m c) base (put k a base) img (sideStores g seq k side lists (c .level) ++
+      subst (λ j. Updated g n (Inserted g n c m k a) base (put k a base) img (sideStores g seq k side lists (c .level) ++
       (crownStore g seq k side (suc (c .level)) (lists (suc (c .level))) ++ (st ∷ []))) j 0) z
-      (subst (λ (y : List Store). Updated g n (Fuller g m c) base (put k a base) img y (i + 1) 0)
+      (subst (λ (y : List Store). Updated g n (Inserted g n c m k a) base (put k a base) img y (i + 1) 0)
       (append-assoc (sideStores g seq k side lists (c .level)) (crownStore g seq k side (suc (c .level)) (lists (suc (c .level)))) (st ∷ [])) u)
 
   -- they are m programs and no erase

@@ -16,23 +16,28 @@ use Rattle.model.specs.Stores.{applyAll, programs, erases}
 use Rattle.model.specs.Edit.{put, remove}
 use Rattle.model.specs.Collect.{collectStores}
 use Rattle.model.specs.Update.{isNone, needs, tooHigh, ownStores, deleteStore, insertStores, deleteStores}
-use Rattle.model.specs.Calls.{roomless, freePages}
+use Rattle.model.specs.Calls.{worn, roomless, freePages}
+use Rattle.beside.specs.Update.{insertCrest, deleteCrest}
 use Rattle.chips.specs.Whole.{some-page, sought-map}
 use Rattle.chips.specs.Collect.{collect}
 use Rattle.chips.specs.Insertion.{Fuller, needs-is, needs-top}
 use Rattle.images.specs.Held.{height-most}
 use Rattle.updates.specs.Along.{Keeps}
 use Rattle.updates.specs.Collector.{Collected, collect-done}
-use Rattle.updates.specs.Updated.{Updated, updated-after}
-use Rattle.updates.specs.Insertion.{own-updated, own-programs}
+use Rattle.updates.specs.Updated.{Stands, Updated, updated-after, updated-also}
+use Rattle.updates.specs.Insertion.{Inserted, own-updated, own-programs}
 use Rattle.updates.specs.Deletion.{delete-own}
+
+pub not-worn : (g : Geometry) (n : ℕ) (img : List ℕ) → worn g n img ≡ false → maxSeq g n img ≤ g .worn
+unfolding worn
+not-worn g n img h = ltb-false (g .worn) (maxSeq g n img) h
 
 -- programs of a list of at most k + 1 rounds and k own pages
 abbrev pub programMost : Geometry → ℕ → ℕ
 programMost g k = suc k * (g .pages - 1) + k
 
 module _ (g : Geometry) (shape : Shape g) (n : ℕ) (few : pagesOf g n + g .pages < 4294967296) (base : List Entry) (img : List ℕ)
-    (keeps : Keeps g n base img) (not-worn : maxSeq g n img ≤ g .worn) where
+    (keeps : Keeps g n base img) (unworn : maxSeq g n img ≤ g .worn) where
   abbrev c : Chip
   c = chipOf g n img
 
@@ -40,15 +45,15 @@ module _ (g : Geometry) (shape : Shape g) (n : ℕ) (few : pagesOf g n + g .page
   t = pagesOf g n
 
   -- an image that is not WORN has numbers left for k + 1 rounds and k own pages
-  numbers : (k : ℕ) → k ≤ g .top → (maxSeq g n img + suc k * g .pages < 4294967295) × (maxSeq g n img + (suc k * (g .pages - 1) + k) < 4294967295)
+  pub numbers : (k : ℕ) → k ≤ g .top → (maxSeq g n img + suc k * g .pages < 4294967295) × (maxSeq g n img + (suc k * (g .pages - 1) + k) < 4294967295)
   numbers k h =
       let a : suc k * g .pages ≤ (g .top + 1) * g .pages = mul-le-mul-right (g .pages) (let z : suc k ≤ g .top + 1 = omega (arith, h) in z) in
       let b : suc k * (g .pages - 1) ≤ suc k * g .pages = mul-le-mul-left (suc k) (let z : g .pages - 1 ≤ g .pages = omega arith in z) in
       let w = shape .worn-low in
-      (omega (arith, a, w, not-worn), omega (arith, a, b, w, h, not-worn))
+      (omega (arith, a, w, unworn), omega (arith, a, b, w, h, unworn))
 
   -- not ROOM
-  roomy : (k : ℕ) → 1 ≤ k → roomless g (freePages g n c) k ≡ false → count t (live (placesOf c)) + (2 * g .pages + k) ≤ suc t
+  pub roomy : (k : ℕ) → 1 ≤ k → roomless g (freePages g n c) k ≡ false → count t (live (placesOf c)) + (2 * g .pages + k) ≤ suc t
   unfolding roomless
   roomy k h r = let z = ltb-false (freePages g n c) (2 * g .pages - 1 + k) r in let p = some-page g shape in omega (arith, z, p, h)
 
@@ -61,7 +66,7 @@ module _ (g : Geometry) (shape : Shape g) (n : ℕ) (few : pagesOf g n + g .page
     pub m-top : m ≤ g .top
     m-top = needs-top g shape n k a k-low c (keeps .held .whole) (height-most g shape n img some-pages (keeps .held))
 
-    m-some : 1 ≤ m
+    pub m-some : 1 ≤ m
     m-some = let z = needs-is g shape n k a k-low c (keeps .held .whole) in omega (arith, z)
 
     after-collect : Collected g shape n few base m img
@@ -83,7 +88,7 @@ module _ (g : Geometry) (shape : Shape g) (n : ℕ) (few : pagesOf g n + g .page
     then-space : count t (live (placesOf (chipOf g n then))) + (2 * g .pages + needs g (chipOf g n then) k) ≤ suc t
     then-space = let z = after-collect .lives in omega (arith, z, roomy m m-some not-room, same-m)
 
-    own : Updated g n (Fuller g (needs g (chipOf g n then) k) (chipOf g n then)) base (put k a base) then (ownStores g n (maxSeq g n then) (chipOf g n then) (needs g (chipOf g n then) k) k a)
+    own : Updated g n (Inserted g n (chipOf g n then) (needs g (chipOf g n then) k) k a) base (put k a base) then (ownStores g n (maxSeq g n then) (chipOf g n then) (needs g (chipOf g n then) k) k a)
         (needs g (chipOf g n then) k) 0
     own = own-updated g shape n few k a k-low a-low base then (after-collect .keeps) (after-collect .alike .high-is k k-low ∙ not-high)
         (let z = after-collect .room in omega (arith, z, same-m)) then-low then-space
@@ -109,20 +114,31 @@ module _ (g : Geometry) (shape : Shape g) (n : ℕ) (few : pagesOf g n + g .page
       filled = λ h. f .filled (after-collect .alike .filled-is h);
     }
 
-    pub insert-updated : Updated g n (Fuller g m c) base (put k a base) img (insertStores g n img k a) (programMost g m) (suc m)
+    -- what more is known of the chip at the end: its nodes, and where its root stands
+    abbrev Last : Chip → Type 0
+    Last e = Fuller g m c e × Stands (insertCrest g n (chipOf g n then) m k a) e
+
+    last-done : Updated g n Last base (put k a base) img (insertStores g n img k a) (programMost g m) (suc m)
     unfolding insertStores
-    insert-updated =
-        let u = subst (λ j. Updated g n (Fuller g j (chipOf g n then)) base (put k a base) then
+    last-done =
+        let u = subst (λ j. Updated g n (Inserted g n (chipOf g n then) j k a) base (put k a base) then
         (ownStores g n (maxSeq g n then) (chipOf g n then) j k a) j 0) same-m own in
-        let w = updated-after g n (Fuller g m (chipOf g n then)) (Fuller g m c) fuller base (put k a base) img (collectStores g n m (suc m) img) (ownStores g n (maxSeq g n then) (chipOf g n then) m k a)
+        let w = updated-after g n (Inserted g n (chipOf g n then) m k a) Last (λ e f. (fuller e (f .fuller), f .stands)) base (put k a base) img (collectStores g n m (suc m) img) (ownStores g n (maxSeq g n then) (chipOf g n then) m k a)
         (collect g n m (suc m) c) (suc m * (g .pages - 1)) m (suc m) 0 (after-collect .runs) u in
         let z : suc m + 0 ≡ suc m = omega arith in
-        subst (λ j. Updated g n (Fuller g m c) base (put k a base) img (collectStores g n m (suc m) img ++ ownStores g n (maxSeq g n then) (chipOf g n then) m k a)
+        subst (λ j. Updated g n Last base (put k a base) img (collectStores g n m (suc m) img ++ ownStores g n (maxSeq g n then) (chipOf g n then) m k a)
         (programMost g m) j) z w
+
+    pub insert-updated : Updated g n (Fuller g m c) base (put k a base) img (insertStores g n img k a) (programMost g m) (suc m)
+    insert-updated = updated-also g n Last (Fuller g m c) (λ e f. f .0) base (put k a base) img (insertStores g n img k a) (programMost g m) (suc m) last-done
+
+    -- where the root stands at the end
+    pub insert-stands : Stands (insertCrest g n (chipOf g n then) m k a) (chipOf g n (applyAll g (insertStores g n img k a) img))
+    insert-stands = last-done .also .1
 
   -- a deletion
   module _ (some-pages : 1 ≤ t) (k : ℕ) (k-low : k < 4294967296) (present : isNone (sought c k) ≡ false) where
-    one-top : 1 ≤ g .top
+    pub one-top : 1 ≤ g .top
     one-top = let z = shape .top-low in omega (arith, z)
 
     collected-one : Collected g shape n few base 1 img
@@ -145,9 +161,9 @@ module _ (g : Geometry) (shape : Shape g) (n : ℕ) (few : pagesOf g n + g .page
         let z = numbers 1 one-top .1 in
         omega (arith, x, y, z)
 
-    pub delete-updated : Updated g n (λ _. Unit {0}) base (remove k base) img (deleteStores g n img k) (programMost g 1) 2
+    pub delete-updated : Updated g n (Stands (deleteCrest g n (chipOf g n left) k)) base (remove k base) img (deleteStores g n img k) (programMost g 1) 2
     unfolding deleteStores
     delete-updated =
-        updated-after g n (λ _. Unit {0}) (λ _. Unit {0}) (λ x z. z) base (remove k base) img (collectStores g n 1 2 img) (deleteStore g n (maxSeq g n left) (chipOf g n left) k ∷ [])
+        updated-after g n (Stands (deleteCrest g n (chipOf g n left) k)) (Stands (deleteCrest g n (chipOf g n left) k)) (λ x z. z) base (remove k base) img (collectStores g n 1 2 img) (deleteStore g n (maxSeq g n left) (chipOf g n left) k ∷ [])
         (collect g n 1 2 c) (2 * (g .pages - 1)) 1 2 0 (collected-one .runs)
         (delete-own g shape n few k k-low base left (collected-one .keeps) still (collected-one .room) left-low)

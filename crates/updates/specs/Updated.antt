@@ -18,8 +18,14 @@ use Rattle.chips.specs.Collect.{R8}
 use Rattle.images.specs.Views.{rooted}
 use Rattle.images.specs.Page.{Parts, builtView}
 use Rattle.model.specs.Legal.{Legal}
+use Rattle.beside.specs.Update.{Crest}
 use Rattle.images.specs.Writes.{nextStore, put-legal, root-chip, root-held, root-frees}
 use Rattle.updates.specs.Along.{Along, along-append, Keeps, Runs, runs-end}
+
+-- the root stands there
+pub record Stands (t : Crest) (c : Chip) : Type 0 where
+  pub root-is : c .root ≡ t .page
+  pub level-is : c .level ≡ t .level
 
 -- Z is what more is known of the chip at the end
 pub record Updated (g : Geometry) (n : ℕ) (Z : Chip → Type 0) (old new : List Entry) (img : List ℕ) (ss : List Store) (b e : ℕ) : Type 0 where
@@ -92,4 +98,19 @@ updated-after g n Y Z so old new img ss ts d a b e f r u = record {
   also = subst (λ (x : List ℕ). Z (chipOf g n x)) (sym (all-append g ss ts img)) (so (chipOf g n (applyAll g ts (applyAll g ss img))) (u .also));
   programmed = let w = programs-append ss ts in omega (arith, w, r .programmed, u .programmed);
   wiped = let w = erases-append ss ts in omega (arith, w, r .wiped, u .wiped);
+}
+
+-- less may be said of the chip at the end
+pub updated-also : (g : Geometry) (n : ℕ) (Y Z : Chip → Type 0) → ((x : Chip) → Y x → Z x) → (old new : List Entry) (img : List ℕ) (ss : List Store) (b e : ℕ)
+    → Updated g n Y old new img ss b e → Updated g n Z old new img ss b e
+updated-also g n Y Z so old new img ss b e u = record {
+  init = u .init;
+  last = u .last;
+  list-is = u .list-is;
+  along = u .along;
+  legal = u .legal;
+  end = u .end;
+  also = so (chipOf g n (applyAll g ss img)) (u .also);
+  programmed = u .programmed;
+  wiped = u .wiped;
 }

@@ -9,19 +9,20 @@ use Rattle.geometry.specs.Tests.{pick}
 use Rattle.model.specs.Bytes.{erased}
 use Rattle.model.specs.Collect.{victim}
 use Rattle.model.specs.Image.{chipOf}
-use Rattle.model.specs.Next.{full, inBlock}
+use Rattle.model.specs.Next.{full}
+use Rattle.live.specs.Words.{blockOnes}
 use Rattle.survey.specs.declared.Survey.{Survey}
 use Rattle.survey.specs.Survey.{surveyOf}
-use Rattle.walk.specs.Table.{Marked, liveIn}
+use Rattle.walk.specs.Table.{Marked}
 use Rattle.victim.specs.declared.Best.{Best}
 
 -- block b has no erased page
 unfoldable pub fullIn : Geometry → List ℕ → ℕ → Bool
 fullIn g img b = full (g .pages) (erased g img) b
 
--- the live pages of block b by the table
-unfoldable pub livesBy : Geometry → List ℕ → ℕ → ℕ
-livesBy g tbl b = inBlock (g .pages) (liveIn tbl) b
+-- the live pages of block b by the words
+unfoldable pub onesBy : Geometry → List ℕ → ℕ → ℕ
+onesBy g words b = blockOnes g words b
 
 unfoldable pub bestOf : Best → Option ℕ
 bestOf r = pick (r .found) (some (r .block)) none

@@ -1,12 +1,8 @@
-// What collection looks at: the image's numbers, its live pages in a lent table, and the victim.
+// What collection looks at: the image's numbers, its live pages in the lent tables, and the victim.
 ghost use mathlib.Core.Path.{_≡_};
-ghost use Prim.Native.Nat.{ℕ, _+_, _*_, _-_, _≤_, _<_};
+ghost use Prim.Native.Nat.{_+_};
 ghost use lib.ListN.{length};
-ghost use Rattle.model.specs.Bytes.{erased};
-ghost use Rattle.model.specs.Image.{chipOf};
-ghost use Rattle.model.specs.Next.{full, inBlock};
-ghost use Rattle.walk.specs.Table.{liveIn};
-ghost use Rattle.victim.specs.Victim.{Looked, Bests, fullIn, livesBy};
+ghost use Rattle.victim.specs.Victim.{Looked, Bests, fullIn, onesBy};
 use geometry::Geometry;
 use survey::Survey;
 
@@ -28,14 +24,14 @@ pub fn look(g: Geometry, img: &[u8], table: &mut [u8], n: u16) -> Survey
 }
 
 // The better of a block and the best before it.
-fn better(g: Geometry, img: &[u8], table: &[u8], block: u16, best: Best) -> Best
-    requires { ⌜ Bests (fullIn g (now img)) (livesBy g (now table)) block best ⌝ }
-    ensures { λ r. ⌜ Bests (fullIn g (now (img .entry))) (livesBy g (now (table .entry))) (block + 1) r ⌝ }
+fn better(g: Geometry, img: &[u8], words: &[u32], block: u16, best: Best) -> Best
+    requires { ⌜ Bests (fullIn g (now img)) (onesBy g (now words)) block best ⌝ }
+    ensures { λ r. ⌜ Bests (fullIn g (now (img .entry))) (onesBy g (now (words .entry))) (block + 1) r ⌝ }
 {
     if chip::last_erased(g, img, block) {
         return best;
     }
-    let lives = walk::lives_in(g, table, block);
+    let lives = words::block_ones(g, words, block);
     if !best.found {
         return Best {
             found: true,
@@ -53,9 +49,9 @@ fn better(g: Geometry, img: &[u8], table: &[u8], block: u16, best: Best) -> Best
     best
 }
 
-// The block without erased pages that has fewest live pages, the lowest on a tie.
-pub fn find_victim(g: Geometry, img: &[u8], table: &[u8], n: u16) -> Best
-    ensures { λ r. ⌜ Bests (fullIn g (now (img .entry))) (livesBy g (now (table .entry))) n r ⌝ }
+// The block without erased pages that has fewest live pages by the words, the lowest on a tie.
+pub fn find_victim(g: Geometry, img: &[u8], words: &[u32], n: u16) -> Best
+    ensures { λ r. ⌜ Bests (fullIn g (now (img .entry))) (onesBy g (now (words .entry))) n r ⌝ }
 {
     let mut best = Best {
         found: false,
@@ -64,7 +60,7 @@ pub fn find_victim(g: Geometry, img: &[u8], table: &[u8], n: u16) -> Best
     };
     let mut block: u16 = 0;
     while block < n {
-        best = better(g, img, table, block, best);
+        best = better(g, img, words, block, best);
         block += 1;
     }
     best

@@ -1,8 +1,6 @@
-use mathlib.Core.Path.{_∙_}
-use Rattle.collect.specs.Laws.{sweep-on}
 use native.Mathlib.Omega.{arith}
 use borrow.Author.Needs.{needs}
-use Rattle.collect.specs.Laws.{collect-laws}
+use Rattle.collect.specs.Laws.{collect-laws, sweep-halt, sweep-on}
 use Prim.Native.Nat.{ℕ, _<_}
 use borrow.Fn.Kinds.{In}
 use borrow.Fn.PlainCycle.{Measures, is, falls, and}
@@ -16,14 +14,14 @@ use Rattle.collect.proofs.+sweep.Tie.{close}
 
 ruleset all = (needs, collect-laws)
 
-abbrev μ-sweep : Measures 2 sweep-kinds.ps ℕ
-μ-sweep κs a = a .1 .1 .1 .1 .1 .1 .0
+abbrev μ-sweep : Measures 3 sweep-kinds.ps ℕ
+μ-sweep κs a = a .1 .1 .1 .1 .1 .1 .1 .1 .0
 
-abbrev sweep-at : ℕ → In 2 sweep-kinds.ps
-sweep-at t = and 2 sweep-kinds.ps (is 2 sweep-kinds.ps μ-sweep t) sweep.Pre
+abbrev sweep-at : ℕ → In 3 sweep-kinds.ps
+sweep-at t = and 3 sweep-kinds.ps (is 3 sweep-kinds.ps μ-sweep t) sweep.Pre
 
-abbrev sweep-below : ℕ → In 2 sweep-kinds.ps
-sweep-below t = and 2 sweep-kinds.ps (falls 2 sweep-kinds.ps _<_ μ-sweep t) sweep.Pre
+abbrev sweep-below : ℕ → In 3 sweep-kinds.ps
+sweep-below t = and 3 sweep-kinds.ps (falls 3 sweep-kinds.ps _<_ μ-sweep t) sweep.Pre
 
 pub +sweep-spec : {M : Type 1} → statement M
 +sweep-spec = close μ-sweep λ t. sweep-lts.spec (
@@ -39,12 +37,14 @@ pub +sweep-spec : {M : Type 1} → statement M
     (λ c. search all)
     (λ c. search all)
     (λ c κs. search all)
-    (λ c κs. search all)
+    (λ c κs. (let p = c .before .before .before .before .before .before .before .before .before .pre .1 in let z = c .before .before .before .before .before .if1 .left in (p .1, p .2, omega (arith, p .3, z), omega (arith, p .4, z), p .5, p .6)))
     (λ c. search all)
     (λ c. search all)
     (λ c. search all)
+    (λ c. sweep-halt _ _ _ _ _ _ _ _ _ _ _ _ _ _ _ (c .before .before .before .before .before .before .before .before .before .sweep-page .ensures .0) _ (c .before .before .before .before .before .before .before .before .before .before .before .before .before .page-of .ensures) (c .before .before .before .before .before .before .before .before .before .before .before .before .before .before .before .if1 .left) (c .before .before .before .before .before .before .before .before .before .before .before .before .before .before .before .before .before .before .before .pre .1 .6) (c .if2 .taken))
     (λ c. search all)
-    (λ c κs. (let p = c .before .before .before .before .before .before .before .before .before .before .before .before .before .before .before .before .before .pre .1 in let w = c .before .before .before .before .before .before .before .before .before .sweep-page .ensures in (search all, ((omega (arith, p .0 .0), omega (arith, w .0, p .0 .1), p .0 .2, omega (arith, w .1 .ran .total, p .0 .3), search all), w .1 .seen))))
+    (λ c κs. (let p = c .before .before .before .before .before .before .before .before .before .before .before .before .before .before .before .before .before .before .before .before .before .before .pre .1 in let w = c .before .before .before .before .before .before .before .before .before .before .before .before .sweep-page .ensures in let z = c .before .before .before .before .before .before .before .before .before .before .before .before .before .before .before .before .before .before .if1 .left in let f = c .before .before .before .before .before .before .before .before .before .before .before .before .before .before .before .before .before .before .before .before .before .before .fits .left .fits in (omega (arith, c .before .before .before .before .before .before .before .before .before .before .before .before .before .before .before .before .before .before .before .before .before .before .pre .0, z), (omega (arith, p .0), p .1, p .2, omega (arith, w .1 .0, p .3, z), omega (arith, w .1 .1, p .4, z, f), omega (arith, w .0 .ran .total, p .5), c .before .before .before .if2 .left))))
     (λ c. search all)
     (λ c. search all)
-    (λ c. (let p = c .before .before .before .before .before .before .before .before .before .before .before .before .before .before .before .before .before .before .before .before .before .before .pre .1 in let w = c .before .before .before .before .before .before .before .before .before .before .before .before .before .before .sweep-page .ensures in (c .before .before .before .before .sweep .ensures .0 ∙ w .0, sweep-on _ _ _ _ _ _ _ _ _ _ _ _ (c .before .before .before .before .sweep .ensures .1) (w .1) (c .before .before .before .before .before .before .before .before .before .before .before .before .before .before .before .before .before .page-of .ensures) (c .before .before .before .before .before .before .before .before .before .before .before .before .before .before .before .before .before .before .before .if1 .left) (p .0 .4) (c .before .before .before .before .before .before .before .if2 .left))))
+    (λ c. search all)
+    (λ c. sweep-on _ _ _ _ _ _ _ _ _ _ _ _ _ _ _ (c .before .before .before .before .before .before .before .before .before .before .before .before .before .before .before .before .before .before .before .sweep-page .ensures .0) _ _ _ _ _ _ (c .before .before .before .before .before .before .sweep .ensures) (c .before .before .before .before .before .before .before .before .before .before .before .before .before .before .before .before .before .before .before .before .before .before .before .page-of .ensures) (c .before .before .before .before .before .before .before .before .before .before .before .before .before .before .before .before .before .before .before .before .before .before .before .before .before .if1 .left) (c .before .before .before .before .before .before .before .before .before .before .if2 .left))

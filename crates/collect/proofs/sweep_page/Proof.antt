@@ -1,11 +1,11 @@
+use native.Mathlib.Omega.{arith}
 use borrow.Author.Needs.{needs}
-use Rattle.collect.specs.Laws.{collect-laws}
+use Rattle.collect.specs.Laws.{collect-laws, page-dead, page-live}
 use Rattle.collect.proofs.sweep_page.Statement.{statement}
 use Rattle.collect.proofs.sweep_page.Tie as tie
 use Rattle.collect.proofs.sweep_page.Reads as reads
 use Rattle.collect.proofs.sweep_page.Lts as lts
-use Rattle.moving.proofs.move_page.Reads as move-page-reads
-use Rattle.victim.proofs.look.Reads as look-reads
+use Rattle.collect.proofs.move_live.Reads as move-live-reads
 use Rattle.walk.proofs.noted.Reads as noted-reads
 
 ruleset all = (needs, collect-laws)
@@ -16,9 +16,9 @@ sweep-page-spec =
     (tie.spec
     (λ c κs. search all)
     (λ c. search all)
-    (λ c. search all)
+    (λ c. (page-dead _ _ _ _ _ _ _ _ _ _ (c .before .noted .ensures .0) (c .if1 .taken), (omega arith, omega arith)))
     (λ c κs. search all)
-    (λ c κs. search all)
     (λ c. search all)
     (λ c. search all)
-    (λ c. search all))
+    (λ c. search all)
+    (λ c. (page-live _ _ _ _ _ _ _ _ _ _ (c .before .before .before .before .before .before .before .before .before .before .before .noted .ensures .0) _ _ _ _ _ (c .before .before .before .before .before .before .move-live .ensures .0) (c .before .before .before .before .before .before .before .before .before .before .if1 .left), c .before .before .before .before .before .before .move-live .ensures .1)))

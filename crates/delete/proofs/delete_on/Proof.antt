@@ -1,11 +1,12 @@
 use borrow.Author.Needs.{needs}
-use Rattle.delete.specs.Delete.{delete-laws}
+use Rattle.delete.specs.Laws.{delete-laws}
 use Rattle.delete.proofs.delete_on.Statement.{statement}
 use Rattle.delete.proofs.delete_on.Tie as tie
 use Rattle.delete.proofs.delete_on.Reads as reads
 use Rattle.delete.proofs.delete_on.Lts as lts
 use Rattle.chip.proofs.good_blocks.Reads as good-blocks-reads
 use Rattle.delete.proofs.delete_blocks.Reads as delete-blocks-reads
+use Rattle.words.proofs.words_of.Reads as words-of-reads
 
 ruleset all = (needs, delete-laws)
 
@@ -16,7 +17,11 @@ delete-on-spec =
     (λ c κs. search all)
     (λ c. search all)
     (λ c. search all)
-    (λ c. search all)
     (λ c κs. search all)
+    (λ c. search all)
+    (λ c. search all)
+    (λ c. search all)
+    (λ c κs. (search all, (search all, search all, search all, search all, search all)))
+    (λ c. search all)
     (λ c. search all)
     (λ c. search all))

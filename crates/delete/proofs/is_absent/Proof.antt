@@ -1,5 +1,5 @@
 use borrow.Author.Needs.{needs}
-use Rattle.delete.specs.Delete.{delete-laws}
+use Rattle.delete.specs.Laws.{delete-laws}
 use Rattle.delete.proofs.is_absent.Statement.{statement}
 use Rattle.delete.proofs.is_absent.Tie as tie
 use Rattle.delete.proofs.is_absent.Reads as reads

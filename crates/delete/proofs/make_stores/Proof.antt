@@ -1,8 +1,6 @@
-use native.Mathlib.Omega.{arith}
-use Rattle.delete.specs.Delete.{delete-halt, delete-on}
-use Rattle.collect.specs.Laws.{collect-survey, collect-low}
 use borrow.Author.Needs.{needs}
-use Rattle.delete.specs.Delete.{delete-laws}
+use Rattle.delete.specs.Laws.{delete-both, delete-laws}
+use Rattle.account.specs.Rest.{collect-total}
 use Rattle.delete.proofs.make_stores.Statement.{statement}
 use Rattle.delete.proofs.make_stores.Tie as tie
 use Rattle.delete.proofs.make_stores.Reads as reads
@@ -21,8 +19,10 @@ make-stores-spec =
     (λ c κs. search all)
     (λ c. search all)
     (λ c. search all)
-    (λ c. delete-halt _ _ _ _ _ _ (c .before .before .before .before .before .before .before .before .before .before .fresh .ensures .0) _ _ _ (c .before .before .before .before .before .before .before .collect .ensures) (c .if1 .taken))
-    (λ c κs. (let p = c .before .before .before .before .before .before .before .before .before .before .before .before .before .before .pre .0 in let w = c .before .before .before .before .before .before .before .before .collect .ensures in let e = c .before .if1 .left in let f = c .before .before .before .before .before .before .before .before .before .before .before .fresh .ensures in (collect-survey _ _ _ _ _ _ _ _ _ w e, collect-low _ _ _ _ _ _ _ _ _ w e, p .1, omega (arith, w .ran .total, f .1))))
     (λ c. search all)
     (λ c. search all)
-    (λ c. delete-on _ _ _ _ _ _ (c .before .before .before .before .before .before .before .before .before .before .before .before .before .before .fresh .ensures .0) _ _ _ (c .before .before .before .before .before .before .before .before .before .before .before .collect .ensures) _ _ (c .before .before .delete-own .ensures) (c .before .before .before .before .if1 .left)))
+    (λ c κs. (let w = c .before .before .before .before .before .before .before .before .before .before .collect .ensures in let e = c .before .if1 .left in (w .survey e, w .low e, search all, collect-total _ _ _ _ _ _ _ _ _ _ _ _ w (search all))))
+    (λ c. search all)
+    (λ c. search all)
+    (λ c. search all)
+    (λ c. (search all, delete-both _ _ _ _ _ _ _ _ _ _ _ (c .before .before .before .before .before .before .before .before .before .before .before .before .before .before .before .before .before .fresh .ensures .0) _ _ _ (c .before .before .delete-own .ensures) (c .before .before .before .before .before .before .before .before .before .before .before .before .before .collect .ensures) (c .before .before .before .before .if1 .left))))

@@ -49,6 +49,7 @@ use denote.Exit.{yes}
 use Rattle.geometry.specs.declared.Geometry.{Geometry}
 use Rattle.geometry.specs.declared.Entry.{Entry}
 use Rattle.geometry.specs.Geometry.{pageBytes}
+use Rattle.geometry.specs.Shape.{Known, page-most}
 use Rattle.answers.specs.declared.Row.{Row}
 use Rattle.answers.specs.Answers.{toldBy}
 use Rattle.carrying.specs.Carrying.{readText, storeAll, importRead}
@@ -105,7 +106,7 @@ Stores 𝓤 H A at-mem run = tripleOf 𝓤 H A stores.signature (stores.spec �
 
 -- what a call asks of a geometry
 abbrev Asked : Geometry → Type 0
-Asked g = (g .pages ≤ 64) × (pageBytes g ≤ 2112)
+Asked g = Known g
 
 -- the text, the image and the array as references
 abbrev Src : Lft → RefT (List ℕ) → Fml
@@ -227,7 +228,7 @@ module _ {M : Type 1} (𝓤 : URA M) (H : Heap 𝓤) (A : Atoms 𝓤) (W : Given
   goes-store : n ≤ length zs → Asked g → FineG g → n < 2 ^ 64 → FineW s
       → ent 𝓤 (sep 𝓤 (A .lft (ν ∷ []) fullShare) (sep 𝓤 (A .lft (μ ∷ []) fullShare) (sem 𝓤 H A (fsep (Img (ν ∷ []) c d η ws m) (ShrSlice (named 1) (μ ∷ []) T.the-row .own (ps b δ zs) (av N b ∷ [])))))) (Stores 𝓤 H A at-mem run .pre to-store)
   goes-store enough asked g-fine n-fits s-fine =
-      qed W (‵ (flft (ν ∷ []) fullShare) ∷ ‵ (flft (μ ∷ []) fullShare) ∷ ‵ (fsep (Img (ν ∷ []) c d η ws m) (ShrSlice (named 1) (μ ∷ []) T.the-row .own (ps b δ zs) (av N b ∷ []))) ∷ []) ∵ says ! (enough, asked .0, asked .1) $
+      qed W (‵ (flft (ν ∷ []) fullShare) ∷ ‵ (flft (μ ∷ []) fullShare) ∷ ‵ (fsep (Img (ν ∷ []) c d η ws m) (ShrSlice (named 1) (μ ∷ []) T.the-row .own (ps b δ zs) (av N b ∷ []))) ∷ []) ∵ says ! (enough, asked) $
       nothing ! $ move ! (2 ∷ 0 ∷ []) $ join ! $ move ! (1 ∷ 0 ∷ []) $ join ! $ frame ! $ fsplit ! $
       nothing ! $ owned ! S.the-row (Is S.the-row) ((LL.makes S.the-type S′.the-plain) 𝓤 H A) s _ s-fine $ fjoin ! $ owned ! usize (Is usize) (uint-makes 𝓤 H A W w64) n _ (refl, n-fits) $ fjoin ! $ move ! (2 ∷ 0 ∷ []) $ fjoin ! $ move ! (1 ∷ 0 ∷ []) $ fjoin ! $
       owned ! G.the-row (Is G.the-row) ((LL.makes G.the-type G′.the-plain) 𝓤 H A) g _ g-fine $ fjoin ! $ done !
@@ -324,7 +325,7 @@ module _ {M : Type 1} (𝓤 : URA M) (H : Heap 𝓤) (A : Atoms 𝓤) (W : Given
         assigns ! (agg ! (and-then ! (load ! (from ! (stop !)) (look ! 17 refl)) (and-then ! (load ! (from ! (fld ! refl (stop !))) (look-in ! 36 (sub ! 1 refl (whole !)))) (no-more !)))) (from ! (stop !)) (init ! 15 refl (tt, (tt, (record { fits = b-room .0 }, tt)))) $
         assigns ! (of-opd ! (load ! (from ! (fld ! refl (stop !))) (look-in ! 34 (sub ! 1 refl (whole !))))) (from ! (stop !)) (init ! 13 refl (tt, record { fits = x-room .0 })) $
         -- [the image's token; the image; the pairs; the text's token; the text; _18; …]
-        move ! (3 ∷ 4 ∷ []) $ calls-begin at-mem run fm known-begin ! κ q g c d β (length bs) bs t (length (x .now)) b-room refl (asked .1) g-fine t-fine (x-room .0)
+        move ! (3 ∷ 4 ∷ []) $ calls-begin at-mem run fm known-begin ! κ q g c d β (length bs) bs t (length (x .now)) b-room refl (page-most g asked) g-fine t-fine (x-room .0)
         (λ ν δ. and-then ! (load ! (from ! (stop !)) (look ! 38 refl)) (and-then ! (load ! (from ! (stop !)) (look ! 15 refl)) (and-then ! (load ! (from ! (stop !)) (look ! 31 refl)) (and-then ! (load ! (from ! (stop !)) (look ! 13 refl)) (no-more !))))) (λ s ws begins kept s-fine.
         land ! (from ! (stop !)) (init ! 29 refl (typedW 𝓤 H A W s s-fine)) $
         calls-turns at-mem run fm known-turns ! t t-fine (and-then ! (load ! (from ! (stop !)) (look ! 32 refl)) (no-more !)) (λ n counts n-fits.
@@ -348,7 +349,7 @@ module _ {M : Type 1} (𝓤 : URA M) (H : Heap 𝓤) (A : Atoms 𝓤) (W : Given
   import-walks : (C : Calls 𝓤 H) (Λ : Loops 𝓤 H) → FmC 𝓤 H (W .laws) C → Triple 𝓤 (C #reader·read-pairs) (Reads 𝓤 H A at-mem run) → Triple 𝓤 (C #importer·begin) (Begins 𝓤 H A at-mem run) → Triple 𝓤 (C #importer·turns) (Turns 𝓤 H A at-mem run) → Triple 𝓤 (C #importer·store-pairs) (Stores 𝓤 H A at-mem run)
       → Walks 𝓤 H A f.ended stayed (WpFn 𝓤 H C Λ code.function) (f.clauses 𝓤 H A at-mem run)
   import-walks C Λ fm known-read known-begin known-turns known-store = walked 𝓤 H A f.ended stayed (f.clauses 𝓤 H A at-mem run) (WpFn 𝓤 H C Λ code.function) (λ κs. (LL.vals G.the-type G′.the-laws, (slice-vals, (slice-vals, tt)))) (λ κs. (LL.tells G.the-type G′.the-laws, (mut-slice-tells (named 0) (κs .0) u8, (shr-slice-tells (named 1) (κs .1 .0) u8, tt))))
-      (λ κs qs bounds a g are. needs 𝓤 ((a .0 .pages ≤ 64) × (pageBytes (a .0) ≤ 2112)) _ (λ asked.
+      (λ κs qs bounds a g are. needs 𝓤 (Known (a .0)) _ (λ asked.
       walk 𝓤 H A W at-mem run (a .0) (κs .0) (qs .0) (a .1 .0 .ptr .0) (a .1 .0 .ptr .1) (a .1 .0 .name) (a .1 .0 .now) (κs .1 .0) (qs .1 .0) (a .1 .1 .0) (are .0) (are .1 .0 .0 .1) (are .1 .1 .0 .0 .1) asked C Λ fm known-read known-begin known-turns known-store))
 
   goes : AllGo 𝓤 H A W 2 (f.signature .params) (f.ended .kept) stayed

@@ -15,6 +15,7 @@ store-one-spec =
     tie.close
     (tie.spec
     (λ c. search all)
+    (λ c. search all)
     (λ c κs. search all)
     (λ c κs. search all)
     (λ c κs. search all)

@@ -50,7 +50,7 @@ use denote.Triple.Walked.{says, needs, Stays, stay-none, stay-none-slice, stay-s
 use denote.Exit.{yes}
 use Rattle.geometry.specs.declared.Geometry.{Geometry}
 use Rattle.geometry.specs.declared.Entry.{Entry}
-use Rattle.geometry.specs.Geometry.{pageBytes}
+use Rattle.geometry.specs.Shape.{Known}
 use Rattle.model.specs.Calls.{Outcome}
 use Rattle.answers.specs.declared.Row.{Row}
 use Rattle.answers.specs.Answers.{toldBy}
@@ -82,7 +82,7 @@ One 𝓤 H A at-mem run = tripleOf 𝓤 H A one.signature (one.spec 𝓤 H A at-
 
 -- what a call asks of a geometry
 abbrev Asked : Geometry → Type 0
-Asked g = (g .pages ≤ 64) × (pageBytes g ≤ 2112)
+Asked g = Known g
 
 -- the image's reference at the list l under the name γ, and what it owns at the lifetime κ, where its count is m
 abbrev at-list : ℕ → ℕ → GName → List ℕ → RefT (List ℕ)
@@ -303,8 +303,8 @@ module _ {M : Type 1} (𝓤 : URA M) (H : Heap 𝓤) (A : Atoms 𝓤) (W : Given
 module _ {M : Type 1} (𝓤 : URA M) (H : Heap 𝓤) (A : Atoms 𝓤) (W : Given 𝓤 H A) (at-mem : Memory → SProp 𝓤) (run : Routine → Fun 𝓤) where
   store-walks : (𝓣 : Tables 𝓤 H) → Triple 𝓤 (𝓣 .C #importer·store-one) (One 𝓤 H A at-mem run) → Walks 𝓤 H A f.ended stayed (WpFn 𝓤 H (𝓣 .C) (𝓣 .Λ) code.function) (f.clauses 𝓤 H A at-mem run)
   store-walks 𝓣 known = walked 𝓤 H A f.ended stayed (f.clauses 𝓤 H A at-mem run) (WpFn 𝓤 H (𝓣 .C) (𝓣 .Λ) code.function) (λ κs. (LL.vals G.the-type G′.the-laws, (slice-vals, (slice-vals, (uint-vals w64, (LL.vals S.the-type S′.the-laws, tt)))))) (λ κs. (LL.tells G.the-type G′.the-laws, (mut-slice-tells (named 0) (κs .0) u8, (shr-slice-tells (named 1) (κs .1 .0) T.the-row, (uint-tells w64, (LL.tells S.the-type S′.the-laws, tt))))))
-      (λ κs qs bounds a g are. needs 𝓤 ((a .1 .1 .1 .0 ≤ length (a .1 .1 .0 .now)) × (a .0 .pages ≤ 64) × (pageBytes (a .0) ≤ 2112)) _ (λ asked.
-      walk 𝓤 H A W at-mem run (a .0) (κs .0) (qs .0) (a .1 .0 .ptr .0) (a .1 .0 .ptr .1) (a .1 .0 .name) (a .1 .0 .now) (κs .1 .0) (qs .1 .0) (a .1 .1 .0 .ptr .0) (a .1 .1 .0 .ptr .1) (a .1 .1 .0 .name) (a .1 .1 .0 .now) (a .1 .1 .1 .0) (a .1 .1 .1 .1 .0) (are .0) (are .1 .0 .0 .1) (are .1 .1 .0 .0 .1) (are .1 .1 .1 .0 .1) (are .1 .1 .1 .1 .0) (asked .0) (asked .1, asked .2) 𝓣 (fmOf 𝓤 H (W .laws) 𝓣) known))
+      (λ κs qs bounds a g are. needs 𝓤 ((a .1 .1 .1 .0 ≤ length (a .1 .1 .0 .now)) × Known (a .0)) _ (λ asked.
+      walk 𝓤 H A W at-mem run (a .0) (κs .0) (qs .0) (a .1 .0 .ptr .0) (a .1 .0 .ptr .1) (a .1 .0 .name) (a .1 .0 .now) (κs .1 .0) (qs .1 .0) (a .1 .1 .0 .ptr .0) (a .1 .1 .0 .ptr .1) (a .1 .1 .0 .name) (a .1 .1 .0 .now) (a .1 .1 .1 .0) (a .1 .1 .1 .1 .0) (are .0) (are .1 .0 .0 .1) (are .1 .1 .0 .0 .1) (are .1 .1 .1 .0 .1) (are .1 .1 .1 .1 .0) (asked .0) (asked .1) 𝓣 (fmOf 𝓤 H (W .laws) 𝓣) known))
 
   goes : AllGo 𝓤 H A W 2 (f.signature .params) (f.ended .kept) stayed
   goes = (goes-none 𝓤 H A W 2 (λ _. G.the-row) yes (λ κs x f. refl), (goes-slice 𝓤 H A W 2 0 tt (plain (λ _. u8)), (goes-none-slice 𝓤 H A W 2 (1 ∷ []) tt (plain (λ _. T.the-row)) yes, (goes-none 𝓤 H A W 2 (λ _. usize) yes (λ κs x f. refl), (goes-none 𝓤 H A W 2 (λ _. S.the-row) yes (λ κs x f. refl), tt)))))

@@ -1,10 +1,14 @@
 use borrow.Author.Needs.{needs}
-use Rattle.insert.specs.Insert.{insert-laws}
+use native.Mathlib.Omega.{arith}
+use Rattle.geometry.specs.Shape.{page-most}
+use Rattle.account.specs.Lent.{known-pages, known-top}
 use Rattle.judging.specs.Judging.{judged-room, judged-looked}
+use Rattle.insert.specs.Laws.{insert-broken, insert-sound, insert-laws}
 use Rattle.insert.proofs.insert_blocks.Statement.{statement}
 use Rattle.insert.proofs.insert_blocks.Tie as tie
 use Rattle.insert.proofs.insert_blocks.Reads as reads
 use Rattle.insert.proofs.insert_blocks.Lts as lts
+use Rattle.account.proofs.fill_words.Reads as fill-words-reads
 use Rattle.insert.proofs.insert_rest.Reads as insert-rest-reads
 use Rattle.verdict.proofs.judge_image.Reads as judge-image-reads
 
@@ -14,13 +18,15 @@ pub insert-blocks-spec : {M : Type 1} → statement M
 insert-blocks-spec =
     tie.close
     (tie.spec
+    (λ c κs. (let p = c .before .before .before .before .before .pre in (known-pages _ (p .0), p .1 .1, p .1 .3)))
+    (λ c. search all)
+    (λ c. search all)
     (λ c κs. search all)
-    (λ c. search all)
-    (λ c. search all)
-    (λ c κs. ((judged-room _ _ _ _ _ _ (c .before .before .before .before .before .before .before .judge-image .ensures) (c .before .before .before .before .before .before .before .before .before .before .before .before .pre .0) (c .before .before .before .before .before .before .before .before .before .before .before .before .pre .1) (c .before .before .before .before .before .before .before .before .before .before .before .before .pre .2), c .before .before .before .before .before .before .before .before .before .before .before .before .pre .3), judged-looked _ _ _ _ _ _ (c .before .before .before .before .before .before .before .judge-image .ensures) (search needs)))
-    (λ c. search all)
+    (λ c κs. (let p = c .before .before .before .before .before .before .before .before .before .before .before .before .before .before .before .before .before .before .before .pre in let j = c .before .before .before .before .before .before .before .before .before .before .before .before .before .judge-image .ensures in ((judged-room _ _ _ _ _ _ j (known-pages _ (p .0)) (p .1 .1) (p .1 .3), known-top _ (p .0), page-most _ (p .0)), judged-looked _ _ _ _ _ _ j (search needs))))
     (λ c. search all)
     (λ c. search all)
     (λ c. search all)
     (λ c. search all)
-    (λ c. search all))
+    (λ c. search all)
+    (λ c. search all)
+    (λ c. (let p = c .before .before .before .before .before .before .before .before .before .before .before .before .before .before .before .before .before .before .before .before .before .before .before .before .before .before .pre in let q = c .before .before .before .before .before .before .before .before .before .before .before .before .before .before .before .before .before .before .before .before .before .before .before .before .before .before .good .1 .1 .1 .1 .1 in insert-sound _ _ _ _ _ _ _ (p .1 .0) (p .1 .2) (p .1 .4) _ _ _ (c .before .before .before .before .before .before .before .before .before .before .before .before .before .before .before .before .before .before .before .before .judge-image .ensures) _ _ (c .before .before .before .before .before .before .insert-rest .ensures) (c .before .before .before .before .before .before .before .before .before .before .before .before .fill-words .ensures) (search needs) (p .0) (p .1 .1) (p .1 .3) (search needs) (omega (arith, q .0)) (omega (arith, q .1 .0)))))

@@ -1,11 +1,12 @@
 use borrow.Author.Needs.{needs}
-use Rattle.insert.specs.Insert.{insert-laws}
+use Rattle.insert.specs.Laws.{insert-laws}
 use Rattle.insert.proofs.insert_on.Statement.{statement}
 use Rattle.insert.proofs.insert_on.Tie as tie
 use Rattle.insert.proofs.insert_on.Reads as reads
 use Rattle.insert.proofs.insert_on.Lts as lts
 use Rattle.chip.proofs.good_blocks.Reads as good-blocks-reads
 use Rattle.insert.proofs.insert_blocks.Reads as insert-blocks-reads
+use Rattle.words.proofs.words_of.Reads as words-of-reads
 
 ruleset all = (needs, insert-laws)
 
@@ -16,7 +17,11 @@ insert-on-spec =
     (λ c κs. search all)
     (λ c. search all)
     (λ c. search all)
-    (λ c. search all)
     (λ c κs. search all)
+    (λ c. search all)
+    (λ c. search all)
+    (λ c. search all)
+    (λ c κs. (search all, (search all, search all, search all, search all, search all)))
+    (λ c. search all)
     (λ c. search all)
     (λ c. search all))

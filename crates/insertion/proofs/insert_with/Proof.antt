@@ -22,4 +22,5 @@ insert-with-spec =
     (λ c. search all)
     (λ c κs. search all)
     (λ c. search all)
+    (λ c. search all)
     (λ c. search all))

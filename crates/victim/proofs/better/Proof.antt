@@ -5,7 +5,7 @@ use Rattle.victim.proofs.better.Tie as tie
 use Rattle.victim.proofs.better.Reads as reads
 use Rattle.victim.proofs.better.Lts as lts
 use Rattle.chip.proofs.last_erased.Reads as last-erased-reads
-use Rattle.walk.proofs.lives_in.Reads as lives-in-reads
+use Rattle.words.proofs.block_ones.Reads as block-ones-reads
 
 ruleset all = (needs, victim-laws)
 

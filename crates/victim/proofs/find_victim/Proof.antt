@@ -1,7 +1,7 @@
 use borrow.Author.Needs.{needs}
 use Rattle.victim.specs.Laws.{victim-laws}
 use Prim.Native.Nat.{_-_, _≤_}
-use Rattle.victim.specs.Victim.{Bests, fullIn, livesBy}
+use Rattle.victim.specs.Victim.{Bests, fullIn, onesBy}
 use Rattle.victim.proofs.find_victim.Statement.{statement}
 use Rattle.victim.proofs.find_victim.Tie as tie
 use Rattle.victim.proofs.find_victim.Reads as reads
@@ -11,10 +11,10 @@ use Rattle.victim.proofs.better.Reads as better-reads
 ruleset all = (needs, victim-laws)
 
 abbrev Inv-loop : tie.InvT-loop
-Inv-loop g img table n best₀ block₀ best block = (block ≤ n) × Bests (fullIn g img) (livesBy g table) block best
+Inv-loop g img words n best₀ block₀ best block = (block ≤ n) × Bests (fullIn g img) (onesBy g words) block best
 
 abbrev μ-loop : tie.MeasureT-loop
-μ-loop g img table n best₀ block₀ best block = n - block
+μ-loop g img words n best₀ block₀ best block = n - block
 
 pub find-victim-spec : {M : Type 1} → statement M
 find-victim-spec =

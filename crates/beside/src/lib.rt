@@ -1,0 +1,1 @@
+// What an update keeps beside the image: definitions alone.

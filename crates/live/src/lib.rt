@@ -1,0 +1,1 @@
+// Request 7: definitions alone.

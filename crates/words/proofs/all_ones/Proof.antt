@@ -1,0 +1,13 @@
+use borrow.Author.Needs.{needs}
+use Rattle.words.specs.Laws.{words-laws}
+use Rattle.words.proofs.all_ones.Statement.{statement}
+use Rattle.words.proofs.all_ones.Tie as tie
+use Rattle.words.proofs.all_ones.Reads as reads
+use Rattle.words.proofs.all_ones.Lts as lts
+use Rattle.words.proofs.ones_from.Reads as ones-from-reads
+use Rattle.words.proofs.words_of.Reads as words-of-reads
+
+ruleset all = (needs, words-laws)
+
+pub all-ones-spec : {M : Type 1} → statement M
+all-ones-spec = tie.close (tie.spec (λ c κs. search all) (λ c κs. search all) (λ c. search all))
