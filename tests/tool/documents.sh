@@ -1,4 +1,4 @@
-# README shows what the tool prints, and the plot of docs/BENCHMARKS.md fits its figures.
+# README shows what the tool prints, the plot of docs/BENCHMARKS.md fits its figures, and docs/ARCHITECTURE.md fits the repository.
 sh "$root/c/day.sh" "$tool" > day 2>&1 || fail "the short day ended with $?"
 
 # in_order FIRST PRINTED: README's indented lines from FIRST on, without their indentation, are lines of a file, in this order; '..'
@@ -78,6 +78,9 @@ if have awk; then
     FNR != NR && inside && !/^\|/ { inside = 0 }
     END { if (rows < 6) { print "tool: docs/USING.md has " rows + 0 " rows of times"; wrong = 1 } exit wrong }
     ' "$root/docs/BENCHMARKS.md" "$root/docs/USING.md" || bad=1
+
+    # The map names what is there, and its check can fail.
+    sh "$root/tests/architecture.sh" || bad=1
 else
-    left_out "the plot and the times of docs/USING.md, there is no awk here"
+    left_out "the plot, the times of docs/USING.md and docs/ARCHITECTURE.md, there is no awk here"
 fi
