@@ -3,6 +3,7 @@ pub mod Tests
 pub mod Lists
 pub mod Nodes
 pub mod Edit
+pub mod Above
 pub mod Insert
 pub mod Delete
 pub mod Move
@@ -15,6 +16,7 @@ pub mod Seek
 pub mod Between
 pub mod Path
 pub mod Lengths
+pub mod Cuts
 pub mod Splits
 pub mod Like
 pub mod Live
