@@ -11,6 +11,10 @@ pub mod Tied
 pub mod InsertPages
 pub mod DeletePages
 pub mod Proper
+pub mod Plain
+pub mod PlainTied
+pub mod PlainInsert
+pub mod PlainDelete
 pub mod Frame
 pub mod Seek
 pub mod Between
