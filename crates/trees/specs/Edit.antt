@@ -152,6 +152,16 @@ Made r k base name Held zero e = Unit {0}
 Made r k base name Held (suc l) e = Held (suc l) e (splice (edit r k base name l) k (r (e .addr) (suc l))) × Made r k base name Held l
     (chosen k (r (e .addr) (suc l)))
 
+-- Made, with what follows from Held in its place
+pub made-map : (r : Nodes) (k : ℕ) (base : Entry → List Entry) (name : ℕ → Entry → List Entry → List Entry) (H I : ℕ → Entry → List Entry → Type 0)
+    → ((l : ℕ) (e : Entry) (c : List Entry) → H (suc l) e c → I (suc l) e c) → (l : ℕ) (e : Entry) → Made r k base name H l e → Made r k base name I l e
+unfolding Made
+made-map r k base name H I f zero e m = tt
+made-map r k base name H I f (suc l) e m = (
+  f l e (splice (edit r k base name l) k (r (e .addr) (suc l))) (m .0),
+  made-map r k base name H I f l (chosen k (r (e .addr) (suc l))) (m .1),
+)
+
 -- what a replacement is: it rises below y, from low of the old key z on; least to most entries
 abbrev pub Out : (ℕ → Entry → Type 0) → (ℕ → ℕ) → ℕ → ℕ → ℕ → ℕ → List Entry → Type 0
 Out P low least most y z es = Rises P y es × (low z ≤ next es y) × (least ≤ length es) × (length es ≤ most)

@@ -1,53 +1,23 @@
--- Insert: the map with K put in, and R5 of the new nodes, whether the root stays or grows. Assumes nothing.
-use mathlib.Core.Path.{_≡_, refl, ap, sym, _∙_}
-use mathlib.Core.List.{List, [], _∷_, _++_, append-nil}
+-- Insert in the μ-Tree, an instance of `Above`: a changed node that stays whole and the path half stand on N, the other half on its
+-- side page. Assumes nothing.
+use mathlib.Core.Path.{_≡_, refl, _∙_}
+use mathlib.Core.List.{List, [], _∷_}
 use mathlib.Core.Bool.{Bool, true, false}
-use Prim.Native.Nat.{ℕ, zero, suc, _+_, _*_, _<_, _≤_, min}
+use Prim.Native.Nat.{ℕ, suc, _*_, _<_, _≤_, min}
 use native.Mathlib.Omega.{arith}
-use lib.ListN.{length, take, drop, take-append-drop, length-take, length-drop}
-use lib.Dec.{eqb, leb, ltb}
-use borrow.Author.Tests.{lt-ltb, le-ltb, ne-eqb, ltb-true, ltb-false, leb-true, leb-false, eqb-false}
+use lib.ListN.{length, take, drop}
+use borrow.Author.Tests.{le-leb, lt-leb}
 use Rattle.geometry.specs.declared.Entry.{Entry}
 use Rattle.geometry.specs.Tests.{pick}
 use Rattle.model.specs.Image.{Nodes}
-use Rattle.model.specs.Tree.{gather, under, next, chosen}
+use Rattle.model.specs.Tree.{under, next, chosen}
 use Rattle.model.specs.Edit.{splice, put, putIn, turn, pathHalf, sideHalf, two, named, pathPart}
-use Rattle.trees.specs.Lists.{All, In, Rises, gather-append, gather-one, next-append, rises-left, rises-right, next-le, rises-map}
-use Rattle.trees.specs.Nodes.{Ok, next-more, the, Rooted}
-use Rattle.trees.specs.Edit.{Local, splice-op, edit, atRoot, Made, Out, Changed, edit-list, edit-list-ok}
-
-put-after : (k a lo : ℕ) (xs ys : List Entry) → All (In lo k) xs → put k a (xs ++ ys) ≡ xs ++ put k a ys
-put-after k a lo [] ys h = refl
-put-after k a lo (e ∷ xs) ys h = rw (lt-ltb (e .key) k (h .0 .1)) (ap (λ l. e ∷ l) (put-after k a lo xs ys (h .1)))
-
-put-before : (k a lo hi : ℕ) (ys zs : List Entry) → k < lo → All (In lo hi) zs → put k a (ys ++ zs) ≡ put k a ys ++ zs
-put-before k a lo hi [] [] q h = refl
-put-before k a lo hi [] (e ∷ zs) q h = simp (le-ltb (e .key) k (omega arith), ne-eqb (e .key) k (λ p. omega (arith, h .0 .0)))
-put-before k a lo hi (e ∷ ys) zs q h = go (ltb (e .key) k) (eqb (e .key) k) (put-before k a lo hi ys zs q h)
-  where
-    go : (s t : Bool) → put k a (ys ++ zs) ≡ put k a ys ++ zs
-        → pick s (e ∷ put k a (ys ++ zs)) (record { key = k; addr = a } ∷ pick t (ys ++ zs) (e ∷ ys ++ zs)) ≡ pick s (e ∷ put k a ys)
-        (record { key = k; addr = a } ∷ pick t ys (e ∷ ys)) ++ zs
-    go true t i = ap (λ l. e ∷ l) i
-    go false true i = refl
-    go false false i = refl
-
-pub put-local : (k a : ℕ) → Local k (put k a)
-put-local k a = record { after = put-after k a; before = put-before k a }
-
--- a leaf: to put into the list is to put at the chosen entry
-pub put-splice : (k a hi : ℕ) (es : List Entry) → 0 < length es → k < hi → Rises (λ y x. Unit {0}) hi es
-    → splice (λ e. put k a (e ∷ [])) k es ≡ put k a es
-put-splice k a hi es n q h =
-    sym (gather-one (splice (λ e. put k a (e ∷ [])) k es))
-    ∙ splice-op k (put k a) (put-local k a) (λ y x. Unit {0}) (λ e. e ∷ []) (λ e. e ∷ []) (λ e. put k a (e ∷ [])) (λ y x b i. (omega arith, tt))
-    (λ y x i. refl) hi es n q h (λ y _ _ _. gather-one (put k a (chosen k es ∷ [])))
-    ∙ ap (put k a) (gather-one es)
-
-pub put-in : (k a hi : ℕ) (es : List Entry) → k < hi → Rises (λ y x. Unit {0}) hi es → putIn k a es ≡ put k a es
-unfolding putIn
-put-in k a hi [] q h = refl
-put-in k a hi (e ∷ es) q h = put-splice k a hi (e ∷ es) (omega arith) q h
+use Rattle.trees.specs.Lists.{Rises}
+use Rattle.trees.specs.Nodes.{Ok, the, Rooted}
+use Rattle.trees.specs.Edit.{edit, atRoot, Made, Changed, made-map}
+use Rattle.trees.specs.Above.{both, Both, AboveHeld}
+use Rattle.trees.specs.Above as over
+pub use Rattle.trees.specs.Above.{put-local, put-splice, put-in, first-below}
 
 -- the halves stand where they should: the path half on n, the other on its side page
 abbrev pub Halves : ℕ → ℕ → (ℕ → ℕ) → Nodes → (ℕ → ℕ → Type 0) → ℕ → ℕ → List Entry → Type 0
@@ -64,146 +34,34 @@ inserted r k a n side half l e = edit r k (λ e. put k a (e ∷ [])) (named k n 
 abbrev pub InsertMade : Nodes → Nodes → ℕ → ℕ → ℕ → (ℕ → ℕ) → (ℕ → ℕ) → (ℕ → ℕ → Type 0) → (ℕ → Type 0) → ℕ → Entry → Type 0
 InsertMade r s k a n side half fit Cut l e = Made r k (λ e. put k a (e ∷ [])) (named k n side half) (InsertHeld k n side half s fit Cut) l e
 
-pub first-below : (P : ℕ → Entry → Type 0) (y : ℕ) (es : List Entry) → 1 ≤ length es → Rises P y es → next es 0 < y
-first-below P y [] n h = absurd (omega arith)
-first-below P y (e ∷ es) n h = omega (arith, next-le P y es (h .2))
+-- the two entries of the model are the two of `Above`, with their pages chosen by the turn
+pub two-is : (k n o m z : ℕ) (c : List Entry) → two k n o m z c ≡ both (pick (turn k m c) o n) (pick (turn k m c) n o) m z c
+two-is k n o m z c = refl
 
-first-less : (P : ℕ → Entry → Type 0) (y m : ℕ) (c : List Entry) → 1 ≤ m → m < length c → Rises P y c → next c y < next (drop m c) 0
-first-less P y zero c q b h = absurd (omega arith)
-first-less P y (suc m) [] q b h = absurd (omega arith)
-first-less P y (suc zero) (e ∷ []) q b h = absurd (omega arith)
-first-less P y (suc zero) (e ∷ g ∷ es) q b h = h .0
-first-less P y (suc (suc m)) (e ∷ []) q b h = absurd (omega arith)
-first-less P y (suc (suc m)) (e ∷ g ∷ es) q b h = let i = first-less P y (suc m) (g ∷ es) (omega arith) (omega arith) (h .2) in omega arith
+-- the pages of the left and of the right half
+abbrev pub leftOf : ℕ → ℕ → (ℕ → ℕ) → (ℕ → ℕ) → ℕ → List Entry → ℕ
+leftOf k n side half l c = pick (turn k (half l) c) (side l) n
 
-module _ (k a n : ℕ) (side half : ℕ → ℕ) (s : Nodes) (fit′ : ℕ → ℕ → Type 0) (Cut : ℕ → Type 0) where
-  -- the pairs under the two halves
-  pub two-under : (l m z : ℕ) (c : List Entry) → Halves k n side s fit′ (suc l) m c
-      → gather (under s (suc l)) (two k n (side (suc l)) m z c) ≡ gather (under s l) c
-  unfolding under gather
-  two-under l m z c h = go (turn k m c) (h .0) (h .1)
+abbrev pub rightOf : ℕ → ℕ → (ℕ → ℕ) → (ℕ → ℕ) → ℕ → List Entry → ℕ
+rightOf k n side half l c = pick (turn k (half l) c) n (side l)
+
+module _ (k n : ℕ) (side half : ℕ → ℕ) (s : Nodes) (fit′ : ℕ → ℕ → Type 0) (Cut : ℕ → Type 0) (fit-n : (l : ℕ) → fit′ (suc l) n) where
+  -- the path half and the other half are the left and the right one
+  pub as-both : (l m : ℕ) (c : List Entry) → Halves k n side s fit′ (suc l) m c
+      → Both s fit′ (suc l) m c (pick (turn k m c) (side (suc l)) n) (pick (turn k m c) n (side (suc l)))
+  as-both l m c h = go (turn k m c) (h .0) (h .1)
     where
       go : (t : Bool) → s n (suc l) ≡ pick t (drop m c) (take m c) → s (side (suc l)) (suc l) ≡ pick t (take m c) (drop m c)
-          → gather (under s l) (s (pick t (side (suc l)) n) (suc l)) ++ (gather (under s l) (s (pick t n (side (suc l))) (suc l)) ++ []) ≡ gather
-          (under s l) c
-      go true i j = rw (i, j, append-nil (gather (under s l) (drop m c))) (sym (gather-append (under s l) (take m c) (drop m c))
-          ∙ ap (gather (under s l)) (take-append-drop m c))
-      go false i j = rw (i, j, append-nil (gather (under s l) (drop m c))) (sym (gather-append (under s l) (take m c) (drop m c))
-          ∙ ap (gather (under s l)) (take-append-drop m c))
+          → Both s fit′ (suc l) m c (pick t (side (suc l)) n) (pick t n (side (suc l)))
+      go true i j = (j, i, h .2, fit-n l)
+      go false i j = (i, j, fit-n l, h .2)
 
-  pub named-under : (l : ℕ) (e : Entry) (c : List Entry) → InsertHeld k n side half s fit′ Cut (suc l) e c
-      → gather (under s (suc l)) (named k n side half (suc l) e c) ≡ gather (under s l) c
-  unfolding under gather
-  named-under l e c h = go (leb (length c) (2 * half (suc l))) refl (h .0)
-    where
-      go : (t : Bool) → leb (length c) (2 * half (suc l)) ≡ t → s n (suc l) ≡ pick t c (pathHalf k (half (suc l)) c)
-          → gather (under s (suc l))
-          (pick t (record { key = min (e .key) k; addr = n } ∷ []) (two k n (side (suc l)) (half (suc l)) (min (e .key) k) c)) ≡ gather (under s l) c
-      go true b i = rw i (append-nil (gather (under s l) c))
-      go false b i = let u = h .1 (leb-false (length c) (2 * half (suc l)) b) in two-under l (half (suc l)) (min (e .key) k) c (i, u .0, u .1)
-
-  module _ (fit : ℕ → ℕ → Type 0) (fit-n : (l : ℕ) → fit′ (suc l) n) (fit-a : fit′ 0 a) (keep : (l a : ℕ) → fit l a → fit′ l a) where
-    abbrev room : ℕ → ℕ
-    room l = 2 * half l
-
-    pub ok-node : (l y z p : ℕ) (es : List Entry) → s p (suc l) ≡ es → fit′ (suc l) p → 1 ≤ length es → length es ≤ 2 * half (suc l) → z ≤ next es y
-        → Rises (Ok fit′ room s l) y es → Ok fit′ room s (suc l) y (record { key = z; addr = p })
-    unfolding Ok
-    ok-node l y z p es e f g h i j = rw e (f, g, h, i, j)
-
-    pub put-ok : (y : ℕ) (e : Entry) → k < y → e .key < y → fit 0 (e .addr) → Out (Ok fit′ room s 0) (λ z. min z k) 1 2 y (e .key) (put k a (e ∷ []))
-    unfolding Ok
-    put-ok y e q b h = go (ltb (e .key) k) (eqb (e .key) k) refl refl
-      where
-        go : (t u : Bool) → ltb (e .key) k ≡ t → eqb (e .key) k ≡ u
-            → Out (Ok fit′ room s 0) (λ z. min z k) 1 2 y (e .key)
-            (pick t (e ∷ record { key = k; addr = a } ∷ []) (record { key = k; addr = a } ∷ pick u [] (e ∷ [])))
-        go true u c d = ((ltb-true (e .key) k c, keep 0 (e .addr) h, (q, fit-a, tt)), omega arith, omega arith, omega arith)
-        go false true c d = ((q, fit-a, tt), omega arith, omega arith, omega arith)
-        go false false c d = (
-          let f = ltb-false (e .key) k c in let g = eqb-false (e .key) k d in (omega arith, fit-a, (b, keep 0 (e .addr) h, tt)),
-          omega arith,
-          omega arith,
-          omega arith,
-        )
-
-    pub two-ok : (l y m z : ℕ) (c : List Entry) → Halves k n side s fit′ (suc l) m c → z ≤ next c y → 1 ≤ m → m ≤ 2 * half (suc l) → m < length c
-        → length c ≤ m + 2 * half (suc l) → Rises (Ok fit′ room s l) y c → Rises (Ok fit′ room s (suc l)) y (two k n (side (suc l)) m z c)
-    two-ok l y m z c h d m1 m2 c1 c2 up = go (turn k m c) (h .0) (h .1)
-      where
-        P : ℕ → Entry → Type 0
-        P = Ok fit′ room s l
-
-        len : (1 ≤ length (take m c)) × (length (take m c) ≤ 2 * half (suc l)) × (1 ≤ length (drop m c)) × (length (drop m c) ≤ 2 * half (suc l))
-        len = omega (arith, length-take m c, length-drop m c)
-
-        whole : Rises P y (take m c ++ drop m c)
-        whole = rw (take-append-drop m c) up
-
-        right : Rises P y (drop m c)
-        right = rises-right P y (take m c) (drop m c) whole
-
-        same-next : next (drop m c) y ≡ next (drop m c) 0
-        same-next = next-more y 0 (drop m c) (len .2)
-
-        left : Rises P (next (drop m c) 0) (take m c)
-        left = rw same-next at (rises-left P y (take m c) (drop m c) whole)
-
-        from : z ≤ next (take m c) (next (drop m c) 0)
-        from = let i = ap (λ x. next x y) (take-append-drop m c) in let j = next-append (take m c) (drop m c) y in let f =
-            ap (next (take m c)) same-next in omega (arith, i, j, f)
-
-        go : (t : Bool) → s n (suc l) ≡ pick t (drop m c) (take m c) → s (side (suc l)) (suc l) ≡ pick t (take m c) (drop m c)
-            → Rises (Ok fit′ room s (suc l)) y
-            (record { key = z; addr = pick t (side (suc l)) n } ∷ record { key = next (drop m c) 0; addr = pick t n (side (suc l)) } ∷ [])
-        go true i j = (
-          omega (arith, first-less P y m c m1 c1 up),
-          ok-node l (next (drop m c) 0) z (side (suc l)) (take m c) j (h .2) (len .0)
-              (len .1) from left,
-          (
-            first-below P y (drop m c) (len .2) right,
-            ok-node l y (next (drop m c) 0) n (drop m c) i (fit-n l) (len .2) (len .3)
-                (rw same-next (omega arith)) right,
-            tt,
-          ),
-        )
-        go false i j = (
-          omega (arith, first-less P y m c m1 c1 up),
-          ok-node l (next (drop m c) 0) z n (take m c) i (fit-n l) (len .0)
-              (len .1) from left,
-          (
-            first-below P y (drop m c) (len .2) right,
-            ok-node l y (next (drop m c) 0) (side (suc l)) (drop m c) j (h .2)
-                (len .2) (len .3) (rw same-next (omega arith)) right,
-            tt,
-          ),
-        )
-
-    pub named-ok : (l y i : ℕ) (e : Entry) (c : List Entry) → InsertHeld k n side half s fit′ Cut (suc l) e c → k < y → e .key < y
-        → Rises (Ok fit′ room s l) y c → min (e .key) k ≤ next c y
-        → 1 ≤ i → i ≤ room (suc l) → i + 1 ≤ suc (length c) → suc (length c) ≤ i + 2
-        → Out (Ok fit′ room s (suc l)) (λ z. min z k) 1 2 y (e .key) (named k n side half (suc l) e c)
-    named-ok l y i e c h q b up from i1 i2 c1 c2 = go (leb (length c) (2 * half (suc l))) refl (h .0)
-      where
-        go : (t : Bool) → leb (length c) (2 * half (suc l)) ≡ t → s n (suc l) ≡ pick t c (pathHalf k (half (suc l)) c)
-            → Out (Ok fit′ room s (suc l)) (λ z. min z k) 1 2 y (e .key)
-            (pick t (record { key = min (e .key) k; addr = n } ∷ []) (two k n (side (suc l)) (half (suc l)) (min (e .key) k) c))
-        go true d j = (
-          (
-            omega arith,
-            ok-node l y (min (e .key) k) n c j (fit-n l) (omega arith) (leb-true (length c) (2 * half (suc l)) d) from up,
-            tt,
-          ),
-          omega arith,
-          omega arith,
-          omega arith,
-        )
-        go false d j = let w = leb-false (length c) (2 * half (suc l)) d in let u = h .1 w in (
-          two-ok l y (half (suc l)) (min (e .key) k) c (j, u .0, u .1) from (omega arith) (omega arith) (omega arith) (omega arith) up,
-          omega arith,
-          omega arith,
-          omega arith,
-        )
+  pub held : (l : ℕ) (e : Entry) (c : List Entry) → InsertHeld k n side half s fit′ Cut (suc l) e c
+      → AboveHeld (λ _. n) (leftOf k n side half) (rightOf k n side half) half s fit′ (suc l) e c
+  held l e c h = (
+    λ b. (rw (le-leb (length c) (2 * half (suc l)) b) at (h .0), fit-n l),
+    λ b. let u = h .1 b in as-both l (half (suc l)) c (rw (lt-leb (length c) (2 * half (suc l)) b) at (h .0), u .0, u .1),
+  )
 
 module _ (k a n top : ℕ) (side half most : ℕ → ℕ) (r s : Nodes) (fit fit′ : ℕ → ℕ → Type 0) (Cut : ℕ → Type 0) (fit-n : (l : ℕ) → fit′ (suc l) n)
     (fit-a : fit′ 0 a)
@@ -217,41 +75,24 @@ module _ (k a n top : ℕ) (side half most : ℕ → ℕ) (r s : Nodes) (fit fit
   abbrev roomAt : ℕ → ℕ
   roomAt l = 2 * half l
 
-  -- the list at the root: its pairs are the pairs with k put in; it rises; it has at most one entry more
-  pub record Fresh (l : ℕ) (es c : List Entry) : Type 0 where
-    pub pairs-are : gather (under s l) c ≡ put k a (gather (under r l) es)
-    pub rises : Rises (Ok fit′ roomAt s l) top c
-    pub few : length es ≤ length c
-    pub some : 1 ≤ length c
-    pub many : length c ≤ suc (length es)
+  lay : (l : ℕ) (e : Entry) → Making l e → Made r k (λ e. put k a (e ∷ [])) (named k n side half)
+      (AboveHeld (λ _. n) (leftOf k n side half) (rightOf k n side half) half s fit′) l e
+  lay = made-map r k (λ e. put k a (e ∷ [])) (named k n side half) (InsertHeld k n side half s fit′ Cut)
+      (AboveHeld (λ _. n) (leftOf k n side half) (rightOf k n side half) half s fit′) (held k n side half s fit′ Cut fit-n)
+
+  -- the list at the root
+  abbrev pub Fresh : ℕ → List Entry → List Entry → Type 0
+  Fresh = over.Fresh k a top (λ _. n) (leftOf k n side half) (rightOf k n side half) half most r s fit fit′ fit-a keep same k-top
 
   pub ins-list-ok : (l hi : ℕ) (es : List Entry) → 0 < length es → k < hi → Rises (Ok fit roomAt r l) hi es → Making l (chosen k es)
       → Changed (Ok fit′ roomAt s l) (λ z. min z k) 1 2 hi (next es hi) (length es) (splice (inserts l) k es)
-  ins-list-ok = edit-list-ok fit fit′ roomAt r s keep same k (λ e. put k a (e ∷ [])) (named k n side half) (InsertHeld k n side half s fit′ Cut)
-      (λ z. min z k) 1 2 (λ z. omega arith) (λ z i. omega arith) (λ y z i. omega arith) (put-ok k a n side half s fit′ Cut fit fit-n fit-a keep)
-      (λ l y i e c _. named-ok k a n side half s fit′ Cut fit fit-n fit-a keep l y i e c)
-
-  fresh-some : (l : ℕ) (es : List Entry) → 0 < length es → Rises (Ok fit roomAt r l) top es → Making l (chosen k es)
-      → Fresh l es (splice (inserts l) k es)
-  fresh-some l es e h m =
-      let p = edit-list fit fit′ roomAt r s keep same k (λ e. put k a (e ∷ [])) (named k n side half) (InsertHeld k n side half s fit′ Cut) (put k a)
-      (put-local k a) (λ e. refl) (λ l hi e c _ h i. named-under k a n side half s fit′ Cut l e c h ∙ i) l top es e k-top h m in
-      let o = ins-list-ok l top es e k-top h m in
-      record { pairs-are = p; rises = o .up; few = omega (arith, o .few); some = omega (arith, o .few); many = omega (arith, o .many) }
+  ins-list-ok l hi es c q h m = over.ins-list-ok k a top (λ _. n) (leftOf k n side half) (rightOf k n side half) half most r s fit fit′ fit-a keep same
+      k-top l hi es c q h (lay l (chosen k es) m)
 
   pub fresh : (l : ℕ) (es : List Entry) → (1 ≤ l → 2 ≤ length es) → Rises (Ok fit roomAt r l) top es → Making l (chosen k es)
       → Fresh l es (atRoot (putIn k a) (inserts l) k l es)
-  unfolding atRoot edit under Ok putIn
-  fresh zero [] g h m = record {
-    pairs-are = gather-one (put k a []) ∙ ap (put k a) (sym (gather-one []));
-    rises = (k-top, fit-a, tt);
-    few =
-        omega arith;
-    some = omega arith;
-    many = omega arith;
-  }
-  fresh zero (e ∷ es) g h m = fresh-some zero (e ∷ es) (omega arith) h m
-  fresh (suc l) es g h m = fresh-some (suc l) es (omega (arith, g (omega arith))) h m
+  fresh l es g h m = over.fresh k a top (λ _. n) (leftOf k n side half) (rightOf k n side half) half most r s fit fit′ fit-a keep same k-top l es g h
+      (lay l (chosen k es) m)
 
   abbrev rootList : ℕ → ℕ → List Entry
   rootList l p = atRoot (putIn k a) (inserts l) k l (r p (suc l))
@@ -259,15 +100,14 @@ module _ (k a n top : ℕ) (side half most : ℕ → ℕ) (r s : Nodes) (fit fit
   -- the root does not grow
   pub stay-pairs : (l p : ℕ) → Rooted fit roomAt most top r l p → Making l (chosen k (r p (suc l))) → s n (suc l) ≡ rootList l p
       → under s (suc l) (the n) ≡ put k a (under r (suc l) (the p))
-  unfolding under
-  stay-pairs l p h m e = rw e (fresh l (r p (suc l)) (h .least) (h .rises) m .pairs-are)
+  stay-pairs l p h m e = over.stay-pairs k a top (λ _. n) (leftOf k n side half) (rightOf k n side half) half most r s fit fit′ fit-a keep same k-top
+      l p n h (lay l (chosen k (r p (suc l))) m) e
 
   pub stay-ok : (l p : ℕ) → Rooted fit roomAt most top r l p → Making l (chosen k (r p (suc l))) → s n (suc l) ≡ rootList l p
       → length (rootList l p) ≤ most (suc l)
       → Rooted fit′ roomAt most top s l n
-  stay-ok l p h m e b =
-      let f = fresh l (r p (suc l)) (h .least) (h .rises) m in
-      record { fits = fit-n l; least = λ z. rw e (omega (arith, f .few, h .least z)); atmost = rw e b; rises = rw e (f .rises) }
+  stay-ok l p h m e b = over.stay-ok k a top (λ _. n) (leftOf k n side half) (rightOf k n side half) half most r s fit fit′ fit-a keep same k-top
+      l p n (fit-n l) h (lay l (chosen k (r p (suc l))) m) e b
 
   -- the root grows
   pub record Grown (l : ℕ) (c : List Entry) : Type 0 where
@@ -276,21 +116,20 @@ module _ (k a n top : ℕ) (side half most : ℕ → ℕ) (r s : Nodes) (fit fit
 
   pub grow-pairs : (l p : ℕ) → Rooted fit roomAt most top r l p → Making l (chosen k (r p (suc l))) → Grown l (rootList l p)
       → under s (suc (suc l)) (the n) ≡ put k a (under r (suc l) (the p))
-  unfolding under
-  grow-pairs l p h m g = rw (g .top-list) (two-under k a n side half s fit′ Cut l (2 * half (suc l)) (next (rootList l p) 0) (rootList l p)
-      (g .halves) ∙ fresh l (r p (suc l)) (h .least) (h .rises) m .pairs-are)
+  grow-pairs l p h m g = over.grow-pairs k a top (λ _. n) (leftOf k n side half) (rightOf k n side half) half most r s fit fit′ fit-a keep same k-top
+      l p n (pick (turn k (2 * half (suc l)) (rootList l p)) (side (suc l)) n) (pick (turn k (2 * half (suc l)) (rootList l p)) n (side (suc l)))
+      (2 * half (suc l)) h (lay l (chosen k (r p (suc l))) m)
+      (as-both k n side half s fit′ Cut fit-n l (2 * half (suc l)) (rootList l p) (g .halves))
+      (g .top-list ∙ two-is k n (side (suc l)) (2 * half (suc l)) (next (rootList l p) 0) (rootList l p))
 
   pub grow-ok : (l p : ℕ) → Rooted fit roomAt most top r l p → Making l (chosen k (r p (suc l))) → Grown l (rootList l p)
       → length (rootList l p) ≡ 4 * half (suc l) → 2 ≤ most (suc (suc l))
       → Rooted fit′ roomAt most top s (suc l) n
   grow-ok l p h m g c w =
       let f = fresh l (r p (suc l)) (h .least) (h .rises) m in
-      let e = g .top-list in
-      record {
-        fits = fit-n (suc l);
-        least = λ z. rw e (omega arith);
-        atmost = rw e w;
-        rises = rw e (two-ok k a n side half s fit′ Cut fit fit-n fit-a keep l top (2 * half (suc l)) (next (rootList l p) 0) (rootList l p)
-            (g .halves) (rw (next-more 0 top (rootList l p) (f .some)) (omega arith)) (omega (arith, f .some)) (omega arith) (omega (arith, f .some))
-            (omega arith) (f .rises));
-      }
+      over.grow-ok k a top (λ _. n) (leftOf k n side half) (rightOf k n side half) half most r s fit fit′ fit-a keep same k-top
+      l p n (pick (turn k (2 * half (suc l)) (rootList l p)) (side (suc l)) n) (pick (turn k (2 * half (suc l)) (rootList l p)) n (side (suc l)))
+      (2 * half (suc l)) h (lay l (chosen k (r p (suc l))) m)
+      (as-both k n side half s fit′ Cut fit-n l (2 * half (suc l)) (rootList l p) (g .halves))
+      (g .top-list ∙ two-is k n (side (suc l)) (2 * half (suc l)) (next (rootList l p) 0) (rootList l p))
+      (fit-n (suc l)) (omega (arith, c, f .some)) (omega arith) (omega (arith, c, f .some)) (omega (arith, c)) w

@@ -18,7 +18,7 @@ use Rattle.trees.specs.Lists.{All, Rises, Mem, all-left, all-append, all
 use Rattle.trees.specs.Nodes.{Ok, next-more, ok-fit, places-same, the, Rooted, rooted-with}
 use Rattle.trees.specs.Edit.{splice-length, edit, atRoot, Made, no-places, page-where}
 use Rattle.trees.specs.Insert.{Halves, InsertHeld, inserted, InsertMade, first-below}
-use Rattle.trees.specs.Delete.{deleted, DeleteHeld, DeleteMade, none-left, the-top}
+use Rattle.trees.specs.Delete.{deleted, DeleteHeld, DeleteMade, delete-made, none-left, the-top}
 use Rattle.trees.specs.Move.{Tie, off-path}
 use Rattle.trees.specs.Tied.{Tied, tie-all, Where}
 use Rattle.trees.specs.InsertPages.{two-where, stay-where, grow-where}
@@ -347,9 +347,10 @@ module _ (n top : ℕ) (half most : ℕ → ℕ) (r s : Nodes) (fit fit′ : ℕ
   unfolding sides
   collapse-shifted e =
       let t = collapse r (suc l) left in
-      let up = the-top k n top half most r s fit fit′ fit-n keep same k-top wide l p₀ (h .rooted) made one e .rises in
-      let up′ = the-top k n top half most r s alive fit′ fit-n (λ l b i. keep l b (i .0)) (λ q l i. same q l (i .0)) k-top wide l p₀
-      (with-live fit (λ l. 2 * half l) most top r (suc l) p₀ (h .rooted)) made one e .rises in
+      let laid = delete-made r s k n fit′ fit-n (suc l) (chosen k (r p₀ (suc (suc l)))) made in
+      let up = the-top k (λ _. n) top half most r s fit fit′ keep same k-top wide l p₀ (h .rooted) laid one e .rises in
+      let up′ = the-top k (λ _. n) top half most r s alive fit′ (λ l b i. keep l b (i .0)) (λ q l i. same q l (i .0)) k-top wide l p₀
+      (with-live fit (λ l. 2 * half l) most top r (suc l) p₀ (h .rooted)) laid one e .rises in
       let is : gather (places s (t .level)) (t .list) ≡ gather (places r (t .level)) (t .list) =
       gather-eq (places r (t .level)) (places s (t .level)) (t .list) (rises-all (Ok fit (λ l. 2 * half l) r (t .level))
       (λ x. places s (t .level) x ≡ places r (t .level) x) top (t .list)

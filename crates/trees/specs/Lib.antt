@@ -3,6 +3,7 @@ pub mod Tests
 pub mod Lists
 pub mod Nodes
 pub mod Edit
+pub mod Above
 pub mod Insert
 pub mod Delete
 pub mod Move
@@ -10,11 +11,16 @@ pub mod Tied
 pub mod InsertPages
 pub mod DeletePages
 pub mod Proper
+pub mod Plain
+pub mod PlainTied
+pub mod PlainInsert
+pub mod PlainDelete
 pub mod Frame
 pub mod Seek
 pub mod Between
 pub mod Path
 pub mod Lengths
+pub mod Cuts
 pub mod Splits
 pub mod Like
 pub mod Live

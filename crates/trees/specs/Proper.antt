@@ -14,7 +14,7 @@ use Rattle.trees.specs.Lists.{All, Rises, Mem, all-map, all-get, all-mem
 use Rattle.trees.specs.Nodes.{Ok, places-fit, the, Rooted, rooted-with}
 use Rattle.trees.specs.Edit.{edit, atRoot}
 use Rattle.trees.specs.Insert.{Halves, inserted, InsertMade, first-below, stay-pairs, stay-ok, grow-pairs, grow-ok}
-use Rattle.trees.specs.Delete.{deleted, DeleteMade, less-pairs, less-ok, the-top, collapse-pairs, collapse-ok}
+use Rattle.trees.specs.Delete.{deleted, DeleteMade, delete-made, less-pairs, less-ok, the-top, collapse-pairs, collapse-ok}
 use Rattle.trees.specs.Move.{moved, MoveMade, move-pairs, move-ok, Tie, MoveWhere, moved-where, moved-dead}
 use Rattle.trees.specs.Tied.{Tied, tie-all, Where, tied-new, live-tied}
 use Rattle.trees.specs.InsertPages.{stay-where, grow-where}
@@ -121,16 +121,17 @@ module _ (n top : ℕ) (half most : ℕ → ℕ) (r s : Nodes) (fit fit′ : ℕ
         → s n (suc l) ≡ rootLess l p → (1 ≤ l → 2 ≤ length (rootLess l p))
         → Proper fit′ roomAt most top s l n × (under s (suc l) (the n) ≡ remove k (under r (suc l) (the p)))
     delete-stay l p h c m e b =
-        let spots = places r (suc l) (the p) in (
+        let spots = places r (suc l) (the p) in
+        let laid = delete-made r s k n fit′ fit-n l (chosen k (r p (suc l))) m in (
           record {
-            rooted = less-ok k n top half most r s fit fit′ fit-n keep same k-top l p (h .rooted) m e b;
+            rooted = less-ok k (λ _. n) top half most r s fit fit′ keep same k-top l p (h .rooted) laid e (fit-n l) b;
             tied = retied (λ _. 0) (λ _. ⊥) (λ l z _. z) (λ i j z _ _. absurd z) (λ l j z _. z) spots (h .tied) (leftLowOf r k n l (r p (suc l)))
                 (places s (suc l) (the n))
                 (less-where k n top half most r s (λ j q. fit j q × LiveAt spots j q) fit′ (λ l b i. keep l b (i .0))
                 (λ q l i. same q l (i .0)) k-top l p (with-live fit roomAt most top r l p (h .rooted)) c m
                 (e ∙ less-is l (r p (suc l)) c (h .rooted .rises)));
           },
-          less-pairs k n top half most r s fit fit′ fit-n keep same k-top l p (h .rooted) m e,
+          less-pairs k (λ _. n) top half most r s fit fit′ keep same k-top l p (h .rooted) laid e,
         )
 
     pub delete-collapse : ((j : ℕ) → roomAt j ≤ most j) → (l p : ℕ) → Proper fit roomAt most top r (suc l) p
@@ -141,16 +142,18 @@ module _ (n top : ℕ) (half most : ℕ → ℕ) (r s : Nodes) (fit fit′ : ℕ
     delete-collapse wide l p h m one e =
         let spots = places r (suc (suc l)) (the p) in
         let t = collapse r (suc l) (rootLess (suc l) p) in
+        let laid = delete-made r s k n fit′ fit-n (suc l) (chosen k (r p (suc (suc l)))) m in
         let fitLive : ℕ → ℕ → Type 0 = λ j q. fit j q × LiveAt spots j q in (
           record {
-            rooted = collapse-ok k n top half most r s fit fit′ fit-n keep same k-top wide l p (h .rooted) m one e;
+            rooted = collapse-ok k (λ _. n) top half most r s fit fit′ keep same k-top wide l p (h .rooted) laid one e
+                (fit-n (t .level));
             tied = retied (λ _. 0) (λ _. ⊥) (λ l z _. z) (λ i j z _ _. absurd z) (λ l j z _. z) spots (h .tied) (suc (t .level))
                 (places s (suc (t .level)) (the n))
                 (collapse-where k n top half most r s fitLive fit′ (λ l b i. keep l b (i .0)) (λ q l i. same q l (i .0)) k-top (t .level) (t .list)
-                (the-top k n top half most r s fitLive fit′ fit-n (λ l b i. keep l b (i .0)) (λ q l i. same q l (i .0)) k-top wide l p
-                (with-live fit roomAt most top r (suc l) p (h .rooted)) m one e .rises) e);
+                (the-top k (λ _. n) top half most r s fitLive fit′ (λ l b i. keep l b (i .0)) (λ q l i. same q l (i .0)) k-top wide l p
+                (with-live fit roomAt most top r (suc l) p (h .rooted)) laid one e .rises) e);
           },
-          collapse-pairs k n top half most r s fit fit′ fit-n keep same k-top wide l p (h .rooted) m one e,
+          collapse-pairs k (λ _. n) top half most r s fit fit′ keep same k-top wide l p (h .rooted) laid one e,
         )
 
 -- every place's level, and the first key of its node
