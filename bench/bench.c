@@ -1,12 +1,15 @@
-/* bench.c: how long the calls take, in one run, at 3, 64 and 1,024 blocks of both chips; beside them memcpy of the image as the
- * yardstick, and get and put of the same keys in LMDB (built with -DWITH_LMDB -llmdb) as what a user might pick instead. Then a table of
- * carrying 4,096 records as a text (request 13), beside one judged insert, and one of inserts that collect so many pages (request 7).
+/* bench.c: how long the calls take, judged and with the record of an opening (request 8), in one run, at 3, 64 and 1,024 blocks of both chips;
+ * beside them memcpy of the image as the yardstick, and get and put of the same keys in LMDB (built with -DWITH_LMDB -llmdb) as what a user
+ * might pick instead. Then a table of carrying 4,096 records as a text (request 13), beside one judged insert, and one of inserts that
+ * collect so many pages (request 7).
  *
- * usage: bench [--svg OUT]      prints a table for each chip; OUT takes a plot of time against blocks
- *        bench --carry          the table of carrying alone
- *        bench --collect        the table of collecting alone
+ * usage: bench [--svg OUT OPENED]   prints a table for each chip; OUT takes a plot of time against blocks, OPENED one of the calls with and
+ *                                   without a record
+ *        bench --carry              the table of carrying alone
+ *        bench --collect            the table of collecting alone
+ *        bench --outdated           the longest calls on damaged images under a record that stands
  *
- * Put into a checkout of before request 7 it builds there too, so that both can be measured in one sitting.
+ * Put into a checkout of before request 7 or 8 it builds there too, so that both can be measured in one sitting.
  */
 #define _POSIX_C_SOURCE 200809L
 #include "../c/mutree.h"
@@ -37,12 +40,21 @@ enum { LEFT = 90, SPAN = 300, PANEL = 390 }; /* of the plot, in pixels */
 static const unsigned sizes[SIZES] = { 3, 64, 1024 };
 static const char *const chip_names[CHIPS] = { "small pages", "large pages" };
 
-enum { MEMCPY, READ, LOOKUP, DISORDER, INSERT, COLLECT, DELETE, FORMAT, PATROL, LMDB_GET, LMDB_PUT, KINDS };
+enum {
+    MEMCPY, READ, LOOKUP, DISORDER, INSERT, COLLECT, DELETE, FORMAT, PATROL,
+    OPEN, LOOKUP_OPENED, LIST_OPENED, INSERT_OPENED, COLLECT_OPENED, DELETE_OPENED, /* in this order */
+    LMDB_GET, LMDB_PUT, KINDS
+};
 
 static const char *const names[KINDS] = {
     "memcpy of the image", "reading the image", "lookup, judged", "lookup, a number out of order", "insert, no collection", "insert, with collection", "delete", "format",
-    "patrol of the whole image", "LMDB get", "LMDB put, no sync"
+    "patrol of the whole image", "opening", "lookup, opened", "list of 100 pairs, opened", "insert, opened, no collection", "insert, opened, with collection",
+    "delete, opened", "LMDB get", "LMDB put, no sync"
 };
+
+/* What the plot of calls with and without a record shows. */
+static const int in_opened_plot[KINDS] = { [MEMCPY] = 1, [LOOKUP] = 1, [INSERT] = 1, [COLLECT] = 1, [DELETE] = 1, [OPEN] = 1, [LOOKUP_OPENED] = 1,
+                                           [INSERT_OPENED] = 1, [COLLECT_OPENED] = 1, [DELETE_OPENED] = 1, [LMDB_GET] = 1 };
 
 /* The insert with the most stores that there is: how long it takes, a memcpy of its image, its blocks, pages and erases. */
 struct worst {
@@ -239,10 +251,70 @@ static uint32_t patrol_all(const struct mutree_geometry *chip, uint8_t *image, s
     return found;
 }
 
+/* ---- the calls with a record; before request 8 there are none */
+#ifdef MUTREE_RECORD_BYTES
+static uint8_t record[MUTREE_RECORD_BYTES], first_record[MUTREE_RECORD_BYTES]; /* of the image, and as it was at the start */
+
+static void open_at_start(uint32_t chip, const uint8_t *start, size_t length)
+{
+    uint8_t result[MUTREE_RESULT_BYTES];
+    need(mutree_open(chip, start, length, first_record, sizeof first_record, result, sizeof result) == MUTREE_DONE, "an opening was refused");
+    memcpy(record, first_record, sizeof record);
+}
+
+static uint32_t call_opened(int kind, uint32_t chip, uint8_t *image, size_t length, uint32_t key)
+{
+    static uint32_t pairs[200];
+    uint8_t result[MUTREE_RESULT_BYTES];
+    if (kind >= INSERT_OPENED)
+        memcpy(record, first_record, sizeof record);
+    switch (kind) {
+    case OPEN: return mutree_open(chip, image, length, record, sizeof record, result, sizeof result);
+    case LOOKUP_OPENED: return mutree_lookup_opened(chip, image, length, record, sizeof record, key, result, sizeof result);
+    case LIST_OPENED: return mutree_list_opened(chip, image, length, record, sizeof record, key, key + 16 * 99, pairs, 200, result, sizeof result);
+    case DELETE_OPENED: return mutree_delete_opened(chip, image, length, record, sizeof record, LENT key, UINT32_MAX, result, sizeof result);
+    default: return mutree_insert_opened(chip, image, length, record, sizeof record, LENT key + 1, key, UINT32_MAX, result, sizeof result);
+    }
+}
+
+enum { OPENED_KINDS = 1 };
+#else
+static void open_at_start(uint32_t chip, const uint8_t *start, size_t length)
+{
+    (void)chip, (void)start, (void)length;
+}
+
+static uint32_t call_opened(int kind, uint32_t chip, uint8_t *image, size_t length, uint32_t key)
+{
+    (void)kind, (void)chip, (void)image, (void)length, (void)key;
+    return MUTREE_LENGTH;
+}
+
+enum { OPENED_KINDS = 0 };
+#endif
+
+static int is_opened(int kind)
+{
+    return kind >= OPEN && kind <= DELETE_OPENED;
+}
+
+/* Calls that write nothing: they need no copy back. Short ones are timed many at once. */
+static int only_reads(int kind)
+{
+    return kind == LOOKUP || kind == DISORDER || (kind >= OPEN && kind <= LIST_OPENED);
+}
+
+static int times_at_once(int kind)
+{
+    return kind == LOOKUP_OPENED || kind == LIST_OPENED ? 1000 : 1;
+}
+
 /* ---- the calls, each on the same image again: the copy back is not counted */
 static uint32_t call(int kind, uint32_t chip, const uint8_t *start, uint8_t *image, size_t length, uint32_t key)
 {
     uint8_t result[MUTREE_RESULT_BYTES];
+    if (is_opened(kind))
+        return call_opened(kind, chip, image, length, key);
     switch (kind) {
     case MEMCPY: memcpy(image, start, length); return MUTREE_DONE;
     case READ: return read_all(image, length);
@@ -258,19 +330,27 @@ static uint32_t call(int kind, uint32_t chip, const uint8_t *start, uint8_t *ima
 static double time_call(int kind, uint32_t chip, const uint8_t *start, uint8_t *image, size_t length, uint32_t keys)
 {
     double total = 0;
-    int i, rounds = length > 4000000 ? 12 : 200;
+    int i, j, rounds = length > 4000000 ? 12 : 200, at_once = times_at_once(kind);
     memcpy(image, start, length);
+    if (is_opened(kind))
+        open_at_start(chip, start, length);
     for (i = 0; i < rounds; i++) {
-        uint32_t key = 16 * (1 + some(keys)), answer;
+        uint32_t answer = MUTREE_DONE;
         double from;
-        if (kind != LOOKUP && kind != DISORDER)
+        if (!only_reads(kind))
             memcpy(image, start, length);
         from = now();
-        answer = call(kind, chip, start, image, length, key);
+        for (j = 0; j < at_once; j++)
+            answer |= call(kind, chip, start, image, length, 16 * (1 + some(keys)));
         total += now() - from;
         need(answer == 0, "a call was refused");
     }
-    return total / rounds;
+    return total / rounds / at_once;
+}
+
+static int is_tight(int kind)
+{
+    return kind == COLLECT || kind == COLLECT_OPENED;
 }
 
 static void measure(const struct mutree_geometry *chip, int at)
@@ -284,8 +364,8 @@ static void measure(const struct mutree_geometry *chip, int at)
     int kind;
     need(image != NULL, "out of memory");
     f->keys = (unsigned long)leaves * keys_a_leaf(chip);
-    for (kind = MEMCPY; kind <= PATROL; kind++)
-        f->time[kind] = time_call(kind, chip->number, kind == COLLECT ? tight : kind == DISORDER ? unsorted : roomy, image, length,
+    for (kind = MEMCPY; kind <= (OPENED_KINDS ? DELETE_OPENED : PATROL); kind++)
+        f->time[kind] = time_call(kind, chip->number, is_tight(kind) ? tight : kind == DISORDER ? unsorted : roomy, image, length,
                                   (uint32_t)f->keys);
     free(image);
     free(roomy);
@@ -537,7 +617,7 @@ static void table(uint32_t chip)
             continue;
         printf("| %s |", names[kind]);
         for (at = 0; at < SIZES; at++)
-            printf(" %.1f (%.2f) |", 1e6 * f[at].time[kind], f[at].time[kind] / f[at].time[MEMCPY]);
+            printf(" %.*f (%.2f) |", f[at].time[kind] < 1e-6 ? 2 : 1, 1e6 * f[at].time[kind], f[at].time[kind] / f[at].time[MEMCPY]);
         printf("\n");
     }
     printf("\n");
@@ -589,13 +669,20 @@ static double across(uint32_t chip, unsigned blocks)
     return LEFT + PANEL * chip + SPAN * logarithm((double)blocks / sizes[0]) / logarithm((double)sizes[SIZES - 1] / sizes[0]);
 }
 
-static const char *const colours[KINDS] = { "#000000", "#999999", "#1b7837", "#7fbf7b", "#2166ac", "#b2182b", "#762a83", "#e08214", "#c51b7d", "#4d9221", "#8073ac" };
+static const char *const colours[KINDS] = { "#000000", "#999999", "#1b7837", "#7fbf7b", "#2166ac", "#b2182b", "#762a83", "#e08214", "#c51b7d",
+                                            "#f1b6da", "#1b7837", "#a6d96a", "#2166ac", "#b2182b", "#762a83", "#4d9221", "#8073ac" };
+
+/* A call with a record has the colour of the one without, and a broken line. */
+static const char *dashes(int kind)
+{
+    return is_opened(kind) ? " stroke-dasharray='6 4'" : "";
+}
 
 /* One call's line through its three points. */
 static void plot_line(FILE *f, uint32_t chip, int kind)
 {
     int at;
-    fprintf(f, "<polyline fill='none' stroke='%s' stroke-width='2' points='", colours[kind]);
+    fprintf(f, "<!-- %s --><polyline fill='none' stroke='%s'%s stroke-width='2' points='", names[kind], colours[kind], dashes(kind));
     for (at = 0; at < SIZES; at++)
         fprintf(f, "%.1f,%.1f ", across(chip, sizes[at]), height_of(measured[chip][at].time[kind]));
     fprintf(f, "'/>\n");
@@ -605,45 +692,122 @@ static void plot_line(FILE *f, uint32_t chip, int kind)
     fprintf(f, "\n");
 }
 
-static void plot_panel(FILE *f, uint32_t chip)
+static int is_shown(const int *shown, int kind)
+{
+    return measured[0][0].time[kind] > 0 && (shown == NULL || shown[kind]);
+}
+
+static void plot_panel(FILE *f, uint32_t chip, const int *shown)
 {
     int at, kind;
     fprintf(f, "<text x='%.1f' y='448' text-anchor='middle'>%s</text>\n", LEFT + PANEL * chip + SPAN / 2.0, chip_names[chip]);
     for (at = 0; at < SIZES; at++)
         fprintf(f, "<text x='%.1f' y='424' text-anchor='middle'>%u blocks</text>\n", across(chip, sizes[at]), sizes[at]);
     for (kind = 0; kind < KINDS; kind++)
-        if (measured[chip][0].time[kind] > 0)
+        if (is_shown(shown, kind))
             plot_line(f, chip, kind);
 }
 
 /* The powers of ten across both panels, and the names of the lines. */
-static void plot_frame(FILE *f)
+static void plot_frame(FILE *f, const int *shown)
 {
     static const char *const powers[] = { "0.1 µs", "1 µs", "10 µs", "100 µs", "1 ms", "10 ms", "100 ms", "1 s" };
-    int line, kind, right = LEFT + PANEL * CHIPS;
+    int line, kind, at = 40, right = LEFT + PANEL * CHIPS;
     for (line = 0; line <= 7; line++)
         fprintf(f, "<line x1='70' x2='%d' y1='%d' y2='%d' stroke='#dddddd'/><text x='64' y='%d' text-anchor='end'>%s</text>\n",
                 right - 20, 400 - 54 * line, 400 - 54 * line, 404 - 54 * line, powers[line]);
     for (kind = 0; kind < KINDS; kind++)
-        if (measured[0][0].time[kind] > 0)
-            fprintf(f, "<line x1='%d' x2='%d' y1='%d' y2='%d' stroke='%s' stroke-width='2'/><text x='%d' y='%d'>%s</text>\n", right,
-                    right + 24, 40 + 20 * kind, 40 + 20 * kind, colours[kind], right + 30, 44 + 20 * kind, names[kind]);
+        if (is_shown(shown, kind)) {
+            fprintf(f, "<line x1='%d' x2='%d' y1='%d' y2='%d' stroke='%s'%s stroke-width='2'/><text x='%d' y='%d'>%s</text>\n", right, right + 24,
+                    at, at, colours[kind], dashes(kind), right + 30, at + 4, names[kind]);
+            at += 20;
+        }
 }
 
-static void plot(const char *path)
+/* All calls, or those that are shown. */
+static void plot(const char *path, const char *title, const int *shown)
 {
     FILE *f = fopen(path, "w");
     uint32_t chip;
     need(f != NULL, "cannot write the plot");
     fprintf(f, "<svg xmlns='http://www.w3.org/2000/svg' width='%d' height='460' font-family='sans-serif' font-size='12'>\n"
                "<rect width='100%%' height='100%%' fill='#ffffff'/>\n"
-               "<text x='70' y='14'>time of a call against blocks, both axes logarithmic</text>\n", LEFT + PANEL * CHIPS + 200);
-    plot_frame(f);
+               "<text x='70' y='14'>%s, both axes logarithmic</text>\n", LEFT + PANEL * CHIPS + 220, title);
+    plot_frame(f, shown);
     for (chip = 0; chip < CHIPS; chip++)
-        plot_panel(f, chip);
+        plot_panel(f, chip, shown);
     fputs("</svg>\n", f);
     need(fclose(f) == 0, "cannot write the plot");
 }
+
+/* ---- the longest calls under a record that stands on a damaged image: a page that leads to itself at every level, as often as a node can,
+ * with a full leaf or an empty one */
+#ifdef MUTREE_RECORD_BYTES
+static void spoil(const struct mutree_geometry *chip, uint8_t *image, uint8_t leaf)
+{
+    unsigned level, i;
+    for (i = 0; i < chip->slots; i++) {
+        write_number(image + MUTREE_SLOT_BYTES * i, i);
+        write_number(image + MUTREE_SLOT_BYTES * i + 4, 0);
+    }
+    write_number(image + chip->main_bytes, 1);
+    image[chip->main_bytes + 4] = (uint8_t)chip->top;
+    for (level = 1; level <= chip->top; level++)
+        image[chip->main_bytes + 4 + level] = level == 1 ? leaf : 255;
+}
+
+static void outdated_row(const struct mutree_geometry *chip, uint8_t *image, size_t length, uint8_t leaf)
+{
+    static uint32_t pairs[2];
+    uint8_t result[MUTREE_RESULT_BYTES], bytes[MUTREE_RECORD_BYTES];
+    double from, time[3];
+    uint32_t listed;
+    int i;
+    for (i = 0; i < 3; i++) {
+        memset(image, 255, length);
+        spoil(chip, image, leaf);
+        memset(bytes, 0, sizeof bytes);
+        write_number(bytes + 4, 1);
+        write_number(bytes + 8, 1);
+        write_number(bytes + 12, chip->top);
+        write_number(bytes + 16, 1);
+        write_number(bytes + 20, (uint32_t)(length / chip->page_bytes) - 1);
+        from = now();
+        if (i == 0)
+            mutree_insert_opened(chip->number, image, length, bytes, sizeof bytes, LENT 3, 3, UINT32_MAX, result, sizeof result);
+        else if (i == 1)
+            mutree_delete_opened(chip->number, image, length, bytes, sizeof bytes, LENT 3, UINT32_MAX, result, sizeof result);
+        else
+            mutree_list_opened(chip->number, image, length, bytes, sizeof bytes, 0, UINT32_MAX, pairs, 2, result, sizeof result);
+        time[i] = now() - from;
+    }
+    listed = mutree_read_listed(result).exist;
+    printf("| %s, a leaf with %u entries | %.1f | %.1f | %.1f | %lu |\n", chip_names[chip->number], (unsigned)leaf, 1e3 * time[0], 1e3 * time[1], 1e3 * time[2],
+           (unsigned long)listed);
+    fflush(stdout);
+}
+
+static void outdated_table(void)
+{
+    uint32_t number;
+    printf("| damaged, under a record that stands: milliseconds | insert | delete | list | pairs listed |\n|---|---|---|---|---|\n");
+    for (number = 0; number < CHIPS; number++) {
+        const struct mutree_geometry *chip = mutree_geometry_of(number);
+        size_t length = 1024 * (size_t)chip->block_bytes;
+        uint8_t *image = malloc(length);
+        need(image != NULL, "out of memory");
+        outdated_row(chip, image, length, 255);
+        outdated_row(chip, image, length, 0);
+        free(image);
+    }
+    printf("\n");
+}
+#else
+static void outdated_table(void)
+{
+    printf("there are no calls with a record\n");
+}
+#endif
 
 int main(int count, char **words)
 {
@@ -651,6 +815,10 @@ int main(int count, char **words)
     int at;
     if (count == 2 && strcmp(words[1], "--carry") == 0) {
         carry_table();
+        return 0;
+    }
+    if (count == 2 && strcmp(words[1], "--outdated") == 0) {
+        outdated_table();
         return 0;
     }
     for (chip = 0; chip < CHIPS; chip++)
@@ -673,7 +841,9 @@ int main(int count, char **words)
     printf("\n");
     carry_table();
     collect_table();
-    if (count == 3 && strcmp(words[1], "--svg") == 0)
-        plot(words[2]);
+    if (count >= 3 && strcmp(words[1], "--svg") == 0)
+        plot(words[2], "time of a call against blocks", NULL);
+    if (count == 4 && strcmp(words[1], "--svg") == 0)
+        plot(words[3], "time of a call against blocks, judged (whole lines) and with the record of an opening (broken lines)", in_opened_plot);
     return 0;
 }

@@ -18,23 +18,24 @@ struct tally {
     uint64_t programmed, erased;
 };
 
-static struct mutree_result obey(struct image *image, const struct order *order)
+static struct mutree_result obey(struct image *image, uint8_t *record, const struct order *order)
 {
     switch (order->kind) {
-    case ORDER_INSERT: return image_insert(image, order->key, order->address, UINT32_MAX);
-    case ORDER_DELETE: return image_delete(image, order->key, UINT32_MAX);
-    default: return image_lookup(image, order->key);
+    case ORDER_INSERT: return image_insert_opened(image, record, order->key, order->address);
+    case ORDER_DELETE: return image_delete_opened(image, record, order->key);
+    default: return image_lookup_opened(image, record, order->key);
     }
 }
 
-/* All lines, on the image in memory. The first that is not DONE ends it. */
+/* All lines, on the image in memory, which is judged once. The first that is not DONE ends it; a damaged image ends the first line. */
 static struct mutree_result obey_all(struct image *image, struct orders *orders, struct tally *tally, size_t *at)
 {
-    struct mutree_result result = { MUTREE_DONE, 0, 0, 0, 0, 0 };
+    uint8_t record[MUTREE_RECORD_BYTES];
+    struct mutree_result result = image_open(image, record);
     progress_begin();
-    for (*at = 0; *at < orders->count; ++*at) {
+    for (*at = 0; result.answer == MUTREE_DONE && *at < orders->count; ++*at) {
         struct order *order = &orders->list[*at];
-        result = obey(image, order);
+        result = obey(image, record, order);
         if (result.answer != MUTREE_DONE)
             break;
         if (order->kind == ORDER_LOOKUP)

@@ -87,6 +87,36 @@ struct mutree_result image_delete(struct image *image, uint32_t key, uint32_t al
     return mutree_read_result(result);
 }
 
+struct mutree_result image_open(const struct image *image, uint8_t *record)
+{
+    uint8_t result[MUTREE_RESULT_BYTES];
+    mutree_open(image->geometry->number, image->bytes, image->length, record, MUTREE_RECORD_BYTES, result, sizeof result);
+    return mutree_read_result(result);
+}
+
+struct mutree_result image_lookup_opened(const struct image *image, const uint8_t *record, uint32_t key)
+{
+    uint8_t result[MUTREE_RESULT_BYTES];
+    mutree_lookup_opened(image->geometry->number, image->bytes, image->length, record, MUTREE_RECORD_BYTES, key, result, sizeof result);
+    return mutree_read_result(result);
+}
+
+struct mutree_result image_insert_opened(struct image *image, uint8_t *record, uint32_t key, uint32_t address)
+{
+    uint8_t result[MUTREE_RESULT_BYTES];
+    mutree_insert_opened(image->geometry->number, image->bytes, image->length, record, MUTREE_RECORD_BYTES, live, MUTREE_MOST_LIVE_WORDS, key,
+                         address, UINT32_MAX, result, sizeof result);
+    return mutree_read_result(result);
+}
+
+struct mutree_result image_delete_opened(struct image *image, uint8_t *record, uint32_t key)
+{
+    uint8_t result[MUTREE_RESULT_BYTES];
+    mutree_delete_opened(image->geometry->number, image->bytes, image->length, record, MUTREE_RECORD_BYTES, live, MUTREE_MOST_LIVE_WORDS, key,
+                         UINT32_MAX, result, sizeof result);
+    return mutree_read_result(result);
+}
+
 struct mutree_result image_patrol(struct image *image, uint32_t page, uint32_t half)
 {
     uint8_t result[MUTREE_RESULT_BYTES];

@@ -40,4 +40,10 @@ struct mutree_result image_patrol(struct image *image, uint32_t page, uint32_t h
 struct mutree_exported image_export(const struct image *image, uint8_t *text, size_t room);
 struct mutree_imported image_import(struct image *image, const uint8_t *text, size_t length);
 
+/* For many calls on one image, which is then judged once: image_open fills a record of MUTREE_RECORD_BYTES, and the others go by it. */
+struct mutree_result image_open(const struct image *image, uint8_t *record);
+struct mutree_result image_lookup_opened(const struct image *image, const uint8_t *record, uint32_t key);
+struct mutree_result image_insert_opened(struct image *image, uint8_t *record, uint32_t key, uint32_t address);
+struct mutree_result image_delete_opened(struct image *image, uint8_t *record, uint32_t key);
+
 #endif

@@ -21,6 +21,49 @@ static int say_text(const struct text *text, uint32_t line)
     return MUTREE_TEXT;
 }
 
+/* The fewest blocks that take every text. */
+static uint32_t enough_for_all(const struct mutree_geometry *geometry)
+{
+    return geometry->number == MUTREE_SMALL ? 10 : 3;
+}
+
+/* An index with the entries of another one, keys rising: format and one insert each, by a record, as mutree_import does without one. */
+static struct mutree_imported insert_all(struct image *image, const struct image *from)
+{
+    static uint32_t pairs[2 * MUTREE_MOST_RECORDS];
+    uint8_t record[MUTREE_RECORD_BYTES];
+    uint32_t count = image_list(from, 0, UINT32_MAX, pairs, 2 * MUTREE_MOST_RECORDS).written;
+    struct mutree_result result = image_format(image);
+    struct mutree_imported imported = { MUTREE_DONE, 0, 0, 0, 0 };
+    imported.programmed = result.programmed;
+    imported.erased = result.erased;
+    imported.answer = image_open(image, record).answer;
+    while (imported.answer == MUTREE_DONE && imported.records < count) {
+        result = image_insert_opened(image, record, pairs[2 * imported.records], pairs[2 * imported.records + 1]);
+        imported.answer = result.answer;
+        imported.programmed += result.programmed;
+        imported.erased += result.erased;
+        imported.records += result.answer == MUTREE_DONE;
+    }
+    return imported;
+}
+
+/* mutree_import judges the image at each of its inserts, which takes long where there are many blocks. There the text is imported into the
+ * fewest that take every text, and its entries are inserted from there: the same answer, counts and bytes. */
+static struct mutree_imported import_into(struct image *image, const struct text *text)
+{
+    struct mutree_imported imported;
+    struct image few;
+    if (image->length <= enough_for_all(image->geometry) * (size_t)image->geometry->block_bytes)
+        return image_import(image, text->bytes, text->length);
+    few = image_erased(image->geometry, enough_for_all(image->geometry));
+    imported = image_import(&few, text->bytes, text->length);
+    if (imported.answer == MUTREE_DONE)
+        imported = insert_all(image, &few);
+    image_free(&few);
+    return imported;
+}
+
 /* The least number of blocks, above so many, that all records fit on, or 0. */
 static uint32_t enough_blocks(const struct text *text, const struct mutree_geometry *geometry, uint32_t blocks)
 {
@@ -68,7 +111,7 @@ static int save(const struct arguments *arguments, const struct text *text, cons
 /* The file is opened when the index is whole: nothing is written unless every record is stored. */
 static int import_text(const struct arguments *arguments, const struct text *text, struct image *image)
 {
-    struct mutree_imported imported = image_import(image, text->bytes, text->length);
+    struct mutree_imported imported = import_into(image, text);
     int status;
     if (imported.answer == MUTREE_TEXT)
         return say_text(text, imported.line);

@@ -42,7 +42,8 @@ static void mend(struct loaded *loaded)
                  found[MUTREE_BEYOND_REPAIR]);
 }
 
-/* Opens the device and reads it. Returns 0, or an exit status after a line. */
+/* Opens the device, reads it and judges what is there, once: the commands then go by the record. A damaged index is loaded too. Returns 0,
+ * or an exit status after a line. */
 static int load_device(struct loaded *loaded, const struct arguments *arguments, int to_change)
 {
     struct mutree_nand_result result;
@@ -54,7 +55,7 @@ static int load_device(struct loaded *loaded, const struct arguments *arguments,
     loaded->image.name = device;
     loaded->nand = mtd_nand(&loaded->mtd, &loaded->image, &loaded->copy);
     result = mutree_nand_read(&loaded->nand);
-    if (result.answer != MUTREE_DONE) {
+    if (result.answer == MUTREE_NAND_FAILED) {
         status = mtd_say_failed(&loaded->mtd, result);
         unload_device(loaded);
     } else if (arguments->mend) {
@@ -131,7 +132,7 @@ static int lookup_on_mtd(const struct arguments *arguments)
     status = load_device(&loaded, arguments, 0);
     if (status != 0)
         return status;
-    result = image_lookup(&loaded.image, key);
+    result = mutree_nand_lookup(&loaded.nand, key);
     if (result.answer == MUTREE_DONE)
         printf("%" PRIu32 "\n", result.address);
     else

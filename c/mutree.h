@@ -12,9 +12,9 @@
  * and is safe for any numbers, any bytes and any lengths.
  *
  * Every call returns its answer number and writes 24 bytes to the caller's result buffer: answer, address, pages
- * programmed, blocks erased, rule, page, 32 bits each, least byte first; mutree_list, mutree_export and mutree_import have other
- * counts in place of address, pages programmed and blocks erased. Bytes after the 24 stay as they were. With a shorter buffer the
- * call returns MUTREE_LENGTH and changes no buffer at all.
+ * programmed, blocks erased, rule, page, 32 bits each, least byte first; mutree_list, mutree_list_opened, mutree_export and
+ * mutree_import have other counts in place of address, pages programmed and blocks erased. Bytes after the 24 stay as they were. With a
+ * shorter buffer the call returns MUTREE_LENGTH and changes no buffer at all.
  *
  * With MUTREE_DAMAGED rule is the first broken rule of a sound image, 1 to 8, and page says where; in all other answers both are
  * 0. mutree_rule_words says each rule in words. The page of each, a page number of the image:
@@ -28,12 +28,37 @@
  *   6   the lowest page that breaks it
  *   4, 7, 8   0: they speak of the whole image (mutree_rule_has_page)
  *
- * mutree_insert and mutree_delete are lent a table of live pages as well: words of 32 bits, page p being bit p % 32 of word p / 32, so
- * one word for each block of the small chip and two for each of the large one (mutree_live_words). A page is live where the tree
- * that the image holds has a node on it. What stands in the words beforehand does not matter: a call works them out from the image at
- * its start, and a collection carries them on from page to page instead of walking the tree for each. After every answer but LENGTH and
- * DAMAGED, refusals and STOPPED among them, they are those of the image as it then is. LENGTH and DAMAGED leave every word, and words
+ * Inserts and deletes are lent a table of live pages as well: words of 32 bits, page p being bit p % 32 of word p / 32, so one word for
+ * each block of the small chip and two for each of the large one (mutree_live_words). A page is live where the tree that the image holds
+ * has a node on it. What stands in the words beforehand does not matter: a call works them out from the image at its start, and a
+ * collection carries them on from page to page instead of walking the tree for each. After every answer but LENGTH, DAMAGED and STALE,
+ * refusals and STOPPED among them, they are those of the image as it then is. LENGTH, DAMAGED and STALE leave every word, and words
  * past the image's always stay. Fewer words than the image needs give LENGTH, before the image is judged.
+ *
+ * Open once, call often. A lookup, list, export, insert or delete judges the whole image first, and on a long image that is most of its
+ * time. mutree_open judges it once and writes a record of MUTREE_RECORD_BYTES: root page, its sequence number, the largest one on the
+ * image, height, next page (the image's number of pages where there is none), erased pages, 32 bits each, least byte first
+ * (mutree_read_record). The calls whose names end in _opened take that record and judge nothing:
+ *
+ *   uint8_t record[MUTREE_RECORD_BYTES];
+ *   if (mutree_open(MUTREE_LARGE, image, image_len, record, sizeof record, result, sizeof result) == MUTREE_DONE)
+ *       mutree_insert_opened(MUTREE_LARGE, image, image_len, record, sizeof record, live, live_len, key, address, UINT32_MAX, ..);
+ *
+ *   - On a sound image with the record that opening gives for it, answers, image, words and numbers are those of the call without a
+ *     record, and the record that an insert or a delete leaves is what opening would then give: after every answer, STOPPED too. So one
+ *     opening serves any number of calls, as long as nothing else writes to the image.
+ *   - MUTREE_STALE, right after LENGTH: the page that the record names is not programmed with its sequence number and height. Nothing
+ *     is written, the record and the words are left as given. Open again.
+ *   - The record is the caller's and belongs to one image as it is. After mutree_insert, mutree_delete, mutree_format, mutree_import, a
+ *     patrol that mended, or bytes read anew from the chip it is outdated: open again. STALE IS NO GUARD AGAINST THAT. An update leaves the
+ *     page of the old root as it was until its block is erased, so an older record of the same image is mostly not STALE, and a lookup
+ *     with it finds an older map. Keep image and record together, and never a record on flash: after a crash read the chip and open.
+ *   - On other pairs the calls stay memory-safe and program erased pages only; demands 2 and 3, demand 1's refusal of damaged trees and
+ *     request 7's statements don't cover those pairs (docs/PROOF.md). That is: the answer may be another map's, a store may end the map
+ *     that stood there, blocks may be erased, a damaged tree is not refused, and the words may be wrong. Every call ends: a walk of
+ *     the tree stops after 8,388,608 nodes, a list after 536,870,912 pairs.
+ *   - A store to a page that is not erased is not made, and ends the call with STOPPED. So STOPPED with fewer stores than the allowance
+ *     (programmed + erased below it) says that the record is not this image's: open again. It is given on no other occasion.
  *
  * The caller owns all buffers. They must not overlap. Each pointer must be valid for its length; a call with a length of 0 may
  * pass any non-null pointer. mutree_list's buffer of numbers and the words of live pages are aligned as uint32_t is; the others need
@@ -55,10 +80,10 @@
  *               Large frames are touched page by page as they are made, so a guard page below the stack catches a stack that is
  *               too small.
  *
- * Two calls at once: on different images always; on one image lookups, lists and exports together, but no call beside an insert,
- * delete, format or import. Interrupts: a call may be interrupted at any place. A handler that calls the library is a second call at
- * once, and the same holds for it: no update of an image that a call was interrupted on, and no call at all on one that
- * is being updated. No call ends early or gives way; docs/BENCHMARKS.md says how long each takes.
+ * Two calls at once: on different images always; on one image lookups, lists, exports and openings together, but no call beside an
+ * insert, delete, format or import. Lookups and lists may share a record. Interrupts: a call may be interrupted at any place. A handler
+ * that calls the library is a second call at once, and the same holds for it: no update of an image that a call was interrupted on, and no
+ * call at all on one that is being updated. No call ends early or gives way; docs/BENCHMARKS.md says how long each takes.
  *
  * Capacity, measured (tests/limits). On the small chip rising keys answer MUTREE_HEIGHT after 7,456 keys however many blocks
  * there are; random keys did so after 14,835 to 25,108 keys in ten runs; no tree has more than 65,536 keys. On the large chip
@@ -84,7 +109,7 @@
 #include <stddef.h>
 #include <stdint.h>
 
-#define MUTREE_VERSION "0.8.0"
+#define MUTREE_VERSION "0.9.0"
 
 /* Lengths are 64 bits in the library. This line does not compile where size_t has another width. */
 typedef char mutree_needs_size_t_of_64_bits[sizeof(size_t) == 8 ? 1 : -1];
@@ -96,6 +121,7 @@ extern "C" {
 #define MUTREE_LEAST_BLOCKS 3u
 #define MUTREE_MOST_BLOCKS 1024u
 #define MUTREE_RESULT_BYTES 24u
+#define MUTREE_RECORD_BYTES 24u /* of what mutree_open writes */
 #define MUTREE_RULES 8u      /* of a sound image, numbered from 1 */
 #define MUTREE_SLOT_BYTES 8u /* a key and an address */
 #define MUTREE_HALF_BYTES 256u /* of a page's main bytes, what one code is of */
@@ -174,22 +200,26 @@ static inline int mutree_is_live(const uint32_t *live, uint32_t page)
     return (int)(live[page / MUTREE_WORD_PAGES] >> page % MUTREE_WORD_PAGES & 1);
 }
 
-/* The lowest number that applies is given; of an import TEXT comes right after LENGTH. 1 to 6 and 9 leave the image untouched, but
- * for an import that an insert's 3 to 6 ended halfway. 8 is not given yet. */
+/* The lowest number that applies is given; of an import TEXT comes right after LENGTH, and of a call with a record STALE. 1 to 6, 8 and 9
+ * leave the image untouched, but for an import that an insert's 3 to 6 ended halfway. */
 enum mutree_answer {
     MUTREE_DONE = 0,    /* it is done */
     MUTREE_LENGTH = 1,  /* the geometry's number is neither 0 nor 1; or the image's length is not 3 to 1,024 times the
                            chip's block (16,896, 135,168); or patrol's page or half is none; or an insert's or delete's
-                           words are too few; or the result buffer is too short. But for the short buffer the result is
-                           written */
+                           words are too few; or the record is too short; or the result buffer is. But for the short result
+                           buffer the result is written */
     MUTREE_DAMAGED = 2, /* the image is not a sound index of this chip: rule and page of the result say what is broken, and
-                           where. Calls from format on always leave a sound one */
+                           where. Calls from format on always leave a sound one. A call with a record does not judge, and never
+                           gives it */
     MUTREE_WORN = 3,    /* insert, delete: the sequence numbers are used up, the largest is above the chip's `worn` */
     MUTREE_ABSENT = 4,  /* lookup, delete: there is no such key */
     MUTREE_HEIGHT = 5,  /* insert: the tree can grow no higher (5, 7) */
     MUTREE_ROOM = 6,    /* insert, where it needs two pages or more: too few pages are free of live nodes */
     MUTREE_STOPPED = 7, /* insert, delete: the allowance was smaller than the stores needed; exactly that many of
-                           its first stores are made, and the index holds the old map */
+                           its first stores are made, and the index holds the old map. With a record and fewer stores than
+                           the allowance: the record is not this image's, open again */
+    MUTREE_STALE = 8,   /* calls with a record: the page that it names is not programmed with its sequence number and height.
+                           Open again */
     MUTREE_TEXT = 9     /* import: a line of the text is refused; the result has its number */
 };
 
@@ -228,7 +258,31 @@ static inline struct mutree_result mutree_read_result(const uint8_t *bytes)
     return r;
 }
 
-/* The result of mutree_list. */
+/* The record of an image: what mutree_open writes, and the calls with a record hand on. */
+struct mutree_record {
+    uint32_t root;   /* the page of the root */
+    uint32_t number; /* its sequence number */
+    uint32_t most;   /* the largest sequence number on the image */
+    uint32_t height; /* of the tree, 1 to the chip's `top`; 0 in the zeros of a refused opening, and never else */
+    uint32_t next;   /* the page that is programmed next; the image's number of pages where there is none */
+    uint32_t erased; /* pages that are erased */
+};
+
+/* The record, read from its 24 bytes. */
+static inline struct mutree_record mutree_read_record(const uint8_t *bytes)
+{
+    struct mutree_result n = mutree_read_result(bytes); /* six numbers too */
+    struct mutree_record r;
+    r.root = n.answer;
+    r.number = n.address;
+    r.most = n.programmed;
+    r.height = n.erased;
+    r.next = n.rule;
+    r.erased = n.page;
+    return r;
+}
+
+/* The result of mutree_list and mutree_list_opened. */
 struct mutree_listed {
     uint32_t answer;
     uint32_t exist;   /* pairs between the two keys */
@@ -237,7 +291,7 @@ struct mutree_listed {
     uint32_t page;
 };
 
-/* The result of mutree_list, read from the 24 bytes that it wrote. */
+/* The same, read from the 24 bytes that the call wrote. */
 static inline struct mutree_listed mutree_read_listed(const uint8_t *bytes)
 {
     struct mutree_result r = mutree_read_result(bytes);
@@ -377,6 +431,34 @@ uint32_t mutree_insert(uint32_t geometry, uint8_t *image, size_t image_len, uint
  * STOPPED. */
 uint32_t mutree_delete(uint32_t geometry, uint8_t *image, size_t image_len, uint32_t *live, size_t live_len, uint32_t key,
                        uint32_t allowance, uint8_t *result, size_t result_len);
+
+/* Judges the image and writes its record, for the calls below. Answers DONE, LENGTH or DAMAGED with rule and page; the other numbers of the
+ * result are 0. A refused opening writes 24 zeros to the record, which no sound image takes: calls with them are STALE. A record buffer of
+ * fewer than MUTREE_RECORD_BYTES is LENGTH, and is left as it was; bytes after the 24 stay. With a result buffer that is too short the
+ * call returns LENGTH, and both buffers stay. The image is only read; image, record and result must not overlap. */
+uint32_t mutree_open(uint32_t geometry, const uint8_t *image, size_t image_len, uint8_t *record, size_t record_len, uint8_t *result,
+                     size_t result_len);
+
+/* The calls with a record. Each does what the call without it does, and judges nothing; what holds of image and record is said above. A
+ * record of fewer than MUTREE_RECORD_BYTES is LENGTH, and the result is written; bytes after the 24 are neither read nor written. STALE
+ * comes right after LENGTH, DAMAGED never.
+ *
+ * The address of a key. Answers DONE with the address, LENGTH, STALE or ABSENT. Image and record are only read: they stay right. */
+uint32_t mutree_lookup_opened(uint32_t geometry, const uint8_t *image, size_t image_len, const uint8_t *record, size_t record_len,
+                              uint32_t key, uint8_t *result, size_t result_len);
+
+/* The pairs from `low` to `high`, as mutree_list gives them (mutree_read_listed). Answers DONE, LENGTH or STALE; both counts are 0 with the
+ * latter two, and `pairs` stays. Page after page with a small buffer, as there, and without judging the image each time. */
+uint32_t mutree_list_opened(uint32_t geometry, const uint8_t *image, size_t image_len, const uint8_t *record, size_t record_len,
+                            uint32_t low, uint32_t high, uint32_t *pairs, size_t pairs_len, uint8_t *result, size_t result_len);
+
+/* mutree_insert and mutree_delete with a record, words and allowance as there. The record is brought up to date: after every answer but
+ * LENGTH and STALE, which leave it, it is the record of the image as it then is. Answers those of the call without a record but DAMAGED,
+ * and STALE. An update that collects nothing looks at no dead page; one that is STOPPED surveys the image for its record. */
+uint32_t mutree_insert_opened(uint32_t geometry, uint8_t *image, size_t image_len, uint8_t *record, size_t record_len, uint32_t *live,
+                              size_t live_len, uint32_t key, uint32_t address, uint32_t allowance, uint8_t *result, size_t result_len);
+uint32_t mutree_delete_opened(uint32_t geometry, uint8_t *image, size_t image_len, uint8_t *record, size_t record_len, uint32_t *live,
+                              size_t live_len, uint32_t key, uint32_t allowance, uint8_t *result, size_t result_len);
 
 /* Compares a half's stored code with a fresh one, and mends the half where one bit is flipped. Answers DONE, with what was found
  * in place of the address and the bit in place of the pages programmed (mutree_found, mutree_bit), or LENGTH: a page that the

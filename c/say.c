@@ -12,7 +12,7 @@ static int changed;
 
 const char *answer_name(uint32_t answer)
 {
-    static const char *const names[] = { "DONE", "LENGTH", "DAMAGED", "WORN", "ABSENT", "HEIGHT", "ROOM", "STOPPED", "8", "TEXT" };
+    static const char *const names[] = { "DONE", "LENGTH", "DAMAGED", "WORN", "ABSENT", "HEIGHT", "ROOM", "STOPPED", "STALE", "TEXT" };
     return names[answer];
 }
 
@@ -37,7 +37,7 @@ const char *answer_meaning(struct mutree_result result)
         "the tree can grow no higher",
         "the insert needs two pages or more, and too few are free of live nodes",
         "the allowance was smaller than the stores needed; the old map is whole",
-        "",
+        "the record is not the image's",
         "a line of the text is refused"
     };
     return result.answer == MUTREE_DAMAGED ? damage_words(result) : meanings[result.answer];

@@ -1,6 +1,7 @@
 /* camera.c: a camera that keeps its last frames on flash and finds each by the time it was taken. The frames lie in a ring of slots, and the
  * index leads from a time to a slot. The chip of the index is simulated; power is lost now and then, also in the middle of a store.
  * What to look at: put_frame (the order of delete, frame and insert), act_on (what to do at each answer), start (after a crash).
+ * The index is judged once at each start, and then every call goes by the record that nand.h keeps of it in RAM (request 8).
  *
  * usage: camera CHIP FRAMES        CHIP is the geometry's number, 0 or 1
  */
@@ -20,20 +21,19 @@ static uint32_t frame[SLOTS]; /* stands for the frames: the time at which each w
 /* What does not. */
 static struct mutree_nand nand;
 static uint32_t next_slot, pairs[2 * SLOTS];
-static uint8_t result[MUTREE_RESULT_BYTES];
 static unsigned crashes, rebuilt, full; /* for the last line */
 
 static struct mutree_listed list(uint32_t low, uint32_t high)
 {
-    mutree_list(nand.geometry, nand.image, nand.length, low, high, pairs, 2 * SLOTS, result, sizeof result);
-    return mutree_read_listed(result);
+    return mutree_nand_list(&nand, low, high, pairs, 2 * SLOTS);
 }
 
-/* The frame of a time, or 0. A lookup reads the image in RAM and never the chip. */
+/* The frame of a time, or 0. A lookup reads the image in RAM, never the chip, and judges nothing. STALE is not seen here: where the record is
+ * not the image's, nand.h opens the image and asks again. Who calls mutree_lookup_opened with a record of his own does just that. */
 static uint32_t find_frame(uint32_t time)
 {
-    return mutree_lookup(nand.geometry, nand.image, nand.length, time, result, sizeof result) == MUTREE_DONE
-               ? frame[mutree_read_result(result).address] : 0;
+    struct mutree_result found = mutree_nand_lookup(&nand, time);
+    return found.answer == MUTREE_DONE ? frame[found.address] : 0;
 }
 
 /* Whether the index is sound and every key leads to the frame of its time. */
@@ -76,7 +76,7 @@ static enum todo act_on(struct mutree_nand_result made)
     case MUTREE_WORN:
     case MUTREE_DAMAGED: return rebuild() == GO_ON ? AGAIN : RESTART;
     case MUTREE_NAND_FAILED: return RESTART; /* the old map is on the chip and in RAM. Here power is gone; where it is not, try again */
-    default: abort(); /* LENGTH, MUTREE_NAND_CHANGED: the program is wrong. nand.h never gives STOPPED */
+    default: abort(); /* LENGTH, MUTREE_NAND_CHANGED: the program is wrong. nand.h never gives STOPPED or STALE */
     }
 }
 
@@ -96,14 +96,14 @@ static enum todo put_frame(uint32_t time)
     return todo;
 }
 
-/* After the power came back: read the chip, judge it, and find where the ring stood. A flipped bit is mended; a page that was cut in the
- * middle may look like one, so the frames are asked once more. */
+/* After the power came back: read the chip, which opens the index, and find where the ring stood. A flipped bit is mended; a page that was
+ * cut in the middle may look like one, so the frames are asked once more. */
 static enum todo start(void)
 {
-    uint32_t found[4], newest;
-    if (mutree_nand_read(&nand).answer != MUTREE_DONE)
+    uint32_t found[4], newest, answer = mutree_nand_read(&nand).answer;
+    if (answer == MUTREE_NAND_FAILED)
         return RESTART;
-    if (!fits_frames())
+    if (answer == MUTREE_DAMAGED)
         mutree_nand_patrol(&nand, found);
     if (!fits_frames() && rebuild() != GO_ON)
         return RESTART;

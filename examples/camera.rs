@@ -1,4 +1,5 @@
-//! camera.rs: the camera of camera.c in Rust: a ring of frames, found by time, on a chip whose power is lost now and then.
+//! camera.rs: the camera of camera.c in Rust: a ring of frames, found by time, on a chip whose power is lost now and then. The index is judged
+//! once at each start; then every call goes by the record that `Index` keeps in RAM, and a crash takes it away with the image.
 //!
 //! usage: camera CHIP FRAMES        CHIP is 0 (small pages) or 1 (large pages)
 
@@ -78,14 +79,20 @@ struct Camera {
 }
 
 impl Camera {
-    /// After the power came back: read the chip, judge it, find where the ring stood. An index that stays damaged is to be made anew from
-    /// the frames, as in camera.c.
+    /// After the power came back: read the chip, which opens the index, and find where the ring stood. What a patrol mended has to be opened
+    /// anew: until then every call is `Stale`. An index that stays damaged is to be made anew from the frames, as in camera.c.
     fn start(mut flash: Flash, frames: Vec<u32>, given_up: u32) -> Result<Camera, Refusal> {
         flash.power_after = None;
         let mut index = Index::new(flash.geometry, BLOCKS, flash);
-        index.read()?;
-        if let Err(Refusal::Damaged { rule: 1, .. }) = index.lookup(0) {
-            index.patrol()?;
+        match index.read() {
+            Err(Refusal::Damaged { rule: 1, .. }) => {
+                index.patrol()?;
+                assert_eq!(index.lookup(0), Err(Refusal::Stale));
+                index.open()?;
+            }
+            read => {
+                read?;
+            }
         }
         let pairs = index.list(0..=u32::MAX)?;
         let next = pairs.last().map_or(0, |(_, slot)| (*slot as usize + 1) % SLOTS);

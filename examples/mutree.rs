@@ -1,5 +1,6 @@
 //! mutree.rs: a safe wrapper over c/nand.h and c/mutree.h, with nothing but std. Copy it beside the firmware's own files and link nand.o and
-//! libmutree.a. The chip is whatever keeps the trait `Chip`; an `Index` owns it and the two buffers in RAM.
+//! libmutree.a. The chip is whatever keeps the trait `Chip`; an `Index` owns it, the two buffers in RAM and the record of the opened index, so that
+//! no call but `read`, `open` and `format` judges the image.
 //!
 //! A panic in a method of `Chip` ends the process: it can't pass through C.
 
@@ -54,6 +55,8 @@ pub enum Refusal {
     Absent,
     Height,
     Room,
+    /// The index is not opened: it was neither read nor formatted, or a patrol mended something. Call `open`.
+    Stale,
     /// The chip failed with this number. Index and chip are the same, with the stores made before it and the old map.
     Failed { made: Made, failure: i32 },
     /// A number that this wrapper does not know.
@@ -62,6 +65,17 @@ pub enum Refusal {
 
 /// How many halves a patrol found clean, with a flipped data bit, with a flipped code bit, beyond repair.
 pub type Found = [u32; 4];
+
+/// What nand.c keeps beside the image.
+#[repr(C)]
+#[derive(Clone, Copy)]
+struct Kept {
+    opened: i32,
+    record: [u8; 24],
+    filled: [u8; 1024],
+    stored: [u8; 1024],
+    live: [u32; 2048],
+}
 
 #[repr(C)]
 struct RawNand {
@@ -73,8 +87,7 @@ struct RawNand {
     program: extern "C" fn(*mut c_void, u32, *const u8, *const u8) -> i32,
     erase: extern "C" fn(*mut c_void, u32) -> i32,
     read: extern "C" fn(*mut c_void, u32, *mut u8, *mut u8) -> i32,
-    filled: [u8; 1024],
-    live: [u32; 2048],
+    kept: Kept,
 }
 
 #[repr(C)]
@@ -89,14 +102,18 @@ struct RawResult {
 
 extern "C" {
     fn mutree_nand_read(nand: *mut RawNand) -> RawResult;
+    fn mutree_nand_open(nand: *mut RawNand) -> RawResult;
     fn mutree_nand_patrol(nand: *mut RawNand, found: *mut u32) -> RawResult;
     fn mutree_nand_format(nand: *mut RawNand) -> RawResult;
     fn mutree_nand_insert(nand: *mut RawNand, key: u32, address: u32) -> RawResult;
     fn mutree_nand_delete(nand: *mut RawNand, key: u32) -> RawResult;
-    fn mutree_lookup(geometry: u32, image: *const u8, length: usize, key: u32, result: *mut u8, result_length: usize) -> u32;
-    fn mutree_list(
-        geometry: u32, image: *const u8, length: usize, low: u32, high: u32, pairs: *mut u32, numbers: usize, result: *mut u8,
+    fn mutree_lookup_opened(
+        geometry: u32, image: *const u8, length: usize, record: *const u8, record_length: usize, key: u32, result: *mut u8,
         result_length: usize,
+    ) -> u32;
+    fn mutree_list_opened(
+        geometry: u32, image: *const u8, length: usize, record: *const u8, record_length: usize, low: u32, high: u32, pairs: *mut u32,
+        numbers: usize, result: *mut u8, result_length: usize,
     ) -> u32;
 }
 
@@ -152,6 +169,7 @@ fn refusal(answer: u32, rule: u32, page: u32) -> Refusal {
         4 => Refusal::Absent,
         5 => Refusal::Height,
         6 => Refusal::Room,
+        8 => Refusal::Stale,
         other => Refusal::Other(other),
     }
 }
@@ -171,13 +189,15 @@ pub struct Index<C: Chip> {
     chip: C,
     image: Vec<u8>,
     copy: Vec<u8>,
+    kept: Box<Kept>,
 }
 
 impl<C: Chip> Index<C> {
     /// An index of so many blocks; nothing is read yet. `read` or `format` comes next.
     pub fn new(geometry: Geometry, blocks: usize, chip: C) -> Self {
         let length = blocks * geometry.block_bytes();
-        Index { geometry, chip, image: vec![255; length], copy: vec![255; length] }
+        let kept = Kept { opened: 0, record: [0; 24], filled: [0; 1024], stored: [0; 1024], live: [0; 2048] };
+        Index { geometry, chip, image: vec![255; length], copy: vec![255; length], kept: Box::new(kept) }
     }
 
     pub fn chip_mut(&mut self) -> &mut C {
@@ -200,15 +220,22 @@ impl<C: Chip> Index<C> {
             program: program::<C>,
             erase: erase::<C>,
             read: read::<C>,
-            filled: [0; 1024],
-            live: [0; 2048],
+            kept: *self.kept,
         };
-        settled(run(&mut nand))
+        let raw = run(&mut nand);
+        *self.kept = nand.kept;
+        settled(raw)
     }
 
     // SAFETY of the calls below: `call` gives a nand whose buffers have its length and whose callbacks fit its context.
+    /// Reads the chip and opens the index. `Damaged`: it is read all the same, and may be patrolled.
     pub fn read(&mut self) -> Result<Made, Refusal> {
         self.call(|nand| unsafe { mutree_nand_read(nand) })
+    }
+
+    /// Judges the index in RAM and keeps its record.
+    pub fn open(&mut self) -> Result<Made, Refusal> {
+        self.call(|nand| unsafe { mutree_nand_open(nand) })
     }
 
     pub fn patrol(&mut self) -> Result<Found, Refusal> {
@@ -229,10 +256,18 @@ impl<C: Chip> Index<C> {
         self.call(|nand| unsafe { mutree_nand_delete(nand, key) })
     }
 
+    /// The record, where the index is opened.
+    fn record(&self) -> Result<&[u8; 24], Refusal> {
+        if self.kept.opened != 0 { Ok(&self.kept.record) } else { Err(Refusal::Stale) }
+    }
+
     pub fn lookup(&self, key: u32) -> Result<Option<u32>, Refusal> {
         let mut result = [0u8; 24];
-        // SAFETY: image and result have the lengths given; the image is only read.
-        unsafe { mutree_lookup(self.geometry as u32, self.image.as_ptr(), self.image.len(), key, result.as_mut_ptr(), 24) };
+        let record = self.record()?;
+        // SAFETY: image, record and result have the lengths given; image and record are only read.
+        unsafe {
+            mutree_lookup_opened(self.geometry as u32, self.image.as_ptr(), self.image.len(), record.as_ptr(), 24, key, result.as_mut_ptr(), 24)
+        };
         let [answer, address, _, _, rule, page] = numbers(&result);
         match refusal(answer, rule, page) {
             Refusal::Absent => Ok(None),
@@ -252,11 +287,12 @@ impl<C: Chip> Index<C> {
     /// Fills the buffer, and returns how many pairs there are.
     fn list_into(&self, keys: &RangeInclusive<u32>, pairs: &mut [u32]) -> Result<usize, Refusal> {
         let mut result = [0u8; 24];
-        // SAFETY: each buffer has the length given; the image is only read.
+        let record = self.record()?;
+        // SAFETY: each buffer has the length given; image and record are only read.
         unsafe {
-            mutree_list(
-                self.geometry as u32, self.image.as_ptr(), self.image.len(), *keys.start(), *keys.end(), pairs.as_mut_ptr(), pairs.len(),
-                result.as_mut_ptr(), 24,
+            mutree_list_opened(
+                self.geometry as u32, self.image.as_ptr(), self.image.len(), record.as_ptr(), 24, *keys.start(), *keys.end(),
+                pairs.as_mut_ptr(), pairs.len(), result.as_mut_ptr(), 24,
             )
         };
         match numbers(&result) {

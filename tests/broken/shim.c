@@ -22,13 +22,20 @@
  * 37 the words stay as they were where an insert is ROOM   38 a stopped update leaves the words of the finished one
  * 39 DAMAGED changes a word   40 LENGTH changes a word   41 one word too few is taken   42 the two words of a large block are exchanged
  * 43 an update reads one word past those that are lent   44 too few words are told only where the image is sound
- * 45 a page without a leaf stays live when its inner node moves (marking.c has 34 to 45) */
+ * 45 a page without a leaf stays live when its inner node moves (marking.c has 34 to 45)
+ * 46 the record's next page is not moved on   47 the old root's number is kept   48 STALE without the height
+ * 49 a page that is not erased is programmed, under a record that is not the image's   50 the record is not written where an update is STOPPED
+ * 51 a refused opening leaves the record   52 a record of 23 bytes is taken   53 STALE changes a word   54 one byte is read past the record
+ * 55 the largest number is the root's   56 no next page is page 0   57 a call with a record judges the image   58 STALE before too few words
+ * 59 an erased page too many after a collection   60 a list by the record counts one pair less   61 STALE writes zeros to the record
+ * 62 an erased page stands   63 an update by the record leaves the words   64 a lookup by the record one address off (opening.c has 46 to 64) */
 #include "../../c/mutree.h"
 #include "../independent/code.h"
 #include "carrying.h"
 #include "damage.h"
 #include "listing.h"
 #include "marking.h"
+#include "opening.h"
 
 #include <stdlib.h>
 #include <string.h>
@@ -186,4 +193,43 @@ uint32_t mutree_patrol(uint32_t geometry, uint8_t *image, size_t image_len, uint
         half_at(geometry, image, page, half)[0] ^= 1;
     }
     return answer;
+}
+
+/* ---- request 8: faults 46 to 64 */
+uint32_t mutree_open(uint32_t geometry, const uint8_t *image, size_t image_len, uint8_t *record, size_t record_len, uint8_t *result,
+                     size_t result_len)
+{
+    return open_wrongly(FAULT, geometry, image, image_len, record, record_len, result, result_len);
+}
+
+uint32_t mutree_lookup_opened(uint32_t geometry, const uint8_t *image, size_t image_len, const uint8_t *record, size_t record_len, uint32_t key,
+                              uint8_t *result, size_t result_len)
+{
+    struct opened_call c = { A_LOOKUP, geometry, (uint8_t *)image, image_len, (uint8_t *)record, record_len, NULL, 0, key, 0, 0, result, result_len };
+    uint32_t none = 0;
+    c.lent = &none;
+    return call_wrongly(FAULT, c);
+}
+
+uint32_t mutree_list_opened(uint32_t geometry, const uint8_t *image, size_t image_len, const uint8_t *record, size_t record_len, uint32_t low,
+                            uint32_t high, uint32_t *pairs, size_t pairs_len, uint8_t *result, size_t result_len)
+{
+    struct opened_call c = { A_LIST, geometry, (uint8_t *)image, image_len, (uint8_t *)record, record_len, pairs, pairs_len, low, high, 0,
+                             result, result_len };
+    return call_wrongly(FAULT, c);
+}
+
+uint32_t mutree_insert_opened(uint32_t geometry, uint8_t *image, size_t image_len, uint8_t *record, size_t record_len, uint32_t *live,
+                              size_t live_len, uint32_t key, uint32_t address, uint32_t allowance, uint8_t *result, size_t result_len)
+{
+    struct opened_call c = { AN_INSERT, geometry, image, image_len, record, record_len, live, live_len, key, address, allowance, result,
+                             result_len };
+    return call_wrongly(FAULT, c);
+}
+
+uint32_t mutree_delete_opened(uint32_t geometry, uint8_t *image, size_t image_len, uint8_t *record, size_t record_len, uint32_t *live,
+                              size_t live_len, uint32_t key, uint32_t allowance, uint8_t *result, size_t result_len)
+{
+    struct opened_call c = { A_DELETE, geometry, image, image_len, record, record_len, live, live_len, key, 0, allowance, result, result_len };
+    return call_wrongly(FAULT, c);
 }

@@ -2,7 +2,7 @@
 
 A small translator for the part of antt that these files use: clauses by patterns, records, data, `pick`, `let`, `λ`.
 Arguments are worked out only where they are needed, as in mathematics. `blank`, `written`, `least`, `arg` and `freshCode`,
-and the library's `getD`, `set`, `replicate`, `bitXor`, `onesIn`, `trailingZeros`, are replaced by quick Python of the same
+and the library's `getD`, `set`, `replicate`, `bitXor`, `ones`, `onesIn`, `trailingZeros`, are replaced by quick Python of the same
 meaning (`plainCode` is `freshCode` as it stands); a few values are kept once known.
 """
 import re
@@ -275,6 +275,7 @@ class Definitions:
         yield "max", number(max)
         yield "onesIn", number(lambda k, n: bin(n % 2 ** k).count("1"))
         yield "trailingZeros", number(lambda k, n: next((i for i in range(k) if n >> i & 1), k))
+        yield "ones", Function(1, lambda n: bin(force(n)).count("1"))
         yield "not", Function(1, lambda b: not force(b))
         yield "length", Function(1, lambda l: len(force(l)))
         yield "take", Function(2, lambda n, l: force(l)[:force(n)])
@@ -341,8 +342,10 @@ class Definitions:
             return deep_entries(f(GEOMETRIES[mark], *args))
         return Function(f.arity, lambda g, *args: at(geometry_mark(force(g)), *[force(a) for a in args]))
 
-    def read(self, path):
-        clauses, own = {}, {}  # a name that another file has already is this file's alone
+    def read(self, path, taken=()):
+        """Reads a file. A name that another file has already is this file's alone; what it has of those is given back, and `taken` are
+        such names of another file that this one uses."""
+        clauses, own = {}, dict(taken)
         scope = ChainMap(own, self.names)
         for text in declarations(open(path, encoding="utf-8").read()):
             words = tokens(text)
@@ -355,6 +358,7 @@ class Definitions:
             clauses.setdefault(name, []).append((patterns, Parser(words[k + 1:], scope).expression()))
         for name, cs in clauses.items():
             (own if name in self.names else self.names)[name] = self.define(name, cs)
+        return own
 
     def define(self, name, cs):
         arity = len(cs[0][0])

@@ -15,13 +15,16 @@ import carrying
 import damage
 import listing
 import marking
+import opening
 import reference
 
-CALLS = {"format": 0, "lookup": 1, "insert": 2, "delete": 3, "patrol": 4, "list": 5, "export": 6, "import": 7}
-LENDS = "insert", "delete", "list", "export", "import"  # calls with a third buffer: words, numbers, or a text
+CALLS = {"format": 0, "lookup": 1, "insert": 2, "delete": 3, "patrol": 4, "list": 5, "export": 6, "import": 7,
+         "open": 8, "lookup_opened": 9, "insert_opened": 10, "delete_opened": 11, "list_opened": 12}
+LENDS = "insert", "delete", "list", "export", "import", "insert_opened", "delete_opened", "list_opened"  # calls that are lent words, numbers, or a text
+RECORDS = "open", "lookup_opened", "insert_opened", "delete_opened", "list_opened"  # calls with a record
 FOUND = ["clean", "data mended", "code mended", "beyond repair"]
-ANSWERS = ["DONE", "LENGTH", "DAMAGED", "WORN", "ABSENT", "HEIGHT", "ROOM", "STOPPED", "8", "TEXT"]
-GIVEN = [0, 1, 2, 3, 4, 5, 6, 7, 9]
+ANSWERS = ["DONE", "LENGTH", "DAMAGED", "WORN", "ABSENT", "HEIGHT", "ROOM", "STOPPED", "STALE", "TEXT"]
+GIVEN = [0, 1, 2, 3, 4, 5, 6, 7, 8, 9]
 LARGEST = 2 ** 32 - 1
 RESULT = 24  # bytes of the result: six numbers
 
@@ -39,20 +42,27 @@ class Library:
         self.marked = {}  # kinds of words of live pages (marking.KINDS), and how many there were
         self.listed = {}  # kinds of lists (listing.KINDS)
         self.carried = {}  # kinds of exports and imports (carrying.KINDS)
+        self.opened = {}  # kinds of openings and calls with a record (opening.KINDS)
         self.patrols = [0] * len(FOUND)  # halves by what a patrol found there
         self.clauses = {}  # clauses of request 5, and how many images broke each
         self.edges, self.beyond = 0, 0  # sound images with T - L = 64 (128), and images that break R8 alone
 
-    def call(self, name, img, buf, key=0, address=0, allowance=LARGEST, number=None, lent=b""):
-        p = self.process
+    def call(self, name, img, buf, key=0, address=0, allowance=LARGEST, number=None, lent=b"", record=b""):
+        p, parts = self.process, (img, buf, lent, record)
         number = self.geometry.number if number is None else number
-        p.stdin.write(struct.pack("<8I", CALLS[name], number, key, address, allowance, len(img), len(buf), len(lent)) + img + buf + lent)
+        p.stdin.write(struct.pack("<9I", CALLS[name], number, key, address, allowance, *map(len, parts)) + b"".join(parts))
         p.stdin.flush()
-        out = p.stdout.read(4 + len(img) + len(buf) + len(lent))
-        if len(out) != 4 + len(img) + len(buf) + len(lent):
+        answer, left = p.stdout.read(4), [p.stdout.read(len(part)) for part in parts]
+        if len(answer) != 4 or [len(part) for part in left] != [len(part) for part in parts]:
             sys.exit("differential: the library died in %s" % name)
-        out, left = out[:len(out) - len(lent)], out[len(out) - len(lent):]
-        return (struct.unpack("<I", out[:4])[0], out[4:4 + len(img)], out[4 + len(img):]) + ((left,) if name in LENDS else ())
+        return (struct.unpack("<I", answer)[0], *left[:2]) + ((left[2],) if name in LENDS else ()) + ((left[3],) if name in RECORDS else ())
+
+    def differs(self, img, text, lent=b""):
+        with open("build/differs.img", "wb") as f:
+            f.write(img)
+        with open("build/differs.lent", "wb") as f:
+            f.write(lent)
+        sys.exit("differential: %s chip: %s; the image is in build/differs.img" % (self.geometry.name, text))
 
     def hold(self, wanted, name, img, buf, **args):
         got = self.call(name, img, buf, **args)
@@ -60,14 +70,12 @@ class Library:
         key = name, wanted[0]
         self.met[key] = self.met.get(key, 0) + 1
         if got != wanted:
-            with open("build/differs.img", "wb") as f:
-                f.write(img)
             lent = args.pop("lent", b"")
-            with open("build/differs.lent", "wb") as f:
-                f.write(lent)
-            sys.exit("differential: %s chip: %s %s: returned %d, wanted %d; image %s; numbers %s, wanted %s%s; the image is in build/differs.img" % (
-                self.geometry.name, name, args, got[0], wanted[0], "alike" if got[1] == wanted[1] else "differs", numbers(got[2]), numbers(wanted[2]),
-                "" if got[3:] == wanted[3:] else "; what else was lent (build/differs.lent) differs"))
+            given = args.pop("record", b"")
+            self.differs(img, "%s %s: returned %d, wanted %d; image %s; numbers %s, wanted %s%s%s" % (
+                name, args, got[0], wanted[0], "alike" if got[1] == wanted[1] else "differs", numbers(got[2]), numbers(wanted[2]),
+                "" if got[3:] == wanted[3:] else "; what else was lent (build/differs.lent) differs",
+                "; record %s from %s, wanted %s" % (numbers(got[-1]), numbers(given), numbers(wanted[-1])) if name in RECORDS else ""), lent)
 
 
 def buffer(rng):
@@ -110,7 +118,9 @@ def every_update(library, m, rng, img, call):
 def lookups(library, m, rng, img, keys):
     for key in keys:
         buf = buffer(rng)
-        library.hold(m.c_call("lookup", img, buf, key), "lookup", img, buf, key=key)
+        want = m.c_call("lookup", img, buf, key)
+        library.hold(want, "lookup", img, buf, key=key)
+        opening.hold(library, m, rng, img, buf, want, "lookup_opened", key=key)
 
 
 def a_log(library, m, fuzz, rng):
@@ -129,6 +139,7 @@ def a_log(library, m, fuzz, rng):
         call = ("delete", key) if rng.random() < .25 else ("insert", key, rng.randrange(2 ** 32))
         img = every_update(library, m, rng, img, call)
         lookups(library, m, rng, img, [key])
+        opening.opens(library, m, rng, img, buffer)
         if rng.random() < .2:
             listing.lists(library, m, rng, img, buffer, 1)
             carrying.exports(library, m, rng, img, buffer, 1)
@@ -142,9 +153,20 @@ def hand_made(library, m, fuzz, rng):
         model = dict(m.map_of(img))
         call = fuzz.some_call(rng, m, img, model)
         lookups(library, m, rng, img, [call[1], rng.choice(list(model) or [0])])
+        opening.opens(library, m, rng, img, buffer)
         listing.lists(library, m, rng, img, buffer, 4)
         carrying.exports(library, m, rng, img, buffer, 2)
         img = every_update(library, m, rng, img, call)
+
+
+def exhausted(library, m, fuzz, rng):
+    """No erased page is left, so that a record has no next page (request 8); the first update erases a block."""
+    img = fuzz.hand_image(rng, m)
+    while m.F(img):
+        img = fuzz.hand_image(rng, m)
+    for _ in range(3):
+        opening.opens(library, m, rng, img, buffer)
+        every_update(library, m, rng, img, fuzz.some_call(rng, m, img, dict(m.map_of(img))))
 
 
 def highest(rng, m, fuzz):
@@ -239,6 +261,7 @@ def every_call(library, m, rng, img):
         clause = damage.clause(m, img)
         library.clauses[clause] = library.clauses.get(clause, 0) + 1
     lookups(library, m, rng, img, [rng.randrange(2 ** 32)])
+    opening.opens(library, m, rng, img, buffer)
     listing.lists(library, m, rng, img, buffer, 1)
     carrying.exports(library, m, rng, img, buffer, 1)
     every_update(library, m, rng, img, ("insert", rng.randrange(2 ** 32), 5))
@@ -286,8 +309,11 @@ def no_chip(library, m, fuzz, rng):
         buf = buffer(rng)
         number = rng.choice([2, 3, 256, 2 ** 31, LARGEST, rng.randrange(2, 2 ** 32)])
         lent = rng.randbytes(4 * rng.randrange(6)) if name in LENDS else b""
-        wanted = result(1, 0, 0, img, buf) + ((lent,) if name in LENDS else ())
-        library.hold(wanted, name, img, buf, key=rng.randrange(2 ** 32), address=LARGEST, number=number, lent=lent)
+        record = rng.randbytes(rng.choice([opening.RECORD, rng.randrange(40)])) if name in RECORDS else b""
+        zeros = name == "open" and len(buf) >= RESULT and len(record) >= opening.RECORD
+        left = bytes(opening.RECORD) + record[opening.RECORD:] if zeros else record
+        wanted = result(1, 0, 0, img, buf) + ((lent,) if name in LENDS else ()) + ((left,) if name in RECORDS else ())
+        library.hold(wanted, name, img, buf, key=rng.randrange(2 ** 32), address=LARGEST, number=number, lent=lent, record=record)
 
 
 def texts(library, m, fuzz, rng):
@@ -312,6 +338,7 @@ def tell_met(library, wanted):
     print("  damaged images: " + ", ".join("%s: %d" % (c, library.clauses[c]) for c in damage.CLAUSES))
     print("  words of live pages: " + ", ".join("%s: %d" % (k, library.marked.get(k, 0)) for k in marking.KINDS))
     print("  lists: " + ", ".join("%s: %d" % (k, library.listed.get(k, 0)) for k in listing.KINDS))
+    print("  opened: " + ", ".join("%s: %d" % (k, library.opened.get(k, 0)) for k in opening.KINDS))
     print("  carried: " + ", ".join("%s: %d" % (k, library.carried.get(k, 0)) for k in carrying.KINDS))
     print("  patrols: " + ", ".join("%s %d" % x for x in zip(FOUND, library.patrols)))
     print("  T - L = %d on %d sound images; %d images refused by R8 alone" % (
@@ -322,6 +349,8 @@ def tell_met(library, wanted):
         sys.exit("differential: words of live pages: never met " + ", ".join(k for k in marking.KINDS if k not in library.marked))
     if wanted >= 5000 and set(library.listed) != set(listing.KINDS):
         sys.exit("differential: a kind of list was never met")
+    if wanted >= 5000 and not set(opening.KINDS) <= set(library.opened):
+        sys.exit("differential: records: never met " + ", ".join(k for k in opening.KINDS if k not in library.opened))
     if wanted >= 5000 and carrying.missing(library, library.geometry):
         sys.exit("differential: never met " + ", ".join(carrying.missing(library, library.geometry)))
     if 0 in library.patrols:
@@ -332,7 +361,7 @@ def tell_met(library, wanted):
 
 def compare(fuzz, geometry, wanted, rng):
     library, m = Library(sys.argv[1], geometry), reference.mu(fuzz, geometry)
-    kinds = [no_chip, worn, flips, full_path, scarce, hand_made, broken, a_log, hand_made]
+    kinds = [no_chip, worn, flips, full_path, scarce, exhausted, hand_made, broken, a_log, hand_made]
     for kind in [bad_and_long_texts, texts, clauses] + kinds:
         kind(library, m, fuzz, rng)
     while library.calls < wanted:

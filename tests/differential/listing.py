@@ -1,6 +1,8 @@
 """Request 1 in the differential test: lists against the model's."""
 import struct
 
+import opening
+
 RESULT = 24
 LARGEST = 2 ** 32 - 1
 KINDS = ["no pairs", "all pairs", "cut short", "cut short at an odd length", "low above high", "no numbers", "refused", "short result"]
@@ -56,5 +58,6 @@ def lists(library, m, rng, img, buffer, times):
         pairs, buf = some_numbers(rng, exist), buffer(rng)
         want = wanted(m, img, low, high, pairs, buf)
         library.hold(want, "list", img, buf, key=low, address=high, lent=pairs)
+        opening.hold(library, m, rng, img, buf, want, "list_opened", (pairs,), key=low, address=high, lent=pairs)
         met = "short result" if len(buf) < RESULT else kind(want[0], low, high, exist, len(pairs) // 4)
         library.listed[met] = library.listed.get(met, 0) + 1

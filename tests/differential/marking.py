@@ -1,6 +1,8 @@
 """Request 7 in the differential test: the words of live pages that inserts and deletes are lent, against the model's table."""
 import struct
 
+import opening
+
 RESULT = 24
 LENGTH, DAMAGED = 1, 2
 ANSWERED = ["after DONE", "left by LENGTH", "left by DAMAGED", "after WORN", "after ABSENT", "after HEIGHT", "after ROOM", "after STOPPED"]
@@ -52,5 +54,6 @@ def hold(library, m, rng, img, buf, wanted, name, **args):
     words = some_words(rng, m, img)
     want = with_words(m, img, buf, words, wanted)
     library.hold(want, name, img, buf, lent=words, **args)
+    opening.hold(library, m, rng, img, buf, want, name + "_opened", (words,), lent=words, **args)
     for kind in kinds(m, img, buf, words, want):
         library.marked[kind] = library.marked.get(kind, 0) + 1

@@ -66,7 +66,7 @@ static size_t text(uint8_t *at)
 /* Whether the first bytes ask for an import over a formatted image. */
 static int is_import(const uint8_t *data)
 {
-    return (data[7] >> 2 & 3) == 3 && !(data[0] & 1) && data[7] & 1;
+    return (data[7] >> 2 & 3) == 3 && !(data[0] & 1) && data[7] & 1 && (data[0] >> 3 & 3) != 2;
 }
 
 /* The first bytes at random, then the image, or the text. */
@@ -87,7 +87,7 @@ static size_t input(uint8_t *data)
 int main(int count, char **words)
 {
     static uint8_t data[MOST];
-    long round, rounds = count > 1 ? atol(words[1]) : 2000;
+    long round, rounds = count > 1 ? atol(words[1]) : 3000;
     for (round = 0; round < rounds; round++) {
         fill(data, 8);
         LLVMFuzzerTestOneInput(data, input(data));

@@ -8,13 +8,14 @@
  * one that is not DAMAGED, a short result buffer stays as it was, and so do the bytes after the 24; rule and page are 0 but for
  * DAMAGED, and then a rule's number and a page of the image. A patrol that mended is clean when it is called again, and what it
  * changed is one bit; else it changes nothing. marking.c has what is checked of the words of live pages, listing.c of a list, carrying.c of
- * an export and an import; the text of an import is what follows the first bytes too. */
+ * an export and an import, opening.c of an opening and the calls with a record; the text of an import is what follows the first bytes too. */
 #define _DEFAULT_SOURCE
 #include "../../c/mutree.h"
 #include "../guarded.h"
 #include "carrying.h"
 #include "listing.h"
 #include "marking.h"
+#include "opening.h"
 
 #include <stdlib.h>
 #include <string.h>
@@ -31,9 +32,10 @@ struct head {
     size_t room;
     uint32_t key;
     struct change change;
+    struct trial trial;
 };
 
-enum { HEAD = 8, INSERT = 2, DELETE = 3, PATROL = 4, EXPORT = 5, IMPORT = 6, MOST_TEXT = 100000 };
+enum { HEAD = 8, INSERT = 2, DELETE = 3, PATROL = 4, EXPORT = 5, IMPORT = 6, OPENED = 7, MOST_TEXT = 100000 };
 
 /* What the inserts that make an image are lent. */
 static uint32_t live[MUTREE_MOST_LIVE_WORDS];
@@ -45,6 +47,8 @@ static uint32_t number(const uint8_t *at)
 
 static int kind_of(const uint8_t *data)
 {
+    if ((data[0] >> 3 & 3) == 2)
+        return OPENED;
     switch (data[7] >> 2 & 3) {
     case 1: return PATROL;
     case 3: return data[0] & 1 ? EXPORT : IMPORT;
@@ -64,12 +68,31 @@ static struct change change_of(const uint8_t *data)
     return change;
 }
 
+/* The record's own bytes are the last of the input. */
+static struct trial trial_of(const uint8_t *data, size_t size, struct head head)
+{
+    static const enum opened_call calls[] = { OPEN, LOOKUP_OPENED, INSERT_OPENED, DELETE_OPENED };
+    struct trial trial;
+    trial.which = (data[0] & 3) == 1 && data[7] & 4 ? LIST_OPENED : calls[data[0] & 3];
+    trial.kind = (enum record_kind)(data[5] >> 6);
+    trial.record_length = data[4] & 7 ? MUTREE_RECORD_BYTES + (data[4] >> 5) : data[4] >> 3;
+    trial.words = head.change.words;
+    trial.numbers = head.wish.numbers;
+    trial.key = head.key;
+    trial.high = head.wish.high;
+    trial.allowance = head.change.allowance;
+    memset(trial.bytes, 0, sizeof trial.bytes);
+    if (size >= HEAD + sizeof trial.bytes)
+        memcpy(trial.bytes, data + size - sizeof trial.bytes, sizeof trial.bytes);
+    return trial;
+}
+
 static struct head head_of(const uint8_t *data, size_t size)
 {
     struct head head;
     head.kind = kind_of(data);
     head.geometry = data[0] >> 2 & 1;
-    if (data[0] >> 3 == 31) /* now and then no chip */
+    if (data[0] >> 3 >= 30) /* now and then no chip */
         head.geometry = data[1] + MUTREE_GEOMETRIES;
     head.room = data[1] % 33;
     head.key = number(data + 2) % 1024;
@@ -83,6 +106,7 @@ static struct head head_of(const uint8_t *data, size_t size)
     head.lent = data[7] >> 4 == 15 ? 20000 : (size_t)data[6] << (data[7] >> 6);
     head.text = data + HEAD;
     head.text_length = size - HEAD < MOST_TEXT ? size - HEAD : MOST_TEXT;
+    head.trial = trial_of(data, size, head);
     return head;
 }
 
@@ -131,6 +155,7 @@ static uint32_t call(struct head head, struct guarded image, struct guarded resu
     case PATROL:
         return mutree_patrol(head.geometry, image.bytes, image.length, head.key % 256, head.key / 256 % 10, result.bytes, result.length);
     case EXPORT: return export_checked(head.geometry, image, head.lent, head.at_end, result);
+    case OPENED: return opened_checked(head.geometry, image, head.trial, head.at_end, result);
     default: return import_checked(head.geometry, image, head.text, head.text_length, head.at_end, result);
     }
 }
@@ -167,11 +192,11 @@ static void check_image(int kind, uint32_t geometry, uint32_t answer, struct gua
     uint8_t judged[MUTREE_RESULT_BYTES];
     if (geometry >= MUTREE_GEOMETRIES && answer != MUTREE_LENGTH)
         abort();
-    if (answer == MUTREE_TEXT ? kind != IMPORT : answer > MUTREE_STOPPED)
+    if (answer == MUTREE_TEXT ? kind != IMPORT : answer == MUTREE_STALE ? kind != OPENED : answer > MUTREE_STOPPED)
         abort();
     if (answer >= MUTREE_LENGTH && answer != MUTREE_STOPPED && !is_halfway(kind, answer) && memcmp(before, image.bytes, image.length) != 0)
         abort();
-    if (kind != PATROL && (answer == MUTREE_DONE || answer == MUTREE_STOPPED || is_halfway(kind, answer))
+    if (kind != PATROL && kind != OPENED && (answer == MUTREE_DONE || answer == MUTREE_STOPPED || is_halfway(kind, answer))
         && mutree_lookup(geometry, image.bytes, image.length, 0, judged, sizeof judged) == MUTREE_DAMAGED)
         abort();
 }

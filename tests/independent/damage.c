@@ -1,11 +1,13 @@
 /* damage.c: request 5. Images with one rule broken, or two, whose rule and page are known beforehand; and images with bytes
  * changed by chance. Of each the judge and every call of the library say the same rule and page. Edits of main bytes are given
  * fitting codes, or R1 (request 4) would be broken before the rule that is meant. */
+#define _DEFAULT_SOURCE
 #include "built.h"
 #include "carry.h"
 #include "code.h"
 #include "demands.h"
 #include "listing.h"
+#include "opened.h"
 
 #include <stdio.h>
 #include <stdlib.h>
@@ -17,16 +19,18 @@ static struct tree state;
 static unsigned long met[RULES + 1];
 
 /* ---- every call */
-enum { LOOKUP, LIST, EXPORT, INSERT, STOPPED_INSERT, DELETE, STOPPED_DELETE, CALLS };
+enum { LOOKUP, LIST, EXPORT, OPEN, INSERT, STOPPED_INSERT, DELETE, STOPPED_DELETE, CALLS };
 
 static uint32_t call(int which, uint8_t *now, size_t length, uint32_t key, uint8_t *result)
 {
     uint32_t allowance = which == STOPPED_INSERT || which == STOPPED_DELETE ? 0 : UINT32_MAX;
     struct update u = { which == INSERT || which == STOPPED_INSERT, key, 5 };
+    uint8_t record[RECORD];
     switch (which) {
     case LOOKUP: return mutree_lookup(chip->number, now, length, key, result, RESULT + 4);
     case LIST: return list_of_all(chip->number, now, length, result, RESULT + 4);
     case EXPORT: return export_any(chip->number, now, length, result, RESULT + 4);
+    case OPEN: return mutree_open(chip->number, now, length, record, sizeof record, result, RESULT + 4);
     default: return update_with_words(u, chip->number, now, length, allowance, result, RESULT + 4);
     }
 }
@@ -67,7 +71,7 @@ int is_judged_alike(const uint8_t *image, size_t length, uint32_t key)
         else if (answer == MUTREE_DAMAGED || number_at(result + 16) || number_at(result + 20))
             fail("a sound image is refused, or has a rule or page");
         if (memcmp(now, image, length))
-            fail("a refused call, a lookup, a list or an export wrote");
+            fail("a refused call, a lookup, a list, an export or an opening wrote");
     }
     free(now);
     met[rule]++;
@@ -378,7 +382,7 @@ static void change_something(void)
     case 0: spare_at(page)[some(5 + chip->top)] = (uint8_t)some(256); break;
     case 1: spare_at(page)[4 + level] = (uint8_t)some(some(2) ? 4 : 256); break;
     case 2: put_number(slot_at(page, level, some(4)) + 4, some(pages + 2)); break;
-    case 3: put_number(slot_at(page, level, some(40)), some(4294967295u)); break;
+    case 3: put_number(slot_at(page, level, some(40) % (chip->slots - first_slot(chip, level))), some(4294967295u)); break;
     case 4: erase(page); break;
     case 5: memcpy(page_at(page), page_at(some(pages)), chip->page); break;
     default: image[some((uint32_t)length)] ^= (uint8_t)(1 << some(8)); break;

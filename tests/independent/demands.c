@@ -3,15 +3,17 @@
  * last store; only erased pages are programmed and only blocks without live pages erased; the counts are the stores made.
  * Where a page is programmed on a wholly erased block, that block is the one that request 2 names. An insert is ROOM exactly
  * where T - L < 63 + k (127 + k), and a delete never (request 11). After every call the words of live pages are those of the image
- * (request 7).
+ * (request 7). Every call is made with the record of an opening too, and does the same (request 8).
  *
  * usage: demands [ROUNDS] [SEED] [small|large|both] [quick]
  *        quick: of an update of over 60 stores only the last three allowances are tried, and one of 97 differences of a code
  */
+#define _DEFAULT_SOURCE
 #include "built.h"
 #include "carry.h"
 #include "demands.h"
 #include "listing.h"
+#include "opened.h"
 
 #include <stdio.h>
 #include <stdlib.h>
@@ -389,6 +391,7 @@ static void look(const uint8_t *image, size_t length, uint32_t key)
     uint32_t answer = mutree_lookup(chip->number, image, length, key, result, sizeof result);
     if (mutree_read_result(result).rule || mutree_read_result(result).page)
         fail("rule and page of a sound image are not 0");
+    lookup_is_alike(chip->number, image, length, key, answer, result);
     if (has(key) ? answer != 0 || mutree_read_result(result).address != oracle[place_of(key)].address : answer != 4)
         fail("lookup differs from the map");
 }
@@ -493,6 +496,8 @@ static void test_chip(unsigned rounds)
     memset(&met, 0, sizeof met);
     met.least_spare = MOST_PAGES;
     words_are_the_live_pages();
+    opened_calls_are_the_calls();
+    outdated_records_are_safe(quick);
     reach_bounds();
     roots_grow();
     delete_is_never_short_of_room();
@@ -509,6 +514,8 @@ static void test_chip(unsigned rounds)
         fail("a choice among several wholly erased blocks, or one past the end, was not met");
     report();
     tell_words();
+    tell_opened();
+    tell_outdated();
     tell_lists();
     tell_exports();
     tell_imports();

@@ -4,9 +4,9 @@
  * page. defects.c has the texts that must be refused. */
 #define _DEFAULT_SOURCE
 #include "importing.h"
-#include "../guarded.h"
 #include "carry.h"
 #include "demands.h"
+#include "marked.h"
 #include "text.h"
 
 #include <stdio.h>
@@ -84,14 +84,6 @@ static void said(const struct expected *e, uint32_t answer, const uint8_t *resul
         fail("the counts of an import are not those of format and its inserts");
     if (number_at(result + RESULT) != 0x09090909u)
         fail("bytes after the 24 changed");
-}
-
-struct guarded guarded_copy(const uint8_t *bytes, size_t length)
-{
-    struct guarded copy = guarded_make(length, (int)pick(2));
-    if (length)
-        memcpy(copy.bytes, bytes, length);
-    return copy;
 }
 
 /* One import on a chip, which need not be the one that is tested, into an image with something in it. */

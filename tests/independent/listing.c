@@ -5,6 +5,7 @@
 #include "demands.h"
 #include "listing.h"
 #include "marked.h"
+#include "opened.h"
 
 #include <stdio.h>
 #include <string.h>
@@ -74,6 +75,7 @@ static void is_the_maps_part(uint32_t low, uint32_t high, size_t numbers)
     size_t exist;
     memset(result, 9, sizeof result);
     answer = list(chip->number, low, high, &pairs, result, sizeof result);
+    list_is_alike(chip->number, image, length, low, high, &pairs, answer, result);
     r = mutree_read_listed(result);
     exist = compared(low, high, &pairs);
     if (answer != MUTREE_DONE || r.answer != MUTREE_DONE || r.rule || r.page || mutree_read_result(result).erased)

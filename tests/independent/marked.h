@@ -8,6 +8,9 @@
 /* The caller frees it (guarded_free). */
 struct guarded marked(size_t length);
 
+/* The same with these bytes in it. */
+struct guarded guarded_copy(const uint8_t *bytes, size_t length);
+
 /* The same as numbers of 32 bits. */
 uint32_t *numbers_of(const struct guarded *lent);
 

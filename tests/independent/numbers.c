@@ -1,8 +1,10 @@
 /* numbers.c: the geometry's number. 0 and 1 are the two chips, another gives LENGTH, and its result is written all the same. What
  * c/mutree.h says of a chip is what the documents say. */
+#define _DEFAULT_SOURCE
 #include "carry.h"
 #include "demands.h"
 #include "listing.h"
+#include "opened.h"
 
 #include <stdlib.h>
 #include <string.h>
@@ -50,9 +52,10 @@ static void rules_are_the_documents(void)
     }
 }
 
-enum { CALLS = 8 };
+enum { CALLS = 8 + OPENED_CALLS };
 
-/* One call with a number that is no chip's: 0 format, 1 lookup, 2 insert, 3 delete, 4 patrol, 5 export, 6 import, 7 list. */
+/* One call with a number that is no chip's: 0 format, 1 lookup, 2 insert, 3 delete, 4 patrol, 5 export, 6 import, 7 list, then those with a
+ * record. */
 static uint32_t call(int which, uint32_t number, uint8_t *image, size_t length, uint8_t *result, size_t room)
 {
     struct update insert = { 1, 1, 1 }, delete = { 0, 1, 0 };
@@ -64,7 +67,8 @@ static uint32_t call(int which, uint32_t number, uint8_t *image, size_t length, 
     case 4: return mutree_patrol(number, image, length, 0, 0, result, room);
     case 5: return export_any(number, image, length, result, room);
     case 6: return import_any(number, image, length, result, room);
-    default: return list_of_all(number, image, length, result, room);
+    case 7: return list_of_all(number, image, length, result, room);
+    default: return any_opened(which - 8, number, image, length, result, room);
     }
 }
 

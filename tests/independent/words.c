@@ -6,6 +6,7 @@
 #include "built.h"
 #include "demands.h"
 #include "marked.h"
+#include "opened.h"
 
 #include <stdio.h>
 #include <stdlib.h>
@@ -73,11 +74,13 @@ static void are_those_of_the_image(const struct call *c, const struct guarded *l
     met.past += lent->length > WORD_BYTES * words;
 }
 
-/* The call with so many words. */
+/* The call with so many words; and on copies with the record that opening gives, which must leave the same (request 8). */
 static uint32_t call_with(const struct call *c, size_t words)
 {
     struct guarded lent = marked(WORD_BYTES * words);
+    struct twin twin = update_opened(c->u, c->number, c->image, c->length, c->allowance, c->result, c->room, words);
     uint32_t answer = make(c, &lent);
+    is_alike(&twin, answer, c->image, c->result, &lent);
     if (answer == MUTREE_LENGTH || answer == MUTREE_DAMAGED)
         stay_from(&lent, 0, "LENGTH or DAMAGED changed a word");
     else

@@ -52,6 +52,25 @@ static int tells_live_pages(const struct mutree_geometry *chip, size_t length)
     return mutree_live_words(chip->number, length) == MUTREE_LEAST_BLOCKS * chip->block_words && !mutree_is_live(live, 0) && mutree_is_live(live, 1);
 }
 
+/* Opened once: a key comes and goes by the record, which then is the same but for numbers, next page and erased pages; and one of zeros is STALE. */
+static int opens(const struct mutree_geometry *chip, size_t length)
+{
+    uint8_t record[MUTREE_RECORD_BYTES], zeros[MUTREE_RECORD_BYTES] = { 0 };
+    struct mutree_record at;
+    if (mutree_open(chip->number, image, length, record, sizeof record, result, sizeof result) != MUTREE_DONE)
+        return 0;
+    at = mutree_read_record(record);
+    if (mutree_insert_opened(chip->number, image, length, record, sizeof record, live, MUTREE_LEAST_BLOCKS * chip->block_words, 99, 5, UINT32_MAX, result,
+                             sizeof result) != MUTREE_DONE
+        || mutree_lookup_opened(chip->number, image, length, record, sizeof record, 99, result, sizeof result) != MUTREE_DONE
+        || mutree_list_opened(chip->number, image, length, record, sizeof record, 99, 99, pairs, 2, result, sizeof result) != MUTREE_DONE || pairs[1] != 5
+        || mutree_delete_opened(chip->number, image, length, record, sizeof record, live, MUTREE_LEAST_BLOCKS * chip->block_words, 99, UINT32_MAX, result,
+                                sizeof result) != MUTREE_DONE
+        || mutree_lookup_opened(chip->number, image, length, zeros, sizeof zeros, 99, result, sizeof result) != MUTREE_STALE)
+        return 0;
+    return mutree_read_record(record).most == at.most + 2 && mutree_read_record(record).erased == at.erased - 2 && at.height == 1;
+}
+
 /* An address stored and read again on a chip of three blocks, by a lookup and by a list, or 0. */
 static unsigned address_on(const struct mutree_geometry *chip, uint32_t key)
 {
@@ -61,7 +80,7 @@ static unsigned address_on(const struct mutree_geometry *chip, uint32_t key)
                          sizeof result) != MUTREE_DONE
         || !tells_live_pages(chip, length) || !mends(chip, length)
         || mutree_lookup(chip->number, image, length, key, result, sizeof result) != MUTREE_DONE
-        || mutree_read_result(result).address != 1000 + key || !carries(chip, length))
+        || mutree_read_result(result).address != 1000 + key || !opens(chip, length) || !carries(chip, length))
         return 0;
     if (mutree_list(chip->number, image, length, key, UINT32_MAX, pairs, 3, result, sizeof result) != MUTREE_DONE
         || mutree_read_listed(result).exist != 1 || mutree_read_listed(result).written != 1 || pairs[0] != key || pairs[2] != 0)

@@ -25,10 +25,22 @@ uint32_t __real_mutree_export(uint32_t geometry, const uint8_t *image, size_t im
 uint32_t __real_mutree_import(uint32_t geometry, uint8_t *image, size_t image_len, const uint8_t *text, size_t text_len, uint8_t *result,
                               size_t result_len);
 
-enum { FORMAT, LOOKUP, INSERT, DELETE, PATROL, LIST, EXPORT, IMPORT, NOTHING, CALLS };
+uint32_t __real_mutree_open(uint32_t geometry, const uint8_t *image, size_t image_len, uint8_t *record, size_t record_len, uint8_t *result,
+                            size_t result_len);
+uint32_t __real_mutree_lookup_opened(uint32_t geometry, const uint8_t *image, size_t image_len, const uint8_t *record, size_t record_len, uint32_t key,
+                                     uint8_t *result, size_t result_len);
+uint32_t __real_mutree_list_opened(uint32_t geometry, const uint8_t *image, size_t image_len, const uint8_t *record, size_t record_len, uint32_t low,
+                                   uint32_t high, uint32_t *pairs, size_t pairs_len, uint8_t *result, size_t result_len);
+uint32_t __real_mutree_insert_opened(uint32_t geometry, uint8_t *image, size_t image_len, uint8_t *record, size_t record_len, uint32_t *live,
+                                     size_t live_len, uint32_t key, uint32_t address, uint32_t allowance, uint8_t *result, size_t result_len);
+uint32_t __real_mutree_delete_opened(uint32_t geometry, uint8_t *image, size_t image_len, uint8_t *record, size_t record_len, uint32_t *live,
+                                     size_t live_len, uint32_t key, uint32_t allowance, uint8_t *result, size_t result_len);
+
+enum { FORMAT, LOOKUP, INSERT, DELETE, PATROL, LIST, EXPORT, IMPORT, OPEN, LOOKUP_OPENED, LIST_OPENED, INSERT_OPENED, DELETE_OPENED, NOTHING, CALLS };
 enum { ROOM = 1 << 20, PAINT = 0xA5 };
 
-static const char *const names[CALLS] = { "format", "lookup", "insert", "delete", "patrol", "list", "export", "import", "nothing" };
+static const char *const names[CALLS] = { "format", "lookup", "insert", "delete", "patrol", "list", "export", "import", "open", "lookup, opened",
+                                          "list, opened", "insert, opened", "delete, opened", "nothing" };
 static unsigned long most[CALLS], made[CALLS];
 static unsigned char *stack;
 static ucontext_t caller, callee;
@@ -45,7 +57,35 @@ static struct {
     size_t pairs_len;
     uint8_t *text; /* of an export or an import */
     size_t text_len;
+    uint8_t *record; /* of an opening, or a call with a record */
+    size_t record_len;
 } now;
+
+/* The calls with a record. */
+static void make_opened_call(void)
+{
+    switch (now.which) {
+    case OPEN:
+        now.answer = __real_mutree_open(now.geometry, now.image, now.image_len, now.record, now.record_len, now.result, now.result_len);
+        break;
+    case LOOKUP_OPENED:
+        now.answer = __real_mutree_lookup_opened(now.geometry, now.image, now.image_len, now.record, now.record_len, now.key, now.result,
+                                                 now.result_len);
+        break;
+    case LIST_OPENED:
+        now.answer = __real_mutree_list_opened(now.geometry, now.image, now.image_len, now.record, now.record_len, now.key, now.address, now.pairs,
+                                               now.pairs_len, now.result, now.result_len);
+        break;
+    case INSERT_OPENED:
+        now.answer = __real_mutree_insert_opened(now.geometry, now.image, now.image_len, now.record, now.record_len, now.live, now.live_len, now.key,
+                                                 now.address, now.allowance, now.result, now.result_len);
+        break;
+    case DELETE_OPENED:
+        now.answer = __real_mutree_delete_opened(now.geometry, now.image, now.image_len, now.record, now.record_len, now.live, now.live_len, now.key,
+                                                 now.allowance, now.result, now.result_len);
+        break;
+    }
+}
 
 static void make_call(void)
 {
@@ -77,6 +117,7 @@ static void make_call(void)
     case IMPORT:
         now.answer = __real_mutree_import(now.geometry, now.image, now.image_len, now.text, now.text_len, now.result, now.result_len);
         break;
+    default: make_opened_call();
     }
 }
 
@@ -230,4 +271,67 @@ uint32_t __wrap_mutree_insert(uint32_t geometry, uint8_t *image, size_t image_le
     if (answer == MUTREE_DONE)
         undo_on_copy(geometry, image, image_len, key);
     return answer;
+}
+
+/* ---- request 8: the calls with a record. The independent test makes each of its updates with one too, on the same trees */
+static void set_record(const uint8_t *record, size_t record_len)
+{
+    now.record = (uint8_t *)record;
+    now.record_len = record_len;
+}
+
+uint32_t __wrap_mutree_open(uint32_t geometry, const uint8_t *image, size_t image_len, uint8_t *record, size_t record_len, uint8_t *result,
+                            size_t result_len)
+{
+    set_buffers(geometry, image, image_len, result, result_len);
+    set_record(record, record_len);
+    return on_painted_stack(OPEN);
+}
+
+uint32_t __wrap_mutree_lookup_opened(uint32_t geometry, const uint8_t *image, size_t image_len, const uint8_t *record, size_t record_len, uint32_t key,
+                                     uint8_t *result, size_t result_len)
+{
+    set_buffers(geometry, image, image_len, result, result_len);
+    set_record(record, record_len);
+    now.key = key;
+    return on_painted_stack(LOOKUP_OPENED);
+}
+
+uint32_t __wrap_mutree_list_opened(uint32_t geometry, const uint8_t *image, size_t image_len, const uint8_t *record, size_t record_len, uint32_t low,
+                                   uint32_t high, uint32_t *pairs, size_t pairs_len, uint8_t *result, size_t result_len)
+{
+    set_buffers(geometry, image, image_len, result, result_len);
+    set_record(record, record_len);
+    now.key = low;
+    now.address = high;
+    now.pairs = pairs;
+    now.pairs_len = pairs_len;
+    return on_painted_stack(LIST_OPENED);
+}
+
+static void set_update(uint32_t *live, size_t live_len, uint32_t key, uint32_t address, uint32_t allowance)
+{
+    now.live = live;
+    now.live_len = live_len;
+    now.key = key;
+    now.address = address;
+    now.allowance = allowance;
+}
+
+uint32_t __wrap_mutree_insert_opened(uint32_t geometry, uint8_t *image, size_t image_len, uint8_t *record, size_t record_len, uint32_t *live,
+                                     size_t live_len, uint32_t key, uint32_t address, uint32_t allowance, uint8_t *result, size_t result_len)
+{
+    set_buffers(geometry, image, image_len, result, result_len);
+    set_record(record, record_len);
+    set_update(live, live_len, key, address, allowance);
+    return on_painted_stack(INSERT_OPENED);
+}
+
+uint32_t __wrap_mutree_delete_opened(uint32_t geometry, uint8_t *image, size_t image_len, uint8_t *record, size_t record_len, uint32_t *live,
+                                     size_t live_len, uint32_t key, uint32_t allowance, uint8_t *result, size_t result_len)
+{
+    set_buffers(geometry, image, image_len, result, result_len);
+    set_record(record, record_len);
+    set_update(live, live_len, key, 0, allowance);
+    return on_painted_stack(DELETE_OPENED);
 }

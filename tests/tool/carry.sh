@@ -159,6 +159,11 @@ if have seq; then
     has "$out" "head -n 4096 TEXT | mutree import NEW - BLOCKS" || fail "a text of 4,097 lines: no word of what to do: $out"
     # shellcheck disable=SC2086
     want 0 "DONE: 4096 records" import most.img most 12 $option
+    # on so many blocks the entries are inserted by a record; the same bytes as a format and the inserts
+    fresh inserted.img 12
+    sed 's/^/insert /' most | limited apply inserted.img > out 2>&1 || fail "4,096 inserts: $(cat out)"
+    cmp -s most.img inserted.img || fail "an import on many blocks leaves other bytes than a format and its inserts"
+    rm -f inserted.img
     # what the tool says is to be done with more
     # shellcheck disable=SC2086
     head -n 4096 many | limited import many.img - 12 $option > out 2>&1 || fail "the first 4,096 lines: $(cat out)"

@@ -1,4 +1,4 @@
-# README shows what the tool prints, the plot of docs/BENCHMARKS.md fits its figures, and docs/ARCHITECTURE.md fits the repository.
+# README shows what the tool prints, the plots of docs/BENCHMARKS.md fit its figures, and docs/ARCHITECTURE.md fits the repository.
 sh "$root/c/day.sh" "$tool" > day 2>&1 || fail "the short day ended with $?"
 
 # in_order FIRST PRINTED: README's indented lines from FIRST on, without their indentation, are lines of a file, in this order; '..'
@@ -60,6 +60,36 @@ if have awk; then
     }
     END { if (row == 0 || row != line) { print "tool: docs/bench.svg has " line " lines for " row " figures"; wrong = 1 } exit wrong }
     ' "$root/docs/BENCHMARKS.md" "$root/docs/bench.svg" || bad=1
+
+    # The plot of calls with and without a record, where it is there: each line has its name before it, once for each chip.
+    if [ -f "$root/docs/bench-opened.svg" ]; then
+        awk '
+        function height(v) { return 400 - 54 * (log(v < 0.1 ? 0.1 : v) / log(10) + 1) }
+        FNR == NR && /^\| (small|large) pages: microseconds a call/ { chip++ }
+        FNR == NR && /^\| .* \([0-9.]*\) \|/ {
+            split($0, part, "|")
+            for (i = 3; i <= 5; i++) { split(part[i], word, " "); figure[chip, part[2], i - 2] = word[1] }
+        }
+        FNR != NR && /<polyline/ {
+            name = $0
+            sub(/^<!-- /, " ", name)
+            sub(/ -->.*/, " ", name)
+            sub(/.*points=./, "")
+            split($0, point, " ")
+            met[name]++
+            for (i = 1; i <= 3; i++) {
+                split(point[i], place, ",")
+                v = figure[met[name], name, i]
+                if (v == "" || place[2] > height(v - 0.06) + 0.1 || place[2] < height(v + 0.06) - 0.1) {
+                    print "tool: docs/bench-opened.svg:" name "at " place[2] ", in docs/BENCHMARKS.md " v " microseconds"
+                    wrong = 1
+                }
+            }
+            lines++
+        }
+        END { if (lines < 10) { print "tool: docs/bench-opened.svg has " lines + 0 " lines"; wrong = 1 } exit wrong }
+        ' "$root/docs/BENCHMARKS.md" "$root/docs/bench-opened.svg" || bad=1
+    fi
 
     # The times of docs/USING.md are those of docs/BENCHMARKS.md: each row has the three figures of the small chip and then the large one's.
     awk '

@@ -1,35 +1,40 @@
 -- Laws of the account. Assumes nothing.
-use Prim.Native.Nat.{ℕ, _+_, _-_, _*_, _/_, _≤_}
+use Prim.Native.Nat.{ℕ, _+_, _-_, _*_, _/_, _<_, _≤_}
 use mathlib.Core.Bool.{Bool, true, false}
-use mathlib.Core.Path.{_≡_, refl, ap, _∙_}
+use mathlib.Core.Path.{_≡_, refl, sym, ap, _∙_}
 use mathlib.Core.List.{List}
 use lib.Dec.{ltb, leb}
-use lib.ListN.{length, take}
+use lib.ListN.{length, take, replicate, length-replicate, getD-replicate}
+use lib.Seq.{ext-getD}
 use native.Mathlib.Nat.{zero-add, mul-le-mul-right}
 use native.Mathlib.Omega.{arith}
-use borrow.Author.Tests.{lt-leb, le-leb, ltb-true, ltb-false}
+use borrow.Author.Tests.{lt-ltb, le-ltb, lt-leb, le-leb, ltb-true, ltb-false}
 use Rattle.geometry.specs.declared.Geometry.{Geometry}
-use Rattle.geometry.specs.Tests.{pick}
-use Rattle.model.specs.Calls.{made, roomless}
+use Rattle.geometry.specs.Tests.{pick, _&_, and-true, and-false}
+use Rattle.model.specs.Calls.{gives, roomless}
 use Rattle.model.specs.Image.{Chip}
 use Rattle.model.specs.Tree.{placesOf, live}
-use Rattle.model.specs.Stores.{Store, programs, erases}
+use Rattle.model.specs.Stores.{Store, applyAll, programs, erases}
 use Rattle.chip.specs.Chip.{chipWith}
-use Rattle.survey.specs.declared.Survey.{Survey}
-use Rattle.survey.specs.Survey.{surveyOf}
-use Rattle.survey.specs.Laws.{chip-is}
-use Rattle.walk.specs.Table.{liveIn, Marked}
+use Rattle.walk.specs.Table.{liveIn, noteAll, Zeros, Marked}
 use Rattle.walk.specs.Lows.{marked-live}
 use Rattle.live.specs.Words.{wordsOf, filled, allOnes}
 use Rattle.live.specs.Filled.{filled-alike}
-use Rattle.live.specs.Live.{liveWords}
-use Rattle.beside.specs.Update.{wordsWith}
+use Rattle.opened.specs.declared.Opened.{Opened}
+use Rattle.opened.specs.Opened.{openedIn}
+use Rattle.beside.specs.Update.{returned, wordsBy, recordMade}
+use Rattle.beside.specs.Calls.{noLevels}
+use Rattle.recording.specs.Recording.{recordAt}
+use Rattle.recording.specs.Laws.{made-at}
 use Rattle.crown.specs.declared.Own.{Own}
+use Rattle.crown.specs.Owns.{crestOf}
+use Rattle.answers.specs.declared.Answer.{Answer}
 use Rattle.answers.specs.declared.Answer.the-variants.{Done, Stopped}
 use Rattle.answers.specs.Answers.{told}
 use Rattle.stores.specs.declared.Budget.{Budget}
+use Rattle.stores.specs.Careful.{madeOf}
 use Rattle.stores.specs.Run.{Ran}
-use Rattle.account.specs.Account.{freshOf, answerBy, leftWords}
+use Rattle.account.specs.Account.{freshOf, answerBy, levelsBy, leftRecord, Leaves}
 
 pub answer-stopped : (b : Budget) → b .stopped ≡ true → Stopped (b .programmed) (b .erased) ≡ answerBy b
 unfolding answerBy
@@ -42,9 +47,15 @@ answer-done b e = rw e
 pub needed-none : (p k : ℕ) → p ≡ 0 → k ≡ 2 * p - 1 + k
 needed-none p k e = omega arith
 
-pub room-is : (g : Geometry) (n k p l w : ℕ) (lent : List ℕ) → p ≡ g .pages * n → l ≡ allOnes g n lent → w ≡ 2 * g .pages - 1 + k → ltb (p - l) w ≡ roomless g (g .pages * n - allOnes g n lent) k
-unfolding roomless
-room-is g n k p l w lent ep el ew = rw (ew, el, ep)
+module _ (g : Geometry) (n e k w : ℕ) (lent : List ℕ) (ew : w ≡ 2 * g .pages - 1 + k) where
+  pub room-erased : w ≤ e → false ≡ (roomless g e k & roomless g (g .pages * n - allOnes g n lent) k)
+  unfolding roomless
+  room-erased h = sym (rw (← ew, le-ltb e w h, and-false))
+
+  pub room-words : (p l : ℕ) → p ≡ g .pages * n → l ≡ allOnes g n lent → e < w
+      → ltb (p - l) w ≡ (roomless g e k & roomless g (g .pages * n - allOnes g n lent) k)
+  unfolding roomless
+  room-words p l ep el h = sym (rw (← ew, lt-ltb e w h, and-true, ← el, ← ep))
 
 -- ---- the lent words
 pub fill-is : (g : Geometry) (n m : ℕ) (tbl x y : List ℕ) → y ≡ filled (liveIn tbl) m x → m ≡ wordsOf g n → y ≡ filled (liveIn tbl) (wordsOf g n) x
@@ -60,41 +71,75 @@ by-table g n c tbl x m h =
     let w : g .pages / 32 * n * 32 ≤ g .pages * n = words-pages (g .pages) n in
     filled-alike (liveIn tbl) (live (placesOf c)) (wordsOf g n) (λ p k. marked-live c tbl m p (omega (arith, w, h))) x
 
-pub from-is : (g : Geometry) (n l r : ℕ) (img t tbl x y : List ℕ) → y ≡ filled (liveIn tbl) (wordsOf g n) x → Marked (chipWith g img l r) tbl → length tbl ≡ length t → g .pages * n ≤ length t
-    → y ≡ filled (live (placesOf (chipWith g img l r))) (wordsOf g n) x
-from-is g n l r img t tbl x y e m s h = e ∙ by-table g n (chipWith g img l r) tbl x m (omega arith)
+pub tell-is : (g : Geometry) (n l : ℕ) (o : Opened) (img x y : List ℕ) → y ≡ filled (live (take 8388608 (placesOf (chipWith g img l (o .root))))) (wordsOf g n) x
+    → l ≡ o .height - 1 → y ≡ wordsBy g n o img x
+unfolding wordsBy
+tell-is g n l o img x y e el = e ∙ ap (λ (z : ℕ). filled (live (take 8388608 (placesOf (chipWith g img z (o .root))))) (wordsOf g n) x) el
 
-pub afresh-is : (g : Geometry) (n : ℕ) (s : Survey) (img x y : List ℕ) → y ≡ filled (live (placesOf (chipWith g img (s .level) (s .root)))) (wordsOf g n) x → s ≡ surveyOf g n img
-    → y ≡ liveWords g n img x
-unfolding liveWords
-afresh-is g n s img x y e es = e ∙ ap (λ (c : Chip). filled (live (placesOf c)) (wordsOf g n) x) (chip-is g n img s es)
+pub low-height : (h l : ℕ) → l ≡ h - 1 → h < 256 → l < 255
+low-height h l e b = omega arith
 
-module _ (g : Geometry) (n : ℕ) (own : Own) (img x y : List ℕ) where
-  pub left-stopped : y ≡ liveWords g n img x → own .budget .stopped ≡ true → y ≡ leftWords g n own img x
-  unfolding leftWords
+-- a table of zeros
+zeros-are : (n : ℕ) (tbl : List ℕ) → length tbl ≡ n → Zeros tbl n → tbl ≡ replicate n 0
+zeros-are n tbl e z = ext-getD 0 tbl (replicate n 0) (e ∙ sym (length-replicate n 0)) (λ i h. z .zeros i (rw e at h) ∙ sym (getD-replicate n i 0 0 (rw e at h)))
+
+no-levels : (t tbl : List ℕ) → Zeros tbl (length t) → length tbl ≡ length t → length t ≡ 65536 → tbl ≡ noLevels
+unfolding noLevels
+no-levels t tbl z e h = zeros-are 65536 tbl (e ∙ h) (rw h at z)
+
+pub levels-is : (g : Geometry) (l : ℕ) (o : Opened) (img t u tbl : List ℕ) → tbl ≡ noteAll (take 8388608 (placesOf (chipWith g img l (o .root)))) u → l ≡ o .height - 1
+    → Zeros u (length t) → length u ≡ length t → length t ≡ 65536 → tbl ≡ levelsBy g img o
+unfolding levelsBy
+levels-is g l o img t u tbl e el z eu h =
+    e ∙ (λ j. noteAll (take 8388608 (placesOf (chipWith g img (el j) (o .root)))) (no-levels t u z eu h j))
+
+pub refuses : (g : Geometry) (n : ℕ) (o : Opened) (a : Answer) (img x y : List ℕ) → y ≡ wordsBy g n o img x
+    → returned (told a img) o y ≡ returned (told a img) o (wordsBy g n o img x)
+refuses g n o a img x y e = ap (λ (z : List ℕ). returned (told a img) o z) e
+
+-- ---- the record
+module _ (g : Geometry) (n m : ℕ) (own : Own) (o r : Opened) (img : List ℕ) where
+  pub left-stopped : r ≡ openedIn g n img → own .budget .stopped ≡ true → r ≡ leftRecord g n own o m img
+  unfolding leftRecord
   left-stopped e t = e ∙ rw t
 
-  pub left-made : y ≡ filled (live (placesOf (chipWith g img (own .level) (own .page)))) (wordsOf g n) x → own .budget .stopped ≡ false → y ≡ leftWords g n own img x
-  unfolding leftWords wordsWith
-  left-made e t = e ∙ rw t
+  pub left-made : r ≡ recordAt g n o m (own .page) (own .level) img → own .budget .stopped ≡ false → r ≡ leftRecord g n own o m img
+  unfolding leftRecord
+  left-made e t = e ∙ made-at g n o m (crestOf own) img ∙ rw t
 
--- the outcome of a run of all stores from a fresh allowance
-pub told-made : (g : Geometry) (ss : List Store) (a : ℕ) (r : Budget) (i o : List ℕ) → Ran g ss (freshOf a) r i o → told (answerBy r) o ≡ made g ss a i
-unfolding made answerBy
-told-made g ss a r i o run = go (ltb a (length ss)) refl
-  where
-    programmed : r .programmed ≡ programs (take a ss)
-    programmed = run .programmed ∙ zero-add (programs (take a ss))
+  pub left-low : r ≡ recordAt g n o m (own .page) (own .level) img → own .level < 255 → r .height < 256
+  unfolding recordAt recordMade
+  left-low e h = rw (ap (λ (y : Opened). y .height) e) (omega arith)
 
-    erased : r .erased ≡ erases (take a ss)
-    erased = run .erased ∙ zero-add (erases (take a ss))
+pub leaves : (g : Geometry) (n m : ℕ) (own : Own) (o t : Opened) (a : Answer) (img mid new : List ℕ) → new ≡ wordsBy g n t img mid → t ≡ leftRecord g n own o m img
+    → a ≡ answerBy (own .budget) → Leaves g n own o m img (record { answer = a; opened = t }) mid new
+leaves g n m own o t a img mid new ew et ea = record { answer = ea; opened = et; words = ew ∙ ap (λ (y : Opened). wordsBy g n y img mid) et }
 
-    go : (t : Bool) → ltb a (length ss) ≡ t → told (pick (r .stopped) (Stopped (r .programmed) (r .erased)) (Done 0 (r .programmed) (r .erased))) o ≡ made g ss a i
-    go true e =
-        let w : leb (length ss) a ≡ false = lt-leb (length ss) a (ltb-true a (length ss) e) in
-        rw (run .stopped, e, w, programmed, erased, run .image)
-    go false e =
-        let w : leb (length ss) a ≡ true = le-leb (length ss) a (ltb-false a (length ss) e) in
-        rw (run .stopped, e, w, programmed, erased, run .image)
+-- ---- the outcome of a run of all stores from a fresh allowance
+module _ (g : Geometry) (ss : List Store) (a : ℕ) (r : Budget) (i o : List ℕ) (run : Ran g ss (freshOf a) r i o) where
+  -- all were made
+  abbrev all : Bool
+  all = leb (length ss) (length (madeOf g ss a i))
 
-pub ruleset account-laws = (answer-stopped, answer-done, needed-none, room-is, fill-is, from-is, afresh-is, left-stopped, left-made)
+  pub halted-is : r .stopped ≡ true → all ≡ false
+  halted-is q = lt-leb (length ss) (length (madeOf g ss a i)) (ltb-true _ _ (sym (run .stopped) ∙ q))
+
+  pub whole-is : r .stopped ≡ false → all ≡ true
+  whole-is q = le-leb (length ss) (length (madeOf g ss a i)) (ltb-false _ _ (sym (run .stopped) ∙ q))
+
+  pub told-made : told (answerBy r) o ≡ gives (pick all 0 7) 0 (programs (madeOf g ss a i)) (erases (madeOf g ss a i)) (applyAll g (madeOf g ss a i) i)
+  unfolding answerBy
+  told-made = go (r .stopped) refl
+    where
+      programmed : r .programmed ≡ programs (madeOf g ss a i)
+      programmed = run .programmed ∙ zero-add (programs (madeOf g ss a i))
+
+      erased : r .erased ≡ erases (madeOf g ss a i)
+      erased = run .erased ∙ zero-add (erases (madeOf g ss a i))
+
+      go : (t : Bool) → r .stopped ≡ t → told (pick (r .stopped) (Stopped (r .programmed) (r .erased)) (Done 0 (r .programmed) (r .erased))) o
+          ≡ gives (pick all 0 7) 0 (programs (madeOf g ss a i)) (erases (madeOf g ss a i)) (applyAll g (madeOf g ss a i) i)
+      go true e = rw (halted-is e, e, programmed, erased, run .image)
+      go false e = rw (whole-is e, e, programmed, erased, run .image)
+
+pub ruleset account-laws = (answer-stopped, answer-done, needed-none, room-erased, room-words, fill-is, tell-is, low-height, levels-is, refuses, left-stopped, left-made, left-low, leaves)

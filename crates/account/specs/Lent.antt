@@ -18,9 +18,7 @@ use Rattle.model.specs.Calls.{Outcome, refused, damaged, byVerdict, judged, jud
 use Rattle.chip.specs.Chip.{goodBlocks}
 use Rattle.chip.specs.Blocks.{some-blocks, good-most}
 use Rattle.judging.specs.Judging.{judged-length, judged-blocks}
-use Rattle.walk.specs.Table.{liveIn}
-use Rattle.survey.specs.declared.Survey.{Survey}
-use Rattle.victim.specs.Victim.{Looked}
+use Rattle.walk.specs.Table.{liveIn, Marked}
 use Rattle.live.specs.Words.{blockWords, wordsOf, filled}
 use Rattle.live.specs.Filled.{filled-told}
 use Rattle.live.specs.Live.{reply, leavesWords, withWords, insertLive, deleteLive}
@@ -96,12 +94,12 @@ module _ (g : Geometry) (known : Known g) (img old : List ℕ) (room : 2048 ≤ 
   delete-outcome k x = lent-outcome _
 
 -- the table and the words as the judge and the first filling leave them
-pub right : (g : Geometry) (n : ℕ) (img : List ℕ) (s : Survey) (tbl old words : List ℕ) → Looked g n img s tbl → g .pages * n ≤ length tbl
+pub right : (g : Geometry) (n : ℕ) (img tbl old words : List ℕ) → Marked (chipOf g n img) tbl → g .pages * n ≤ length tbl
     → words ≡ filled (liveIn tbl) (wordsOf g n) old → wordsOf g n ≤ length old → Right g n img (tableIn tbl words)
-right g n img s tbl old words lk room e h =
-    let f : words ≡ filled (live (placesOf (chipOf g n img))) (wordsOf g n) old = e ∙ by-table g n (chipOf g n img) tbl old (lk .marked) room in
+right g n img tbl old words marked room e h =
+    let f : words ≡ filled (live (placesOf (chipOf g n img))) (wordsOf g n) old = e ∙ by-table g n (chipOf g n img) tbl old marked room in
     record {
       room = room;
-      marked = lk .marked;
+      marked = marked;
       told = rw f (filled-told (live (placesOf (chipOf g n img))) (wordsOf g n) old h);
     }

@@ -3,3 +3,5 @@ pub mod Account
 pub mod Laws
 pub mod Rest
 pub mod Lent
+pub mod Low
+pub mod Opened

@@ -1,19 +1,33 @@
-// The account of an update: its fresh allowance, ROOM, the lent words, and the answer that its stores give.
+// The account of an update: its fresh allowance, ROOM, the record and the lent words that it leaves, and the answer that its stores
+// give.
 ghost use mathlib.Core.Path.{_≡_};
 ghost use mathlib.Core.Bool.{false};
-ghost use Prim.Native.Nat.{ℕ, _+_, _*_, _-_, _≤_, _<_};
+ghost use Prim.Native.Nat.{_+_, _*_, _-_, _≤_, _<_};
 ghost use lib.ListN.{length};
+ghost use Rattle.geometry.specs.Tests.{_&_};
 ghost use Rattle.model.specs.Calls.{roomless};
-ghost use Rattle.model.specs.Tree.{placesOf, live};
-ghost use Rattle.chip.specs.Chip.{chipWith};
+ghost use Rattle.answers.specs.Answers.{told};
 ghost use Rattle.walk.specs.Table.{liveIn};
 ghost use Rattle.live.specs.Words.{wordsOf, filled, allOnes};
-ghost use Rattle.live.specs.Live.{liveWords};
-ghost use Rattle.account.specs.Account.{freshOf, answerBy, leftWords};
+ghost use Rattle.beside.specs.Update.{returned, wordsBy};
+ghost use Rattle.account.specs.Account.{freshOf, answerBy, levelsBy, leftRecord, Leaves};
 use answers::Answer;
 use crown::Own;
 use geometry::Geometry;
+use opened::Opened;
 use stores::Budget;
+
+// What an update's stores leave: what its own stores did, and the record before those.
+pub struct Made {
+    pub own: Own,
+    pub opened: Opened,
+}
+
+// What a call with the record hands back: the answer, and the record of the image that is left.
+pub struct Renewed {
+    pub answer: Answer,
+    pub opened: Opened,
+}
 
 pub fn fresh(allowance: u32) -> Budget
     ensures { λ r. ⌜ (r ≡ freshOf allowance) × (r .left + r .programmed + r .erased < 4294967296) × (r .stopped ≡ false) ⌝ }
@@ -37,7 +51,7 @@ pub fn answer_of(b: Budget) -> Answer
 }
 
 // The pages that must not be live for an update of k pages.
-fn needed(g: Geometry, k: u32) -> u32
+pub fn needed(g: Geometry, k: u32) -> u32
     requires { ⌜ k < 65536 ⌝ }
     ensures { λ r. ⌜ r ≡ 2 * g .pages - 1 + k ⌝ }
 {
@@ -47,14 +61,18 @@ fn needed(g: Geometry, k: u32) -> u32
     2 * (g.pages as u32) - 1 + k
 }
 
-// ROOM, by the lent words of live pages.
-pub fn is_roomless(g: Geometry, lent: &[u32], n: u16, k: u32) -> bool
+// ROOM, by the erased pages alone where they are enough, else by the lent words of live pages.
+pub fn is_roomless(g: Geometry, lent: &[u32], n: u16, erased: u32, k: u32) -> bool
     requires { ⌜ k < 65536 ⌝ }
-    ensures { λ r. ⌜ r ≡ roomless g (g .pages * n - allOnes g n (now (lent .entry))) k ⌝ }
+    ensures { λ r. ⌜ r ≡ (roomless g erased k & roomless g (g .pages * n - allOnes g n (now (lent .entry))) k) ⌝ }
 {
+    let need = needed(g, k);
+    if need <= erased {
+        return false;
+    }
     let pages = chip::first_page(g, n);
     let lives = words::all_ones(g, lent, n);
-    pages - lives < needed(g, k)
+    pages - lives < need
 }
 
 // The lent words of an image of n blocks, by a table that tells of it.
@@ -64,59 +82,70 @@ pub fn fill_words(g: Geometry, table: &[u8], lent: &mut [u32], n: u16)
     words::fill(&mut *lent, table, words::words_of(g, n));
 }
 
-// The lent words of an image whose root stands at a page, with so many levels below it.
-fn tell_from(
-    g: Geometry,
-    img: &[u8],
-    table: &mut [u8],
-    lent: &mut [u32],
-    n: u16,
-    level: u32,
-    root: u32,
-)
-    requires { ⌜ (g .pages * n ≤ length (now table)) × (level < 255) ⌝ }
-    ensures { λ _. ⌜ now (lent .exit) ≡ filled (live (placesOf (chipWith g (now (img .entry)) level root))) (wordsOf g n) (now (lent .entry)) ⌝ }
+// The lent words of an image, by its record.
+pub fn tell(g: Geometry, img: &[u8], lent: &mut [u32], n: u16, o: Opened)
+    requires { ⌜ o .height < 256 ⌝ }
+    ensures { λ _. ⌜ now (lent .exit) ≡ wordsBy g n o (now (img .entry)) (now (lent .entry)) ⌝ }
 {
-    walk::fill(g, img, &mut *table, level, root);
-    fill_words(g, &*table, &mut *lent, n);
+    let level = survey::less_one(o.height);
+    telling::tell_words(g, img, &mut *lent, n, level, o.root);
 }
 
-// The lent words of an image, worked out afresh.
-fn tell_afresh(g: Geometry, img: &[u8], table: &mut [u8], lent: &mut [u32], n: u16)
-    requires { ⌜ g .pages * n ≤ length (now table) ⌝ }
-    ensures { λ _. ⌜ now (lent .exit) ≡ liveWords g n (now (img .entry)) (now (lent .entry)) ⌝ }
+// A lent table with the levels noted from a record's root on, and no others.
+pub fn note_levels(g: Geometry, img: &[u8], table: &mut [u8], o: Opened)
+    requires { ⌜ (length (now table) ≡ 65536) × (o .height < 256) ⌝ }
+    ensures { λ _. ⌜ now (table .exit) ≡ levelsBy g (now (img .entry)) o ⌝ }
 {
-    let s = survey::take_survey(g, img, n);
-    tell_from(g, img, &mut *table, &mut *lent, n, s.level, s.root);
+    walk::clear(&mut *table);
+    let level = survey::less_one(o.height);
+    walk::note_from(g, img, &mut *table, level, o.root);
 }
 
-// The lent words of the image that an update leaves: by its new root where all stores were made, else afresh.
-fn tell_left(g: Geometry, img: &[u8], table: &mut [u8], lent: &mut [u32], n: u16, own: Own)
-    requires { ⌜ (g .pages * n ≤ length (now table)) × (own .level < 255) ⌝ }
-    ensures { λ _. ⌜ now (lent .exit) ≡ leftWords g n own (now (img .entry)) (now (lent .entry)) ⌝ }
+// A call that is refused: the record stays, and the lent words are those of the image.
+pub fn refuse(g: Geometry, img: &[u8], lent: &mut [u32], n: u16, o: Opened, a: Answer) -> Renewed
+    requires { ⌜ o .height < 256 ⌝ }
+    ensures { λ r.
+        ⌜ returned (told (r .answer) (now (img .entry))) (r .opened) (now (lent .exit))
+        ≡ returned (told a (now (img .entry))) o (wordsBy g n o (now (img .entry)) (now (lent .entry))) ⌝ }
+{
+    tell(g, img, &mut *lent, n, o);
+    Renewed {
+        answer: a,
+        opened: o,
+    }
+}
+
+// The record of the image that an update of m own pages leaves: it goes on from o where all stores were made, else it is taken anew.
+fn left_record(g: Geometry, img: &[u8], n: u16, own: Own, o: Opened, m: u32) -> Opened
+    requires { ⌜ (m ≤ 256) × (own .page < 4294967295) × (own .level < 255) ⌝ }
+    ensures { λ r. ⌜ (r ≡ leftRecord g n own o m (now (img .entry))) × (r .height < 256) ⌝ }
 {
     let b = own.budget;
     if b.stopped {
-        tell_afresh(g, img, &mut *table, &mut *lent, n);
-        return;
+        return recording::record_anew(g, img, n);
     }
-    tell_from(g, img, &mut *table, &mut *lent, n, own.level, own.page);
+    recording::record_made(g, img, n, o, m, own.page, own.level)
 }
 
-// An update's last steps: the lent words, and the answer.
+// An update's last steps: the record, the lent words, and the answer.
 pub fn finish(
     g: Geometry,
     img: &[u8],
-    table: &mut [u8],
     lent: &mut [u32],
     n: u16,
     own: Own,
-) -> Answer
-    requires { ⌜ (g .pages * n ≤ length (now table)) × (own .level < 255) ⌝ }
-    ensures { λ r. ⌜ r ≡ answerBy (own .budget) ⌝ }
-    ensures { λ _. ⌜ now (lent .exit) ≡ leftWords g n own (now (img .entry)) (now (lent .entry)) ⌝ }
+    o: Opened,
+    m: u32,
+) -> Renewed
+    requires { ⌜ (m ≤ 256) × (own .page < 4294967295) × (own .level < 255) ⌝ }
+    ensures { λ r. ⌜ Leaves g n own o m (now (img .entry)) r (now (lent .entry)) (now (lent .exit)) ⌝ }
 {
-    tell_left(g, img, &mut *table, &mut *lent, n, own);
+    let t = left_record(g, img, n, own, o, m);
+    tell(g, img, &mut *lent, n, t);
     let b = own.budget;
-    answer_of(b)
+    let a = answer_of(b);
+    Renewed {
+        answer: a,
+        opened: t,
+    }
 }

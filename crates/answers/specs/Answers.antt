@@ -6,7 +6,7 @@ use Prim.Native.Nat.{ℕ}
 use lib.ListN.{getD}
 use Rattle.model.specs.Calls.{Outcome}
 use Rattle.answers.specs.declared.Answer.{Answer}
-use Rattle.answers.specs.declared.Answer.the-variants.{Done, Length, Damaged, Worn, Absent, Height, Room, Stopped}
+use Rattle.answers.specs.declared.Answer.the-variants.{Done, Length, Damaged, Worn, Absent, Height, Room, Stopped, Stale}
 use Rattle.answers.specs.declared.Row.{Row}
 
 -- an answer that is not DAMAGED: "the two new numbers last and 0 in other answers"
@@ -14,7 +14,7 @@ abbrev pub plain : ℕ → ℕ → ℕ → ℕ → Row
 plain answer address programmed erased =
     record { answer = answer; address = address; programmed = programmed; erased = erased; rule = 0; page = 0 }
 
--- the table "Answer numbers": an answer's six numbers
+-- the table "Answer numbers", with request 8's STALE: an answer's six numbers
 abbrev pub rowOf : Answer → Row
 rowOf (Done a p e) = plain 0 a p e
 rowOf Length = plain 1 0 0 0
@@ -24,6 +24,7 @@ rowOf Absent = plain 4 0 0 0
 rowOf Height = plain 5 0 0 0
 rowOf Room = plain 6 0 0 0
 rowOf (Stopped p e) = plain 7 0 p e
+rowOf Stale = plain 8 0 0 0
 
 -- the row of an answer that is known to be x: the one law by which the code has the table
 pub row-is : (a x : Answer) (w : Row) → a ≡ x → w ≡ rowOf x → w ≡ rowOf a
@@ -47,7 +48,7 @@ told a img = toldBy (rowOf a) img
 -- an answer is settled by its row: the number is its place in the table
 rebuilt : Outcome → Answer
 rebuilt o = getD (Done (o .address) (o .programmed) (o .erased) ∷ Length ∷ Damaged (o .rule) (o .page) ∷ Worn ∷ Absent ∷ Height ∷ Room
-    ∷ Stopped (o .programmed) (o .erased) ∷ []) (o .answer) Length
+    ∷ Stopped (o .programmed) (o .erased) ∷ Stale ∷ []) (o .answer) Length
 
 same : (x : Answer) (img : List ℕ) → rebuilt (told x img) ≡ x
 unfolding rebuilt
@@ -59,6 +60,7 @@ same Absent img = refl
 same Height img = refl
 same Room img = refl
 same (Stopped p e) img = refl
+same Stale img = refl
 
 -- no second answer fits an outcome, and no second image
 pub one-answer : (x y : Answer) (i o : List ℕ) → told x i ≡ told y o → x ≡ y

@@ -14,6 +14,8 @@ pub enum Answer {
     Room,
     // pages programmed, blocks erased
     Stopped(u32, u32),
+    // the record is not the image's (request 8)
+    Stale,
 }
 
 // An answer in numbers: a row of the table.
@@ -60,5 +62,6 @@ pub fn row_of(a: Answer) -> Row
         Answer::Height => undamaged(5, 0, 0, 0),
         Answer::Room => undamaged(6, 0, 0, 0),
         Answer::Stopped(programmed, erased) => undamaged(7, 0, programmed, erased),
+        Answer::Stale => undamaged(8, 0, 0, 0),
     }
 }

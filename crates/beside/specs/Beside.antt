@@ -1,5 +1,5 @@
--- What collection keeps beside the image while it moves the pages of a block, and one move. Definitions alone; assumes nothing.
-use Prim.Native.Nat.{ℕ, zero, suc, _+_, _-_, _*_, _/_, _%_}
+-- What an update keeps beside the image: the record of request 8 and the table; and one move of a sweep. Definitions alone; assumes nothing.
+use Prim.Native.Nat.{ℕ, zero, suc, _+_, _-_, _*_, _/_, _%_, min}
 use mathlib.Core.Bool.{Bool}
 use mathlib.Core.List.{List, []}
 use lib.Dec.{eqb, leb}
@@ -7,17 +7,45 @@ use Rattle.geometry.specs.declared.Geometry.{Geometry}
 use Rattle.geometry.specs.declared.Entry.{Entry}
 use Rattle.geometry.specs.Tests.{pick}
 use Rattle.model.specs.Bytes.{erased, nodeAt}
-use Rattle.model.specs.Image.{chipOf, maxSeq}
+use Rattle.model.specs.Image.{pagesOf}
 use Rattle.model.specs.Tree.{next}
-use Rattle.model.specs.Next.{ahead, nextPage, round}
+use Rattle.model.specs.Next.{round, after}
 use Rattle.model.specs.Page.{built}
 use Rattle.model.specs.Stores.{Store, program}
 use Rattle.model.specs.Edit.{onPath, renamed, same}
 use Rattle.chip.specs.Chip.{named}
 use Rattle.live.specs.Words.{wordsOf}
+use Rattle.opened.specs.declared.Opened.{Opened}
 use Rattle.beside.specs.Table.{Table, lowIn, tableMoved}
 
--- the root's page, the largest number, the levels below the root, the next page, and the table
+-- the record, and the table
+pub record Held : Type 0 where
+  pub at : Opened
+  pub table : Table
+
+abbrev pub holding : Opened → Table → Held
+holding o t = record { at = o; table = t }
+
+-- ---- the pages to come
+-- the page after page x, which has just been programmed and so has the largest number: the next one of its block; past the block's end page 0
+-- of the first wholly erased block after it, round past the end to the start
+unfoldable pub nextAfter : ℕ → ℕ → (ℕ → Bool) → ℕ → ℕ
+nextAfter p n er x = pick (eqb (suc x % p) 0) (p * round n (x / p) (λ b. er (p * b + 0))) (suc x)
+
+-- the i-th page to come, x the next one
+unfoldable pub pageFrom : ℕ → ℕ → (ℕ → Bool) → ℕ → ℕ → ℕ
+pageFrom p n er x zero = x
+pageFrom p n er x (suc i) = pageFrom p n (after x er) (nextAfter p n (after x er) x) i
+
+-- the next page by the record: T where it names one past the image
+abbrev pub nextBy : Geometry → ℕ → Opened → ℕ
+nextBy g n o = min (pagesOf g n) (o .next)
+
+-- the i-th page to come by the record
+abbrev pub pageBy : Geometry → ℕ → List ℕ → Opened → ℕ → ℕ
+pageBy g n img o i = pageFrom (g .pages) n (erased g img) (nextBy g n o) i
+
+-- ---- a sweep: the root's page, the largest number, the levels below the root, the next page, and the table
 pub record Beside : Type 0 where
   pub root : ℕ
   pub most : ℕ
@@ -25,20 +53,9 @@ pub record Beside : Type 0 where
   pub next : ℕ
   pub table : Table
 
--- worked out from an image of n blocks, but for the table
-abbrev pub besideOf : Geometry → ℕ → List ℕ → Table → Beside
-besideOf g n img t = record {
-  root = chipOf g n img .root;
-  most = maxSeq g n img;
-  level = chipOf g n img .level;
-  next = nextPage (g .pages) n (ahead g n (chipOf g n img));
-  table = t;
-}
-
--- the page after page x, which has just been programmed and so has the largest number: the next one of its block; past the block's end page 0
--- of the first wholly erased block after it, round past the end to the start
-unfoldable pub nextAfter : ℕ → ℕ → (ℕ → Bool) → ℕ → ℕ
-nextAfter p n er x = pick (eqb (suc x % p) 0) (p * round n (x / p) (λ b. er (p * b + 0))) (suc x)
+-- at its start
+abbrev pub besideBy : Geometry → ℕ → Held → Beside
+besideBy g n h = record { root = h .at .root; most = h .at .most; level = h .at .height - 1; next = nextBy g n (h .at); table = h .table }
 
 -- the key by which descent comes to the lowest live node of page q
 abbrev pub keyBy : Geometry → Beside → ℕ → List ℕ → ℕ

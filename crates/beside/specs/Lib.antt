@@ -6,3 +6,4 @@ pub mod Rights
 pub mod Beside
 pub mod Collect
 pub mod Update
+pub mod Calls

@@ -1,3 +1,4 @@
 -- What a C call leaves, and the laws by which the calls are proved.
 pub mod Camera
 pub mod Laws
+pub mod Opened

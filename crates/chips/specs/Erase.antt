@@ -44,7 +44,7 @@ range g v q h = go (leb (g * v) q) refl h
     go true e i = (leb-true (g * v) q e, ltb-true q (g * v + g) i)
     go false e i = absurd (true-false false i refl)
 
-other : (g v b j : ℕ) → j < g → (b ≡ v → ⊥) → inB g v (g * b + j) ≡ false
+pub other : (g v b j : ℕ) → j < g → (b ≡ v → ⊥) → inB g v (g * b + j) ≡ false
 other g v b j h d = go (inB g v (g * b + j)) refl
   where
     go : (t : Bool) → inB g v (g * b + j) ≡ t → t ≡ false

@@ -1,21 +1,22 @@
 -- A run of stores under an allowance, with what is kept beside the image. Definitions alone; assumes nothing.
-use Prim.Native.Nat.{ℕ, suc, _<_}
+use Prim.Native.Nat.{ℕ, suc, _-_, _<_}
 use mathlib.Core.Bool.{false}
 use mathlib.Core.Path.{_≡_}
-use mathlib.Core.List.{List}
+use mathlib.Core.List.{List, [], _∷_}
 use lib.ListN.{length}
 use Rattle.geometry.specs.declared.Geometry.{Geometry}
 use Rattle.model.specs.Bytes.{erased, nodeAt}
+use Rattle.model.specs.Stores.{erase}
 use Rattle.model.specs.Tree.{next}
 use Rattle.chip.specs.Chip.{named}
 use Rattle.live.specs.Words.{wordsOf, Past}
 use Rattle.beside.specs.Table.{Table, tableIn, tableMoved}
-use Rattle.beside.specs.Beside.{Beside, besideOf, nextAfter}
+use Rattle.opened.specs.declared.Opened.{Opened}
+use Rattle.beside.specs.Beside.{Held, holding, Beside, besideBy, nextAfter}
 use Rattle.beside.specs.Collect.{Run, collectBy}
+use Rattle.recording.specs.Recording.{recordSwept}
 use Rattle.stores.specs.declared.Budget.{Budget}
 use Rattle.stores.specs.Run.{Ran}
-use Rattle.survey.specs.declared.Survey.{Survey}
-use Rattle.survey.specs.Survey.{surveyOf}
 use Rattle.collect.specs.declared.Kept.{Kept}
 use Rattle.collect.specs.declared.Swept.{Swept}
 
@@ -36,13 +37,20 @@ pub record Makes (A : Type 0) (g : Geometry) (n : ℕ) (run : Run A) (b r : Budg
 abbrev pub Sweeps : Geometry → ℕ → ℕ → Run Beside → Budget → Budget → List ℕ → List ℕ → Kept → List ℕ → List ℕ → List ℕ → List ℕ → Type 0
 Sweeps g n l run b r i o k tbl tbl′ ws ws′ = Makes Beside g n run b r i o (besideIn k l (tableIn tbl′ ws′)) tbl tbl′ ws ws′
 
--- the same, of the table alone
-abbrev pub Clears : Geometry → ℕ → Run Table → Budget → Budget → List ℕ → List ℕ → List ℕ → List ℕ → List ℕ → List ℕ → Type 0
-Clears g n run b r i o tbl tbl′ ws ws′ = Makes Table g n run b r i o (tableIn tbl′ ws′) tbl tbl′ ws ws′
+-- the same, of the record and the table; the record's height is a byte
+pub record Clears (g : Geometry) (n : ℕ) (run : Run Held) (b : Budget) (r : Swept) (i o tbl tbl′ ws ws′ : List ℕ) : Type 0 where
+  pub made : Makes Held g n run b (r .budget) i o (holding (r .opened) (tableIn tbl′ ws′)) tbl tbl′ ws ws′
+  pub low : r .opened .height < 256
 
--- what is kept at the start of a sweep
-pub record Begins (g : Geometry) (n : ℕ) (img : List ℕ) (s : Survey) (k : Kept) : Type 0 where
-  pub beside : (t : Table) → besideIn k (s .level) t ≡ besideOf g n img t
+-- what is kept at the start of a sweep, by the record
+pub record Begins (g : Geometry) (n : ℕ) (o : Opened) (k : Kept) : Type 0 where
+  pub beside : (t : Table) → besideIn k (o .height - 1) t ≡ besideBy g n (holding o t)
+
+-- block v erased, and the record then; h the record before the sweep, k what it kept
+pub record Wipes (g : Geometry) (n v : ℕ) (h : Opened) (k : Kept) (b : Budget) (r : Swept) (i o : List ℕ) : Type 0 where
+  pub ran : Ran g (erase v ∷ []) b (r .budget) i o
+  pub opened : r .opened ≡ recordSwept g n h (k .root) (k .most) (k .next) o
+  pub low : r .opened .height < 256
 
 -- the tables of an image of n blocks once page q, whose lowest live level is low, is moved by its key; img the image before
 pub record Remarks (g : Geometry) (n l q low key : ℕ) (h : Kept) (img tbl tbl′ ws ws′ : List ℕ) : Type 0 where
@@ -57,8 +65,6 @@ pub record Onward (g : Geometry) (n : ℕ) (then : List ℕ) (h k : Kept) : Type
   pub most : k .most ≡ suc (h .most)
   pub next : k .next ≡ nextAfter (g .pages) n (erased g then) (h .next)
 
--- a collection; where all its stores were made, with the survey of the image that it leaves
-pub record Collects (g : Geometry) (n k m : ℕ) (b : Budget) (r : Swept) (i o tbl tbl′ ws ws′ : List ℕ) : Type 0 where
-  pub made : Makes Table g n (collectBy g n k m (tableIn tbl ws) i) b (r .budget) i o (tableIn tbl′ ws′) tbl tbl′ ws ws′
-  pub survey : r .budget .stopped ≡ false → r .survey ≡ surveyOf g n o
-  pub low : r .budget .stopped ≡ false → r .survey .level < 255
+-- a collection from the record h
+abbrev pub Collects : Geometry → ℕ → ℕ → ℕ → Budget → Swept → Opened → List ℕ → List ℕ → List ℕ → List ℕ → List ℕ → List ℕ → Type 0
+Collects g n k m b r h i o tbl tbl′ ws ws′ = Clears g n (collectBy g n k m (holding h (tableIn tbl ws)) i) b r i o tbl tbl′ ws ws′

@@ -1,7 +1,7 @@
 -- Laws of collection, in the form in which the code has the premises. Assumes nothing.
-use Prim.Native.Nat.{ℕ, zero, suc, _+_, _-_, _*_, _<_, _≤_}
+use Prim.Native.Nat.{ℕ, zero, suc, _+_, _-_, _*_, _<_, _≤_, min}
 use mathlib.Core.Bool.{true, false, not, false≢true}
-use mathlib.Core.Path.{_≡_, refl, sym, ap, _∙_}
+use mathlib.Core.Path.{_≡_, refl, sym, ap, subst, _∙_}
 use mathlib.Core.List.{List, [], _∷_}
 use mathlib.Core.Option.{none, some}
 use mir.Syntax.{w16}
@@ -9,34 +9,34 @@ use mir.Val.{Fits}
 use lib.Dec.{ltb}
 use lib.ListN.{length, getD}
 use native.Mathlib.Omega.{arith}
+use native.Mathlib.Nat.{min-le-left, mul-le-mul-left}
 use native.Mathlib.Numerals.{add-one, sub-one}
 use borrow.Author.Tests.{not-true, not-false, eq-eqb, ne-eqb, lt-ltb, le-ltb}
 use Rattle.geometry.specs.declared.Geometry.{Geometry}
 use Rattle.model.specs.Bytes.{erased, nodeAt}
-use Rattle.model.specs.Image.{chipOf, pagesOf}
-use Rattle.model.specs.Next.{nextPage}
+use Rattle.model.specs.Image.{pagesOf}
 use Rattle.model.specs.Stores.{erase, applyStore}
-use Rattle.model.specs.Tree.{next, erasedPages}
+use Rattle.model.specs.Tree.{next}
 use Rattle.chip.specs.Chip.{named}
 use Rattle.live.specs.Words.{wordsOf, Past}
 use Rattle.live.specs.Filled.{past-none, past-then}
 use Rattle.beside.specs.Table.{Table, tableIn, tableMoved}
-use Rattle.beside.specs.Beside.{Beside, besideOf, nextAfter, keyBy, moveStoreBy, besideMoved}
+use Rattle.opened.specs.declared.Opened.{Opened}
+use Rattle.beside.specs.Beside.{Held, holding, Beside, besideBy, nextAfter, keyBy, moveStoreBy, besideMoved}
 use Rattle.beside.specs.Collect.{Run, still, andThen, moveBy, pageBy, sweepBy, eraseBy, clearBy, victimBy, collectBy}
 use Rattle.walk.specs.Table.{liveIn}
-use Rattle.survey.specs.declared.Survey.{Survey}
-use Rattle.survey.specs.Survey.{surveyOf}
+use Rattle.recording.specs.Recording.{recordSwept}
+use Rattle.recording.specs.Laws.{swept-is}
 use Rattle.stores.specs.declared.Budget.{Budget}
 use Rattle.stores.specs.Run.{Ran}
 use Rattle.stores.specs.Runs.{ran-none, ran-then, ran-halted, ran-made}
-use Rattle.next.specs.Coming.{seen}
 use Rattle.moving.specs.Own.{Moved}
 use Rattle.victim.specs.declared.Best.{Best}
 use Rattle.victim.specs.Victim.{fullIn, onesBy, bestOf, Bests}
 use Rattle.victim.specs.Laws.{victim-is}
 use Rattle.collect.specs.declared.Kept.{Kept}
 use Rattle.collect.specs.declared.Swept.{Swept}
-use Rattle.collect.specs.Collect.{besideIn, Makes, Sweeps, Clears, Begins, Remarks, Onward, Collects}
+use Rattle.collect.specs.Collect.{besideIn, Makes, Sweeps, Clears, Begins, Wipes, Remarks, Onward, Collects}
 
 -- ---- one run after another
 module _ (g : Geometry) (n : ℕ) where
@@ -153,124 +153,117 @@ module _ (g : Geometry) (n l v : ℕ) (b : Budget) (i tbl ws : List ℕ) (h : Ke
         makes-then g n Beside Beside _ (sweepBy g n v j) b c d i m o _ _ tbl u y ws x w (rw eq at one) (rw sub-one at two) f
 
 -- ---- clear
-pub begins : (g : Geometry) (n x y : ℕ) (img : List ℕ) (s : Survey) → x ≡ nextPage (g .pages) n (seen (erased g img) (s .last)) → s ≡ surveyOf g n img → y ≡ s .most
-    → Begins g n img s (record { root = s .root; most = y; next = x })
-unfolding surveyOf besideIn
-begins g n x y img s ex es ey = record {
-  beside = λ t z. record {
-    root = es z .root;
-    most = (ey ∙ ap (λ (a : Survey). a .most) es) z;
-    level = es z .level;
-    next = (ex ∙ ap (λ (a : Survey). nextPage (g .pages) n (seen (erased g img) (a .last))) es) z;
-    table = t;
-  };
-}
+pub begins : (g : Geometry) (n x y : ℕ) (o : Opened) → x ≡ min (pagesOf g n) (o .next) → y ≡ o .most → Begins g n o (record { root = o .root; most = y; next = x })
+unfolding besideIn
+begins g n x y o ex ey = record { beside = λ t z. record { root = o .root; most = ey z; level = o .height - 1; next = ex z; table = t } }
 
 -- room to count the moves of a block
 pub most-room : (p y : ℕ) → y < 4294967296 → Fits w16 p → y + p < 8589934592
 most-room p y h f = omega (arith, h, f .fits)
 
-pub next-room : (p x : ℕ) → x ≤ 4294901760 → Fits w16 p → x + p < 4294967296
-next-room p x h f = omega (arith, h, f .fits)
+pub next-room : (g : Geometry) (n x y : ℕ) → x ≡ min (pagesOf g n) y → Fits w16 (g .pages) → Fits w16 n → x + g .pages < 4294967296
+next-room g n x y e f h =
+    let a : g .pages ≤ 65535 = omega (arith, f .fits) in
+    let b : n ≤ 65535 = omega (arith, h .fits) in
+    let c : x ≤ g .pages * n = rw e (min-le-left (g .pages * n) y) in
+    omega (arith, a, c, mul-le-mul-left (g .pages) b)
 
-module _ (g : Geometry) (n v : ℕ) (s : Survey) (b c : Budget) (i o tbl u ws x : List ℕ) (h k : Kept) (bg : Begins g n i s h)
-    (sw : Sweeps g n (s .level) (sweepBy g n v (g .pages) (besideIn h (s .level) (tableIn tbl ws)) i) b c i o k tbl u ws x) where
-  swept : Makes Beside g n (sweepBy g n v (g .pages) (besideOf g n i (tableIn tbl ws)) i) b c i o (besideIn k (s .level) (tableIn u x)) tbl u ws x
-  swept = rw (bg .beside (tableIn tbl ws)) at sw
+pub wipes : (g : Geometry) (n v : ℕ) (o t : Opened) (k : Kept) (b r : Budget) (i h : List ℕ) → Ran g (erase v ∷ []) b r i h
+    → t ≡ recordSwept g n o (k .root) (k .most) (k .next) h → t .height < 256 → Wipes g n v o k b (record { budget = r; opened = t }) i h
+wipes g n v o t k b r i h run e low = record { ran = run; opened = e; low = low }
 
-  pub clear-halt : b .stopped ≡ false → c .stopped ≡ true → Clears g n (clearBy g n (some v) (tableIn tbl ws) i) b c i o tbl u ws x
+module _ (g : Geometry) (n v l : ℕ) (s : Opened) (b c : Budget) (i o tbl u ws x : List ℕ) (h k : Kept) (bg : Begins g n s h)
+    (sw : Sweeps g n l (sweepBy g n v (g .pages) (besideIn h l (tableIn tbl ws)) i) b c i o k tbl u ws x) (el : l ≡ s .height - 1) (low : s .height < 256) where
+  start : besideIn h l (tableIn tbl ws) ≡ besideBy g n (holding s (tableIn tbl ws))
+  start = ap (λ (y : ℕ). besideIn h y (tableIn tbl ws)) el ∙ bg .beside (tableIn tbl ws)
+
+  swept : Makes Beside g n (sweepBy g n v (g .pages) (besideBy g n (holding s (tableIn tbl ws))) i) b c i o (besideIn k l (tableIn u x)) tbl u ws x
+  swept = subst (λ (y : Beside). Makes Beside g n (sweepBy g n v (g .pages) y i) b c i o (besideIn k l (tableIn u x)) tbl u ws x) start sw
+
+  pub clear-halt : b .stopped ≡ false → c .stopped ≡ true
+      → Clears g n (clearBy g n (some v) (holding s (tableIn tbl ws)) i) b (record { budget = c; opened = s }) i o tbl u ws x
   unfolding clearBy
-  clear-halt e f = makes-halt g n Beside Table _ (eraseBy g v) b c i o _ _ tbl u ws x swept e f
+  clear-halt e f = record { made = makes-halt g n Beside Held _ (eraseBy g n v s) b c i o _ _ tbl u ws x swept e f; low = low }
 
-  wiped : (d : Budget) (p : List ℕ) → Ran g (erase v ∷ []) c d o p → c .stopped ≡ false → Makes Table g n (eraseBy g v (besideIn k (s .level) (tableIn u x)) o) c d o p (tableIn u x) u u x x
+  wiped : (d : Swept) (p : List ℕ) → Wipes g n v s k c d o p → c .stopped ≡ false
+      → Makes Held g n (eraseBy g n v s (besideIn k l (tableIn u x)) o) c (d .budget) o p (holding (d .opened) (tableIn u x)) u u x x
   unfolding eraseBy besideIn
-  wiped d p run f = record {
-    ran = run;
-    image = λ e. ran-made g (erase v) c d o p run f e;
-    kept = λ e. refl;
+  wiped d p w f = record {
+    ran = w .ran;
+    image = λ e. ran-made g (erase v) c (d .budget) o p (w .ran) f e;
+    kept = λ e. ap (λ (y : Opened). holding y (tableIn u x)) (
+        w .opened
+        ∙ ap (λ (y : List ℕ). recordSwept g n s (k .root) (k .most) (k .next) y) (ran-made g (erase v) c (d .budget) o p (w .ran) f e)
+        ∙ swept-is g n s (besideIn k l (tableIn u x)) (applyStore g (erase v) o));
     long = refl;
     past = past-none (wordsOf g n) x;
   }
 
-  pub clear-done : (d : Budget) (p : List ℕ) → Ran g (erase v ∷ []) c d o p → c .stopped ≡ false → Clears g n (clearBy g n (some v) (tableIn tbl ws) i) b d i p tbl u ws x
+  pub clear-done : (d : Swept) (p : List ℕ) → Wipes g n v s k c d o p → c .stopped ≡ false
+      → Clears g n (clearBy g n (some v) (holding s (tableIn tbl ws)) i) b d i p tbl u ws x
   unfolding clearBy
-  clear-done d p run f = makes-then g n Beside Table _ (eraseBy g v) b c d i o p _ _ tbl u u ws x x swept (wiped d p run f) f
+  clear-done d p w f = record {
+    made = makes-then g n Beside Held _ (eraseBy g n v s) b c (d .budget) i o p _ _ tbl u u ws x x swept (wiped d p w f) f;
+    low = w .low;
+  }
 
-module _ (g : Geometry) (n : ℕ) (i tbl ws : List ℕ) (v : Best) (bs : Bests (fullIn g i) (onesBy g ws) n v) (b : Budget) where
-  none-is : v .found ≡ false → none ≡ victimBy g n (tableIn tbl ws) i
+module _ (g : Geometry) (n : ℕ) (i tbl ws : List ℕ) (v : Best) (bs : Bests (fullIn g i) (onesBy g ws) n v) (b : Budget) (s : Opened) where
+  abbrev t : Table
+  t = tableIn tbl ws
+
+  none-is : v .found ≡ false → none ≡ victimBy g n t i
   unfolding bestOf
   none-is e = sym (rw e refl) ∙ victim-is g n i ws v bs
 
-  some-is : v .found ≡ true → some (v .block) ≡ victimBy g n (tableIn tbl ws) i
+  some-is : v .found ≡ true → some (v .block) ≡ victimBy g n t i
   unfolding bestOf
   some-is e = sym (rw e refl) ∙ victim-is g n i ws v bs
 
-  pub clear-none : not (v .found) ≡ true → Clears g n (clearBy g n (victimBy g n (tableIn tbl ws) i) (tableIn tbl ws) i) b b i i tbl tbl ws ws
+  pub clear-none : not (v .found) ≡ true → s .height < 256 → Clears g n (clearBy g n (victimBy g n t i) (holding s t) i) b (record { budget = b; opened = s }) i i tbl tbl ws ws
   unfolding clearBy
-  clear-none f = rw (← none-is (not-true (v .found) f)) (makes-still g n Table (tableIn tbl ws) b i tbl ws)
+  clear-none f low = record { made = rw (← none-is (not-true (v .found) f)) (makes-still g n Held (holding s t) b i tbl ws); low = low }
 
-  pub clear-some : (r : Budget) (o u x : List ℕ) → Clears g n (clearBy g n (some (v .block)) (tableIn tbl ws) i) b r i o tbl u ws x → not (v .found) ≡ false
-      → Clears g n (clearBy g n (victimBy g n (tableIn tbl ws) i) (tableIn tbl ws) i) b r i o tbl u ws x
+  pub clear-some : (r : Swept) (o u x : List ℕ) → Clears g n (clearBy g n (some (v .block)) (holding s t) i) b r i o tbl u ws x → not (v .found) ≡ false
+      → Clears g n (clearBy g n (victimBy g n t i) (holding s t) i) b r i o tbl u ws x
   clear-some r o u x w f = rw (← some-is (not-false (v .found) f)) w
 
 -- ---- rounds
-module _ (g : Geometry) (n k : ℕ) (i tbl ws : List ℕ) (b : Budget) (s : Survey) (es : s ≡ surveyOf g n i) (hs : s .level < 255) where
-  pub collect-none : (m : ℕ) → m ≡ 0 → Collects g n k m b (record { budget = b; survey = s }) i i tbl tbl ws ws
+module _ (g : Geometry) (n k : ℕ) (i tbl ws : List ℕ) (b : Budget) (s : Opened) where
+  abbrev start-of : Held
+  start-of = holding s (tableIn tbl ws)
+
+  pub collect-none : (m : ℕ) → m ≡ 0 → s .height < 256 → Collects g n k m b (record { budget = b; opened = s }) s i i tbl tbl ws ws
   unfolding collectBy
-  collect-none m e = record {
-    made = rw e (makes-still g n Table (tableIn tbl ws) b i tbl ws);
-    survey = λ f. es;
-    low = λ f. hs;
-  }
+  collect-none m e low = record { made = rw e (makes-still g n Held start-of b i tbl ws); low = low }
 
   module _ (w : ℕ) (ew : w ≡ g .pages + k) where
-    count-is : s .erased ≡ erasedPages (pagesOf g n) (chipOf g n i)
-    unfolding surveyOf
-    count-is = ap (λ (x : Survey). x .erased) es
+    enough-is : w ≤ s .erased → ltb (s .erased) (g .pages + k) ≡ false
+    enough-is h = le-ltb (s .erased) (g .pages + k) (rw (← ew) h)
 
-    enough-is : w ≤ s .erased → ltb (erasedPages (pagesOf g n) (chipOf g n i)) (g .pages + k) ≡ false
-    enough-is h = le-ltb (erasedPages (pagesOf g n) (chipOf g n i)) (g .pages + k) (rw (← count-is, ← ew) h)
+    few-is : s .erased < w → ltb (s .erased) (g .pages + k) ≡ true
+    few-is h = lt-ltb (s .erased) (g .pages + k) (rw (← ew) h)
 
-    few-is : s .erased < w → ltb (erasedPages (pagesOf g n) (chipOf g n i)) (g .pages + k) ≡ true
-    few-is h = lt-ltb (erasedPages (pagesOf g n) (chipOf g n i)) (g .pages + k) (rw (← count-is, ← ew) h)
-
-    pub collect-enough : (m : ℕ) → w ≤ s .erased → (m ≡ 0 → ⊥) → Collects g n k m b (record { budget = b; survey = s }) i i tbl tbl ws ws
+    pub collect-enough : (m : ℕ) → w ≤ s .erased → (m ≡ 0 → ⊥) → s .height < 256 → Collects g n k m b (record { budget = b; opened = s }) s i i tbl tbl ws ws
     unfolding collectBy
-    collect-enough zero h z = absurd (z refl)
-    collect-enough (suc m) h z = record {
-      made = rw (enough-is h) (makes-still g n Table (tableIn tbl ws) b i tbl ws);
-      survey = λ f. es;
-      low = λ f. hs;
-    }
+    collect-enough zero h z low = absurd (z refl)
+    collect-enough (suc m) h z low = record { made = rw (enough-is h) (makes-still g n Held start-of b i tbl ws); low = low }
 
-    module _ (c : Budget) (h u x : List ℕ) (one : Clears g n (clearBy g n (victimBy g n (tableIn tbl ws) i) (tableIn tbl ws) i) b c i h tbl u ws x) (few : s .erased < w) where
-      pub collect-halt : (m : ℕ) (y : Survey) → (m ≡ 0 → ⊥) → b .stopped ≡ false → c .stopped ≡ true → Collects g n k m b (record { budget = c; survey = y }) i h tbl u ws x
+    module _ (c : Swept) (h u x : List ℕ) (one : Clears g n (clearBy g n (victimBy g n (tableIn tbl ws) i) (holding s (tableIn tbl ws)) i) b c i h tbl u ws x) (few : s .erased < w) where
+      pub collect-halt : (m : ℕ) → (m ≡ 0 → ⊥) → b .stopped ≡ false → c .budget .stopped ≡ true → Collects g n k m b c s i h tbl u ws x
       unfolding collectBy
-      collect-halt zero y z e f = absurd (z refl)
-      collect-halt (suc m) y z e f = record {
-        made = rw (few-is few) (makes-halt g n Table Table _ (collectBy g n k m) b c i h _ _ tbl u ws x one e f);
-        survey = λ q. absurd (false≢true (sym q ∙ f));
-        low = λ q. absurd (false≢true (sym q ∙ f));
+      collect-halt zero z e f = absurd (z refl)
+      collect-halt (suc m) z e f = record {
+        made = rw (few-is few) (makes-halt g n Held Held _ (collectBy g n k m) b (c .budget) i h _ _ tbl u ws x (one .made) e f);
+        low = one .low;
       }
 
-      pub collect-on : (m : ℕ) (r : Swept) (o v y : List ℕ) → Collects g n k (m - 1) c r h o u v x y → (m ≡ 0 → ⊥) → c .stopped ≡ false → Collects g n k m b r i o tbl v ws y
+      pub collect-on : (m : ℕ) (r : Swept) (o v y : List ℕ) → Collects g n k (m - 1) (c .budget) r (c .opened) h o u v x y → (m ≡ 0 → ⊥) → c .budget .stopped ≡ false
+          → Collects g n k m b r s i o tbl v ws y
       unfolding collectBy
       collect-on zero r o v y two z f = absurd (z refl)
       collect-on (suc m) r o v y two z f = record {
-        made = rw (few-is few) (makes-then g n Table Table _ (collectBy g n k m) b c (r .budget) i h o _ _ tbl u v ws x y one (rw sub-one at (two .made)) f);
-        survey = two .survey;
+        made = rw (few-is few) (makes-then g n Held Held _ (collectBy g n k m) b (c .budget) (r .budget) i h o _ _ tbl u v ws x y (one .made) (rw sub-one at (two .made)) f);
         low = two .low;
       }
 
--- what a collection that was not stopped hands on
-module _ (g : Geometry) (n k m : ℕ) (b : Budget) (r : Swept) (i o tbl tbl′ ws ws′ : List ℕ) (w : Collects g n k m b r i o tbl tbl′ ws ws′) where
-  pub collect-survey : r .budget .stopped ≡ false → r .survey ≡ surveyOf g n o
-  collect-survey e = w .survey e
-
-  pub collect-low : r .budget .stopped ≡ false → r .survey .level < 255
-  collect-low e = w .low e
-
-  pub collect-total : r .budget .left + r .budget .programmed + r .budget .erased ≡ b .left + b .programmed + b .erased
-  collect-total = w .made .ran .total
-
-pub ruleset collect-laws = (onward, remarks, page-dead, page-live, move-halt, move-done, sweep-none, sweep-halt, sweep-on, begins, most-room, next-room, clear-halt, clear-done, clear-none, clear-some, collect-none, collect-enough, collect-halt, collect-on)
+pub ruleset collect-laws = (onward, remarks, page-dead, page-live, move-halt, move-done, sweep-none, sweep-halt, sweep-on, begins, most-room, next-room, wipes, clear-halt, clear-done, clear-none, clear-some, collect-none, collect-enough, collect-halt, collect-on)

@@ -1,6 +1,6 @@
 // Collection: the victim's live pages moved, lowest first, then the victim erased, while too few pages are erased.
-// Each store on the image as it then stands. The lent tables follow each move; no tree is walked, and only after an
-// erase is the image surveyed anew.
+// Each store on the image as it then stands. The lent tables follow each move, and the record each erase: no tree is
+// walked, and the image is surveyed anew only where the block erased may have held the largest number.
 ghost use mathlib.Core.Path.{_≡_};
 ghost use mathlib.Core.Bool.{false};
 ghost use mathlib.Core.Option.{some};
@@ -8,12 +8,12 @@ ghost use Prim.Native.Nat.{_+_, _≤_, _<_, max};
 ghost use lib.ListN.{getD};
 ghost use Rattle.geometry.specs.Geometry.{pageBytes};
 ghost use Rattle.beside.specs.Table.{tableIn};
+ghost use Rattle.beside.specs.Beside.{holding};
 ghost use Rattle.beside.specs.Collect.{moveBy, pageBy, sweepBy, clearBy, victimBy};
-ghost use Rattle.survey.specs.Survey.{surveyOf};
-ghost use Rattle.collect.specs.Collect.{besideIn, Sweeps, Clears, Begins, Remarks, Onward, Collects};
+ghost use Rattle.collect.specs.Collect.{besideIn, Sweeps, Clears, Begins, Wipes, Remarks, Onward, Collects};
 use geometry::Geometry;
+use opened::Opened;
 use stores::Budget;
-use survey::Survey;
 
 // What changes beside the image while pages move: the root's page, the largest number, the next page.
 pub struct Kept {
@@ -28,10 +28,10 @@ pub struct Carried {
     pub kept: Kept,
 }
 
-// What is left of the allowance, and the survey of the image as it then stands.
+// What is left of the allowance, and the record of the image as it then stands.
 pub struct Swept {
     pub budget: Budget,
-    pub survey: Survey,
+    pub opened: Opened,
 }
 
 // What is kept once the next page is programmed.
@@ -188,18 +188,30 @@ fn long(x: u32) -> u64
     x as u64
 }
 
-// What is kept at the start of a sweep.
-fn begin(g: Geometry, img: &[u8], n: u16, s: Survey) -> Kept
-    requires { ⌜ s ≡ surveyOf g n (now img) ⌝ }
-    ensures { λ r. ⌜ Begins g n (now (img .entry)) s r ⌝ }
+// What is kept at the start of a sweep, by the record.
+fn begin(g: Geometry, n: u16, o: Opened) -> Kept
+    ensures { λ r. ⌜ Begins g n o r ⌝ }
     ensures { λ r. ⌜ (r .most + g .pages < 8589934592) × (r .next + g .pages < 4294967296) ⌝ }
 {
-    let next = next::next_page(g, img, n, s.last);
-    let most = long(s.most);
+    let next = next::next_by(g, n, o.next);
+    let most = long(o.most);
     Kept {
-        root: s.root,
+        root: o.root,
         most: most,
         next: next,
+    }
+}
+
+// Erases block v, and the record then; o the record before the sweep, k what it kept.
+fn wipe(g: Geometry, img: &mut [u8], n: u16, b: Budget, v: u16, o: Opened, k: Kept) -> Swept
+    requires { ⌜ (o .erased < 4294901760) × (o .height < 256) × (b .left + b .programmed + b .erased < 4294967296) ⌝ }
+    ensures { λ r. ⌜ Wipes g n v o k b r (now (img .entry)) (now (img .exit)) ⌝ }
+{
+    let r = stores::put_erase(g, &mut *img, b, v);
+    let t = recording::record_erased(g, &*img, n, o, k.root, k.most, k.next);
+    Swept {
+        budget: r,
+        opened: t,
     }
 }
 
@@ -212,12 +224,13 @@ fn clear_block(
     n: u16,
     b: Budget,
     v: u16,
-    s: Survey,
-) -> Budget
-    requires { ⌜ (s ≡ surveyOf g n (now img)) × (s .level < 255) × (pageBytes g ≤ 2112) × (b .left + b .programmed + b .erased < 4294967296) × (b .stopped ≡ false) ⌝ }
-    ensures { λ r. ⌜ Clears g n (clearBy g n (some v) (tableIn (now (table .entry)) (now (words .entry))) (now (img .entry))) b r (now (img .entry)) (now (img .exit)) (now (table .entry)) (now (table .exit)) (now (words .entry)) (now (words .exit)) ⌝ }
+    o: Opened,
+) -> Swept
+    requires { ⌜ (o .erased < 4294901760) × (o .height < 256) × (pageBytes g ≤ 2112) × (b .left + b .programmed + b .erased < 4294967296) × (b .stopped ≡ false) ⌝ }
+    ensures { λ r. ⌜ Clears g n (clearBy g n (some v) (holding o (tableIn (now (table .entry)) (now (words .entry)))) (now (img .entry))) b r (now (img .entry)) (now (img .exit)) (now (table .entry)) (now (table .exit)) (now (words .entry)) (now (words .exit)) ⌝ }
 {
-    let h = begin(g, &*img, n, s);
+    let h = begin(g, n, o);
+    let level = survey::less_one(o.height);
     let w = sweep(
         g,
         &mut *img,
@@ -225,16 +238,20 @@ fn clear_block(
         &mut *words,
         n,
         b,
-        s.level,
+        level,
         v,
         g.pages,
         h,
     );
     let r = w.budget;
+    let k = w.kept;
     if r.stopped {
-        return r;
+        return Swept {
+            budget: r,
+            opened: o,
+        };
     }
-    stores::put_erase(g, &mut *img, r, v)
+    wipe(g, &mut *img, n, r, v, o, k)
 }
 
 // Clears the victim, if there is one.
@@ -245,28 +262,31 @@ fn clear(
     words: &mut [u32],
     n: u16,
     b: Budget,
-    s: Survey,
-) -> Budget
-    requires { ⌜ (s ≡ surveyOf g n (now img)) × (s .level < 255) × (pageBytes g ≤ 2112) × (b .left + b .programmed + b .erased < 4294967296) × (b .stopped ≡ false) ⌝ }
-    ensures { λ r. ⌜ Clears g n (clearBy g n (victimBy g n (tableIn (now (table .entry)) (now (words .entry))) (now (img .entry))) (tableIn (now (table .entry)) (now (words .entry))) (now (img .entry))) b r (now (img .entry)) (now (img .exit)) (now (table .entry)) (now (table .exit)) (now (words .entry)) (now (words .exit)) ⌝ }
+    o: Opened,
+) -> Swept
+    requires { ⌜ (o .erased < 4294901760) × (o .height < 256) × (pageBytes g ≤ 2112) × (b .left + b .programmed + b .erased < 4294967296) × (b .stopped ≡ false) ⌝ }
+    ensures { λ r. ⌜ Clears g n (clearBy g n (victimBy g n (tableIn (now (table .entry)) (now (words .entry))) (now (img .entry))) (holding o (tableIn (now (table .entry)) (now (words .entry)))) (now (img .entry))) b r (now (img .entry)) (now (img .exit)) (now (table .entry)) (now (table .exit)) (now (words .entry)) (now (words .exit)) ⌝ }
 {
     let v = victim::find_victim(g, &*img, &*words, n);
     if !v.found {
-        return b;
+        return Swept {
+            budget: b,
+            opened: o,
+        };
     }
-    clear_block(g, &mut *img, &mut *table, &mut *words, n, b, v.block, s)
+    clear_block(g, &mut *img, &mut *table, &mut *words, n, b, v.block, o)
 }
 
 // The erased pages that an update of k pages must find.
-fn enough(g: Geometry, k: u32) -> u32
+pub fn enough(g: Geometry, k: u32) -> u32
     requires { ⌜ k < 65536 ⌝ }
     ensures { λ r. ⌜ r ≡ g .pages + k ⌝ }
 {
     (g.pages as u32) + k
 }
 
-// Collects while fewer pages are erased than a block's and k more, in at most m rounds. The survey is that of the image;
-// the one that comes back is that of the image that is left, unless the allowance stopped it.
+// Collects while fewer pages are erased than a block's and k more, in at most m rounds. The record that comes back is
+// that of the image that is left, unless the allowance stopped it.
 pub fn collect(
     g: Geometry,
     img: &mut [u8],
@@ -276,30 +296,28 @@ pub fn collect(
     b: Budget,
     k: u32,
     m: u32,
-    s: Survey,
+    o: Opened,
 ) -> Swept
-    requires { ⌜ (s ≡ surveyOf g n (now img)) × (s .level < 255) × (k < 65536) × (pageBytes g ≤ 2112) × (b .left + b .programmed + b .erased < 4294967296) × (b .stopped ≡ false) ⌝ }
-    ensures { λ r. ⌜ Collects g n k m b r (now (img .entry)) (now (img .exit)) (now (table .entry)) (now (table .exit)) (now (words .entry)) (now (words .exit)) ⌝ }
+    requires { ⌜ (o .height < 256) × (k < 65536) × (pageBytes g ≤ 2112) × (b .left + b .programmed + b .erased < 4294967296) × (b .stopped ≡ false) ⌝ }
+    ensures { λ r. ⌜ Collects g n k m b r o (now (img .entry)) (now (img .exit)) (now (table .entry)) (now (table .exit)) (now (words .entry)) (now (words .exit)) ⌝ }
 {
     if m == 0 {
         return Swept {
             budget: b,
-            survey: s,
+            opened: o,
         };
     }
-    if enough(g, k) <= s.erased {
+    if enough(g, k) <= o.erased {
         return Swept {
             budget: b,
-            survey: s,
+            opened: o,
         };
     }
-    let r = clear(g, &mut *img, &mut *table, &mut *words, n, b, s);
+    let w = clear(g, &mut *img, &mut *table, &mut *words, n, b, o);
+    let r = w.budget;
+    let t = w.opened;
     if r.stopped {
-        return Swept {
-            budget: r,
-            survey: s,
-        };
+        return w;
     }
-    let t = survey::take_survey(g, &*img, n);
     collect(g, &mut *img, &mut *table, &mut *words, n, r, k, m - 1, t)
 }

@@ -1,3 +1,4 @@
 -- Delete, and its laws.
 pub mod Delete
 pub mod Laws
+pub mod With

@@ -1,74 +1,141 @@
-// Delete on an image, with lent words of live pages: judged first, then refused, or made under its allowance.
+// Delete on an image, with lent words of live pages: refused, or made under its allowance. Judged first, or by the record of
+// request 8.
 ghost use mathlib.Core.Path.{_≡_};
-ghost use mathlib.Core.Bool.{true, false};
-ghost use Prim.Native.Nat.{_+_, _*_, _-_, _≤_, _<_};
+ghost use Prim.Native.Nat.{_≤_, _<_};
 ghost use lib.ListN.{length};
-ghost use Rattle.geometry.specs.Geometry.{pageBytes};
 ghost use Rattle.geometry.specs.Shape.{Known};
 ghost use Rattle.model.specs.Tree.{sought};
 ghost use Rattle.model.specs.Update.{isNone};
 ghost use Rattle.answers.specs.Answers.{told};
-ghost use Rattle.chip.specs.Chip.{goodBlocks, chipWith};
-ghost use Rattle.account.specs.Account.{Makes};
-ghost use Rattle.victim.specs.Victim.{Looked};
+ghost use Rattle.chip.specs.Chip.{goodBlocks};
+ghost use Rattle.account.specs.Account.{Sized, Makes};
 ghost use Rattle.survey.specs.Survey.{surveyOf};
-ghost use Rattle.live.specs.Words.{wordsOf};
+ghost use Rattle.walk.specs.Table.{liveIn};
+ghost use Rattle.live.specs.Words.{wordsOf, filled};
 ghost use Rattle.live.specs.Live.{reply, deleteLive};
+ghost use Rattle.opened.specs.Opened.{openedIn, chipBy};
 ghost use Rattle.beside.specs.Table.{tableIn};
-ghost use Rattle.beside.specs.Update.{deleteBy};
-ghost use Rattle.delete.specs.Delete.{storesBy, crestBy};
+ghost use Rattle.beside.specs.Beside.{holding};
+ghost use Rattle.beside.specs.Update.{returned, deleteMade, deleteBy};
+ghost use Rattle.beside.specs.Calls.{noLevels, heldBy, deleteWith};
+ghost use Rattle.delete.specs.Delete.{runBy, storesBy, crestBy, replied};
+use account::Made;
+use account::Renewed;
 use answers::Answer;
 use crown::Own;
 use geometry::Geometry;
 use geometry::Verdict;
+use opened::Opened;
 use search::Found;
 use survey::Survey;
 
-// Collection for one page, then the delete's own store, with the image's survey, table and words given.
+// Collection for one page, then the delete's own store, with the image's record, table and words given.
 fn make_stores(
     g: Geometry,
     img: &mut [u8],
     table: &mut [u8],
     lent: &mut [u32],
     n: u16,
+    o: Opened,
     key: u32,
     allowance: u32,
-    s: Survey,
-) -> Own
-    requires { ⌜ (pageBytes g ≤ 2112) × (s ≡ surveyOf g n (now img)) × (s .level < 255) ⌝ }
-    ensures { λ r. ⌜ length (now (table .exit)) ≡ length (now (table .entry)) ⌝ }
+) -> Made
+    requires { ⌜ (Sized g n) × (o .height < 256) ⌝ }
     ensures { λ r.
-        ⌜ Makes g n (storesBy g n (tableIn (now (table .entry)) (now (lent .entry))) (now (img .entry)) key)
-        (crestBy g n (tableIn (now (table .entry)) (now (lent .entry))) (now (img .entry)) key) allowance r (now (img .entry)) (now (img .exit))
-        (now (lent .entry)) (now (lent .exit)) ⌝ }
+        ⌜ Makes g n (storesBy g n (holding o (tableIn (now (table .entry)) (now (lent .entry)))) (now (img .entry)) key)
+        (runBy g n (holding o (tableIn (now (table .entry)) (now (lent .entry)))) (now (img .entry)) .kept .at)
+        (crestBy g n (holding o (tableIn (now (table .entry)) (now (lent .entry)))) (now (img .entry)) key) allowance r
+        (now (img .entry)) (now (img .exit)) (now (lent .entry)) (now (lent .exit)) ⌝ }
 {
     let b = account::fresh(allowance);
-    let w = collect::collect(g, &mut *img, &mut *table, &mut *lent, n, b, 1, 2, s);
+    let w = collect::collect(g, &mut *img, &mut *table, &mut *lent, n, b, 1, 2, o);
     let r = w.budget;
-    let t = w.survey;
+    let t = w.opened;
     if r.stopped {
-        return Own {
+        let none = Own {
             budget: r,
             page: 0,
             level: 0,
         };
+        return Made {
+            own: none,
+            opened: t,
+        };
     }
-    deletion::delete_own(g, &mut *img, n, r, t, key)
+    let own = deletion::delete_own(g, &mut *img, n, r, t, key);
+    Made {
+        own: own,
+        opened: t,
+    }
+}
+
+// The stores, and what they leave.
+fn delete_made(
+    g: Geometry,
+    img: &mut [u8],
+    table: &mut [u8],
+    lent: &mut [u32],
+    n: u16,
+    o: Opened,
+    key: u32,
+    allowance: u32,
+) -> Renewed
+    requires { ⌜ (Sized g n) × (o .height < 256) ⌝ }
+    ensures { λ r.
+        ⌜ returned (told (r .answer) (now (img .exit))) (r .opened) (now (lent .exit))
+        ≡ deleteMade g n (holding o (tableIn (now (table .entry)) (now (lent .entry)))) (now (img .entry)) key allowance ⌝ }
+{
+    let s = make_stores(g, &mut *img, &mut *table, &mut *lent, n, o, key, allowance);
+    let own = s.own;
+    let t = s.opened;
+    account::finish(g, &*img, &mut *lent, n, own, t, 1)
 }
 
 // ABSENT: nothing stands under the key.
-fn is_absent(g: Geometry, img: &[u8], level: u32, root: u32, key: u32) -> bool
-    requires { ⌜ level < 255 ⌝ }
-    ensures { λ r. ⌜ r ≡ isNone (sought (chipWith g (now (img .entry)) level root) key) ⌝ }
+fn is_absent(g: Geometry, img: &[u8], o: Opened, key: u32) -> bool
+    requires { ⌜ o .height < 256 ⌝ }
+    ensures { λ r. ⌜ r ≡ isNone (sought (chipBy g (now (img .entry)) o) key) ⌝ }
 {
-    match descent::find_key(g, img, level, root, key) {
+    let level = survey::less_one(o.height);
+    match descent::find_key(g, img, level, o.root, key) {
         Found::At(_) => false,
         Found::Nothing => true,
     }
 }
 
-// The rest on a judged image of n blocks, with the table and the words that tell of it.
+// The rest on an image of n blocks, with a record, a table and words.
 fn delete_rest(
+    g: Geometry,
+    img: &mut [u8],
+    table: &mut [u8],
+    lent: &mut [u32],
+    n: u16,
+    o: Opened,
+    key: u32,
+    allowance: u32,
+) -> Renewed
+    requires { ⌜ (Sized g n) × (o .height < 256) ⌝ }
+    ensures { λ r.
+        ⌜ returned (told (r .answer) (now (img .exit))) (r .opened) (now (lent .exit))
+        ≡ deleteBy g n (holding o (tableIn (now (table .entry)) (now (lent .entry)))) (now (img .entry)) key allowance ⌝ }
+{
+    if g.worn < o.most {
+        return Renewed {
+            answer: Answer::Worn,
+            opened: o,
+        };
+    }
+    if is_absent(g, &*img, o, key) {
+        return Renewed {
+            answer: Answer::Absent,
+            opened: o,
+        };
+    }
+    delete_made(g, &mut *img, &mut *table, &mut *lent, n, o, key, allowance)
+}
+
+// The rest on a judged image, with the table that the judge left and its survey.
+fn delete_judged(
     g: Geometry,
     img: &mut [u8],
     table: &mut [u8],
@@ -78,20 +145,17 @@ fn delete_rest(
     key: u32,
     allowance: u32,
 ) -> Answer
-    requires { ⌜ (g .pages * n ≤ length (now table)) × (pageBytes g ≤ 2112) ⌝ }
-    requires { ⌜ Looked g n (now img) s (now table) ⌝ }
+    requires { ⌜ (Sized g n) × (s ≡ surveyOf g n (now img)) × (s .level < 255) ⌝ }
     ensures { λ r.
         ⌜ reply (told r (now (img .exit))) (now (lent .exit))
-        ≡ deleteBy g n (tableIn (now (table .entry)) (now (lent .entry))) (now (img .entry)) key allowance ⌝ }
+        ≡ replied (deleteBy g n (holding (openedIn g n (now (img .entry))) (tableIn (now (table .entry)) (filled (liveIn (now (table .entry))) (wordsOf g n) (now (lent .entry)))))
+        (now (img .entry)) key allowance) ⌝ }
 {
-    if g.worn < s.most {
-        return Answer::Worn;
-    }
-    if is_absent(g, &*img, s.level, s.root, key) {
-        return Answer::Absent;
-    }
-    let own = make_stores(g, &mut *img, &mut *table, &mut *lent, n, key, allowance, s);
-    account::finish(g, &*img, &mut *table, &mut *lent, n, own)
+    account::fill_words(g, &*table, &mut *lent, n);
+    let o = recording::record_of(g, &*img, n, s);
+    let r = delete_rest(g, &mut *img, &mut *table, &mut *lent, n, o, key, allowance);
+    let answer = r.answer;
+    answer
 }
 
 // Delete on n blocks, with words enough, and a lent table for the judge and the collector.
@@ -114,19 +178,16 @@ fn delete_blocks(
     let survey = judgement.survey;
     match verdict {
         Verdict::Broken(rule, page) => Answer::Damaged(rule, page),
-        Verdict::Sound => {
-            account::fill_words(g, &*table, &mut *lent, n);
-            delete_rest(
-                g,
-                &mut *img,
-                &mut *table,
-                &mut *lent,
-                n,
-                survey,
-                key,
-                allowance,
-            )
-        }
+        Verdict::Sound => delete_judged(
+            g,
+            &mut *img,
+            &mut *table,
+            &mut *lent,
+            n,
+            survey,
+            key,
+            allowance,
+        ),
     }
 }
 
@@ -145,4 +206,134 @@ pub fn delete_on(g: Geometry, img: &mut [u8], lent: &mut [u32], key: u32, allowa
     }
     let mut table: [u8; 65536] = [0; 65536];
     delete_blocks(g, &mut *img, &mut table, &mut *lent, n, key, allowance)
+}
+
+// The delete's own store where the erased pages are enough: no collection, no table, and no words but at the end.
+fn delete_direct(
+    g: Geometry,
+    img: &mut [u8],
+    lent: &mut [u32],
+    n: u16,
+    o: Opened,
+    key: u32,
+    allowance: u32,
+) -> Renewed
+    requires { ⌜ (Sized g n) × (o .height < 256) × (g .pages < o .erased) ⌝ }
+    ensures { λ r.
+        ⌜ returned (told (r .answer) (now (img .exit))) (r .opened) (now (lent .exit))
+        ≡ deleteMade g n (heldBy g n o (now (img .entry)) (now (lent .entry))) (now (img .entry)) key allowance ⌝ }
+{
+    let b = account::fresh(allowance);
+    let own = deletion::delete_own(g, &mut *img, n, b, o, key);
+    account::finish(g, &*img, &mut *lent, n, own, o, 1)
+}
+
+// Levels of 65,536 pages, none noted.
+fn no_levels() -> [u8; 65536]
+    ensures { λ r. ⌜ r ≡ noLevels ⌝ }
+{
+    [0u8; 65536]
+}
+
+// Collection and the store, by words told and a table worked out from the record's root.
+fn delete_collected(
+    g: Geometry,
+    img: &mut [u8],
+    lent: &mut [u32],
+    n: u16,
+    o: Opened,
+    key: u32,
+    allowance: u32,
+) -> Renewed
+    requires { ⌜ (Sized g n) × (o .height < 256) ⌝ }
+    ensures { λ r.
+        ⌜ returned (told (r .answer) (now (img .exit))) (r .opened) (now (lent .exit))
+        ≡ deleteMade g n (heldBy g n o (now (img .entry)) (now (lent .entry))) (now (img .entry)) key allowance ⌝ }
+{
+    account::tell(g, &*img, &mut *lent, n, o);
+    let mut table = no_levels();
+    let level = survey::less_one(o.height);
+    walk::note_from(g, &*img, &mut table, level, o.root);
+    delete_made(g, &mut *img, &mut table, &mut *lent, n, o, key, allowance)
+}
+
+// The store, with collection only if the erased pages are too few.
+fn delete_found(
+    g: Geometry,
+    img: &mut [u8],
+    lent: &mut [u32],
+    n: u16,
+    o: Opened,
+    key: u32,
+    allowance: u32,
+) -> Renewed
+    requires { ⌜ (Sized g n) × (o .height < 256) ⌝ }
+    ensures { λ r.
+        ⌜ returned (told (r .answer) (now (img .exit))) (r .opened) (now (lent .exit))
+        ≡ deleteMade g n (heldBy g n o (now (img .entry)) (now (lent .entry))) (now (img .entry)) key allowance ⌝ }
+{
+    if (g.pages as u32) < o.erased {
+        return delete_direct(g, &mut *img, &mut *lent, n, o, key, allowance);
+    }
+    delete_collected(g, &mut *img, &mut *lent, n, o, key, allowance)
+}
+
+// Delete by a record that stands.
+fn delete_by(
+    g: Geometry,
+    img: &mut [u8],
+    lent: &mut [u32],
+    n: u16,
+    o: Opened,
+    key: u32,
+    allowance: u32,
+) -> Renewed
+    requires { ⌜ (Sized g n) × (o .height < 256) ⌝ }
+    ensures { λ r.
+        ⌜ returned (told (r .answer) (now (img .exit))) (r .opened) (now (lent .exit))
+        ≡ deleteBy g n (heldBy g n o (now (img .entry)) (now (lent .entry))) (now (img .entry)) key allowance ⌝ }
+{
+    if g.worn < o.most {
+        return account::refuse(g, &*img, &mut *lent, n, o, Answer::Worn);
+    }
+    if is_absent(g, &*img, o, key) {
+        return account::refuse(g, &*img, &mut *lent, n, o, Answer::Absent);
+    }
+    delete_found(g, &mut *img, &mut *lent, n, o, key, allowance)
+}
+
+// Delete with the record of request 8: nothing is judged but that the record stands.
+pub fn delete_opened_on(
+    g: Geometry,
+    img: &mut [u8],
+    lent: &mut [u32],
+    o: Opened,
+    key: u32,
+    allowance: u32,
+) -> Renewed
+    requires { ⌜ Known g ⌝ }
+    ensures { λ r.
+        ⌜ returned (told (r .answer) (now (img .exit))) (r .opened) (now (lent .exit))
+        ≡ deleteWith g (now (img .entry)) (now (lent .entry)) o key allowance ⌝ }
+{
+    let n = chip::good_blocks(g, &*img);
+    if n == 0 {
+        return Renewed {
+            answer: Answer::Length,
+            opened: o,
+        };
+    }
+    if lent.len() < words::words_of(g, n) {
+        return Renewed {
+            answer: Answer::Length,
+            opened: o,
+        };
+    }
+    if !recording::standing(g, &*img, n, o) {
+        return Renewed {
+            answer: Answer::Stale,
+            opened: o,
+        };
+    }
+    delete_by(g, &mut *img, &mut *lent, n, o, key, allowance)
 }

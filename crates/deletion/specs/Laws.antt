@@ -9,10 +9,9 @@ use borrow.Author.Tests.{eq-eqb, ne-eqb}
 use Rattle.geometry.specs.declared.Geometry.{Geometry}
 use Rattle.geometry.specs.declared.Entry.{Entry}
 use Rattle.geometry.specs.Geometry.{pageBytes}
-use Rattle.model.specs.Bytes.{erased, nodeAt}
+use Rattle.model.specs.Bytes.{nodeAt}
 use Rattle.model.specs.Edit.{collapse}
 use Rattle.model.specs.Image.{Nodes}
-use Rattle.model.specs.Next.{nextPage}
 use Rattle.model.specs.Page.{built, only}
 use Rattle.model.specs.Stores.{program}
 use Rattle.lists.specs.Places.{length-mapped}
@@ -33,12 +32,8 @@ use Rattle.edit.specs.Laws.{still}
 use Rattle.crown.specs.declared.Own.{Own}
 use Rattle.crown.specs.Crown.{pathStore}
 use Rattle.crown.specs.Owns.{Owns}
-use Rattle.next.specs.Coming.{seen}
 use Rattle.deletion.specs.declared.Top.{Top}
-use Rattle.survey.specs.declared.Survey.{Survey}
-use Rattle.survey.specs.Survey.{surveyOf}
-use Rattle.survey.specs.Laws.{newest-is}
-use Rattle.deletion.specs.Own.{firstOf, Collapses, topStore, rootStore, leftAt, storeBy, topBy, Removes}
+use Rattle.deletion.specs.Own.{firstOf, Collapses, topStore, rootStore, leftAt, storeBy, topBy}
 
 -- ---- collapse
 first : (e : List Entry) (c : ℕ) → 0 < length e → 0 < c → getD e 0 no-entry ≡ firstOf (take c e)
@@ -134,8 +129,4 @@ with-is g j l e b r u i h o p q w ch ep ec =
       crest = w .crest ∙ rw (s .0, ch .node);
     }
 
-pub removes : (g : Geometry) (n : ℕ) (i : List ℕ) (s : Survey) (k x y : ℕ) (ps : List ℕ) → x ≡ nextPage (g .pages) n (seen (erased g i) (s .last)) → s ≡ surveyOf g n i → y ≡ s .most → y < 4294967296
-    → Removes g n i (s .most) k (record { key = k; page = x; seq = y; sides = ps; change = Remove })
-removes g n i s k x y ps ex es ey h = record { key = refl; change = refl; number = ey; small = h; page = ex ∙ rw (newest-is g n i s es) }
-
-pub ruleset deletion-laws = (length-mapped, first-none, first-some, collapse-leaf, collapse-stay, collapse-on, top-is, root-stay, root-fall, with-is, removes)
+pub ruleset deletion-laws = (length-mapped, first-none, first-some, collapse-leaf, collapse-stay, collapse-on, top-is, root-stay, root-fall, with-is)

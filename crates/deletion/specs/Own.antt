@@ -9,7 +9,6 @@ use Rattle.geometry.specs.Tests.{pick}
 use Rattle.model.specs.Bytes.{nodeAt}
 use Rattle.model.specs.Edit.{collapse}
 use Rattle.model.specs.Image.{Nodes}
-use Rattle.model.specs.Next.{nextPage}
 use Rattle.model.specs.Page.{built, only}
 use Rattle.model.specs.Stores.{Store, program}
 use Rattle.node.specs.Node.{entries}
@@ -18,7 +17,6 @@ use Rattle.step.specs.declared.Change.the-variants.{Remove}
 use Rattle.step.specs.declared.Job.{Job}
 use Rattle.edit.specs.Edit.{changed, partsOf}
 use Rattle.crown.specs.Crown.{pathStore}
-use Rattle.next.specs.Coming.{onImage}
 use Rattle.beside.specs.Update.{Crest}
 use Rattle.deletion.specs.declared.Top.{Top}
 
@@ -56,10 +54,10 @@ storeBy g j l e i = rootStore g j l i (laid g (partsOf g j i l e) l (blanks 2112
 abbrev pub topBy : Geometry → Job → ℕ → Entry → List ℕ → Crest
 topBy g j l e i = leftAt g j l i (changed g j i l e)
 
--- the job of removing key k
-pub record Removes (g : Geometry) (n : ℕ) (i : List ℕ) (seq k : ℕ) (j : Job) : Type 0 where
+-- the job of removing key k, its page given
+pub record Removes (at seq k : ℕ) (j : Job) : Type 0 where
   pub key : j .key ≡ k
   pub change : j .change ≡ Remove
   pub number : j .seq ≡ seq
   pub small : j .seq < 4294967296
-  pub page : j .page ≡ nextPage (g .pages) n (onImage g n i)
+  pub page : j .page ≡ at

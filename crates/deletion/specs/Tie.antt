@@ -12,12 +12,11 @@ use Rattle.geometry.specs.declared.Entry.{Entry}
 use Rattle.geometry.specs.Geometry.{pageBytes}
 use Rattle.geometry.specs.Tests.{pick, and-true, and-false}
 use Rattle.model.specs.Bytes.{nodeAt}
-use Rattle.model.specs.Image.{Chip, Nodes, chipOf, maxSeq}
-use Rattle.model.specs.Next.{taken}
+use Rattle.model.specs.Image.{Chip, Nodes}
 use Rattle.model.specs.Page.{built, sealed, only}
 use Rattle.model.specs.Stores.{program}
 use Rattle.model.specs.Edit.{onPath, collapse}
-use Rattle.model.specs.Update.{deleteList, deleteTop, deletePart, deleteStore, sidePage}
+use Rattle.model.specs.Update.{deleteList, deleteTop, deletePart}
 use Rattle.page.specs.Page.{blanks, laidLevel, laid, bare}
 use Rattle.page.specs.Levels.{laid-more, laid-agree, page-is}
 use Rattle.stores.specs.declared.Budget.{Budget}
@@ -30,10 +29,10 @@ use Rattle.chip.specs.Chip.{chipWith}
 use Rattle.crown.specs.declared.Own.{Own}
 use Rattle.crown.specs.Crown.{pathStore}
 use Rattle.crown.specs.Owns.{Owns}
-use Rattle.beside.specs.Update.{deleteCrest}
-use Rattle.survey.specs.declared.Survey.{Survey}
-use Rattle.survey.specs.Survey.{surveyOf}
-use Rattle.survey.specs.Laws.{makes}
+use Rattle.opened.specs.declared.Opened.{Opened}
+use Rattle.opened.specs.Opened.{chipBy}
+use Rattle.beside.specs.Beside.{pageFrom, nextBy, pageBy}
+use Rattle.beside.specs.Update.{deleteStoreAt, deleteCrest}
 use Rattle.deletion.specs.Own.{rootAt, topStore, rootStore, storeBy, topBy, Removes}
 
 -- a root that does not fall keeps its entries
@@ -46,10 +45,11 @@ keeps r (suc l) (x ∷ []) =
     (omega (arith, h .0), λ e. absurd (let z : collapse r l (r (x .addr) (suc l)) .level ≡ suc l = e in omega (arith, h .0)))
 keeps r (suc l) (x ∷ y ∷ c) = (omega arith, λ e. refl)
 
-pub crest-low : (g : Geometry) (n k : ℕ) (c : Chip) → c .level < 255 → deleteCrest g n c k .level < 255
+-- a root that is left stands no higher
+pub crest-low : (c : Chip) (page k : ℕ) → c .level < 255 → deleteCrest c page k .level < 255
 unfolding deleteTop
-crest-low g n k c h =
-    let w = keeps (c .nodes) (c .level) (deleteList c k (sidePage g n c 1) (suc (c .level))) .0 in
+crest-low c page k h =
+    let w = keeps (c .nodes) (c .level) (deleteList c k page (suc (c .level))) .0 in
     omega (arith, w)
 
 module _ (g : Geometry) (c : Chip) (k n : ℕ) where
@@ -76,14 +76,7 @@ module _ (g : Geometry) (c : Chip) (k n : ℕ) where
   unfolding deletePart
   part-only h x = rw (ne-eqb (deleteTop c k n .level) (c .level) h, and-false)
 
-module _ (g : Geometry) (n : ℕ) (i : List ℕ) (seq l p k : ℕ) (j : Job) (pj : Removes g n i seq k j) where
-  at : ℕ
-  at = sidePage g n (chipWith g i l p) 1
-
-  page : j .page ≡ at
-  unfolding at taken
-  page = pj .page
-
+module _ (g : Geometry) (i : List ℕ) (at seq l p k : ℕ) (j : Job) (pj : Removes at seq k j) where
   list-of : (x : ℕ) → pathOf g j i l (rootAt p) x ≡ deleteList (chipWith g i l p) k (j .page) x
   unfolding pathOf deleteList leafOf nameOf
   list-of x =
@@ -132,24 +125,25 @@ module _ (g : Geometry) (n : ℕ) (i : List ℕ) (seq l p k : ℕ) (j : Job) (pj
           (λ z. program (j .page) (built g (suc (pj .number z)) (suc (falls z .level)) (only (suc (falls z .level)) (falls z .list))))
           ∙ sym (λ z. program (j .page) (built g (suc seq) (suc (deleteTop c k (j .page) .level)) (λ x. part-only g c k (j .page) (λ r. eqb-false _ _ q ((λ z. falls z .level) ∙ r)) x z)))
 
-  own-is : pageBytes g ≤ 2112 → storeBy g j l (rootAt p) i ≡ deleteStore g n seq (chipWith g i l p) k
-  unfolding deleteStore c at
-  own-is le = store-is le ∙ (λ z. program (page z) (built g (suc seq) (suc (deleteTop c k (page z) .level)) (deletePart c k (page z))))
+  own-is : pageBytes g ≤ 2112 → storeBy g j l (rootAt p) i ≡ deleteStoreAt g seq (chipWith g i l p) at k
+  unfolding deleteStoreAt c
+  own-is le = store-is le ∙ (λ z. program (pj .page z) (built g (suc seq) (suc (deleteTop c k (pj .page z) .level)) (deletePart c k (pj .page z))))
 
-  crest-is : topBy g j l (rootAt p) i ≡ deleteCrest g n (chipWith g i l p) k
-  unfolding c at
-  crest-is = (λ z. record { page = j .page; level = falls z .level }) ∙ (λ z. record { page = page z; level = deleteTop c k (page z) .level })
+  crest-is : topBy g j l (rootAt p) i ≡ deleteCrest (chipWith g i l p) at k
+  unfolding c
+  crest-is = (λ z. record { page = j .page; level = falls z .level }) ∙ (λ z. record { page = pj .page z; level = deleteTop c k (pj .page z) .level })
 
--- with the survey of the image
-pub deleted : (g : Geometry) (n : ℕ) (i : List ℕ) (s : Survey) (k : ℕ) (j : Job) (b : Budget) (r : Own) (o : List ℕ)
-    → Owns g (storeBy g j (s .level) (rootAt (s .root)) i ∷ []) (topBy g j (s .level) (rootAt (s .root)) i) b r i o
-    → Removes g n i (s .most) k j → s ≡ surveyOf g n i → pageBytes g ≤ 2112
-    → Owns g (deleteStore g n (maxSeq g n i) (chipOf g n i) k ∷ []) (deleteCrest g n (chipOf g n i) k) b r i o
-deleted g n i s k j b r o run pj es le =
-    let e : storeBy g j (s .level) (rootAt (s .root)) i ≡ deleteStore g n (maxSeq g n i) (chipOf g n i) k =
-    own-is g n i (s .most) (s .level) (s .root) k j pj le ∙ makes g n i s es (λ y c. deleteStore g n y c k) in
-    let t : topBy g j (s .level) (rootAt (s .root)) i ≡ deleteCrest g n (chipOf g n i) k =
-    crest-is g n i (s .most) (s .level) (s .root) k j pj ∙ makes g n i s es (λ y c. deleteCrest g n c k) in
-    rw (e, t) at run
+-- by the record
+pub deleted : (g : Geometry) (n : ℕ) (i : List ℕ) (o : Opened) (k : ℕ) (j : Job) (b : Budget) (r : Own) (then : List ℕ) (l : ℕ)
+    → Owns g (storeBy g j l (rootAt (o .root)) i ∷ []) (topBy g j l (rootAt (o .root)) i) b r i then
+    → l ≡ o .height - 1 → Removes (nextBy g n o) (o .most) k j → pageBytes g ≤ 2112
+    → Owns g (deleteStoreAt g (o .most) (chipBy g i o) (pageBy g n i o 0) k ∷ []) (deleteCrest (chipBy g i o) (pageBy g n i o 0) k) b r i then
+unfolding pageFrom
+deleted g n i o k j b r then l run eh pj le =
+    let e : storeBy g j l (rootAt (o .root)) i ≡ deleteStoreAt g (o .most) (chipWith g i l (o .root)) (nextBy g n o) k =
+    own-is g i (nextBy g n o) (o .most) l (o .root) k j pj le in
+    let t : topBy g j l (rootAt (o .root)) i ≡ deleteCrest (chipWith g i l (o .root)) (nextBy g n o) k =
+    crest-is g i (nextBy g n o) (o .most) l (o .root) k j pj in
+    rw (e, t, eh) at run
 
 pub ruleset tie-laws = (deleted)

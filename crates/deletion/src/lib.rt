@@ -1,16 +1,15 @@
 // Delete's own store: page N with the root and the path's nodes left below it.
 ghost use mathlib.Core.Path.{_≡_};
 ghost use mathlib.Core.List.{[], _∷_};
-ghost use Prim.Native.Nat.{ℕ, suc, _+_, _*_, _-_, _≤_, _<_};
+ghost use Prim.Native.Nat.{_+_, _-_, _≤_, _<_};
 ghost use Rattle.geometry.specs.Geometry.{pageBytes};
 ghost use Rattle.model.specs.Bytes.{nodeAt};
-ghost use Rattle.model.specs.Image.{chipOf, maxSeq};
-ghost use Rattle.model.specs.Update.{deleteStore};
 ghost use Rattle.node.specs.Node.{entries};
 ghost use Rattle.stores.specs.Run.{Ran};
-ghost use Rattle.survey.specs.Survey.{surveyOf};
 ghost use Rattle.crown.specs.Owns.{Owns};
-ghost use Rattle.beside.specs.Update.{deleteCrest};
+ghost use Rattle.opened.specs.Opened.{chipBy};
+ghost use Rattle.beside.specs.Beside.{nextBy, pageBy};
+ghost use Rattle.beside.specs.Update.{deleteStoreAt, deleteCrest};
 ghost use Rattle.deletion.specs.Own.{firstOf, Collapses, Removes, topStore, rootStore, leftAt, storeBy, topBy, rootAt};
 ghost use Rattle.step.specs.declared.Change.{Change};
 use crown::Own;
@@ -18,10 +17,10 @@ use edit::Changed;
 use geometry::Entry;
 use geometry::Geometry;
 use node::Node;
+use opened::Opened;
 use step::Change;
 use step::Job;
 use stores::Budget;
-use survey::Survey;
 
 // The root that is left, and the levels below it.
 pub struct Top {
@@ -128,14 +127,23 @@ fn long(x: u32) -> u64
     x as u64
 }
 
-// The job of removing a key.
-fn delete_job(g: Geometry, img: &[u8], n: u16, s: Survey, key: u32) -> Job
-    requires { ⌜ s ≡ surveyOf g n (now img) ⌝ }
-    ensures { λ r. ⌜ Removes g n (now (img .entry)) (s .most) key r ⌝ }
+// The levels below a root of a height.
+fn below(height: u32) -> u32
+    ensures { λ r. ⌜ r ≡ height - 1 ⌝ }
 {
-    let page = next::next_page(g, img, n, s.last);
+    if height == 0 {
+        return 0;
+    }
+    height - 1
+}
+
+// The job of removing a key, with the record's next page.
+fn delete_job(g: Geometry, n: u16, o: Opened, key: u32) -> Job
+    ensures { λ r. ⌜ Removes (nextBy g n o) (o .most) key r ⌝ }
+{
+    let page = next::next_by(g, n, o.next);
     let none = next::no_pages();
-    let last = long(s.most);
+    let last = long(o.most);
     Job {
         key: key,
         page: page,
@@ -145,13 +153,14 @@ fn delete_job(g: Geometry, img: &[u8], n: u16, s: Survey, key: u32) -> Job
     }
 }
 
-// The store of a delete on an image of n blocks, with its survey given; and where the root then stands.
-pub fn delete_own(g: Geometry, img: &mut [u8], n: u16, b: Budget, s: Survey, key: u32) -> Own
-    requires { ⌜ (s ≡ surveyOf g n (now img)) × (s .level < 255) × (pageBytes g ≤ 2112) × (b .left + b .programmed + b .erased < 4294967296) ⌝ }
+// The store of a delete on an image of n blocks, by its record; and where the root then stands.
+pub fn delete_own(g: Geometry, img: &mut [u8], n: u16, b: Budget, o: Opened, key: u32) -> Own
+    requires { ⌜ (o .height < 256) × (pageBytes g ≤ 2112) × (b .left + b .programmed + b .erased < 4294967296) ⌝ }
     ensures { λ r.
-        ⌜ Owns g (deleteStore g n (maxSeq g n (now (img .entry))) (chipOf g n (now (img .entry))) key ∷ []) (deleteCrest g n (chipOf g n (now (img .entry))) key) b r
+        ⌜ Owns g (deleteStoreAt g (o .most) (chipBy g (now (img .entry)) o) (pageBy g n (now (img .entry)) o 0) key ∷ []) (deleteCrest (chipBy g (now (img .entry)) o) (pageBy g n (now (img .entry)) o 0) key) b r
         (now (img .entry)) (now (img .exit)) ⌝ }
 {
-    let job = delete_job(g, &*img, n, s, key);
-    delete_with(g, &mut *img, b, job, s.level, s.root)
+    let level = below(o.height);
+    let job = delete_job(g, n, o, key);
+    delete_with(g, &mut *img, b, job, level, o.root)
 }

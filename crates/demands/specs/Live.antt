@@ -1,19 +1,19 @@
--- Request 7: on a sound image of n blocks, with the table worked out from it, insert and delete by the table have the outcome of the model's
--- calls, and leave the words worked out afresh from the image that is left; and what the calls with lent words promise of them.
--- Assumes nothing.
+-- Request 7: on a sound image of n blocks, with its record and the table worked out from it, insert and delete by these have the outcome of the
+-- model's calls, leave the record of the image that is left, and the words worked out afresh from it; and what the calls with lent words promise
+-- of them. Assumes nothing.
 use mathlib.Core.Path.{_≡_, refl, ap, sym, subst, _∙_}
 use mathlib.Core.List.{List, [], _∷_}
 use mathlib.Core.Bool.{Bool, true, false}
 use mathlib.Core.Logic.{_⊎_, inl, inr}
 use Prim.Native.Nat.{ℕ, _*_, _<_, _≤_}
 use native.Mathlib.Omega.{arith}
-use lib.Dec.{leb}
+use lib.Dec.{leb, lit≤}
 use lib.ListN.{length}
 use borrow.Author.Tests.{le-leb, lt-leb, leb-true, ne-eqb}
 use Rattle.geometry.specs.declared.Geometry.{Geometry}
 use Rattle.geometry.specs.declared.Verdict.the-variants.{Sound}
 use Rattle.geometry.specs.Tests.{pick}
-use Rattle.geometry.specs.Shape.{Shape}
+use Rattle.geometry.specs.Shape.{Known, is-small, is-large, Shape}
 use Rattle.model.specs.Bytes.{byteAt}
 use Rattle.model.specs.Image.{blocksOf, goodLength, chipOf}
 use Rattle.model.specs.Tree.{placesOf, live}
@@ -26,8 +26,11 @@ use Rattle.live.specs.Words.{blockWords, wordsOf, blockOnes, Told, Past}
 use Rattle.live.specs.Live.{Reply, reply, liveWords, leavesWords, withWords, insertLive, deleteLive}
 use Rattle.live.specs.Ones.{block-ones}
 use Rattle.live.specs.Filled.{past-none, filled-past, filled-told, filled-same}
-use Rattle.beside.specs.Table.{Table, Right}
-use Rattle.beside.specs.Update.{insertBy, deleteBy}
+use Rattle.opened.specs.Opened.{openedIn}
+use Rattle.beside.specs.Beside.{Held}
+use Rattle.beside.specs.Update.{Returned, returned, insertBy, deleteBy}
+use Rattle.images.specs.Few.{known-few}
+use Rattle.updates.specs.CollectBy.{Tells}
 use Rattle.updates.specs.UpdateBy.{inserts, deletes}
 use Rattle.demands.specs.Words.{Ready, mapAt, OneOf}
 use Rattle.demands.specs.Bridges.{few, some-pages, ready-keeps}
@@ -49,46 +52,57 @@ other-answer x [] h j n e = absurd h
 other-answer x (y ∷ ys) (inl h) j n e = n .0 (sym h ∙ e)
 other-answer x (y ∷ ys) (inr h) j n e = other-answer x ys h j (n .1) e
 
--- ---- by the table
+-- a block has a page for each level
+pub known-tall : (g : Geometry) → Known g → g .top ≤ g .pages
+known-tall _ is-small = lit≤ tt
+known-tall _ is-large = lit≤ tt
+
+-- ---- by the record and the table
 module _ (g : Geometry) (shape : Shape g) (whole : g .pages ≡ 32 * blockWords g) (n : ℕ) (img : List ℕ)
     (good : goodLength g img ≡ true) (blocks : n ≡ blocksOf g img) (bytes : (i : ℕ) → byteAt img i < 256) (sound : verdict g n img ≡ Sound)
-    (t : Table) (right : Right g n img t) where
+    (h : Held) (tells : Tells g n img h) (known : Known g) where
   ready : Ready g img
   ready = record { length-good = good; is-sound = subst (λ m. verdict g m img ≡ Sound) blocks sound; bytes = bytes }
 
-  right′ : Right g (blocksOf g img) img t
-  right′ = subst (λ m. Right g m img t) blocks right
+  tells′ : Tells g (blocksOf g img) img h
+  tells′ = subst (λ m. Tells g m img h) blocks tells
 
-  pub insert-by : (k a al : ℕ) → k < 4294967296 → a < 4294967296
-      → insertBy g n t img k a al ≡ reply (insertRest g n img k a al) (liveWords g n (insertRest g n img k a al .image) (t .words))
+  -- what is left after an outcome, of m blocks
+  abbrev left : ℕ → Outcome → Returned
+  left m o = returned o (openedIn g m (o .image)) (liveWords g m (o .image) (h .table .words))
+
+  pub insert-by : (k a al : ℕ) → k < 4294967296 → a < 4294967296 → insertBy g n h img k a al ≡ left n (insertRest g n img k a al)
   insert-by k a al k-low a-low =
-      subst (λ m. insertBy g m t img k a al ≡ reply (insertRest g m img k a al) (liveWords g m (insertRest g m img k a al .image) (t .words)))
+      subst (λ m. insertBy g m h img k a al ≡ left m (insertRest g m img k a al))
       (sym blocks) (inserts g shape (blocksOf g img) (few g shape img ready) (mapAt g img) img (ready-keeps g shape img ready)
-      (some-pages g shape img ready) whole t right′ k a al k-low a-low)
+      (some-pages g shape img ready) whole h tells′ (known-few g known) (known-tall g known) k a al k-low a-low)
 
-  pub delete-by : (k al : ℕ) → k < 4294967296
-      → deleteBy g n t img k al ≡ reply (deleteRest g n img k al) (liveWords g n (deleteRest g n img k al .image) (t .words))
+  pub delete-by : (k al : ℕ) → k < 4294967296 → deleteBy g n h img k al ≡ left n (deleteRest g n img k al)
   delete-by k al k-low =
-      subst (λ m. deleteBy g m t img k al ≡ reply (deleteRest g m img k al) (liveWords g m (deleteRest g m img k al .image) (t .words)))
+      subst (λ m. deleteBy g m h img k al ≡ left m (deleteRest g m img k al))
       (sym blocks) (deletes g shape (blocksOf g img) (few g shape img ready) (mapAt g img) img (ready-keeps g shape img ready)
-      (some-pages g shape img ready) whole t right′ k al k-low)
+      (some-pages g shape img ready) whole h tells′ (known-few g known) (known-tall g known) k al k-low)
 
   -- so they are the calls with lent words, where the table's words are the lent ones but for those of the image
-  module _ (old : List ℕ) (past : Past (wordsOf g n) old (t .words)) where
+  module _ (old : List ℕ) (past : Past (wordsOf g n) old (h .table .words)) where
     abbrev b : ℕ
     b = blocksOf g img
 
-    past′ : Past (wordsOf g b) old (t .words)
-    past′ = subst (λ m. Past (wordsOf g m) old (t .words)) blocks past
+    past′ : Past (wordsOf g b) old (h .table .words)
+    past′ = subst (λ m. Past (wordsOf g m) old (h .table .words)) blocks past
 
-    replies : (o : Outcome) → (o .answer ≡ 1 → ⊥) → (o .answer ≡ 2 → ⊥) → reply o (liveWords g b (o .image) (t .words)) ≡ withWords g img old o
+    replies : (o : Outcome) → (o .answer ≡ 1 → ⊥) → (o .answer ≡ 2 → ⊥) → reply o (liveWords g b (o .image) (h .table .words)) ≡ withWords g img old o
     unfolding withWords liveWords
     replies o p q =
-        let room : wordsOf g b ≤ length old = (let x = right′ .told .room in let y = past′ .long in omega (arith, x, y)) in
+        let room : wordsOf g b ≤ length old = (let x = tells′ .right .told .room in let y = past′ .long in omega (arith, x, y)) in
         rw (le-leb (wordsOf g b) (length old) room, changes (o .answer) p q)
-        (ap (reply o) (filled-same (live (placesOf (chipOf g b (o .image)))) (wordsOf g b) old (t .words) past′))
+        (ap (reply o) (filled-same (live (placesOf (chipOf g b (o .image)))) (wordsOf g b) old (h .table .words) past′))
 
-    pub insert-replies : (k a al : ℕ) → k < 4294967296 → a < 4294967296 → insertBy g n t img k a al ≡ insertLive g img old k a al
+    -- the outcome and the words of what is left
+    abbrev told : Returned → Reply
+    told x = reply (x .outcome) (x .words)
+
+    pub insert-replies : (k a al : ℕ) → k < 4294967296 → a < 4294967296 → told (insertBy g n h img k a al) ≡ insertLive g img old k a al
     unfolding insertLive insert
     insert-replies k a al k-low a-low =
         let o = insertRest g b img k a al in
@@ -107,11 +121,10 @@ module _ (g : Geometry) (shape : Shape g) (whole : g .pages ≡ 32 * blockWords 
             ),
           ),
         ) in
-        insert-by k a al k-low a-low
-        ∙ ap (λ m. reply (insertRest g m img k a al) (liveWords g m (insertRest g m img k a al .image) (t .words))) blocks
+        ap told (insert-by k a al k-low a-low ∙ ap (λ m. left m (insertRest g m img k a al)) blocks)
         ∙ replies o (no 1 (omega arith) (omega arith)) (no 2 (omega arith) (omega arith)) ∙ ap (withWords g img old) (sym e)
 
-    pub delete-replies : (k al : ℕ) → k < 4294967296 → deleteBy g n t img k al ≡ deleteLive g img old k al
+    pub delete-replies : (k al : ℕ) → k < 4294967296 → told (deleteBy g n h img k al) ≡ deleteLive g img old k al
     unfolding deleteLive delete
     delete-replies k al k-low =
         let o = deleteRest g b img k al in
@@ -119,8 +132,7 @@ module _ (g : Geometry) (shape : Shape g) (whole : g .pages ≡ 32 * blockWords 
         let one = subst (λ (x : Outcome). OneOf (x .answer) (0 ∷ 3 ∷ 4 ∷ 7 ∷ [])) e (delete-one g shape img ready k al) in
         let no : (j : ℕ) → 1 ≤ j → j ≤ 2 → o .answer ≡ j → ⊥ = λ j p q. other-answer (o .answer) (0 ∷ 3 ∷ 4 ∷ 7 ∷ []) one j
         ((λ z. omega (arith, z, p)), ((λ z. omega (arith, z, q)), ((λ z. omega (arith, z, q)), ((λ z. omega (arith, z, q)), tt)))) in
-        delete-by k al k-low
-        ∙ ap (λ m. reply (deleteRest g m img k al) (liveWords g m (deleteRest g m img k al .image) (t .words))) blocks
+        ap told (delete-by k al k-low ∙ ap (λ m. left m (deleteRest g m img k al)) blocks)
         ∙ replies o (no 1 (omega arith) (omega arith)) (no 2 (omega arith) (omega arith)) ∙ ap (withWords g img old) (sym e)
 
 -- ---- what a call with lent words promises, for every image: o is the outcome of the call without them

@@ -16,6 +16,7 @@ use Rattle.node.specs.Node.{entries, carried, replaceBy}
 use Rattle.page.specs.Page.{laidLevel, laid}
 use Rattle.page.specs.Levels.{laid-none, laid-more, laid-agree}
 use Rattle.stores.specs.declared.Budget.{Budget}
+use Rattle.stores.specs.Careful.{careful}
 use Rattle.stores.specs.Run.{Ran}
 use Rattle.stores.specs.Runs.{ran-none, ran-then}
 use Rattle.step.specs.declared.Change.{Change}
@@ -130,7 +131,7 @@ take-none zero = refl
 take-none (suc n) = refl
 
 same-image : (g : Geometry) (ss : List Store) (b r : Budget) (i o : List ℕ) → Ran g ss b r i o → ss ≡ [] → o ≡ i
-unfolding applyAll
+unfolding applyAll careful
 same-image g ss b r i o run e = run .image ∙ rw (e, take-none (b .left))
 
 -- it leaves the image as it is

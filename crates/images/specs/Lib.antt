@@ -8,3 +8,4 @@ pub mod Small
 pub mod Held
 pub mod Writes
 pub mod Lengths
+pub mod Few

@@ -1,14 +1,12 @@
 -- A geometry by its number: the calls, and what they ask of a geometry. Assumes nothing.
-use mathlib.Core.Path.{_≡_, refl, sym, ap, subst, _∙_}
+use mathlib.Core.Path.{_≡_, sym, ap, _∙_}
 use mathlib.Core.List.{List}
-use mathlib.Core.Bool.{Bool, true, false, false≢true}
-use Prim.Native.Nat.{ℕ, zero, suc, _≤_}
-use native.Mathlib.Omega.{arith}
+use Prim.Native.Nat.{ℕ, _≤_}
 use Rattle.geometry.specs.declared.Geometry.{Geometry}
 use Rattle.geometry.specs.declared.Chosen.{Chosen}
 use Rattle.geometry.specs.declared.Chosen.the-variants.{Of, Unknown}
 use Rattle.geometry.specs.Geometry.{chosenOf, pageBytes}
-use Rattle.geometry.specs.Shape.{Known, Shape, shape, page-most, chosen-known}
+use Rattle.geometry.specs.Shape.{Known, shape, page-most, chosen-known}
 use Rattle.model.specs.Calls.{Outcome, refused, chosenCall, format, lookup, patrol, formatOf, lookupOf, patrolOf}
 use Rattle.model.specs.Listing.{listsNone, listing, listOf, asOutcome}
 use Rattle.answers.specs.declared.Answer.the-variants.{Length}
@@ -28,7 +26,7 @@ module _ (kind : ℕ) (c : Chosen) (ec : c ≡ chosenOf kind) (g : Geometry) (e 
   of-page = page-most g of-known
 
   -- a call of any kind
-  called : {A : Type 0} (call : Geometry → A) (other o : A) → o ≡ call g → o ≡ chosenCall (chosenOf kind) call other
+  pub called : {A : Type 0} (call : Geometry → A) (other o : A) → o ≡ call g → o ≡ chosenCall (chosenOf kind) call other
   unfolding chosenCall
   called call other o h = h ∙ ap (λ (x : Chosen). chosenCall x call other) (sym e ∙ ec)
 
@@ -66,7 +64,7 @@ module _ (kind : ℕ) (c : Chosen) (ec : c ≡ chosenOf kind) (g : Geometry) (e 
 
 -- no such geometry. A `let .. else` leaves that the choice is no Of, whatever geometry
 module _ (kind : ℕ) (c : Chosen) (ec : c ≡ chosenOf kind) (e : c ≡ Unknown) (img : List ℕ) where
-  unknown : {A : Type 0} (call : Geometry → A) (other : A) → other ≡ chosenCall (chosenOf kind) call other
+  pub unknown : {A : Type 0} (call : Geometry → A) (other : A) → other ≡ chosenCall (chosenOf kind) call other
   unfolding chosenCall
   unknown call other = ap (λ (x : Chosen). chosenCall x call other) (sym e ∙ ec)
 

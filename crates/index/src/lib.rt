@@ -6,9 +6,15 @@ ghost use Rattle.model.specs.Listing.{listOf, asOutcome};
 ghost use Rattle.answers.specs.Answers.{told, toldBy};
 ghost use Rattle.carrying.specs.Carrying.{exportOf, importOf};
 ghost use Rattle.live.specs.Live.{reply, insertLiveOf, deleteLiveOf};
+ghost use Rattle.opened.specs.Opened.{openingOf, openedOf, lookupWithOf, listWithOf};
+ghost use Rattle.beside.specs.Update.{returned};
+ghost use Rattle.beside.specs.Calls.{insertWithOf, deleteWithOf};
+use account::Renewed;
 use answers::Answer;
 use answers::Row;
 use geometry::Chosen;
+use opened::Opened;
+use opening::Opening;
 
 pub fn format(kind: u32, img: &mut [u8]) -> Answer
     ensures { λ r. ⌜ told r (now (img .exit)) ≡ formatOf kind (now (img .entry)) ⌝ }
@@ -68,6 +74,91 @@ pub fn delete(kind: u32, img: &mut [u8], lent: &mut [u32], key: u32, allowance: 
         return Answer::Length;
     };
     delete::delete_on(g, &mut *img, &mut *lent, key, allowance)
+}
+
+// Request 8, "Open once, call often": judges the image and hands back its record; a refused opening gives zeros.
+pub fn open(kind: u32, img: &[u8]) -> Opening
+    ensures { λ r. ⌜ (told (r .answer) (now (img .entry)) ≡ openingOf kind (now (img .entry))) × (r .opened ≡ openedOf kind (now (img .entry))) ⌝ }
+{
+    let chosen = geometry::choose(kind);
+    let Chosen::Of(g) = chosen else {
+        return opening::refused(Answer::Length);
+    };
+    opening::open_on(g, img)
+}
+
+// Lookup with a record. Nothing is judged: the record is STALE where it does not name the image's root.
+pub fn lookup_opened(kind: u32, img: &[u8], o: Opened, key: u32) -> Answer
+    ensures { λ r. ⌜ told r (now (img .entry)) ≡ lookupWithOf kind (now (img .entry)) o key ⌝ }
+{
+    let chosen = geometry::choose(kind);
+    let Chosen::Of(g) = chosen else {
+        return Answer::Length;
+    };
+    opening::lookup_opened_on(g, img, o, key)
+}
+
+// A listing with a record, up to 536,870,912 pairs.
+pub fn list_opened(
+    kind: u32,
+    img: &[u8],
+    o: Opened,
+    low: u32,
+    high: u32,
+    pairs: &mut [u32],
+) -> Answer
+    ensures { λ r. ⌜ told r (now (pairs .exit)) ≡ asOutcome (listWithOf kind (now (img .entry)) o low high (now (pairs .entry))) ⌝ }
+{
+    let chosen = geometry::choose(kind);
+    let Chosen::Of(g) = chosen else {
+        return Answer::Length;
+    };
+    opening::list_opened_on(g, img, o, low, high, &mut *pairs)
+}
+
+// Insert with a record and the lent words. Hands back the record of the image that is left.
+pub fn insert_opened(
+    kind: u32,
+    img: &mut [u8],
+    lent: &mut [u32],
+    o: Opened,
+    key: u32,
+    address: u32,
+    allowance: u32,
+) -> Renewed
+    ensures { λ r.
+        ⌜ returned (told (r .answer) (now (img .exit))) (r .opened) (now (lent .exit)) ≡ insertWithOf kind (now (img .entry)) (now (lent .entry)) o key address allowance ⌝ }
+{
+    let chosen = geometry::choose(kind);
+    let Chosen::Of(g) = chosen else {
+        return Renewed {
+            answer: Answer::Length,
+            opened: o,
+        };
+    };
+    insert::insert_opened_on(g, &mut *img, &mut *lent, o, key, address, allowance)
+}
+
+// Delete with a record and the lent words.
+pub fn delete_opened(
+    kind: u32,
+    img: &mut [u8],
+    lent: &mut [u32],
+    o: Opened,
+    key: u32,
+    allowance: u32,
+) -> Renewed
+    ensures { λ r.
+        ⌜ returned (told (r .answer) (now (img .exit))) (r .opened) (now (lent .exit)) ≡ deleteWithOf kind (now (img .entry)) (now (lent .entry)) o key allowance ⌝ }
+{
+    let chosen = geometry::choose(kind);
+    let Chosen::Of(g) = chosen else {
+        return Renewed {
+            answer: Answer::Length,
+            opened: o,
+        };
+    };
+    delete::delete_opened_on(g, &mut *img, &mut *lent, o, key, allowance)
 }
 
 pub fn patrol(kind: u32, img: &mut [u8], page: u32, half: u32) -> Answer

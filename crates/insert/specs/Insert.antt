@@ -1,28 +1,38 @@
--- Insert's stores by the table. Definitions alone; assumes nothing.
+-- Insert's stores for m pages by the record and the table, and what they leave. Definitions alone; assumes nothing.
 use Prim.Native.Nat.{ℕ, _+_}
 use mathlib.Core.List.{List, _++_}
 use Rattle.geometry.specs.declared.Geometry.{Geometry}
-use Rattle.model.specs.Image.{chipOf, maxSeq}
+use Rattle.geometry.specs.Tests.{pick}
 use Rattle.model.specs.Stores.{Store}
-use Rattle.model.specs.Update.{ownStores}
-use Rattle.beside.specs.Table.{Table}
+use Rattle.live.specs.Live.{Reply, reply}
+use Rattle.opened.specs.declared.Opened.{Opened}
+use Rattle.beside.specs.Beside.{Held}
 use Rattle.beside.specs.Collect.{Run, collectBy}
-use Rattle.beside.specs.Update.{Crest, insertCrest}
+use Rattle.beside.specs.Update.{Crest, Returned, madeBy, ownBy, crestBy, roomlessBy, refusedBy}
 
 -- collection for m pages
-abbrev pub runBy : Geometry → ℕ → ℕ → Table → List ℕ → Run Table
-runBy g n m t i = collectBy g n m (m + 1) t i
+abbrev pub runBy : Geometry → ℕ → ℕ → Held → List ℕ → Run Held
+runBy g n m h i = collectBy g n m (m + 1) h i
 
--- the insert's own stores on an image, and where the root then stands
-abbrev pub ownOn : Geometry → ℕ → ℕ → ℕ → ℕ → List ℕ → List Store
-ownOn g n m k a h = ownStores g n (maxSeq g n h) (chipOf g n h) m k a
+-- then the insert's own stores on the image that it leaves, and where the root then stands
+abbrev pub storesBy : Geometry → ℕ → ℕ → Held → List ℕ → ℕ → ℕ → List Store
+storesBy g n m h i k a = runBy g n m h i .stores ++ ownBy g n (runBy g n m h i .image) (runBy g n m h i .kept .at) m k a
 
-abbrev pub crestOn : Geometry → ℕ → ℕ → ℕ → ℕ → List ℕ → Crest
-crestOn g n m k a h = insertCrest g n (chipOf g n h) m k a
+abbrev pub crestOn : Geometry → ℕ → ℕ → Held → List ℕ → ℕ → ℕ → Crest
+crestOn g n m h i k a = crestBy g n (runBy g n m h i .image) (runBy g n m h i .kept .at) m k a
 
--- collection, then these on the image that it leaves
-abbrev pub storesBy : Geometry → ℕ → ℕ → Table → List ℕ → ℕ → ℕ → List Store
-storesBy g n m t i k a = runBy g n m t i .stores ++ ownOn g n m k a (runBy g n m t i .image)
+-- what they leave
+unfoldable pub madeFor : Geometry → ℕ → ℕ → Held → List ℕ → ℕ → ℕ → ℕ → Returned
+madeFor g n m h i k a x = madeBy g n (storesBy g n m h i k a) (runBy g n m h i .kept .at) m (crestOn g n m h i k a) x i (h .table .words)
 
-abbrev pub crestBy : Geometry → ℕ → ℕ → Table → List ℕ → ℕ → ℕ → Crest
-crestBy g n m t i k a = crestOn g n m k a (runBy g n m t i .image)
+-- the same without collection
+unfoldable pub ownFor : Geometry → ℕ → ℕ → Opened → List ℕ → List ℕ → ℕ → ℕ → ℕ → Returned
+ownFor g n m o i old k a x = madeBy g n (ownBy g n i o m k a) o m (crestBy g n i o m k a) x i old
+
+-- ROOM, else this
+unfoldable pub plannedFor : Geometry → ℕ → ℕ → Held → List ℕ → ℕ → ℕ → ℕ → Returned
+plannedFor g n m h i k a x = pick (roomlessBy g n h m) (refusedBy 6 h i) (madeFor g n m h i k a x)
+
+-- the outcome and the words of what is left
+abbrev pub replied : Returned → Reply
+replied x = reply (x .outcome) (x .words)

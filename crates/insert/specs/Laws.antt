@@ -3,20 +3,19 @@ use Prim.Native.Nat.{ℕ, suc, _+_, _-_, _*_, _<_, _≤_}
 use mathlib.Core.Bool.{Bool, true, false}
 use mathlib.Core.Path.{_≡_, refl, sym, ap, subst, _∙_}
 use mathlib.Core.List.{List}
-use lib.Dec.{ltb}
 use lib.ListN.{length}
 use native.Mathlib.Omega.{arith}
 use native.Mathlib.Numerals.{add-one}
-use borrow.Author.Tests.{ltb-true}
+use borrow.Author.Tests.{lt-ltb, le-ltb, ltb-true}
 use mir.Syntax.{w8}
 use mir.Val.{Fits}
 use Rattle.geometry.specs.declared.Geometry.{Geometry}
-use Rattle.geometry.specs.declared.Entry.{Entry}
 use Rattle.geometry.specs.declared.Verdict.the-variants.{Sound, Broken}
-use Rattle.geometry.specs.Tests.{pick, and-left}
-use Rattle.geometry.specs.Shape.{Known, shape, page-most}
+use Rattle.geometry.specs.Tests.{pick, _&_, and-left}
+use Rattle.geometry.specs.Shape.{Known, shape}
 use Rattle.model.specs.Bytes.{byteAt}
-use Rattle.model.specs.Image.{Chip, chipOf, maxSeq}
+use Rattle.model.specs.Image.{Chip}
+use Rattle.model.specs.Stores.{Store}
 use Rattle.model.specs.Calls.{roomless, insert}
 use Rattle.model.specs.Update.{needs, fills, crownHeight}
 use Rattle.answers.specs.declared.Answer.{Answer}
@@ -25,30 +24,35 @@ use Rattle.answers.specs.Answers.{told}
 use Rattle.chip.specs.Chip.{chipWith, goodBlocks}
 use Rattle.chip.specs.Blocks.{some-good, some-blocks}
 use Rattle.stores.specs.declared.Budget.{Budget}
-use Rattle.survey.specs.declared.Survey.{Survey}
-use Rattle.survey.specs.Survey.{surveyOf}
-use Rattle.survey.specs.Laws.{chip-is}
-use Rattle.victim.specs.Victim.{Looked}
 use Rattle.plan.specs.declared.Plan.{Plan}
 use Rattle.plan.specs.Plan.{Plans}
 use Rattle.walk.specs.Table.{liveIn}
 use Rattle.verdict.specs.declared.Judgement.{Judgement}
 use Rattle.verdict.specs.Verdict.{Judged}
-use Rattle.judging.specs.Judging.{judged-looked, judged-room}
+use Rattle.judging.specs.Judging.{judged-marked, judged-room}
 use Rattle.live.specs.Words.{wordsOf, filled, allOnes}
 use Rattle.live.specs.Filled.{filled-past}
 use Rattle.live.specs.Live.{Reply, reply, insertLive}
-use Rattle.beside.specs.Table.{Table, tableIn}
-use Rattle.beside.specs.Update.{Crest, insertCrest, insertMade, insertBy}
+use Rattle.opened.specs.declared.Opened.{Opened}
+use Rattle.opened.specs.Opened.{openedIn, chipBy}
+use Rattle.recording.specs.Laws.{height-low}
+use Rattle.beside.specs.Table.{tableIn}
+use Rattle.beside.specs.Beside.{Held, holding}
+use Rattle.beside.specs.Collect.{Run}
+use Rattle.beside.specs.Update.{Crest, Returned, returned, sidesBy, ownBy, insertCrest, crestBy, insertMade, insertBy}
 use Rattle.crown.specs.declared.Own.{Own}
 use Rattle.crown.specs.Owns.{Owns}
 use Rattle.collect.specs.declared.Swept.{Swept}
 use Rattle.collect.specs.Collect.{Collects}
-use Rattle.account.specs.Account.{freshOf, answerBy, leftWords, Makes}
-use Rattle.account.specs.Rest.{collect-laws, worn-is, fresh-is, makes-first, makes-both, finished}
-use Rattle.account.specs.Lent.{known-pages, known-top, lent-enough, whole, lent-length, lent-short, lent-broken, right}
+use Rattle.account.specs.declared.Made.{Made}
+use Rattle.account.specs.declared.Renewed.{Renewed}
+use Rattle.account.specs.Account.{Sized, freshOf, Leaves, Makes}
+use Rattle.account.specs.Rest.{collect-laws, makes-first, makes-both, finished}
+use Rattle.account.specs.Lent.{known-pages, lent-enough, whole, lent-length, lent-short, lent-broken, right}
+use Rattle.account.specs.Low.{side-low, known-sized}
+use Rattle.updates.specs.CollectBy.{Tells}
 use Rattle.demands.specs.Live.{insert-replies}
-use Rattle.insert.specs.Insert.{runBy, ownOn, crestOn, storesBy, crestBy}
+use Rattle.insert.specs.Insert.{runBy, storesBy, crestOn, madeFor, plannedFor, replied}
 
 -- ---- the root after an insert is low enough for the table: it grows below the top alone
 grown : (g : Geometry) (l m : ℕ) (t : Bool) → fills g (suc l) m ≡ t → l < 255 → g .top < 256 → pick t (suc (suc l)) (suc l) - 1 < 255
@@ -56,59 +60,94 @@ unfolding fills
 grown g l m true e low top = let h : suc l < g .top = ltb-true _ _ (and-left _ _ e) in omega arith
 grown g l m false e low top = omega arith
 
-crest-low : (g : Geometry) (n m k a : ℕ) (c : Chip) → c .level < 255 → g .top < 256 → insertCrest g n c m k a .level < 255
+pub crest-low : (g : Geometry) (c : Chip) (side : ℕ → ℕ) (m k a : ℕ) → c .level < 255 → g .top < 256 → insertCrest g c side m k a .level < 255
 unfolding crownHeight
-crest-low g n m k a c low top = grown g (c .level) _ _ refl low top
+crest-low g c side m k a low top = grown g (c .level) _ _ refl low top
 
 -- ---- the stores: collection, then the insert's own on the image that it leaves
-module _ (g : Geometry) (n m k a x : ℕ) (i tbl tbl′ ws ws′ : List ℕ) (b : Budget) (r : Swept) (eb : b ≡ freshOf x) where
-  pub insert-first : (o : List ℕ) → Collects g n m (m + 1) b r i o tbl tbl′ ws ws′ → r .budget .stopped ≡ true
-      → Makes g n (storesBy g n m (tableIn tbl ws) i k a) (crestBy g n m (tableIn tbl ws) i k a) x (record { budget = r .budget; page = 0; level = 0 }) i o ws ws′
-  insert-first o w q = makes-first g n x _ _ _ b (r .budget) i o ws ws′ eb (w .made .ran) (w .made .past) q
+module _ (g : Geometry) (n m k a x : ℕ) (s : Opened) (i tbl tbl′ ws ws′ : List ℕ) (b : Budget) (r : Swept) (eb : b ≡ freshOf x) where
+  abbrev held : Held
+  held = holding s (tableIn tbl ws)
 
-  pub insert-both : (own : Own) (h o : List ℕ) → Owns g (ownOn g n m k a h) (crestOn g n m k a h) (r .budget) own h o
-      → Collects g n m (m + 1) b r i h tbl tbl′ ws ws′ → r .budget .stopped ≡ false → g .top < 256
-      → Makes g n (storesBy g n m (tableIn tbl ws) i k a) (crestBy g n m (tableIn tbl ws) i k a) x own i o ws ws′
-  unfolding surveyOf
-  insert-both own h o w c q top =
-      let low : chipOf g n h .level < 255 = subst (λ (s : Survey). s .level < 255) (c .survey q) (c .low q) in
-      let here : own .level < 255 = rw (ap (λ (t : Crest). t .level) (w .crest)) (crest-low g n m k a (chipOf g n h) low top) in
-      makes-both g n x _ _ _ b (r .budget) i h ws ws′ eb (c .made .ran) (c .made .past) own o q
-      (subst (λ (j : List ℕ). Owns g (ownOn g n m k a j) (crestOn g n m k a j) (r .budget) own h o) (c .made .image q) w) here
+  pub insert-first : (o : List ℕ) → Collects g n m (m + 1) b r s i o tbl tbl′ ws ws′ → r .budget .stopped ≡ true
+      → Makes g n (storesBy g n m held i k a) (runBy g n m held i .kept .at) (crestOn g n m held i k a) x
+      (record { own = record { budget = r .budget; page = 0; level = 0 }; opened = r .opened }) i o ws ws′
+  insert-first o w q = makes-first g n x _ _ _ _ b (r .budget) i o ws ws′ eb (w .made .ran) (w .made .past) (r .opened) q
+
+  pub insert-both : (own : Own) (h o : List ℕ) → Owns g (ownBy g n h (r .opened) m k a) (crestBy g n h (r .opened) m k a) (r .budget) own h o
+      → Collects g n m (m + 1) b r s i h tbl tbl′ ws ws′ → r .budget .stopped ≡ false → Sized g n → m ≤ 256
+      → Makes g n (storesBy g n m held i k a) (runBy g n m held i .kept .at) (crestOn g n m held i k a) x (record { own = own; opened = r .opened }) i o ws ws′
+  insert-both own h o w c q sized few =
+      let run : Run Held = runBy g n m held i in
+      let e : r .opened ≡ run .kept .at = ap (λ (y : Held). y .at) (c .made .kept q) in
+      let f : h ≡ run .image = c .made .image q in
+      let v = subst (λ (j : List ℕ). Owns g (ownBy g n j (r .opened) m k a) (crestBy g n j (r .opened) m k a) (r .budget) own h o) f w in
+      let u = subst (λ (y : Opened). Owns g (ownBy g n (run .image) y m k a) (crestBy g n (run .image) y m k a) (r .budget) own h o) e v in
+      let low : run .kept .at .height < 256 = subst (λ (y : Opened). y .height < 256) e (c .low) in
+      makes-both g n x _ _ _ _ b (r .budget) i h ws ws′ eb (c .made .ran) (c .made .past) (r .opened) own o e u
+      (crest-low g (chipBy g (run .image) (run .kept .at)) (sidesBy g n (run .image) (run .kept .at)) m k a (omega (arith, low)) (sized .top))
+      (side-low g n (run .image) (run .kept .at) sized m few)
+
+module _ (g : Geometry) (n m k a x : ℕ) (h : Held) (i o mid new : List ℕ) (s : Made) (r : Renewed) where
+  pub made-is : Leaves g n (s .own) (s .opened) m o r mid new
+      → Makes g n (storesBy g n m h i k a) (runBy g n m h i .kept .at) (crestOn g n m h i k a) x s i o (h .table .words) mid
+      → returned (told (r .answer) o) (r .opened) new ≡ madeFor g n m h i k a x
+  unfolding madeFor
+  made-is l w = finished g n m _ _ _ x s i o (h .table .words) mid new w r l
+
+pub makes-low : (g : Geometry) (n : ℕ) (ss : List Store) (h : Opened) (t : Crest) (x : ℕ) (s : Made) (i o old mid : List ℕ) → Makes g n ss h t x s i o old mid
+    → s .own .level < 255
+makes-low g n ss h t x s i o old mid w = w .low
+
+pub makes-page : (g : Geometry) (n : ℕ) (ss : List Store) (h : Opened) (t : Crest) (x : ℕ) (s : Made) (i o old mid : List ℕ) → Makes g n ss h t x s i o old mid
+    → s .own .page < 4294967295
+makes-page g n ss h t x s i o old mid w = w .page
 
 -- ---- the answers
-module _ (g : Geometry) (n k a x : ℕ) (i : List ℕ) (s : Survey) (tbl ws : List ℕ) (lk : Looked g n i s tbl) where
-  abbrev t : Table
-  t = tableIn tbl ws
+module _ (g : Geometry) (n k a x : ℕ) (s : Opened) (i tbl ws : List ℕ) where
+  abbrev t : Held
+  t = holding s (tableIn tbl ws)
 
-  pub rest-worn : g .worn < s .most → reply (told Worn i) ws ≡ insertBy g n t i k a x
+  pub rest-worn : g .worn < s .most → returned (told Worn i) s ws ≡ insertBy g n t i k a x
   unfolding insertBy
-  rest-worn h = sym (rw (worn-is g n i s tbl lk h))
+  rest-worn h = sym (rw (lt-ltb (g .worn) (s .most) h))
 
-  module _ (p : Plan) (pl : Plans g (chipWith g i (s .level) (s .root)) k p) (h : s .most ≤ g .worn) where
-    plan-is : Plans g (chipOf g n i) k p
-    plan-is = rw (chip-is g n i s (lk .survey)) at pl
+  module _ (l : ℕ) (p : Plan) (pl : Plans g (chipWith g i l (s .root)) k p) (el : l ≡ s .height - 1) (h : s .most ≤ g .worn) where
+    plan-is : Plans g (chipBy g i s) k p
+    plan-is = rw el at pl
 
-    pub rest-high : p .high ≡ true → reply (told Height i) ws ≡ insertBy g n t i k a x
+    pub rest-high : p .high ≡ true → returned (told Height i) s ws ≡ insertBy g n t i k a x
     unfolding insertBy
-    rest-high q = sym (rw (fresh-is g n i s tbl lk h, ← plan-is .high, q))
+    rest-high q = sym (rw (le-ltb (g .worn) (s .most) h, ← plan-is .high, q))
 
-    module _ (v : Bool) (ev : v ≡ roomless g (g .pages * n - allOnes g n ws) (p .needs)) (low : p .high ≡ false) where
-      room-is : (q : Bool) → v ≡ q → roomless g (g .pages * n - allOnes g n ws) (needs g (chipOf g n i) k) ≡ q
-      room-is q e = rw (← plan-is .needs) (sym ev ∙ e)
+    module _ (low : p .high ≡ false) where
+      pub rest-planned : (r : Returned) → r ≡ plannedFor g n (p .needs) t i k a x → r ≡ insertBy g n t i k a x
+      unfolding insertBy insertMade plannedFor madeFor
+      rest-planned r e = e ∙ sym (rw (le-ltb (g .worn) (s .most) h, ← plan-is .high, low, ← plan-is .needs, ← add-one (p .needs)))
 
-      pub rest-room : v ≡ true → reply (told Room i) ws ≡ insertBy g n t i k a x
-      unfolding insertBy
-      rest-room e = sym (rw (fresh-is g n i s tbl lk h, ← plan-is .high, low, room-is true e))
+      module _ (v : Bool) (ev : v ≡ (roomless g (s .erased) (p .needs) & roomless g (g .pages * n - allOnes g n ws) (p .needs))) where
+        pub rest-room : v ≡ true → returned (told Room i) s ws ≡ insertBy g n t i k a x
+        unfolding plannedFor
+        rest-room e = rest-planned _ (sym (rw (← ev, e)))
 
-      pub rest-made : (c : Answer) (own : Own) (o mid new : List ℕ) → c ≡ answerBy (own .budget) → new ≡ leftWords g n own o mid
-          → Makes g n (storesBy g n (p .needs) t i k a) (crestBy g n (p .needs) t i k a) x own i o ws mid → v ≡ false → reply (told c o) new ≡ insertBy g n t i k a x
-      unfolding insertBy insertMade
-      rest-made c own o mid new ec en m e =
-          finished g n _ _ x own i o ws mid new m en c ec
-          ∙ sym (rw (fresh-is g n i s tbl lk h, ← plan-is .high, low, room-is false e, ← plan-is .needs, ← add-one (p .needs)))
+        pub rest-made : (r : Returned) → r ≡ madeFor g n (p .needs) t i k a x → v ≡ false → r ≡ insertBy g n t i k a x
+        unfolding plannedFor
+        rest-made r er e = rest-planned r (er ∙ sym (rw (← ev, e)))
+
+-- the pages of a plan
+pub plan-few : (g : Geometry) (i : List ℕ) (l root k h : ℕ) (p : Plan) → Plans g (chipWith g i l root) k p → l ≡ h - 1 → h < 256 → p .needs ≤ 256
+plan-few g i l root k h p pl el low = let w : p .needs ≤ l + 2 = pl .few in omega (arith, w)
+
+pub plan-some : (g : Geometry) (i : List ℕ) (l root k : ℕ) (p : Plan) → Plans g (chipWith g i l root) k p → 1 ≤ p .needs
+plan-some g i l root k p pl = pl .some
 
 -- ---- judged first
+pub judged-is : (g : Geometry) (n k a x : ℕ) (c : Answer) (t o : Opened) (i out tbl old words new : List ℕ)
+    → returned (told c out) t new ≡ insertBy g n (holding o (tableIn tbl words)) i k a x → o ≡ openedIn g n i → words ≡ filled (liveIn tbl) (wordsOf g n) old
+    → reply (told c out) new ≡ replied (insertBy g n (holding (openedIn g n i) (tableIn tbl (filled (liveIn tbl) (wordsOf g n) old))) i k a x)
+judged-is g n k a x c t o i out tbl old words new e eo ew =
+    ap replied (e ∙ (λ z. insertBy g n (holding (eo z) (tableIn tbl (ew z))) i k a x))
+
 module _ (g : Geometry) (img old : List ℕ) (k a x n : ℕ) (en : n ≡ goodBlocks g img) where
   pub insert-length : n ≡ 0 → reply (told Length img) old ≡ insertLive g img old k a x
   unfolding insertLive insert
@@ -124,13 +163,17 @@ module _ (g : Geometry) (img old : List ℕ) (k a x n : ℕ) (en : n ≡ goodBlo
       unfolding insertLive insert
       insert-broken rule page e = lent-broken g img old _ n en some rule page room (sym (d .verdict) ∙ e)
 
-      pub insert-sound : (r : Reply) (words : List ℕ) → r ≡ insertBy g n (tableIn tbl words) img k a x → words ≡ filled (liveIn tbl) (wordsOf g n) old
+      pub insert-sound : (r : Reply) → r ≡ replied (insertBy g n (holding (openedIn g n img) (tableIn tbl (filled (liveIn tbl) (wordsOf g n) old))) img k a x)
           → j .verdict ≡ Sound → Known g → n ≤ 1024 → 65536 ≤ length t → ((i : ℕ) → Fits w8 (byteAt img i)) → k < 4294967296 → a < 4294967296
           → r ≡ insertLive g img old k a x
-      insert-sound r words e ew es known few long bytes kb ab =
+      insert-sound r e es known few long bytes kb ab =
+          let words : List ℕ = filled (liveIn tbl) (wordsOf g n) old in
+          let told : Tells g n img (holding (openedIn g n img) (tableIn tbl words)) = record {
+            at-is = refl;
+            right = right g n img tbl old words (judged-marked g n img j t tbl d es) (judged-room g n img j t tbl d (shape g known .pages-high) few long) refl room;
+          } in
           e
           ∙ insert-replies g (shape g known) (whole g known) n img (some-good g img n en some) (some-blocks g img n en some) (λ i. bytes i .fits) (sym (d .verdict) ∙ es)
-          (tableIn tbl words) (right g n img (j .survey) tbl old words (judged-looked g n img j t tbl d es) (judged-room g n img j t tbl d (shape g known .pages-high) few long) ew room)
-          old (rw ew (filled-past (liveIn tbl) (wordsOf g n) old)) k a x kb ab
+          (holding (openedIn g n img) (tableIn tbl words)) told known old (filled-past (liveIn tbl) (wordsOf g n) old) k a x kb ab
 
-pub ruleset insert-laws = (collect-laws, page-most, known-pages, known-top, lent-enough, insert-first, insert-both, rest-worn, rest-high, rest-room, rest-made, insert-length, insert-short, insert-broken, insert-sound)
+pub ruleset insert-laws = (collect-laws, known-sized, known-pages, lent-enough, height-low, insert-first, insert-both, made-is, makes-low, makes-page, rest-worn, rest-high, rest-room, rest-made, plan-few, plan-some, judged-is, insert-length, insert-short, insert-broken, insert-sound)

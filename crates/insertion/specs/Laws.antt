@@ -1,18 +1,19 @@
 -- Laws of insert's own stores, in the form in which the code has the premises. Assumes nothing.
-use Prim.Native.Nat.{ℕ, suc, _+_, _-_, _<_, _≤_, max}
+use Prim.Native.Nat.{ℕ, zero, suc, _+_, _-_, _<_, _≤_, max, min}
 use mathlib.Core.Bool.{Bool, true, false}
 use mathlib.Core.Path.{_≡_, refl, sym, ap, _∙_}
 use mathlib.Core.List.{List, [], _∷_, _++_}
 use lib.Dec.{eqb}
 use lib.ListN.{take, getD, length}
 use native.Mathlib.Omega.{arith}
-use native.Mathlib.Numerals.{add-one}
+use native.Mathlib.Numerals.{add-one, sub-one}
 use borrow.Author.Tests.{le-leb, lt-leb, ne-eqb}
 use Rattle.geometry.specs.declared.Geometry.{Geometry}
 use Rattle.geometry.specs.declared.Entry.{Entry}
 use Rattle.geometry.specs.Geometry.{pageBytes}
 use Rattle.geometry.specs.Tests.{pick}
 use Rattle.model.specs.Bytes.{erased}
+use Rattle.model.specs.Image.{pagesOf}
 use Rattle.model.specs.Page.{sealed, built}
 use Rattle.model.specs.Stores.{Store, program}
 use Rattle.model.specs.Update.{fills, crownPart, crownHeight}
@@ -30,11 +31,11 @@ use Rattle.edit.specs.Edit.{changed, partsOf, Changes}
 use Rattle.crown.specs.declared.Summit.{Summit}
 use Rattle.crown.specs.Crown.{topPart, Crowned}
 use Rattle.crown.specs.Owns.{Owns}
-use Rattle.next.specs.Coming.{seen, Coming}
-use Rattle.survey.specs.declared.Survey.{Survey}
-use Rattle.survey.specs.Survey.{surveyOf}
-use Rattle.survey.specs.Laws.{newest-is}
-use Rattle.insertion.specs.Own.{crownParts, ownBy, topBy, Climbs, Puts}
+use Rattle.next.specs.Coming.{Coming}
+use Rattle.opened.specs.declared.Opened.{Opened}
+use Rattle.beside.specs.Beside.{pageBy}
+use Rattle.beside.specs.Update.{sideBy}
+use Rattle.insertion.specs.Own.{crownParts, storesBy, topBy, Climbs, sidesOn, Puts}
 
 append-two : (xs ys zs : List Store) → (xs ++ ys) ++ zs ≡ xs ++ (ys ++ zs)
 append-two [] ys zs = refl
@@ -89,8 +90,8 @@ climbs g j l e b u r i h o p d q cr ch =
 pub inserts : (g : Geometry) (j : Job) (l : ℕ) (e : Entry) (b r : Budget) (w : Summit) (last : ℕ) (i h o p q : List ℕ)
     → Ran g (program (j .page) (take (pageBytes g) (sealed g (bare g (l + 2) (g .top - (l + 2)) q) last (w .height))) ∷ []) (w .budget) r h o
     → Climbs g j l e b w i h p q → p ≡ blanks 2112 → pageBytes g ≤ 2112
-    → Owns g (ownBy g j i last l e) (topBy g j i l e) b (record { budget = r; page = j .page; level = w .height - 1 }) i o
-unfolding ownBy
+    → Owns g (storesBy g j i last l e) (topBy g j i l e) b (record { budget = r; page = j .page; level = w .height - 1 }) i o
+unfolding storesBy
 inserts g j l e b r w last i h o p q run c ep le =
     let s : l + 2 ≡ suc (suc l) = omega arith in
     let bytes : take (pageBytes g) (sealed g (bare g (l + 2) (g .top - (l + 2)) q) last (w .height)) ≡ built g last (crownHeight g (suc l) (changed g j i l e)) (crownParts g j i l e) =
@@ -106,15 +107,22 @@ larger-right a b h = omega arith
 pub larger-left : (a b : ℕ) → b ≤ a → a ≡ max a b
 larger-left a b h = omega arith
 
-pub puts : (g : Geometry) (n : ℕ) (i : List ℕ) (s : Survey) (m k a : ℕ) (ps : List ℕ) (c x y z : ℕ) → Coming (g .pages) n (seen (erased g i) (s .last)) c ps → s ≡ surveyOf g n i → c ≡ max x (y + 1) → x ≡ m → y ≡ s .level → z ≡ s .most + 0 → 1 ≤ m
-    → Puts g n i (s .most) (s .level) m k a (record { key = k; page = getD ps (x - 1) 0; seq = z; sides = ps; change = Put a })
-unfolding sideOf
-puts g n i s m k a ps c x y z cm es ec ex ey ez h = record {
+-- the page of a level, by the pages to come
+side-is : (page : ℕ → ℕ) (x : ℕ) → 1 ≤ x → page (x - 1) ≡ sideBy page x
+side-is page zero h = absurd (omega arith)
+side-is page (suc x) h = rw sub-one
+
+pub puts : (g : Geometry) (n : ℕ) (i : List ℕ) (o : Opened) (m k a : ℕ) (ps : List ℕ) (c x y z w l : ℕ) → Coming (g .pages) n (erased g i) w c ps → w ≡ min (pagesOf g n) (o .next)
+    → c ≡ max x (y + 1) → x ≡ m → y ≡ l → z ≡ o .most → z < 4294967296 → 1 ≤ m
+    → Puts (sidesOn g n i o) (o .most) l m k a (record { key = k; page = getD ps (x - 1) 0; seq = z; sides = ps; change = Put a })
+unfolding sideOf sidesOn
+puts g n i o m k a ps c x y z w l cm ew ec ex ey ez low h = record {
   key = refl;
   change = refl;
-  number = ez ∙ omega arith;
-  page = cm .at (x - 1) (omega arith) ∙ rw (ex, newest-is g n i s es);
-  sides = λ v lo hi. cm .at (v - 1) (omega arith) ∙ rw (newest-is g n i s es);
+  number = ez;
+  small = low;
+  page = cm .at (x - 1) (omega arith) ∙ rw (ex, ew) (side-is (pageBy g n i o) m h);
+  sides = λ v lo hi. cm .at (v - 1) (omega arith) ∙ rw ew (side-is (pageBy g n i o) v lo);
 }
 
 pub ruleset insertion-laws = (climbs, inserts, larger-right, larger-left, puts)

@@ -1,12 +1,11 @@
 -- Insert's own stores by its job. Definitions alone; assumes nothing.
-use Prim.Native.Nat.{ℕ, suc, _+_, _-_, _≤_}
+use Prim.Native.Nat.{ℕ, suc, _+_, _-_, _<_, _≤_}
 use mathlib.Core.Path.{_≡_}
 use mathlib.Core.List.{List, [], _∷_, _++_}
 use lib.Dec.{leb}
 use Rattle.geometry.specs.declared.Geometry.{Geometry}
 use Rattle.geometry.specs.declared.Entry.{Entry}
 use Rattle.geometry.specs.Tests.{pick}
-use Rattle.model.specs.Next.{nth}
 use Rattle.model.specs.Page.{built}
 use Rattle.model.specs.Stores.{Store, program}
 use Rattle.model.specs.Update.{crownStore, crownHeight}
@@ -19,8 +18,8 @@ use Rattle.step.specs.Step.{sideOf}
 use Rattle.edit.specs.Edit.{changed, pathOf, partsOf, sidesUp}
 use Rattle.crown.specs.declared.Summit.{Summit}
 use Rattle.crown.specs.Crown.{topPart}
-use Rattle.next.specs.Coming.{onImage}
-use Rattle.beside.specs.Update.{Crest}
+use Rattle.opened.specs.declared.Opened.{Opened}
+use Rattle.beside.specs.Update.{Crest, sidesBy}
 
 -- the entry that names the root
 abbrev pub rootAt : ℕ → Entry
@@ -31,8 +30,8 @@ unfoldable pub crownParts : Geometry → Job → List ℕ → ℕ → Entry → 
 crownParts g j i l e m = pick (leb m l) (partsOf g j i l e m) (topPart g j (suc l) (changed g j i l e) m)
 
 -- the other halves, then page N
-unfoldable pub ownBy : Geometry → Job → List ℕ → ℕ → ℕ → Entry → List Store
-ownBy g j i last l e =
+unfoldable pub storesBy : Geometry → Job → List ℕ → ℕ → ℕ → Entry → List Store
+storesBy g j i last l e =
     sidesUp g j (pathOf g j i l e) l
     ++ (crownStore g (j .seq) (j .key) (sideOf j) (suc l) (changed g j i l e)
     ++ (program (j .page) (built g last (crownHeight g (suc l) (changed g j i l e)) (crownParts g j i l e)) ∷ []))
@@ -47,10 +46,15 @@ pub record Climbs (g : Geometry) (j : Job) (l : ℕ) (e : Entry) (b : Budget) (r
 abbrev pub topBy : Geometry → Job → List ℕ → ℕ → Entry → Crest
 topBy g j i l e = record { page = j .page; level = crownHeight g (suc l) (changed g j i l e) - 1 }
 
--- the job of putting key k at address a
-pub record Puts (g : Geometry) (n : ℕ) (i : List ℕ) (seq l m k a : ℕ) (j : Job) : Type 0 where
+-- the pages of the levels by the record
+unfoldable pub sidesOn : Geometry → ℕ → List ℕ → Opened → ℕ → ℕ
+sidesOn g n i o x = sidesBy g n i o x
+
+-- the job of putting key k at address a, the page of each level given, and N's for m
+pub record Puts (side : ℕ → ℕ) (seq l m k a : ℕ) (j : Job) : Type 0 where
   pub key : j .key ≡ k
   pub change : j .change ≡ Put a
   pub number : j .seq ≡ seq
-  pub page : j .page ≡ nth (g .pages) n (onImage g n i) (m - 1)
-  pub sides : (x : ℕ) → 1 ≤ x → x ≤ suc l → sideOf j x ≡ nth (g .pages) n (onImage g n i) (x - 1)
+  pub small : j .seq < 4294967296
+  pub page : j .page ≡ side m
+  pub sides : (x : ℕ) → 1 ≤ x → x ≤ suc l → sideOf j x ≡ side x

@@ -4,17 +4,15 @@ use mathlib.Core.Path.{_≡_, refl, sym, ap, _∙_}
 use mathlib.Core.List.{List, [], _∷_, _++_}
 use lib.Dec.{leb}
 use native.Mathlib.Omega.{arith}
-use native.Mathlib.Numerals.{sub-one}
 use Rattle.geometry.specs.declared.Geometry.{Geometry}
 use Rattle.geometry.specs.declared.Entry.{Entry}
 use Rattle.geometry.specs.Geometry.{half}
 use Rattle.geometry.specs.Tests.{pick}
 use Rattle.model.specs.Bytes.{nodeAt}
-use Rattle.model.specs.Next.{nth}
 use Rattle.model.specs.Page.{built}
 use Rattle.model.specs.Stores.{program}
 use Rattle.model.specs.Edit.{putIn, named, pathPart, onPath}
-use Rattle.model.specs.Update.{insertList, crownPart, crownStore, crownHeight, insertPart, sideStore, splitStore, sideStores, sidePage, ownStores}
+use Rattle.model.specs.Update.{insertList, crownPart, crownStore, crownHeight, insertPart, sideStore, splitStore, sideStores}
 use Rattle.stores.specs.declared.Budget.{Budget}
 use Rattle.step.specs.declared.Change.{Change}
 use Rattle.step.specs.declared.Job.{Job}
@@ -24,14 +22,10 @@ use Rattle.edit.specs.Paths.{path-top, path-agree}
 use Rattle.crown.specs.declared.Own.{Own}
 use Rattle.crown.specs.Crown.{topPart}
 use Rattle.crown.specs.Owns.{Owns}
-use Rattle.model.specs.Image.{chipOf, maxSeq}
 use Rattle.chip.specs.Chip.{chipWith}
-use Rattle.next.specs.Coming.{onImage}
-use Rattle.survey.specs.declared.Survey.{Survey}
-use Rattle.survey.specs.Survey.{surveyOf}
-use Rattle.survey.specs.Laws.{makes}
-use Rattle.beside.specs.Update.{insertCrest}
-use Rattle.insertion.specs.Own.{rootAt, crownParts, ownBy, topBy, Puts}
+use Rattle.opened.specs.declared.Opened.{Opened}
+use Rattle.beside.specs.Update.{ownStoresAt, insertCrest, sidesBy, ownBy, crestBy}
+use Rattle.insertion.specs.Own.{rootAt, crownParts, storesBy, topBy, sidesOn, Puts}
 
 -- what is made of a level depends on the page of that level's other half alone
 named-agree : (g : Geometry) (k₁ k₂ n₁ n₂ : ℕ) (f h : ℕ → ℕ) (x : ℕ) (e : Entry) (c : List Entry) → k₁ ≡ k₂ → n₁ ≡ n₂ → f x ≡ h x
@@ -50,86 +44,72 @@ part-agree : (g : Geometry) (k₁ k₂ n₁ n₂ l : ℕ) (f h : ℕ → ℕ) (x
 unfolding crownPart
 part-agree g k₁ k₂ n₁ n₂ l f h xs ys m ek en ex ef = rw (ek, en, ex, ef)
 
--- the page of the other half at level x
-side : Geometry → ℕ → List ℕ → ℕ → ℕ → ℕ → ℕ
-side g n i l p x = sidePage g n (chipWith g i l p) x
-
-side-is : (g : Geometry) (n : ℕ) (i : List ℕ) (l p x : ℕ) → 1 ≤ x → nth (g .pages) n (onImage g n i) (x - 1) ≡ side g n i l p x
-unfolding side
-side-is g n i l p zero h = absurd (omega arith)
-side-is g n i l p (suc x) h = rw sub-one
-
 -- the path's lists
-lists : Geometry → ℕ → List ℕ → ℕ → ℕ → ℕ → ℕ → ℕ → ℕ → List Entry
-lists g n i l p m k a x = insertList g (chipWith g i l p) k a (side g n i l p m) (side g n i l p) x
+lists : Geometry → List ℕ → (ℕ → ℕ) → ℕ → ℕ → ℕ → ℕ → ℕ → ℕ → List Entry
+lists g i side l p m k a x = insertList g (chipWith g i l p) k a (side m) side x
 
-module _ (g : Geometry) (n : ℕ) (i : List ℕ) (seq l p m k a : ℕ) (j : Job) (pj : Puts g n i seq l m k a j) (some : 1 ≤ m) where
-  sides : (x : ℕ) → 1 ≤ x → x ≤ suc l → sideOf j x ≡ side g n i l p x
-  sides x lo hi = pj .sides x lo hi ∙ side-is g n i l p x lo
-
-  page : j .page ≡ side g n i l p m
-  page = pj .page ∙ side-is g n i l p m some
-
-  name-is : (x : ℕ) (e : Entry) (c : List Entry) → 1 ≤ x → x ≤ l → nameOf g (j .change) j x e c ≡ named k (side g n i l p m) (side g n i l p) (half g) x e c
+module _ (g : Geometry) (i : List ℕ) (side : ℕ → ℕ) (seq l p m k a : ℕ) (j : Job) (pj : Puts side seq l m k a j) where
+  name-is : (x : ℕ) (e : Entry) (c : List Entry) → 1 ≤ x → x ≤ l → nameOf g (j .change) j x e c ≡ named k (side m) side (half g) x e c
   unfolding nameOf
   name-is x e c lo hi =
       ap (λ (v : Change). nameOf g v j x e c) (pj .change)
-      ∙ named-agree g (j .key) k (j .page) (side g n i l p m) (sideOf j) (side g n i l p) x e c (pj .key) page (sides x lo (omega arith))
+      ∙ named-agree g (j .key) k (j .page) (side m) (sideOf j) side x e c (pj .key) (pj .page) (pj .sides x lo (omega arith))
 
-  list-is : (x : ℕ) → pathOf g j i l (rootAt p) x ≡ lists g n i l p m k a x
+  list-is : (x : ℕ) → pathOf g j i l (rootAt p) x ≡ lists g i side l p m k a x
   unfolding pathOf lists insertList leafOf
   list-is x =
       ap (λ (y : ℕ). onPath (nodeAt g i) y (leafOf (j .change) y) (nameOf g (j .change) j) l (rootAt p) x) (pj .key)
       ∙ ap (λ (v : Change). onPath (nodeAt g i) k (leafOf v k) (nameOf g (j .change) j) l (rootAt p) x) (pj .change)
-      ∙ path-agree (nodeAt g i) k (putIn k a) (nameOf g (j .change) j) (named k (side g n i l p m) (side g n i l p) (half g)) l (rootAt p) x name-is
+      ∙ path-agree (nodeAt g i) k (putIn k a) (nameOf g (j .change) j) (named k (side m) side (half g)) l (rootAt p) x name-is
 
-  top-is : changed g j i l (rootAt p) ≡ lists g n i l p m k a (suc l)
+  top-is : changed g j i l (rootAt p) ≡ lists g i side l p m k a (suc l)
   unfolding changed pathOf
   top-is = sym (path-top (nodeAt g i) (j .key) (leafOf (j .change) (j .key)) (nameOf g (j .change) j) l (rootAt p)) ∙ list-is (suc l)
 
-  stores-is : (x : ℕ) → 1 ≤ x → x ≤ l → storesOf g (j .change) j x (pathOf g j i l (rootAt p) x) ≡ splitStore g seq k (side g n i l p) x (lists g n i l p m k a x)
+  stores-is : (x : ℕ) → 1 ≤ x → x ≤ l → storesOf g (j .change) j x (pathOf g j i l (rootAt p) x) ≡ splitStore g seq k side x (lists g i side l p m k a x)
   unfolding storesOf
   stores-is x lo hi =
       ap (λ (v : Change). storesOf g v j x (pathOf g j i l (rootAt p) x)) (pj .change)
-      ∙ split-agree g (j .seq) seq (j .key) k x (sideOf j) (side g n i l p) (pathOf g j i l (rootAt p) x) (lists g n i l p m k a x) (pj .number) (pj .key) (list-is x) (sides x lo (omega arith))
+      ∙ split-agree g (j .seq) seq (j .key) k x (sideOf j) side (pathOf g j i l (rootAt p) x) (lists g i side l p m k a x) (pj .number) (pj .key) (list-is x) (pj .sides x lo (omega arith))
 
-  sides-is : (x : ℕ) → x ≤ l → sidesUp g j (pathOf g j i l (rootAt p)) x ≡ sideStores g seq k (side g n i l p) (lists g n i l p m k a) x
+  sides-is : (x : ℕ) → x ≤ l → sidesUp g j (pathOf g j i l (rootAt p)) x ≡ sideStores g seq k side (lists g i side l p m k a) x
   unfolding sidesUp sideStores
   sides-is zero h = refl
   sides-is (suc x) h = λ z. sides-is x (omega arith) z ++ stores-is (suc x) (omega arith) h z
 
-  low-is : (x : ℕ) → partsOf g j i l (rootAt p) x ≡ pathPart k (half g) x (lists g n i l p m k a x)
+  low-is : (x : ℕ) → partsOf g j i l (rootAt p) x ≡ pathPart k (half g) x (lists g i side l p m k a x)
   unfolding partsOf partOf
   low-is x =
       ap (λ (v : Change). partOf g v (j .key) x (pathOf g j i l (rootAt p) x)) (pj .change)
       ∙ (λ z. pathPart (pj .key z) (half g) x (list-is x z))
 
-  part-is : (x : ℕ) → crownParts g j i l (rootAt p) x ≡ insertPart g (chipWith g i l p) k a (side g n i l p m) (side g n i l p) x
+  part-is : (x : ℕ) → crownParts g j i l (rootAt p) x ≡ insertPart g (chipWith g i l p) k a (side m) side x
   unfolding crownParts insertPart topPart lists
   part-is x = λ z. pick (leb x l) (low-is x z)
-      (part-agree g (j .key) k (j .page) (side g n i l p m) (suc l) (sideOf j) (side g n i l p) (changed g j i l (rootAt p)) (lists g n i l p m k a (suc l)) x (pj .key) page top-is (sides (suc l) (omega arith) (omega arith)) z)
+      (part-agree g (j .key) k (j .page) (side m) (suc l) (sideOf j) side (changed g j i l (rootAt p)) (lists g i side l p m k a (suc l)) x (pj .key) (pj .page) top-is (pj .sides (suc l) (omega arith) (omega arith)) z)
 
-  own-is : ownBy g j i (seq + m) l (rootAt p) ≡ ownStores g n seq (chipWith g i l p) m k a
-  unfolding ownBy ownStores lists side
+  own-is : storesBy g j i (seq + m) l (rootAt p) ≡ ownStoresAt g seq (chipWith g i l p) side m k a
+  unfolding storesBy ownStoresAt lists
   own-is = λ z.
       sides-is l (omega arith) z
-      ++ (crown-agree g (j .seq) seq (j .key) k (suc l) (sideOf j) (side g n i l p) (changed g j i l (rootAt p)) (lists g n i l p m k a (suc l)) (pj .number) (pj .key) top-is (sides (suc l) (omega arith) (omega arith)) z
-      ++ (program (page z) (built g (seq + m) (crownHeight g (suc l) (top-is z)) (λ x. part-is x z)) ∷ []))
+      ++ (crown-agree g (j .seq) seq (j .key) k (suc l) (sideOf j) side (changed g j i l (rootAt p)) (lists g i side l p m k a (suc l)) (pj .number) (pj .key) top-is (pj .sides (suc l) (omega arith) (omega arith)) z
+      ++ (program (pj .page z) (built g (seq + m) (crownHeight g (suc l) (top-is z)) (λ x. part-is x z)) ∷ []))
 
-  crest-is : topBy g j i l (rootAt p) ≡ insertCrest g n (chipWith g i l p) m k a
-  unfolding lists side
-  crest-is = λ z. record { page = page z; level = crownHeight g (suc l) (top-is z) - 1 }
+  crest-is : topBy g j i l (rootAt p) ≡ insertCrest g (chipWith g i l p) side m k a
+  unfolding lists
+  crest-is = λ z. record { page = pj .page z; level = crownHeight g (suc l) (top-is z) - 1 }
 
--- with the survey of the image
-pub inserted : (g : Geometry) (n : ℕ) (i : List ℕ) (s : Survey) (m k a : ℕ) (j : Job) (b : Budget) (r : Own) (o : List ℕ) (last : ℕ)
-    → Owns g (ownBy g j i last (s .level) (rootAt (s .root))) (topBy g j i (s .level) (rootAt (s .root))) b r i o
-    → last ≡ s .most + m → Puts g n i (s .most) (s .level) m k a j → s ≡ surveyOf g n i → 1 ≤ m
-    → Owns g (ownStores g n (maxSeq g n i) (chipOf g n i) m k a) (insertCrest g n (chipOf g n i) m k a) b r i o
-inserted g n i s m k a j b r o last run el pj es some =
-    let e : ownBy g j i (s .most + m) (s .level) (rootAt (s .root)) ≡ ownStores g n (maxSeq g n i) (chipOf g n i) m k a =
-    own-is g n i (s .most) (s .level) (s .root) m k a j pj some ∙ makes g n i s es (λ y c. ownStores g n y c m k a) in
-    let t : topBy g j i (s .level) (rootAt (s .root)) ≡ insertCrest g n (chipOf g n i) m k a =
-    crest-is g n i (s .most) (s .level) (s .root) m k a j pj some ∙ makes g n i s es (λ y c. insertCrest g n c m k a) in
-    rw (e, t) at (rw el at run)
+-- by the record
+pub inserted : (g : Geometry) (n : ℕ) (i : List ℕ) (o : Opened) (m k a : ℕ) (j : Job) (b : Budget) (r : Own) (then : List ℕ) (last l : ℕ)
+    → Owns g (storesBy g j i last l (rootAt (o .root))) (topBy g j i l (rootAt (o .root))) b r i then
+    → last ≡ o .most + m → l ≡ o .height - 1 → Puts (sidesOn g n i o) (o .most) l m k a j
+    → Owns g (ownBy g n i o m k a) (crestBy g n i o m k a) b r i then
+unfolding sidesOn
+inserted g n i o m k a j b r then last l run el eh pj =
+    let e : storesBy g j i (o .most + m) l (rootAt (o .root)) ≡ ownStoresAt g (o .most) (chipWith g i l (o .root)) (sidesBy g n i o) m k a =
+    own-is g i (sidesBy g n i o) (o .most) l (o .root) m k a j pj in
+    let t : topBy g j i l (rootAt (o .root)) ≡ insertCrest g (chipWith g i l (o .root)) (sidesBy g n i o) m k a =
+    crest-is g i (sidesBy g n i o) (o .most) l (o .root) m k a j pj in
+    rw (e, t, eh) at (rw el at run)
 
 pub ruleset tie-laws = (inserted)

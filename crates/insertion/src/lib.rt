@@ -1,21 +1,18 @@
 // Insert's own stores: other halves, lower level first, then page N.
 ghost use mathlib.Core.Path.{_≡_};
-ghost use Prim.Native.Nat.{ℕ, _+_, _*_, _-_, _≤_, _<_, max};
+ghost use Prim.Native.Nat.{_+_, _-_, _≤_, _<_, max};
 ghost use Rattle.geometry.specs.Geometry.{pageBytes};
-ghost use Rattle.model.specs.Image.{chipOf, maxSeq};
-ghost use Rattle.model.specs.Update.{ownStores};
-ghost use Rattle.survey.specs.Survey.{surveyOf};
 ghost use Rattle.crown.specs.Owns.{Owns};
-ghost use Rattle.beside.specs.Update.{insertCrest};
-ghost use Rattle.insertion.specs.Own.{Climbs, ownBy, topBy, rootAt, Puts};
+ghost use Rattle.beside.specs.Update.{ownBy, crestBy};
+ghost use Rattle.insertion.specs.Own.{Climbs, storesBy, topBy, rootAt, sidesOn, Puts};
 use crown::Own;
 use crown::Summit;
 use geometry::Entry;
 use geometry::Geometry;
+use opened::Opened;
 use step::Change;
 use step::Job;
 use stores::Budget;
-use survey::Survey;
 
 // The path changed and laid on page N, the other halves stored.
 fn climb(
@@ -56,7 +53,7 @@ fn insert_with(
 ) -> Own
     requires { ⌜ (level < 255) × (pageBytes g ≤ 2112) × (job .seq < 4294967296) × (b .left + b .programmed + b .erased < 4294967296) ⌝ }
     ensures { λ r.
-        ⌜ Owns g (ownBy g job (now (img .entry)) last level (rootAt root)) (topBy g job (now (img .entry)) level (rootAt root)) b r (now (img .entry)) (now (img .exit)) ⌝ }
+        ⌜ Owns g (storesBy g job (now (img .entry)) last level (rootAt root)) (topBy g job (now (img .entry)) level (rootAt root)) b r (now (img .entry)) (now (img .exit)) ⌝ }
 {
     let mut page = page::blank();
     let w = climb(g, &mut *img, &mut page, b, job, level, root);
@@ -87,22 +84,48 @@ fn larger(a: usize, b: usize) -> usize
     a
 }
 
+fn long(x: u32) -> u64
+    ensures { λ r. ⌜ (r ≡ x) × (r < 4294967296) ⌝ }
+{
+    x as u64
+}
+
 fn number(seq: u32, more: u32) -> u64
     ensures { λ r. ⌜ r ≡ seq + more ⌝ }
 {
-    (seq as u64) + (more as u64)
+    long(seq) + long(more)
 }
 
-// The job of putting a key at an address, with m pages of the image to come.
-fn insert_job(g: Geometry, img: &[u8], n: u16, s: Survey, m: u32, key: u32, addr: u32) -> Job
-    requires { ⌜ (s ≡ surveyOf g n (now img)) × (s .level < 255) × (1 ≤ m) × (m ≤ 256) ⌝ }
-    ensures { λ r. ⌜ Puts g n (now (img .entry)) (s .most) (s .level) m key addr r ⌝ }
+// The levels below a root of a height.
+fn below(height: u32) -> u32
+    ensures { λ r. ⌜ r ≡ height - 1 ⌝ }
+{
+    if height == 0 {
+        return 0;
+    }
+    height - 1
+}
+
+// The job of putting a key at an address, with m pages to come after the record's next one.
+fn insert_job(
+    g: Geometry,
+    img: &[u8],
+    n: u16,
+    o: Opened,
+    m: u32,
+    level: u32,
+    key: u32,
+    addr: u32,
+) -> Job
+    requires { ⌜ (level < 255) × (1 ≤ m) × (m ≤ 256) ⌝ }
+    ensures { λ r. ⌜ Puts (sidesOn g n (now (img .entry)) o) (o .most) level m key addr r ⌝ }
 {
     let k = geometry::index(m);
-    let count = larger(k, geometry::index(s.level) + 1);
-    let sides = next::coming(g, img, n, s.last, count);
+    let count = larger(k, geometry::index(level) + 1);
+    let next = next::next_by(g, n, o.next);
+    let sides = next::coming_from(g, img, n, next, count);
     let page = sides[k - 1];
-    let seq = number(s.most, 0);
+    let seq = long(o.most);
     Job {
         key: key,
         page: page,
@@ -112,22 +135,22 @@ fn insert_job(g: Geometry, img: &[u8], n: u16, s: Survey, m: u32, key: u32, addr
     }
 }
 
-// The stores of an insert of m pages on an image of n blocks, with its survey given; and where the root then stands.
+// The stores of an insert of m pages on an image of n blocks, by its record; and where the root then stands.
 pub fn insert_own(
     g: Geometry,
     img: &mut [u8],
     n: u16,
     b: Budget,
-    s: Survey,
+    o: Opened,
     m: u32,
     key: u32,
     addr: u32,
 ) -> Own
-    requires { ⌜ (s ≡ surveyOf g n (now img)) × (s .level < 255) × (1 ≤ m) × (m ≤ 256) × (pageBytes g ≤ 2112) × (b .left + b .programmed + b .erased < 4294967296) ⌝ }
+    requires { ⌜ (o .height < 256) × (1 ≤ m) × (m ≤ 256) × (pageBytes g ≤ 2112) × (b .left + b .programmed + b .erased < 4294967296) ⌝ }
     ensures { λ r.
-        ⌜ Owns g (ownStores g n (maxSeq g n (now (img .entry))) (chipOf g n (now (img .entry))) m key addr) (insertCrest g n (chipOf g n (now (img .entry))) m key addr) b r
-        (now (img .entry)) (now (img .exit)) ⌝ }
+        ⌜ Owns g (ownBy g n (now (img .entry)) o m key addr) (crestBy g n (now (img .entry)) o m key addr) b r (now (img .entry)) (now (img .exit)) ⌝ }
 {
-    let job = insert_job(g, &*img, n, s, m, key, addr);
-    insert_with(g, &mut *img, b, job, number(s.most, m), s.level, s.root)
+    let level = below(o.height);
+    let job = insert_job(g, &*img, n, o, m, level, key, addr);
+    insert_with(g, &mut *img, b, job, number(o.most, m), level, o.root)
 }

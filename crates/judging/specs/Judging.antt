@@ -8,13 +8,14 @@ use native.Mathlib.Nat.{mul-le-mul-left, mul-le-mul-right}
 use lib.ListN.{length}
 use Rattle.geometry.specs.declared.Geometry.{Geometry}
 use Rattle.geometry.specs.declared.Verdict.the-variants.{Sound, Broken}
+use Rattle.model.specs.Image.{chipOf}
 use Rattle.model.specs.Rules.{verdict}
 use Rattle.model.specs.Calls.{byVerdict, judged}
 use Rattle.chip.specs.Chip.{goodBlocks}
 use Rattle.chip.specs.Blocks.{none-good, some-good, some-blocks}
+use Rattle.walk.specs.Table.{Marked}
 use Rattle.verdict.specs.declared.Judgement.{Judgement}
 use Rattle.verdict.specs.Verdict.{Judged}
-use Rattle.victim.specs.Victim.{Looked}
 
 -- an image of n blocks, in a call of any kind
 module _ {A : Type 0} (g : Geometry) (n : ℕ) (img : List ℕ) (broken : ℕ → ℕ → A) (rest : A) (j : Judgement) (t u : List ℕ) (x : Judged g n img j t u) where
@@ -26,9 +27,9 @@ module _ {A : Type 0} (g : Geometry) (n : ℕ) (img : List ℕ) (broken : ℕ �
   unfolding byVerdict
   judged-rest o h e = h ∙ sym (simp (← (x .verdict), e))
 
--- a sound image's judgement tells what an update looks at, and the table has a place for each page
-pub judged-looked : (g : Geometry) (n : ℕ) (img : List ℕ) (j : Judgement) (t u : List ℕ) → Judged g n img j t u → j .verdict ≡ Sound → Looked g n img (j .survey) u
-judged-looked g n img j t u x e = record { survey = x .survey; marked = x .table .marked e; low = x .level }
+-- a sound image's judgement leaves the table of its live pages, which has a place for each page
+pub judged-marked : (g : Geometry) (n : ℕ) (img : List ℕ) (j : Judgement) (t u : List ℕ) → Judged g n img j t u → j .verdict ≡ Sound → Marked (chipOf g n img) u
+judged-marked g n img j t u x e = x .table .marked e
 
 pub judged-room : (g : Geometry) (n : ℕ) (img : List ℕ) (j : Judgement) (t u : List ℕ) → Judged g n img j t u → g .pages ≤ 64 → n ≤ 1024 → 65536 ≤ length t → g .pages * n ≤ length u
 judged-room g n img j t u x p b h = let y = mul-le-mul-left (g .pages) b in let z = mul-le-mul-right 1024 p in omega (arith, y, z, h, x .same)

@@ -1,18 +1,22 @@
 -- A listing, in the form in which the code has the premises. Assumes nothing.
 use Prim.Native.Nat.{ℕ, zero, suc, _+_, _-_, _*_, _/_, min, _<_, _≤_}
+use mathlib.Core.Bool.{Bool, true, false}
 use mathlib.Core.Path.{_≡_, refl, sym, ap, _∙_}
-use mathlib.Core.List.{List, [], _++_}
-use lib.ListN.{length, drop, length-append}
+use mathlib.Core.List.{List, [], _∷_, _++_}
+use lib.Dec.{leb, lit<}
+use lib.ListN.{length, take, drop, length-append, length-take}
+use lib.Seq.{take-nil, take-all}
 use native.Mathlib.Omega.{arith}
+use native.Mathlib.Nat.{lt-of-le-of-lt}
 use native.Mathlib.Numerals.{sub-one, add-one}
-use native.Mathlib.Nat.{zero-add}
 use borrow.Author.Tests.{lt-leb, le-leb}
 use Rattle.geometry.specs.declared.Geometry.{Geometry}
 use Rattle.geometry.specs.declared.Entry.{Entry}
 use Rattle.geometry.specs.declared.Verdict.the-variants.{Sound, Broken}
 use Rattle.geometry.specs.Shape.{Known, shape}
+use Rattle.geometry.specs.Tests.{pick}
 use Rattle.model.specs.Bytes.{entriesAt, nodePlace, nodeCount, nodeAt}
-use Rattle.model.specs.Image.{Nodes, Chip}
+use Rattle.model.specs.Image.{Nodes, Chip, chipOf}
 use Rattle.model.specs.Tree.{gather, place}
 use Rattle.model.specs.Rules.{verdict}
 use Rattle.model.specs.Calls.{Outcome, byVerdict, judged}
@@ -22,12 +26,14 @@ use Rattle.answers.specs.Answers.{told}
 use Rattle.chip.specs.Chip.{entryAt, goodBlocks, chipWith, named}
 use Rattle.chip.specs.Node.{node-read, entries-step, entries-turn, entries-past}
 use Rattle.chip.specs.Blocks.{none-good, some-good, some-blocks}
+use Rattle.walk.specs.Stops.{take-append}
+use Rattle.opened.specs.Opened.{pairsMost}
 use Rattle.survey.specs.Laws.{chip-is}
 use Rattle.verdict.specs.declared.Judgement.{Judgement}
 use Rattle.verdict.specs.Verdict.{Judged}
-use Rattle.listing.specs.Listing.{putPair, putPairs, notBelow, rest, listedIn}
+use Rattle.listing.specs.Listing.{putPair, putPairs, notBelow, rest, within, Lists, Goes, listedIn}
 use Rattle.listing.specs.Buffers.{put-in, put-out, put-append, length-pairs, put-all}
-use Rattle.listing.specs.Few.{few-pairs}
+use Rattle.listing.specs.Few.{most-pairs}
 
 -- ---- one pair
 module _ (b : List ℕ) (i low : ℕ) (e : Entry) where
@@ -93,109 +99,137 @@ module _ (g : Geometry) (img : List ℕ) (low high l at n : ℕ) where
   unfolding rest upTo gather
   rest-past i h = rw (entries-past img at n i h) refl
 
--- ---- the loop over a node's entries. After x pairs in the buffer b, the walk starts at entry s; at entry i there are c pairs, and d is the buffer
-module _ (g : Geometry) (img : List ℕ) (low high l at n i : ℕ) (e : Entry) (eb : e ≡ entryAt img (at + 8 * i)) (h : i < n) (k : e .key ≤ high) where
-  split-count : (c : ℕ) → c + length (rest g img low high l at n i)
-      ≡ c + length (ranged (nodeAt g img) low high (l - 1) e) + length (rest g img low high l at n (i + 1))
-  split-count c =
-      let q = ap length (rest-turn g img low high l at n i e eb h k)
-      ∙ length-append (ranged (nodeAt g img) low high (l - 1) e) (rest g img low high l at n (i + 1)) in
-      omega (arith, q)
-
-  -- fewer than 2^32 pairs with those below an entry
-  pub turn-few : (w c : ℕ) → w < 4294967296 → w ≡ c + length (rest g img low high l at n i)
-      → c + length (ranged (nodeAt g img) low high (l - 1) e) < 4294967296
-  turn-few w c few inv = let q = split-count c in omega (arith, q, inv, few)
-
-  pub turn-count : (w c c′ : ℕ) → w ≡ c + length (rest g img low high l at n i) → c′ ≡ c + length (ranged (nodeAt g img) low high (l - 1) e)
-      → w ≡ c′ + length (rest g img low high l at n (i + 1))
-  turn-count w c c′ inv ec = inv ∙ split-count c ∙ rw ec refl
-
-  pub turn-buffer : (w d d′ : List ℕ) (c c′ : ℕ) → w ≡ putPairs d c (rest g img low high l at n i) → c′ ≡ c + length (ranged (nodeAt g img) low high (l - 1) e)
-      → d′ ≡ putPairs d c (ranged (nodeAt g img) low high (l - 1) e) → w ≡ putPairs d′ c′ (rest g img low high l at n (i + 1))
-  turn-buffer w d d′ c c′ inv ec ed =
-      inv ∙ ap (putPairs d c) (rest-turn g img low high l at n i e eb h k)
-      ∙ put-append d c (ranged (nodeAt g img) low high (l - 1) e) (rest g img low high l at n (i + 1)) ∙ rw (ec, ed) refl
-
-module _ (g : Geometry) (img : List ℕ) (low high l : ℕ) (e : Entry) (x : ℕ) where
-  -- level 0: the pair itself
-  pub level-count : (c : ℕ) → c ≡ x + length (notBelow low e) → l ≡ 0 → c ≡ x + length (ranged (nodeAt g img) low high l e)
-  level-count c h z = h ∙ ap (λ (es : List Entry). x + length es) (ranged-pair (nodeAt g img) low high l e z)
-
-  pub level-buffer : (b d : List ℕ) → d ≡ putPairs b x (notBelow low e) → l ≡ 0 → d ≡ putPairs b x (ranged (nodeAt g img) low high l e)
-  level-buffer b d h z = h ∙ ap (putPairs b x) (ranged-pair (nodeAt g img) low high l e z)
-
-  module _ (at n s : ℕ) (ea : at ≡ nodePlace g (e .addr) l) (en : n ≡ nodeCount g img (e .addr) l) (es : s ≡ place low (entriesAt img at n)) (h : s ≤ n - 1)
-      (some : l ≡ 0 → ⊥) where
-    all-is : ranged (nodeAt g img) low high l e ≡ rest g img low high l at n s
-    all-is = rest-start g img low high l at n e s ea en es h some
-
-    pub start-few : x + length (ranged (nodeAt g img) low high l e) < 4294967296 → x + length (rest g img low high l at n s) < 4294967296
-    start-few few = rw (← all-is) few
-
-    -- nothing is left at entry i
-    module _ (i c : ℕ) (inv : x + length (rest g img low high l at n s) ≡ c + length (rest g img low high l at n i)) where
-      end-count : rest g img low high l at n i ≡ [] → c ≡ x + length (ranged (nodeAt g img) low high l e)
-      end-count none = let q = ap length none in let z = ap length all-is in omega (arith, q, z, inv)
-
-      pub past-count : n ≤ i → c ≡ x + length (ranged (nodeAt g img) low high l e)
-      past-count p = end-count (rest-past g img low high l at n i p)
-
-      pub above-count : (f : Entry) → f ≡ entryAt img (at + 8 * i) → i < n → high < f .key → c ≡ x + length (ranged (nodeAt g img) low high l e)
-      above-count f ef p q = end-count (rest-above g img low high l at n i f ef p q)
-
-    module _ (b d : List ℕ) (i c : ℕ) (inv : putPairs b x (rest g img low high l at n s) ≡ putPairs d c (rest g img low high l at n i)) where
-      end-buffer : rest g img low high l at n i ≡ [] → d ≡ putPairs b x (ranged (nodeAt g img) low high l e)
-      unfolding putPairs
-      end-buffer none = sym (ap (putPairs b x) all-is ∙ inv ∙ ap (putPairs d c) none)
-
-      pub past-buffer : n ≤ i → d ≡ putPairs b x (ranged (nodeAt g img) low high l e)
-      past-buffer p = end-buffer (rest-past g img low high l at n i p)
-
-      pub above-buffer : (f : Entry) → f ≡ entryAt img (at + 8 * i) → i < n → high < f .key → d ≡ putPairs b x (ranged (nodeAt g img) low high l e)
-      above-buffer f ef p q = end-buffer (rest-above g img low high l at n i f ef p q)
-
 pub pairs-same : (b d : List ℕ) (x : ℕ) (es : List Entry) → d ≡ putPairs b x es → length d ≡ length b
 pairs-same b d x es e = rw e (length-pairs b x es)
 
+-- ---- no more than `pairsMost` pairs in all
+within-full : (x : ℕ) (es : List Entry) → pairsMost ≤ x → within x es ≡ []
+unfolding within
+within-full x es h = (let w : pairsMost - x ≡ 0 = omega arith in rw w refl)
+
+within-none : (x : ℕ) → within x [] ≡ []
+unfolding within
+within-none x = take-nil (pairsMost - x)
+
+within-pair : (x low : ℕ) (e : Entry) → x < pairsMost → within x (notBelow low e) ≡ notBelow low e
+unfolding within notBelow
+within-pair x low e h = take-all (pairsMost - x) (pick (leb low (e .key)) (e ∷ []) []) (go (leb low (e .key)))
+  where
+    go : (t : Bool) → length (pick t (e ∷ []) []) ≤ pairsMost - x
+    go true = omega arith
+    go false = omega arith
+
+-- two lists one after the other, the first of them c′ - c pairs long
+module _ (c c′ : ℕ) (xs ys : List Entry) (e : c′ ≡ c + length (within c xs)) where
+  within-both : within c (xs ++ ys) ≡ within c xs ++ within c′ ys
+  unfolding within
+  within-both =
+      let q = length-take (pairsMost - c) xs in
+      let w : pairsMost - c - length xs ≡ pairsMost - c′ = omega (arith, e, q) in
+      take-append (pairsMost - c) xs ys ∙ rw w refl
+
+-- ---- the walk under an entry: full, at a pair, and over a node's entries
+module _ (g : Geometry) (img : List ℕ) (low high l : ℕ) (e : Entry) (x : ℕ) (b : List ℕ) where
+  pub lists-full : pairsMost ≤ x → Lists g img low high l e x x b b
+  unfolding putPairs
+  lists-full h =
+      let z = within-full x (ranged (nodeAt g img) low high l e) h in
+      record { count = rw z (omega arith); buffer = rw z refl }
+
+  pub lists-pair : (r : ℕ) (d : List ℕ) → r ≡ x + length (notBelow low e) → d ≡ putPairs b x (notBelow low e) → l ≡ 0 → x < pairsMost
+      → Lists g img low high l e x r b d
+  lists-pair r d er ed z h =
+      let w : within x (ranged (nodeAt g img) low high l e) ≡ notBelow low e =
+      ap (within x) (sym (ranged-pair (nodeAt g img) low high l e z)) ∙ within-pair x low e h in
+      record { count = rw w er; buffer = rw w ed }
+
+  module _ (at n s : ℕ) (ea : at ≡ nodePlace g (e .addr) l) (en : n ≡ nodeCount g img (e .addr) l) (es : s ≡ place low (entriesAt img at n)) (h : s ≤ n - 1)
+      (some : l ≡ 0 → ⊥) where
+    -- nothing is left at entry i
+    module _ (i c : ℕ) (d : List ℕ) (inv : Goes g img low high l at n s x b i c d) where
+      lists-end : rest g img low high l at n i ≡ [] → Lists g img low high l e x c b d
+      unfolding putPairs
+      lists-end none =
+          let all = rest-start g img low high l at n e s ea en es h some in
+          let z : within c (rest g img low high l at n i) ≡ [] = rw none (within-none c) in
+          record {
+            count = sym (rw all (inv .count ∙ rw z (omega arith)));
+            buffer = sym (rw all (inv .buffer ∙ rw z refl));
+          }
+
+      pub lists-past : n ≤ i → Lists g img low high l e x c b d
+      lists-past p = lists-end (rest-past g img low high l at n i p)
+
+      pub lists-above : (f : Entry) → f ≡ entryAt img (at + 8 * i) → i < n → high < f .key → Lists g img low high l e x c b d
+      lists-above f ef p q = lists-end (rest-above g img low high l at n i f ef p q)
+
+module _ (g : Geometry) (img : List ℕ) (low high l at n s x : ℕ) (b : List ℕ) where
+  pub goes-start : Goes g img low high l at n s x b s x b
+  goes-start = record { count = refl; buffer = refl }
+
+  pub goes-turn : (i c c′ : ℕ) (d d′ : List ℕ) (f : Entry) → Goes g img low high l at n s x b i c d → f ≡ entryAt img (at + 8 * i) → i < n → f .key ≤ high
+      → Lists g img low high (l - 1) f c c′ d d′ → Goes g img low high l at n s x b (i + 1) c′ d′
+  goes-turn i c c′ d d′ f inv ef h k y =
+      let front = ranged (nodeAt g img) low high (l - 1) f in
+      let back = rest g img low high l at n (i + 1) in
+      let both : within c (rest g img low high l at n i) ≡ within c front ++ within c′ back =
+      ap (within c) (rest-turn g img low high l at n i f ef h k) ∙ within-both c c′ front back (y .count) in
+      record {
+        count = inv .count ∙ rw both (let q = length-append (within c front) (within c′ back) in let z = y .count in omega (arith, q, z));
+        buffer = inv .buffer ∙ rw both (put-append d c (within c front) (within c′ back) ∙ rw (← (y .count), ← (y .buffer)) refl);
+      }
+
+pub lists-same : (g : Geometry) (img : List ℕ) (low high l : ℕ) (e : Entry) (x r : ℕ) (b d : List ℕ) → Lists g img low high l e x r b d → length d ≡ length b
+lists-same g img low high l e x r b d y = pairs-same b d x (within x (ranged (nodeAt g img) low high l e)) (y .buffer)
+
 -- ---- a tree
-pub tree-few : (g : Geometry) (img : List ℕ) (l p low high : ℕ) → length (rangedOf (chipWith g img l p) low high) < 4294967296
-    → 0 + length (ranged (nodeAt g img) low high (l + 1) (named p)) < 4294967296
-tree-few g img l p low high h = rw (add-one l) (omega (arith, h))
+take-most : {A : Type 0} (n : ℕ) (es : List A) → length (take n es) ≤ n
+take-most n es = rw (length-take n es) (omega arith)
 
-pub tree-exist : (g : Geometry) (img : List ℕ) (l p low high x : ℕ) → x ≡ 0 + length (ranged (nodeAt g img) low high (l + 1) (named p))
-    → length (rangedOf (chipWith g img l p) low high) < 4294967296 → x < 4294967296
-tree-exist g img l p low high x e h = let q = tree-few g img l p low high h in omega (arith, e, q)
+module _ (g : Geometry) (img : List ℕ) (l p low high x : ℕ) (b d : List ℕ) (y : Lists g img low high (l + 1) (named p) 0 x b d) where
+  whole : List Entry
+  whole = take pairsMost (rangedOf (chipWith g img l p) low high)
 
-pub tree-written : (g : Geometry) (img : List ℕ) (l p low high x w : ℕ) → w ≤ x → x ≡ 0 + length (ranged (nodeAt g img) low high (l + 1) (named p))
-    → length (rangedOf (chipWith g img l p) low high) < 4294967296 → w < 4294967296
-tree-written g img l p low high x w b e h = let q = tree-exist g img l p low high x e h in omega (arith, b, q)
+  tree-is : within 0 (ranged (nodeAt g img) low high (l + 1) (named p)) ≡ whole
+  unfolding within whole
+  tree-is = rw (add-one l) refl
 
-pub tree-done : (g : Geometry) (img : List ℕ) (l p low high x w x′ w′ : ℕ) (b d : List ℕ) → x ≡ 0 + length (ranged (nodeAt g img) low high (l + 1) (named p))
-    → d ≡ putPairs b 0 (ranged (nodeAt g img) low high (l + 1) (named p)) → w ≡ min x (length d / 2) → x′ ≡ x → w′ ≡ w
-    → told (Done x′ w′ 0) d ≡ asOutcome (lists (rangedOf (chipWith g img l p) low high) b)
-tree-done g img l p low high x w x′ w′ b d ex ed ew ex′ ew′ =
-    let es = rangedOf (chipWith g img l p) low high in
-    let q : x ≡ length es = rw (zero-add, add-one) at ex in
-    let f : d ≡ putPairs b 0 es = rw add-one at ed in
-    let len : length d ≡ length b = pairs-same b d 0 es f in
-    let v : w ≡ writtenOf es b = ew ∙ rw (q, len) refl in
-    (λ i. told (Done ((ex′ ∙ q) i) ((ew′ ∙ v) i) 0) ((f ∙ put-all es b) i))
+  tree-count : x ≡ length whole
+  tree-count = y .count ∙ rw tree-is (omega arith)
+
+  tree-most : x ≤ pairsMost
+  unfolding whole
+  tree-most = rw tree-count (take-most pairsMost (rangedOf (chipWith g img l p) low high))
+
+  pub tree-exist : x < 4294967296
+  tree-exist = lt-of-le-of-lt tree-most (lit< tt)
+
+  pub tree-written : (w : ℕ) → w ≤ x → w < 4294967296
+  tree-written w h = lt-of-le-of-lt h tree-exist
+
+  pub tree-done : (w x′ w′ : ℕ) → w ≡ min x (length d / 2) → x′ ≡ x → w′ ≡ w
+      → told (Done x′ w′ 0) d ≡ asOutcome (lists (take pairsMost (rangedOf (chipWith g img l p) low high)) b)
+  unfolding whole
+  tree-done w x′ w′ ew ex′ ew′ =
+      let q : x ≡ length whole = tree-count in
+      let f : d ≡ putPairs b 0 whole = y .buffer ∙ rw tree-is refl in
+      let len : length d ≡ length b = pairs-same b d 0 whole f in
+      let v : w ≡ writtenOf whole b = ew ∙ rw (q, len) refl in
+      (λ i. told (Done ((ex′ ∙ q) i) ((ew′ ∙ v) i) 0) ((f ∙ put-all whole b) i))
 
 -- ---- a judged image
 module _ (g : Geometry) (n : ℕ) (img : List ℕ) (low high : ℕ) (j : Judgement) (t u : List ℕ) (x : Judged g n img j t u) where
-  pub sound-few : Known g → j .verdict ≡ Sound → length (rangedOf (chipWith g img (j .survey .level) (j .survey .root)) low high) < 4294967296
-  sound-few known e = rw (chip-is g n img (j .survey) (x .survey)) (few-pairs g n img low high known (sym (x .verdict) ∙ e))
-
   pub listed-broken : (r p : ℕ) (b : List ℕ) → j .verdict ≡ Broken r p → told (Damaged r p) b ≡ asOutcome (listedIn g n img low high b)
   unfolding listedIn byVerdict
   listed-broken r p b e = sym (simp (← (x .verdict), e))
 
-  pub listed-sound : (b : List ℕ) (o : Outcome) → j .verdict ≡ Sound
-      → o ≡ asOutcome (lists (rangedOf (chipWith g img (j .survey .level) (j .survey .root)) low high) b) → o ≡ asOutcome (listedIn g n img low high b)
+  pub listed-sound : (b : List ℕ) (o : Outcome) → Known g → j .verdict ≡ Sound
+      → o ≡ asOutcome (lists (take pairsMost (rangedOf (chipWith g img (j .survey .level) (j .survey .root)) low high)) b) → o ≡ asOutcome (listedIn g n img low high b)
   unfolding listedIn byVerdict
-  listed-sound b o e f =
-      f ∙ ap (λ (c : Chip). asOutcome (lists (rangedOf c low high) b)) (chip-is g n img (j .survey) (x .survey)) ∙ sym (simp (← (x .verdict), e))
+  listed-sound b o known e f =
+      let most = most-pairs g n img low high known (sym (x .verdict) ∙ e) in
+      f ∙ ap (λ (c : Chip). asOutcome (lists (take pairsMost (rangedOf c low high)) b)) (chip-is g n img (j .survey) (x .survey))
+      ∙ ap (λ (es : List Entry). asOutcome (lists es b)) (take-all pairsMost (rangedOf (chipOf g n img) low high) most) ∙ sym (simp (← (x .verdict), e))
 
 module _ (g : Geometry) (img : List ℕ) (low high n : ℕ) (b : List ℕ) (en : n ≡ goodBlocks g img) where
   pub list-length : n ≡ 0 → told Length b ≡ asOutcome (listing g img low high b)
@@ -209,4 +243,4 @@ module _ (g : Geometry) (img : List ℕ) (low high n : ℕ) (b : List ℕ) (en :
 pub known-pages : (g : Geometry) → Known g → g .pages ≤ 64
 known-pages g known = shape g known .pages-high
 
-pub ruleset listing-laws = (put-in, put-out, below-count, below-buffer, pair-count, pair-buffer, level-count, level-buffer, start-few, turn-few, turn-count, turn-buffer, above-count, above-buffer, past-count, past-buffer, pairs-same, tree-few, tree-exist, tree-written, tree-done, sound-few, listed-broken, listed-sound, list-length, list-blocks, known-pages)
+pub ruleset listing-laws = (put-in, put-out, below-count, below-buffer, pair-count, pair-buffer, lists-full, lists-pair, lists-past, lists-above, goes-start, goes-turn, lists-same, pairs-same, tree-exist, tree-written, tree-done, listed-broken, listed-sound, list-length, list-blocks, known-pages)

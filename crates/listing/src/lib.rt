@@ -1,13 +1,13 @@
 // The pairs between two keys, in a lent buffer: judged first, then one walk that goes down nothing but what may hold such pairs.
 ghost use mathlib.Core.Path.{_≡_};
-ghost use Prim.Native.Nat.{_+_, _*_, _/_, min, _≤_, _<_};
-ghost use lib.ListN.{length};
+ghost use Prim.Native.Nat.{_+_, _/_, min, _≤_, _<_};
+ghost use lib.ListN.{length, take};
 ghost use Rattle.geometry.specs.Shape.{Known};
-ghost use Rattle.model.specs.Bytes.{nodeAt};
-ghost use Rattle.model.specs.Listing.{ranged, rangedOf, lists, listing, asOutcome};
+ghost use Rattle.model.specs.Listing.{rangedOf, lists, listing, asOutcome};
 ghost use Rattle.answers.specs.Answers.{told};
 ghost use Rattle.chip.specs.Chip.{chipWith};
-ghost use Rattle.listing.specs.Listing.{putPair, putPairs, notBelow, listedIn};
+ghost use Rattle.opened.specs.Opened.{pairsMost};
+ghost use Rattle.listing.specs.Listing.{putPair, putPairs, notBelow, Lists, listedIn};
 use answers::Answer;
 use geometry::Entry;
 use geometry::Geometry;
@@ -37,7 +37,8 @@ fn list_pair(pairs: &mut [u32], exist: usize, entry: Entry, low: u32) -> usize
     exist + 1
 }
 
-// The pairs between two keys under an entry at a level, after those that exist so far. Gives how many there are then.
+// The pairs between two keys under an entry at a level, after those that exist so far, up to 536,870,912 in all. Gives how many
+// there are then.
 fn list_under(
     g: Geometry,
     img: &[u8],
@@ -48,10 +49,11 @@ fn list_under(
     low: u32,
     high: u32,
 ) -> usize
-    requires { ⌜ exist + length (ranged (nodeAt g (now img)) low high level entry) < 4294967296 ⌝ }
-    ensures count { λ r. ⌜ r ≡ exist + length (ranged (nodeAt g (now (img .entry))) low high level entry) ⌝ }
-    ensures buffer { λ _. ⌜ now (pairs .exit) ≡ putPairs (now (pairs .entry)) exist (ranged (nodeAt g (now (img .entry))) low high level entry) ⌝ }
+    ensures { λ r. ⌜ Lists g (now (img .entry)) low high level entry exist r (now (pairs .entry)) (now (pairs .exit)) ⌝ }
 {
+    if 536870912 <= exist {
+        return exist;
+    }
     if level == 0 {
         return list_pair(&mut *pairs, exist, entry, low);
     }
@@ -87,8 +89,8 @@ fn narrow(x: usize) -> u32
     x as u32
 }
 
-// The pairs between two keys of a tree, from its root.
-fn list_tree(
+// The pairs between two keys of a tree, from its root, no more than 536,870,912 of them: so a walk ends soon on every image.
+pub fn list_tree(
     g: Geometry,
     img: &[u8],
     pairs: &mut [u32],
@@ -98,8 +100,7 @@ fn list_tree(
     high: u32,
 ) -> Answer
     requires { ⌜ level < 255 ⌝ }
-    requires { ⌜ length (rangedOf (chipWith g (now img) level root) low high) < 4294967296 ⌝ }
-    ensures { λ r. ⌜ told r (now (pairs .exit)) ≡ asOutcome (lists (rangedOf (chipWith g (now (img .entry)) level root) low high) (now (pairs .entry))) ⌝ }
+    ensures { λ r. ⌜ told r (now (pairs .exit)) ≡ asOutcome (lists (take pairsMost (rangedOf (chipWith g (now (img .entry)) level root) low high)) (now (pairs .entry))) ⌝ }
 {
     let top = Entry { key: 0, addr: root };
     let exist = list_under(g, img, &mut *pairs, 0, level + 1, top, low, high);

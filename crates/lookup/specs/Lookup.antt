@@ -34,7 +34,7 @@ pub answer-none : (f : Found) → f ≡ Nothing → Absent ≡ answerOf f
 unfolding answerOf
 answer-none f e = sym (rw e refl)
 
-answer-tells : (f : Found) (img : List ℕ) → told (answerOf f) img ≡ answered (found f) img
+pub answer-tells : (f : Found) (img : List ℕ) → told (answerOf f) img ≡ answered (found f) img
 unfolding answerOf answered found
 answer-tells (At a) img = refl
 answer-tells Nothing img = refl

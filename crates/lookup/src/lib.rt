@@ -14,7 +14,7 @@ use geometry::Verdict;
 use search::Found;
 
 // The answer to what stands under a key.
-fn answer(found: Found) -> Answer
+pub fn answer(found: Found) -> Answer
     ensures { λ r. ⌜ r ≡ answerOf found ⌝ }
 {
     match found {

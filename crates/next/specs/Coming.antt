@@ -5,12 +5,9 @@ use mathlib.Core.Path.{_≡_}
 use mathlib.Core.List.{List}
 use lib.Dec.{eqb, leb}
 use lib.ListN.{getD}
-use Rattle.geometry.specs.declared.Geometry.{Geometry}
 use Rattle.geometry.specs.Tests.{pick, _&_}
-use Rattle.model.specs.Bytes.{erased}
-use Rattle.model.specs.Count.{arg}
-use Rattle.model.specs.Image.{pagesOf, seqOf}
-use Rattle.model.specs.Next.{Ahead, round, taken, nth}
+use Rattle.model.specs.Next.{Ahead, round, after}
+use Rattle.beside.specs.Beside.{nextAfter, pageFrom}
 
 -- page q is erased and not among the first i of the pages chosen
 unfoldable pub free : (ℕ → Bool) → List ℕ → ℕ → ℕ → Bool
@@ -29,14 +26,11 @@ wholeAfter p n er b = round n b (λ i. er (p * i + 0))
 abbrev pub seen : (ℕ → Bool) → ℕ → Ahead
 seen er last = record { er = er; last = last }
 
--- on an image of n blocks
-abbrev pub onImage : Geometry → ℕ → List ℕ → Ahead
-onImage g n img = seen (erased g img) (arg (pagesOf g n) (seqOf g img))
+-- the first m of a list are the pages to come, x the next one
+pub record Coming (p n : ℕ) (er : ℕ → Bool) (x m : ℕ) (ps : List ℕ) : Type 0 where
+  pub at : (i : ℕ) → i < m → getD ps i 0 ≡ pageFrom p n er x i
 
--- the first m of a list are the pages to come
-pub record Coming (p n : ℕ) (w : Ahead) (m : ℕ) (ps : List ℕ) : Type 0 where
-  pub at : (i : ℕ) → i < m → getD ps i 0 ≡ nth p n w i
-
--- the page with the largest number once m of them are programmed
-unfoldable pub lastAt : ℕ → ℕ → Ahead → ℕ → ℕ
-lastAt p n w m = taken p n w m .last
+-- the erased pages once the first i of the pages to come are programmed
+unfoldable pub erasedFrom : ℕ → ℕ → (ℕ → Bool) → ℕ → ℕ → ℕ → Bool
+erasedFrom p n er x zero = er
+erasedFrom p n er x (suc i) = erasedFrom p n (after x er) (nextAfter p n (after x er) x) i

@@ -14,10 +14,11 @@ use native.Mathlib.Numerals.{sub-one, add-one}
 use borrow.Author.Tests.{eq-eqb, ne-eqb, lt-ltb, le-ltb, le-leb, lt-leb}
 use Rattle.geometry.specs.Tests.{_&_, and-true, and-false}
 use Rattle.model.specs.Count.{least}
-use Rattle.model.specs.Next.{mixed, firstIn, Ahead, round, nextBlock, nextPage, taken}
-use Rattle.beside.specs.Beside.{nextAfter}
+use Rattle.model.specs.Next.{mixed, firstIn, round, nextBlock, nextPage, after}
+use Rattle.beside.specs.Beside.{nextAfter, pageFrom}
+use Rattle.beside.specs.Collect.{nextErased}
 use Rattle.counts.specs.Least.{by-lt, least-zero, least-go, least-hit, least-end}
-use Rattle.next.specs.Coming.{free, whole, wholeAfter, seen, Coming, lastAt}
+use Rattle.next.specs.Coming.{free, whole, wholeAfter, seen, Coming, erasedFrom}
 
 -- ---- is_free
 module _ (er : ℕ → Bool) (ps : List ℕ) (q : ℕ) where
@@ -38,10 +39,6 @@ module _ (er : ℕ → Bool) (ps : List ℕ) (q : ℕ) where
   unfolding free
   free-end i zero r e h er′ = er′ ∙ sym e
   free-end i (suc k) r e h er′ = absurd (omega arith)
-
-pub free-none : (er : ℕ → Bool) (ps : List ℕ) (p n last r : ℕ) → r ≡ nextPage p n (seen (free er ps 0) last) → r ≡ nextPage p n (seen er last)
-unfolding free
-free-none er ps p n last r e = e
 
 -- ---- the block of a page
 pub quotient : (a b x y : ℕ) → x ≡ a → y ≡ b → x / y ≡ a / b
@@ -101,9 +98,10 @@ module _ (p : ℕ) (er : ℕ → Bool) where
     unfolding wholeAfter round
     round-start v ev h = ev ∙ rw whole-all (sym (rw (← later-is, le-ltb j n h) refl))
 
-  pub next-round : (n m b v last : ℕ) → v ≡ wholeAfter p n er b → b ≡ last / p → m ≡ least n (mixed p er) → n ≤ m → v ≡ nextBlock p n (seen er last)
-  unfolding nextBlock wholeAfter
-  next-round n m b v last ev eb em none = ev ∙ rw eb (sym (rw (← em, le-ltb m n none) refl))
+  pub next-round : (n m b v last : ℕ) (ps : List ℕ) → v ≡ wholeAfter p n (free er ps 0) b → b ≡ last / p → m ≡ least n (mixed p er) → n ≤ m
+      → v ≡ nextBlock p n (seen er last)
+  unfolding nextBlock wholeAfter free
+  next-round n m b v last ps ev eb em none = ev ∙ rw eb (sym (rw (← em, le-ltb m n none) refl))
 
   pub after-is : (n b j last r : ℕ) → r ≡ p * b + j → b ≡ nextBlock p n (seen er last) → j ≡ firstIn p er b → r ≡ nextPage p n (seen er last)
   after-is n b j last r e eb ej = e ∙ rw (ej, eb)
@@ -127,50 +125,83 @@ module _ (p n x : ℕ) (er : ℕ → Bool) (t : Bool) (et : t ≡ eqb (suc x % p
   unfolding nextAfter
   goes-on q = add-one x ∙ sym (rw (← et, q) refl)
 
-  pub goes-round : (b v r : ℕ) (ps : List ℕ) → r ≡ p * v → v ≡ wholeAfter p n (free er ps 0) b → b ≡ x / p → t ≡ true → r ≡ nextAfter p n er x
-  unfolding nextAfter wholeAfter free
-  goes-round b v r ps e ev eb q = e ∙ rw (ev, eb) (sym (rw (← et, q) refl))
+  pub goes-round : (b v r : ℕ) → r ≡ p * v → v ≡ wholeAfter p n er b → b ≡ x / p → t ≡ true → r ≡ nextAfter p n er x
+  unfolding nextAfter wholeAfter
+  goes-round b v r e ev eb q = e ∙ rw (ev, eb) (sym (rw (← et, q) refl))
+
+pub after-none : (p n x r : ℕ) (er : ℕ → Bool) (ps : List ℕ) → r ≡ nextAfter p n (free er ps 0) x → r ≡ nextAfter p n er x
+unfolding free
+after-none p n x r er ps e = e
+
+-- ---- the next page once a block was erased
+pub starts-none : (x p w : ℕ) → w ≡ p → w ≡ 0 → eqb x 0 ≡ eqb (x % p) 0
+starts-none x p w e z = sym (ap (λ y. eqb (x % y) 0) (sym e ∙ z) ∙ rw (mod-zero x) refl)
+
+pub starts-is : (x p y w : ℕ) → y ≡ x → w ≡ p → eqb (y % w) 0 ≡ eqb (x % p) 0
+starts-is x p y w e f = rw (e, f)
+
+module _ (p n root x : ℕ) (er : ℕ → Bool) (t : Bool) (et : t ≡ eqb (x % p) 0) where
+  pub erased-stays : t ≡ false → x ≡ nextErased p n er root x
+  unfolding nextErased
+  erased-stays q = sym (rw (← et, q) refl)
+
+  pub erased-round : (b v r : ℕ) (ps : List ℕ) → r ≡ p * v → v ≡ wholeAfter p n (free er ps 0) b → b ≡ root / p → t ≡ true → r ≡ nextErased p n er root x
+  unfolding nextErased wholeAfter free
+  erased-round b v r ps e ev eb q = e ∙ rw (ev, eb) (sym (rw (← et, q) refl))
 
 -- ---- the pages to come
-pub last-start : (p n : ℕ) (er : ℕ → Bool) (last : ℕ) → last ≡ lastAt p n (seen er last) 0
-unfolding lastAt taken
-last-start p n er last = refl
+module _ (p n : ℕ) where
+  -- the page after the i-th one, and the erased pages then
+  from-suc : (er : ℕ → Bool) (x i : ℕ) → pageFrom p n er x (suc i) ≡ nextAfter p n (erasedFrom p n er x (suc i)) (pageFrom p n er x i)
+  unfolding pageFrom erasedFrom
+  from-suc er x zero = refl
+  from-suc er x (suc i) = from-suc (after x er) (nextAfter p n (after x er) x) i
 
-module _ (p n : ℕ) (w : Ahead) where
-  free-taken : (k : ℕ) (ps : List ℕ) → Coming p n w k ps → (q : ℕ) → free (w .er) ps k q ≡ taken p n w k .er q
-  unfolding free taken
-  free-taken zero ps c q = refl
-  free-taken (suc k) ps c q =
-      rw (c .at k (omega arith), free-taken k ps (record { at = λ i h. c .at i (omega arith) }) q)
+  erased-suc : (er : ℕ → Bool) (x i q : ℕ) → erasedFrom p n er x (suc i) q ≡ after (pageFrom p n er x i) (erasedFrom p n er x i) q
+  unfolding pageFrom erasedFrom
+  erased-suc er x zero q = refl
+  erased-suc er x (suc i) q = erased-suc (after x er) (nextAfter p n (after x er) x) i q
 
-  seen-taken : (k before : ℕ) (ps : List ℕ) → Coming p n w k ps → before ≡ lastAt p n w k → seen (free (w .er) ps k) before ≡ taken p n w k
-  unfolding lastAt
-  seen-taken k before ps c e = λ z. record { er = λ y. free-taken k ps c y z; last = e z }
+  module _ (er : ℕ → Bool) (x : ℕ) where
+    -- the code's test of a page, and the erased pages once the chosen ones are programmed
+    free-from : (k : ℕ) (ps : List ℕ) → Coming p n er x k ps → (q : ℕ) → free er ps k q ≡ erasedFrom p n er x k q
+    unfolding free erasedFrom
+    free-from zero ps c q = refl
+    free-from (suc k) ps c q =
+        rw (c .at k (omega arith), free-from k ps (record { at = λ i h. c .at i (omega arith) }) q) (sym (erased-suc er x k q))
 
-  last-suc : (k : ℕ) → lastAt p n w (suc k) ≡ nextPage p n (taken p n w k)
-  unfolding lastAt taken
-  last-suc k = refl
+    next-from : (k page y : ℕ) (ps : List ℕ) → Coming p n er x k ps → page ≡ pageFrom p n er x (k - 1) → 1 ≤ k → y ≡ nextAfter p n (free er ps k) page
+        → y ≡ pageFrom p n er x k
+    next-from zero page y ps c e h ey = absurd (omega arith)
+    next-from (suc k) page y ps c e h ey =
+        let w : page ≡ pageFrom p n er x k = rw sub-one at e in
+        ey ∙ (λ z. nextAfter p n (λ q. free-from (suc k) ps c q z) (w z)) ∙ sym (from-suc er x k)
 
-  pub last-more : (k x before : ℕ) (ps : List ℕ) → Coming p n w k ps → before ≡ lastAt p n w k → x ≡ nextPage p n (seen (free (w .er) ps k) before)
-      → x ≡ lastAt p n w (k + 1)
-  last-more k x before ps c e h = h ∙ ap (nextPage p n) (seen-taken k before ps c e) ∙ sym (ap (lastAt p n w) (add-one k) ∙ last-suc k)
+    pub coming-one : (ps : List ℕ) → length ps ≡ 256 → Coming p n er x 1 (set ps 0 x)
+    unfolding pageFrom
+    coming-one ps len = record { at = λ i h. let q : i ≡ 0 = omega arith in rw q (getD-set-same ps 0 x 0 (omega arith)) }
 
-  pub coming-none : (ps : List ℕ) → Coming p n w 0 ps
-  coming-none ps = record { at = λ i h. absurd (omega arith) }
+    pub page-one : x ≡ pageFrom p n er x (1 - 1)
+    unfolding pageFrom
+    page-one = refl
 
-  pub coming-more : (k m x before : ℕ) (ps : List ℕ) → Coming p n w k ps → before ≡ lastAt p n w k → x ≡ nextPage p n (seen (free (w .er) ps k) before)
-      → length ps ≡ 256 → k < m → m ≤ 256 → Coming p n w (k + 1) (set ps k x)
-  coming-more k m x before ps c eb e len h most = record {
-    at = λ i j. by-lt i k
-        (λ b. getD-set-other ps k i x 0 (omega arith) ∙ c .at i b)
-        (λ b. let q : i ≡ k = omega arith in rw q (getD-set-same ps k x 0 (omega arith) ∙ e ∙ ap (nextPage p n) (seen-taken k before ps c eb)));
-  }
+    pub page-more : (k page y : ℕ) (ps : List ℕ) → Coming p n er x k ps → page ≡ pageFrom p n er x (k - 1) → 1 ≤ k → y ≡ nextAfter p n (free er ps k) page
+        → y ≡ pageFrom p n er x (k + 1 - 1)
+    page-more k page y ps c e h ey = let q : k + 1 - 1 ≡ k = omega arith in rw q (next-from k page y ps c e h ey)
 
-  pub coming-done : (k m : ℕ) (ps : List ℕ) → Coming p n w k ps → k ≤ m → m ≤ k → Coming p n w m ps
-  coming-done k m ps c h g = let q : k ≡ m = omega arith in rw (← q) c
+    pub coming-more : (k page y : ℕ) (ps : List ℕ) → Coming p n er x k ps → page ≡ pageFrom p n er x (k - 1) → 1 ≤ k → y ≡ nextAfter p n (free er ps k) page
+        → length ps ≡ 256 → k < 256 → Coming p n er x (k + 1) (set ps k y)
+    coming-more k page y ps c e some ey len h = record {
+      at = λ i j. by-lt i k
+          (λ b. getD-set-other ps k i y 0 (omega arith) ∙ c .at i b)
+          (λ b. let q : i ≡ k = omega arith in rw q (getD-set-same ps k y 0 (omega arith) ∙ next-from k page y ps c e some ey));
+    }
+
+    pub coming-done : (k m : ℕ) (ps : List ℕ) → Coming p n er x k ps → m ≤ k → Coming p n er x m ps
+    coming-done k m ps c h = record { at = λ i j. c .at i (omega arith) }
 
 -- the array keeps its length
 pub set-length : (ps : List ℕ) (k x m : ℕ) → length ps ≡ m → length (set ps k x) ≡ m
 set-length ps k x m e = length-set ps k x ∙ e
 
-pub ruleset next-laws = (quotient, quotient-low, quotient-none, free-start, free-stop, free-go, free-end, free-none, whole-no, whole-is, whole-start, whole-go, whole-hit, whole-end, next-mixed, round-later, round-start, next-round, after-is, page-low, ends-none, ends-is, goes-on, goes-round, last-start, last-more, coming-none, coming-more, coming-done)
+pub ruleset next-laws = (quotient, quotient-low, quotient-none, free-start, free-stop, free-go, free-end, whole-no, whole-is, whole-start, whole-go, whole-hit, whole-end, next-mixed, round-later, round-start, next-round, after-is, page-low, ends-none, ends-is, goes-on, goes-round, after-none, starts-none, starts-is, erased-stays, erased-round, coming-one, page-one, page-more, coming-more, coming-done)

@@ -139,7 +139,7 @@ pub fn erase_block(g: Geometry, img: &mut [u8], block: u16)
     blank(&mut *img, at, n);
 }
 
-// What is left of an allowance, what was made of it, and whether a store was asked for with nothing left.
+// What is left of an allowance, what was made of it, and whether a store was asked for that was not made.
 pub struct Budget {
     pub left: u32,
     pub programmed: u32,
@@ -147,18 +147,19 @@ pub struct Budget {
     pub stopped: bool,
 }
 
+// A store is not made: no other one is made after it.
 fn halted(b: Budget) -> Budget
     ensures { λ r. ⌜ r ≡ halt b ⌝ }
 {
     Budget {
-        left: b.left,
+        left: 0,
         programmed: b.programmed,
         erased: b.erased,
         stopped: true,
     }
 }
 
-// Programs a page with the first bytes of a buffer, if the allowance has a store left.
+// Programs a page with the first bytes of a buffer, if the allowance has a store left and the page is erased.
 pub fn put_page(g: Geometry, img: &mut [u8], b: Budget, page: u32, bytes: &[u8]) -> Budget
     requires { ⌜ b .left + b .programmed + b .erased < 4294967296 ⌝ }
     ensures { λ r. ⌜ Ran g (Store.program page (take (pageBytes g) (now (bytes .entry))) ∷ []) b r (now (img .entry)) (now (img .exit)) ⌝ }
@@ -166,13 +167,17 @@ pub fn put_page(g: Geometry, img: &mut [u8], b: Budget, page: u32, bytes: &[u8])
     if b.left == 0 {
         return halted(b);
     }
-    program_page(g, &mut *img, page, bytes);
-    Budget {
-        left: b.left - 1,
-        programmed: b.programmed + 1,
-        erased: b.erased,
-        stopped: b.stopped,
+    let free = chip::page_erased(g, &*img, page);
+    if free {
+        program_page(g, &mut *img, page, bytes);
+        return Budget {
+            left: b.left - 1,
+            programmed: b.programmed + 1,
+            erased: b.erased,
+            stopped: b.stopped,
+        };
     }
+    halted(b)
 }
 
 // Erases a block, if the allowance has a store left.

@@ -12,7 +12,7 @@ use Rattle.geometry.specs.declared.Entry.{Entry}
 use Rattle.geometry.specs.Tests.{pick, _&_, and-true, and-false}
 use Rattle.geometry.specs.Geometry.{slotsOf, half}
 use Rattle.geometry.specs.Shape.{Shape}
-use Rattle.model.specs.Count.{count}
+use Rattle.model.specs.Count.{count, peak}
 use Rattle.model.specs.Image.{pagesOf, maxSeq, Nodes, Chip, chipOf, theRoot}
 use Rattle.model.specs.Tree.{mapOf, sought}
 use Rattle.model.specs.Next.{ahead, nextPage, after, taken}
@@ -23,7 +23,7 @@ use Rattle.trees.specs.Tests.{by-eq}
 use Rattle.trees.specs.Lists.{All}
 use Rattle.trees.specs.Nodes.{fitOf}
 use Rattle.trees.specs.Lengths.{splice-all, splice-most, path-all, path-most}
-use Rattle.chips.specs.Whole.{Whole}
+use Rattle.chips.specs.Whole.{some-page, Whole}
 use Rattle.chips.specs.Collect.{R8}
 use Rattle.chips.specs.Pages.{side-erased, new-side}
 use Rattle.chips.specs.Deletion.{leftList, top-low, delete-done, top-most}
@@ -36,6 +36,7 @@ use Rattle.images.specs.Held.{height-most}
 use Rattle.images.specs.Writes.{nextStore}
 use Rattle.updates.specs.Along.{Keeps, runs-none}
 use Rattle.updates.specs.Table.{parts-most}
+use Rattle.updates.specs.Topped.{topped}
 use Rattle.updates.specs.Updated.{Stands, Updated, updated}
 
 remove-fits : (k : ℕ) (es : List Entry) → All Fits es → All Fits (removeIn k es)
@@ -155,7 +156,7 @@ module _ (g : Geometry) (shape : Shape g) (n : ℕ) (few : pagesOf g n + g .page
   abbrev height : ℕ
   height = suc (top .level)
 
-  module _ (q : ℕ) where
+  module _ (q : ℕ) (number-is : q ≡ suc (peak t (c .seq))) where
     abbrev e′ : Chip
     e′ = rooted c (nextPage (g .pages) n (ahead g n c)) (builtView g q height (leftList g n c k))
 
@@ -180,13 +181,18 @@ module _ (g : Geometry) (shape : Shape g) (n : ℕ) (few : pagesOf g n + g .page
     unfolding rooted taken
     final-is = let z : height - 1 ≡ top .level = omega arith in λ i. record { er = after N (c .er); seq = e′ .seq; nodes = e′ .nodes; level = z i; root = N }
 
-    final-done : Whole g n e′ × (mapOf e′ ≡ remove k (mapOf c)) × R8 g n e′ × Stands (deleteCrest g n c k) e′
+    final-done : Whole g n e′ × (mapOf e′ ≡ remove k (mapOf c)) × R8 g n e′ × Stands g n c 1 (deleteCrest c N k) e′
     final-done =
         let w = delete-done g shape n k k-low c whole present free (e′ .nodes) (e′ .seq) at-N stays high in (
           subst (Whole g n) (sym final-is) (w .0),
           ap mapOf final-is ∙ w .1,
           subst (R8 g n) (sym final-is) (omega (arith, w .2, keeps .r8)),
-          record { root-is = ap (λ (x : Chip). x .root) final-is; level-is = ap (λ (x : Chip). x .level) final-is },
+          record {
+            root-is = ap (λ (x : Chip). x .root) final-is;
+            level-is = ap (λ (x : Chip). x .level) final-is;
+            topped = topped g shape n c c 0 1 (builtView g q height (leftList g n c k)) (whole .r2) (let p = some-page g shape in omega (arith, room, p))
+                number-is (omega arith) (omega arith) refl;
+          },
         )
 
   store-is : deleteStore g n (maxSeq g n img) c k ≡ nextStore g n height (leftList g n c k) img
@@ -194,9 +200,9 @@ module _ (g : Geometry) (shape : Shape g) (n : ℕ) (few : pagesOf g n + g .page
   store-is = refl
 
   -- the deletion's own store
-  pub delete-own : Updated g n (Stands (deleteCrest g n c k)) base (remove k base) img (deleteStore g n (maxSeq g n img) c k ∷ []) 1 0
+  pub delete-own : Updated g n (Stands g n c 1 (deleteCrest c N k)) base (remove k base) img (deleteStore g n (maxSeq g n img) c k ∷ []) 1 0
   unfolding applyAll
   delete-own =
-      updated g shape n (Stands (deleteCrest g n c k)) base (remove k base) img [] c 0 0 height (leftList g n c k) (deleteStore g n (maxSeq g n img) c k)
+      updated g shape n (Stands g n c 1 (deleteCrest c N k)) base (remove k base) img [] c 0 0 height (leftList g n c k) (deleteStore g n (maxSeq g n img) c k)
       (runs-none g n base img 0 0 keeps) room (omega (arith, low)) parts (omega arith) (omega (arith, lower, high)) store-is
-      (λ q. (final-done q .0, final-done q .1 ∙ ap (remove k) (keeps .map-is), final-done q .2, final-done q .3))
+      (λ q num. let w = final-done q num in (w .0, w .1 ∙ ap (remove k) (keeps .map-is), w .2, w .3))

@@ -25,7 +25,7 @@ use Rattle.stores.specs.Runs.{all-append, programs-append}
 use Rattle.trees.specs.Tests.{by-eq, by-le, by-test}
 use Rattle.trees.specs.Lists.{All}
 use Rattle.trees.specs.Nodes.{fitOf}
-use Rattle.chips.specs.Next.{step}
+use Rattle.chips.specs.Next.{R2, step}
 use Rattle.chips.specs.Whole.{some-page, Whole}
 use Rattle.chips.specs.Collect.{R8}
 use Rattle.chips.specs.Pages.{side-erased, side-inj, new-side}
@@ -39,6 +39,7 @@ use Rattle.images.specs.Held.{height-most}
 use Rattle.images.specs.Writes.{nextStore, ahead-beside, put-max}
 use Rattle.updates.specs.Along.{Keeps, Runs, runs-end, runs-none, runs-then, runs-as, side-runs}
 use Rattle.updates.specs.Contents.{side-parts, main-parts}
+use Rattle.updates.specs.Topped.{topped}
 use Rattle.updates.specs.Updated.{Stands, Updated, updated}
 
 -- the chip d after the other halves of levels 1 to i, from the chip c
@@ -57,7 +58,7 @@ pub record Sided (g : Geometry) (n : ℕ) (base : List Entry) (img : List ℕ) (
 -- the chip e after an insertion of m pages into c: its nodes, and where its root stands
 pub record Inserted (g : Geometry) (n : ℕ) (c : Chip) (m k a : ℕ) (e : Chip) : Type 0 where
   pub fuller : Fuller g m c e
-  pub stands : Stands (insertCrest g n c m k a) e
+  pub stands : Stands g n c m (insertCrest g c (sidePage g n c) m k a) e
 
 module _ (g : Geometry) (shape : Shape g) (n : ℕ) (few : pagesOf g n + g .pages < 4294967296) (k a : ℕ) (k-low : k < 4294967296)
     (a-low : a < 4294967296)
@@ -288,7 +289,11 @@ module _ (g : Geometry) (shape : Shape g) (n : ℕ) (few : pagesOf g n + g .page
   height-in = by-test grows (λ e. let u = grow-all g shape n k a k-low c whole e in rw e (omega arith, omega (arith, u .0)))
       (λ e. rw e (omega arith, high))
 
-  module _ (d : Chip) (laid : Laid g n c k a (cuts + bit grows) d) (q : ℕ) where
+  module _ (d : Chip) (laid : Laid g n c k a (cuts + bit grows) d) (q : ℕ) (number-is : q ≡ suc (peak t (d .seq)))
+      (most-is : peak t (d .seq) ≡ peak t (c .seq) + (cuts + bit grows)) where
+    abbrev i : ℕ
+    i = cuts + bit grows
+
     abbrev P : ℕ
     P = nextPage (g .pages) n (ahead g n d)
 
@@ -322,21 +327,35 @@ module _ (g : Geometry) (shape : Shape g) (n : ℕ) (few : pagesOf g n + g .page
     unfolding rooted
     final-is = λ i. record { er = er-is i; seq = e′ .seq; nodes = e′ .nodes; level = height - 1; root = page-is i }
 
+    -- the chip before N
+    d-left : count t (d .er) + i ≡ count t (c .er)
+    d-left = ap (λ (x : Ahead). count t (x .er) + i) (laid .ahead-is) ∙ left i (omega (arith, m-is))
+
+    d-r2 : R2 (g .pages) n (d .er)
+    d-r2 = subst (λ (x : Ahead). R2 (g .pages) n (x .er)) (sym (laid .ahead-is))
+        (step (g .pages) n (ahead g n c) (some-page g shape) (whole .r2) i (omega (arith, m-is, free)) .r2)
+
     pub final-done : Whole g n e′ × (mapOf e′ ≡ put k a (mapOf c)) × R8 g n e′ × Inserted g n c m k a e′
     final-done =
-        let w = insert-done g shape n k a k-low c whole free (e′ .nodes) (e′ .seq) at-N at-side stays high not-high in (
+        let w = insert-done g shape n k a k-low c whole free (e′ .nodes) (e′ .seq) at-N at-side stays high not-high in
+        let p = some-page g shape in (
           subst (Whole g n) (sym final-is) (w .0),
           ap mapOf final-is ∙ w .1,
           subst (R8 g n) (sym final-is) (omega (arith, w .2, space)),
           record {
             fuller = subst (Fuller g m c) (sym final-is) (w .3);
-            stands = record { root-is = ap (λ (x : Chip). x .root) final-is; level-is = ap (λ (x : Chip). x .level) final-is };
+            stands = record {
+              root-is = ap (λ (x : Chip). x .root) final-is;
+              level-is = ap (λ (x : Chip). x .level) final-is;
+              topped = topped g shape n c d i m (builtView g q height (mainList g n c k a)) d-r2 (omega (arith, d-left, room, p, m-is)) number-is most-is d-left
+                  m-is;
+            };
           },
         )
 
   -- the insertion's own stores: m programs
   pub own-updated : Updated g n (Inserted g n c m k a) base (put k a base) img (ownStores g n seq c m k a) m 0
-  unfolding ownStores
+  unfolding ownStores maxSeq
   own-updated =
       let s = all-sided in
       let i = cuts + bit grows in
@@ -345,13 +364,15 @@ module _ (g : Geometry) (shape : Shape g) (n : ℕ) (few : pagesOf g n + g .page
       let ci = s .runs .chip-is in
       let lf = left i (omega (arith, m-is)) in
       let cnt : count t (s .chip .er) ≡ count t (taken (g .pages) n (ahead g n c) i .er) = ap (λ (y : Ahead). count t (y .er)) (s .laid .ahead-is) in
-      let page : nextPage (g .pages) n (ahead g n (chipOf g n x)) ≡ N = ap (λ (y : Chip). nextPage (g .pages) n (ahead g n y)) ci ∙ page-is (s .chip) (s .laid) 0 in
+      let chip-most : peak t (s .chip .seq) ≡ peak t (c .seq) + i = sym (ap (λ (y : Chip). peak t (y .seq)) ci) ∙ s .max-is in
+      let page : nextPage (g .pages) n (ahead g n (chipOf g n x)) ≡ N = ap (λ (y : Chip). nextPage (g .pages) n (ahead g n y)) ci ∙ page-is (s .chip) (s .laid)
+      (suc (peak t (s .chip .seq))) refl chip-most in
       let st = program N (built g (seq + m) height (mainList g n c k a)) in
       let e = next-is height m (mainList g n c k a) x page (omega (arith, s .max-is, m-is)) in
       let u = updated g shape n (Inserted g n c m k a) base (put k a base) img ss (s .chip) i 0 height (mainList g n c k a) st (s .runs) (omega (arith, cnt, lf, room, m-is))
       (omega (arith, s .max-is, low, m-is))
       (main-parts g shape n few k a k-low a-low c whole all-fit high not-high) (height-in .0) (height-in .1) e
-      (λ q. let w = final-done (s .chip) (s .laid) q in (w .0, w .1 ∙ ap (put k a) (keeps .map-is), w .2, w .3)) in
+      (λ q num. let w = final-done (s .chip) (s .laid) q num chip-most in (w .0, w .1 ∙ ap (put k a) (keeps .map-is), w .2, w .3)) in
       let z : i + 1 ≡ m = omega (arith, m-is) in
       subst (λ j. Updated g n (Inserted g n c m k a) base (put k a base) img (sideStores g seq k side lists (c .level) ++
       (crownStore g seq k side (suc (c .level)) (lists (suc (c .level))) ++ (st ∷ []))) j 0) z

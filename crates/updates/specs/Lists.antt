@@ -15,7 +15,7 @@ use Rattle.model.specs.Tree.{placesOf, live, find, sought}
 use Rattle.model.specs.Stores.{applyAll, programs, erases}
 use Rattle.model.specs.Edit.{put, remove}
 use Rattle.model.specs.Collect.{collectStores}
-use Rattle.model.specs.Update.{isNone, needs, tooHigh, ownStores, deleteStore, insertStores, deleteStores}
+use Rattle.model.specs.Update.{isNone, needs, tooHigh, sidePage, ownStores, deleteStore, insertStores, deleteStores}
 use Rattle.model.specs.Calls.{worn, roomless, freePages}
 use Rattle.beside.specs.Update.{insertCrest, deleteCrest}
 use Rattle.chips.specs.Whole.{some-page, sought-map}
@@ -93,6 +93,13 @@ module _ (g : Geometry) (shape : Shape g) (n : ℕ) (few : pagesOf g n + g .page
     own = own-updated g shape n few k a k-low a-low base then (after-collect .keeps) (after-collect .alike .high-is k k-low ∙ not-high)
         (let z = after-collect .room in omega (arith, z, same-m)) then-low then-space
 
+    -- the map is kept by the collection, and numbers are left for the own pages
+    pub insert-keeps : Keeps g n base then
+    insert-keeps = after-collect .keeps
+
+    pub insert-low : maxSeq g n then + m < 4294967295
+    insert-low = let z = then-low in omega (arith, z, same-m)
+
     -- the collection ends because it is done
     pub insert-collected : g .pages + m ≤ count t (chipOf g n then .er)
     insert-collected = after-collect .room
@@ -116,7 +123,7 @@ module _ (g : Geometry) (shape : Shape g) (n : ℕ) (few : pagesOf g n + g .page
 
     -- what more is known of the chip at the end: its nodes, and where its root stands
     abbrev Last : Chip → Type 0
-    Last e = Fuller g m c e × Stands (insertCrest g n (chipOf g n then) m k a) e
+    Last e = Fuller g m c e × Stands g n (chipOf g n then) m (insertCrest g (chipOf g n then) (sidePage g n (chipOf g n then)) m k a) e
 
     last-done : Updated g n Last base (put k a base) img (insertStores g n img k a) (programMost g m) (suc m)
     unfolding insertStores
@@ -133,7 +140,7 @@ module _ (g : Geometry) (shape : Shape g) (n : ℕ) (few : pagesOf g n + g .page
     insert-updated = updated-also g n Last (Fuller g m c) (λ e f. f .0) base (put k a base) img (insertStores g n img k a) (programMost g m) (suc m) last-done
 
     -- where the root stands at the end
-    pub insert-stands : Stands (insertCrest g n (chipOf g n then) m k a) (chipOf g n (applyAll g (insertStores g n img k a) img))
+    pub insert-stands : Stands g n (chipOf g n then) m (insertCrest g (chipOf g n then) (sidePage g n (chipOf g n then)) m k a) (chipOf g n (applyAll g (insertStores g n img k a) img))
     insert-stands = last-done .also .1
 
   -- a deletion
@@ -147,6 +154,9 @@ module _ (g : Geometry) (shape : Shape g) (n : ℕ) (few : pagesOf g n + g .page
     abbrev left : List ℕ
     left = applyAll g (collectStores g n 1 2 img) img
 
+    pub delete-keeps : Keeps g n base left
+    delete-keeps = collected-one .keeps
+
     pub delete-collected : g .pages + 1 ≤ count t (chipOf g n left .er)
     delete-collected = collected-one .room
 
@@ -154,16 +164,16 @@ module _ (g : Geometry) (shape : Shape g) (n : ℕ) (few : pagesOf g n + g .page
     still = ap isNone (sought-map g n (chipOf g n left) (collected-one .keeps .held .whole) k k-low ∙ ap (find k)
         (collected-one .keeps .map-is ∙ sym (keeps .map-is)) ∙ sym (sought-map g n c (keeps .held .whole) k k-low)) ∙ present
 
-    left-low : maxSeq g n left + 1 < 4294967295
-    left-low =
+    pub delete-low : maxSeq g n left + 1 < 4294967295
+    delete-low =
         let x = collected-one .runs .grows in
         let y = collected-one .runs .programmed in
         let z = numbers 1 one-top .1 in
         omega (arith, x, y, z)
 
-    pub delete-updated : Updated g n (Stands (deleteCrest g n (chipOf g n left) k)) base (remove k base) img (deleteStores g n img k) (programMost g 1) 2
+    pub delete-updated : Updated g n (Stands g n (chipOf g n left) 1 (deleteCrest (chipOf g n left) (sidePage g n (chipOf g n left) 1) k)) base (remove k base) img (deleteStores g n img k) (programMost g 1) 2
     unfolding deleteStores
     delete-updated =
-        updated-after g n (Stands (deleteCrest g n (chipOf g n left) k)) (Stands (deleteCrest g n (chipOf g n left) k)) (λ x z. z) base (remove k base) img (collectStores g n 1 2 img) (deleteStore g n (maxSeq g n left) (chipOf g n left) k ∷ [])
+        updated-after g n (Stands g n (chipOf g n left) 1 (deleteCrest (chipOf g n left) (sidePage g n (chipOf g n left) 1) k)) (Stands g n (chipOf g n left) 1 (deleteCrest (chipOf g n left) (sidePage g n (chipOf g n left) 1) k)) (λ x z. z) base (remove k base) img (collectStores g n 1 2 img) (deleteStore g n (maxSeq g n left) (chipOf g n left) k ∷ [])
         (collect g n 1 2 c) (2 * (g .pages - 1)) 1 2 0 (collected-one .runs)
-        (delete-own g shape n few k k-low base left (collected-one .keeps) still (collected-one .room) left-low)
+        (delete-own g shape n few k k-low base left (collected-one .keeps) still (collected-one .room) delete-low)

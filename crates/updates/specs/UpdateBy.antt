@@ -1,128 +1,175 @@
--- Insert and delete by the table: the stores are the model's, and the words are those worked out afresh from the image that is left.
--- Assumes nothing.
+-- Insert and delete by the record and the table: the outcome is the model's, the record is that of the image that is left, and the words are
+-- those worked out afresh from it. Assumes nothing.
 use mathlib.Core.Path.{_≡_, refl, ap, sym, _∙_}
 use mathlib.Core.List.{List, [], _∷_, _++_}
 use mathlib.Core.Bool.{Bool, true, false}
 use Prim.Native.Nat.{ℕ, suc, _+_, _-_, _*_, _<_, _≤_}
 use native.Mathlib.Omega.{arith}
-use lib.ListN.{length}
-use lib.Seq.{take-all}
-use lib.Dec.{leb}
-use borrow.Author.Tests.{leb-true}
+use lib.Dec.{ltb}
 use Rattle.geometry.specs.declared.Geometry.{Geometry}
 use Rattle.geometry.specs.declared.Entry.{Entry}
-use Rattle.geometry.specs.Tests.{pick}
+use Rattle.geometry.specs.Tests.{pick, _&_}
 use Rattle.geometry.specs.Shape.{Shape}
+use Rattle.model.specs.Count.{count}
 use Rattle.model.specs.Image.{pagesOf, maxSeq, Chip, chipOf}
 use Rattle.model.specs.Tree.{placesOf, live, sought}
 use Rattle.model.specs.Stores.{Store, applyAll}
+use Rattle.model.specs.Edit.{put, remove}
 use Rattle.model.specs.Collect.{collectStores}
-use Rattle.model.specs.Update.{isNone, needs, tooHigh, ownStores, deleteStore, insertStores, deleteStores}
-use Rattle.model.specs.Calls.{refused, made, worn, roomless, freePages, insertRest, deleteRest}
-use Rattle.chip.specs.Chip.{chipWith}
-use Rattle.live.specs.Words.{blockWords, wordsOf, filled}
-use Rattle.live.specs.Live.{reply, liveWords}
+use Rattle.model.specs.Update.{isNone, needs, tooHigh, sidePage, deleteStore, insertStores, deleteStores}
+use Rattle.model.specs.Calls.{Outcome, refused, made, worn, roomless, freePages, insertRest, deleteRest}
+use Rattle.chips.specs.Insertion.{Fuller}
+use Rattle.images.specs.Held.{height-most}
+use Rattle.images.specs.Few.{Few}
+use Rattle.live.specs.Words.{blockWords, wordsOf}
+use Rattle.live.specs.Live.{liveWords}
 use Rattle.live.specs.Ones.{all-ones}
 use Rattle.live.specs.Filled.{told-filled}
-use Rattle.beside.specs.Table.{Table, Right}
-use Rattle.beside.specs.Update.{Crest, wordsWith, madeBy, insertCrest, insertMade, freeBy, insertBy, deleteCrest, deleteMade, deleteBy}
+use Rattle.opened.specs.declared.Opened.{Opened}
+use Rattle.opened.specs.Opened.{openedIn, chipBy}
+use Rattle.beside.specs.Beside.{pageBy}
+use Rattle.beside.specs.Beside.{Held as Kept}
+use Rattle.beside.specs.Collect.{collectBy}
+use Rattle.beside.specs.Update.{Returned, returned, madeBy, insertCrest, ownBy, crestBy, insertMade, freeBy, roomlessBy, refusedBy, insertBy, deleteStoreAt, deleteCrest, deleteMade, deleteBy}
 use Rattle.updates.specs.Along.{Keeps}
 use Rattle.updates.specs.Updated.{Stands}
-use Rattle.updates.specs.Lists.{not-worn, numbers, roomy, m-top, m-some, insert-stands, one-top, delete-updated}
-use Rattle.updates.specs.CollectBy.{collect-same}
-
--- the words of an image whose root stands at t
-words-with : (g : Geometry) (n : ℕ) (t : Crest) (img old : List ℕ) → Stands t (chipOf g n img) → wordsWith g n t img old ≡ liveWords g n img old
-unfolding wordsWith liveWords
-words-with g n t img old s = λ i. filled (live (placesOf (chipWith g img (sym (s .level-is) i) (sym (s .root-is) i)))) (wordsOf g n) old
-
--- the stores made under an allowance, after all of which the root stands at t
-made-live : (g : Geometry) (n : ℕ) (ss : List Store) (t : Crest) (al : ℕ) (img old : List ℕ) → Stands t (chipOf g n (applyAll g ss img))
-    → madeBy g n ss t al img old ≡ reply (made g ss al img) (liveWords g n (made g ss al img .image) old)
-unfolding madeBy made
-made-live g n ss t al img old s = go (leb (length ss) al) refl
-  where
-    go : (u : Bool) → leb (length ss) al ≡ u
-        → reply (made g ss al img) (pick u (wordsWith g n t (made g ss al img .image) old) (liveWords g n (made g ss al img .image) old))
-        ≡ reply (made g ss al img) (liveWords g n (made g ss al img .image) old)
-    go false e = refl
-    go true e =
-        let z : made g ss al img .image ≡ applyAll g ss img = ap (λ (y : List Store). applyAll g y img) (take-all al ss (leb-true (length ss) al e)) in
-        ap (reply (made g ss al img)) (ap (λ (y : List ℕ). wordsWith g n t y old) z ∙ words-with g n t (applyAll g ss img) old s
-        ∙ sym (ap (λ (y : List ℕ). liveWords g n y old) z))
+use Rattle.updates.specs.Lists.{programMost, not-worn, numbers, roomy, m-top, m-some, insert-keeps, insert-low, insert-collected, insert-updated, insert-stands, one-top, delete-keeps, delete-collected, delete-low, delete-updated}
+use Rattle.updates.specs.CollectBy.{Tells, collect-same}
+use Rattle.updates.specs.Made.{updated-cautious, updated-held}
+use Rattle.updates.specs.OwnBy.{own-by, crest-by, page-by}
+use Rattle.updates.specs.Records.{record-made, made-by}
+use Rattle.updates.specs.Room.{room-same}
 
 module _ (g : Geometry) (shape : Shape g) (n : ℕ) (few : pagesOf g n + g .pages < 4294967296) (base : List Entry) (img : List ℕ)
-    (keeps : Keeps g n base img) (some-pages : 1 ≤ pagesOf g n) (whole : g .pages ≡ 32 * blockWords g) (t : Table) (right : Right g n img t) where
+    (keeps : Keeps g n base img) (some-pages : 1 ≤ pagesOf g n) (whole : g .pages ≡ 32 * blockWords g) (h : Kept) (tells : Tells g n img h)
+    (nodes : Few g) (tall : g .top ≤ g .pages) where
   abbrev c : Chip
   c = chipOf g n img
 
+  abbrev words : List ℕ
+  words = h .table .words
+
+  -- what is left after an outcome
+  abbrev left : Outcome → Returned
+  left o = returned o (openedIn g n (o .image)) (liveWords g n (o .image) words)
+
   -- the words as they were are those of the image as it was
-  words-are : t .words ≡ liveWords g n img (t .words)
+  words-are : words ≡ liveWords g n img words
   unfolding liveWords
-  words-are = sym (told-filled (live (placesOf c)) (wordsOf g n) (t .words) (right .told))
+  words-are = sym (told-filled (live (placesOf c)) (wordsOf g n) words (tells .right .told))
+
+  refused-is : (answer : ℕ) → refusedBy answer h img ≡ left (refused answer img)
+  refused-is answer = λ i. returned (refused answer img) (tells .at-is i) (words-are i)
+
+  chip-is : chipBy g img (h .at) ≡ c
+  unfolding openedIn
+  chip-is = ap (chipBy g img) (tells .at-is)
+
+  worn-is : ltb (g .worn) (h .at .most) ≡ worn g n img
+  unfolding openedIn worn
+  worn-is = ap (λ (o : Opened). ltb (g .worn) (o .most)) (tells .at-is)
 
   -- ---- insert
   module _ (k a al : ℕ) (k-low : k < 4294967296) (a-low : a < 4294967296) where
     abbrev m : ℕ
     m = needs g c k
 
-    insert-made : maxSeq g n img ≤ g .worn → tooHigh g c k ≡ false → roomless g (freePages g n c) m ≡ false
-        → insertMade g n t img k a al ≡ reply (made g (insertStores g n img k a) al img)
-        (liveWords g n (made g (insertStores g n img k a) al img .image) (t .words))
-    unfolding insertMade insertStores
+    abbrev puts : List Store
+    puts = insertStores g n img k a
+
+    -- the call for m pages
+    abbrev from : ℕ → Returned
+    from m =
+        let r = collectBy g n m (suc m) h img in
+        madeBy g n (r .stores ++ ownBy g n (r .image) (r .kept .at) m k a) (r .kept .at) m (crestBy g n (r .image) (r .kept .at) m k a) al img words
+
+    insert-made : maxSeq g n img ≤ g .worn → tooHigh g c k ≡ false → roomless g (freePages g n c) m ≡ false → from m ≡ left (made g puts al img)
+    unfolding insertStores
     insert-made w y z =
         let most = m-top g shape n few base img keeps w some-pages k a k-low a-low y z in
         let some = m-some g shape n few base img keeps w some-pages k a k-low a-low y z in
-        let s = collect-same g shape n few base whole m (suc m) img t keeps (roomy g shape n few base img keeps w m some z)
-        (numbers g shape n few base img keeps w m most .0) right in
-        let then = applyAll g (collectStores g n m (suc m) img) img in
-        (λ i. madeBy g n (s .stores-are i ++ ownStores g n (maxSeq g n (s .image-is i)) (chipOf g n (s .image-is i)) m k a)
-        (insertCrest g n (chipOf g n (s .image-is i)) m k a) al img (t .words))
-        ∙ made-live g n (insertStores g n img k a) (insertCrest g n (chipOf g n then) m k a) al img (t .words)
-        (insert-stands g shape n few base img keeps w some-pages k a k-low a-low y z)
+        let s = collect-same g shape n few base whole m (suc m) img h keeps (roomy g shape n few base img keeps w m some z)
+        (numbers g shape n few base img keeps w m most .0) tells in
+        let first = collectStores g n m (suc m) img in
+        let then = applyAll g first img in
+        let d = chipOf g n then in
+        let held = insert-keeps g shape n few base img keeps w some-pages k a k-low a-low y z .held in
+        let room = insert-collected g shape n few base img keeps w some-pages k a k-low a-low y z in
+        let high = height-most g shape n then some-pages held in
+        let levels : suc (d .level) ≤ count (pagesOf g n) (d .er) = omega (arith, high, tall, room) in
+        let enough : m ≤ count (pagesOf g n) (d .er) = omega (arith, room) in
+        let at : collectBy g n m (suc m) h img .kept .at ≡ openedIn g n then = s .tells .at-is ∙ ap (openedIn g n) (s .image-is) in
+        let own = own-by g shape n then held m k a levels some enough in
+        let crest = crest-by g shape n then held m k a levels some enough in
+        let u = insert-updated g shape n few base img keeps w some-pages k a k-low a-low y z in
+        let low = insert-low g shape n few base img keeps w some-pages k a k-low a-low y z in
+        let t = insertCrest g d (sidePage g n d) m k a in
+        let goes = record-made g n then (applyAll g puts img) m t (insert-stands g shape n few base img keeps w some-pages k a k-low a-low y z)
+        (u .end .held) (omega (arith, low)) in
+        (λ i. madeBy g n (s .stores-are i ++ ownBy g n (s .image-is i) (at i) m k a) (at i) m (crestBy g n (s .image-is i) (at i) m k a) al img words)
+        ∙ (λ i. madeBy g n (first ++ own i) (openedIn g n then) m (crest i) al img words)
+        ∙ made-by g shape nodes n some-pages puts img (updated-cautious g n (Fuller g m c) base (put k a base) img puts (programMost g m) (suc m) u)
+        (updated-held g n (Fuller g m c) base (put k a base) img puts (programMost g m) (suc m) u) (openedIn g n then) m t goes al words
 
-    free-same : freeBy g n t ≡ freePages g n c
-    free-same = ap (λ l. pagesOf g n - l) (all-ones g (live (placesOf c)) n (t .words) whole (right .told))
+    room-is : roomlessBy g n h m ≡ roomless g (freePages g n c) m
+    unfolding openedIn
+    room-is =
+        let f : freeBy g n (h .table) ≡ freePages g n c = ap (λ l. pagesOf g n - l) (all-ones g (live (placesOf c)) n words whole (tells .right .told)) in
+        (λ i. roomless g (tells .at-is i .erased) m & roomless g (f i) m) ∙ room-same g n c (keeps .held .whole) m
 
-    abbrev Out : Bool → Bool → Bool → Type 0
-    Out x y z =
-        pick x (reply (refused 3 img) (t .words)) (pick y (reply (refused 5 img) (t .words)) (pick z (reply (refused 6 img) (t .words))
-        (insertMade g n t img k a al)))
-        ≡ reply (pick x (refused 3 img) (pick y (refused 5 img) (pick z (refused 6 img) (made g (insertStores g n img k a) al img))))
-        (liveWords g n (pick x (refused 3 img) (pick y (refused 5 img) (pick z (refused 6 img) (made g (insertStores g n img k a) al img))) .image) (t .words))
-
-    pub inserts : insertBy g n t img k a al ≡ reply (insertRest g n img k a al) (liveWords g n (insertRest g n img k a al .image) (t .words))
-    unfolding insertBy insertRest
-    inserts = rw free-same (go (worn g n img) (tooHigh g c k) (roomless g (freePages g n c) m) refl refl refl)
+    pub inserts : insertBy g n h img k a al ≡ left (insertRest g n img k a al)
+    unfolding insertBy insertMade insertRest
+    inserts =
+        (λ i. pick (worn-is i) (refusedBy 3 h img) (pick (tooHigh g (chip-is i) k) (refusedBy 5 h img)
+        (pick (roomlessBy g n h (needs g (chip-is i) k)) (refusedBy 6 h img) (from (needs g (chip-is i) k)))))
+        ∙ ap (λ (b : Bool). pick (worn g n img) (refusedBy 3 h img) (pick (tooHigh g c k) (refusedBy 5 h img) (pick b (refusedBy 6 h img) (from m)))) room-is
+        ∙ go (worn g n img) (tooHigh g c k) (roomless g (freePages g n c) m) refl refl refl
       where
-        go : (x y z : Bool) → worn g n img ≡ x → tooHigh g c k ≡ y → roomless g (freePages g n c) m ≡ z → Out x y z
-        go true y z u v d = ap (reply (refused 3 img)) words-are
-        go false true z u v d = ap (reply (refused 5 img)) words-are
-        go false false true u v d = ap (reply (refused 6 img)) words-are
+        go : (x y z : Bool) → worn g n img ≡ x → tooHigh g c k ≡ y → roomless g (freePages g n c) m ≡ z
+            → pick x (refusedBy 3 h img) (pick y (refusedBy 5 h img) (pick z (refusedBy 6 h img) (from m)))
+            ≡ left (pick x (refused 3 img) (pick y (refused 5 img) (pick z (refused 6 img) (made g puts al img))))
+        go true y z u v d = refused-is 3
+        go false true z u v d = refused-is 5
+        go false false true u v d = refused-is 6
         go false false false u v d = insert-made (not-worn g n img u) v d
 
   -- ---- delete
   module _ (k al : ℕ) (k-low : k < 4294967296) where
-    delete-made : maxSeq g n img ≤ g .worn → isNone (sought c k) ≡ false
-        → deleteMade g n t img k al ≡ reply (made g (deleteStores g n img k) al img) (liveWords g n (made g (deleteStores g n img k) al img .image) (t .words))
-    unfolding deleteMade deleteStores
-    delete-made w present =
-        let s = collect-same g shape n few base whole 1 2 img t keeps (let z = keeps .r8 in omega (arith, z))
-        (numbers g shape n few base img keeps w 1 (one-top g shape n few base img keeps w some-pages k k-low present) .0) right in
-        let left = applyAll g (collectStores g n 1 2 img) img in
-        (λ i. madeBy g n (s .stores-are i ++ (deleteStore g n (maxSeq g n (s .image-is i)) (chipOf g n (s .image-is i)) k ∷ []))
-        (deleteCrest g n (chipOf g n (s .image-is i)) k) al img (t .words))
-        ∙ made-live g n (deleteStores g n img k) (deleteCrest g n (chipOf g n left) k) al img (t .words)
-        (delete-updated g shape n few base img keeps w some-pages k k-low present .also)
+    abbrev takes : List Store
+    takes = deleteStores g n img k
 
-    pub deletes : deleteBy g n t img k al ≡ reply (deleteRest g n img k al) (liveWords g n (deleteRest g n img k al .image) (t .words))
+    delete-made : maxSeq g n img ≤ g .worn → isNone (sought c k) ≡ false → deleteMade g n h img k al ≡ left (made g takes al img)
+    unfolding deleteMade deleteStores deleteStore deleteStoreAt openedIn
+    delete-made w present =
+        let s = collect-same g shape n few base whole 1 2 img h keeps (let z = keeps .r8 in omega (arith, z))
+        (numbers g shape n few base img keeps w 1 (one-top g shape n few base img keeps w some-pages k k-low present) .0) tells in
+        let first = collectStores g n 1 2 img in
+        let then = applyAll g first img in
+        let d = chipOf g n then in
+        let held = delete-keeps g shape n few base img keeps w some-pages k k-low present .held in
+        let room = delete-collected g shape n few base img keeps w some-pages k k-low present in
+        let at : collectBy g n 1 2 h img .kept .at ≡ openedIn g n then = s .tells .at-is ∙ ap (openedIn g n) (s .image-is) in
+        let page = page-by g shape n then held (omega (arith, room)) in
+        let u = delete-updated g shape n few base img keeps w some-pages k k-low present in
+        let low = delete-low g shape n few base img keeps w some-pages k k-low present in
+        let t = deleteCrest d (sidePage g n d 1) k in
+        let Z = Stands g n d 1 t in
+        let goes = record-made g n then (applyAll g takes img) 1 t (u .also) (u .end .held) (omega (arith, low)) in
+        (λ i. madeBy g n (s .stores-are i ++ (deleteStoreAt g (at i .most) (chipBy g (s .image-is i) (at i)) (pageBy g n (s .image-is i) (at i) 0) k ∷ [])) (at i) 1
+        (deleteCrest (chipBy g (s .image-is i) (at i)) (pageBy g n (s .image-is i) (at i) 0) k) al img words)
+        ∙ (λ i. madeBy g n (first ++ (deleteStoreAt g (maxSeq g n then) d (page i) k ∷ [])) (openedIn g n then) 1 (deleteCrest d (page i) k) al img words)
+        ∙ made-by g shape nodes n some-pages takes img (updated-cautious g n Z base (remove k base) img takes (programMost g 1) 2 u)
+        (updated-held g n Z base (remove k base) img takes (programMost g 1) 2 u) (openedIn g n then) 1 t goes al words
+
+    pub deletes : deleteBy g n h img k al ≡ left (deleteRest g n img k al)
     unfolding deleteBy deleteRest
-    deletes = go (worn g n img) (isNone (sought c k)) refl refl
+    deletes =
+        (λ i. pick (worn-is i) (refusedBy 3 h img) (pick (isNone (sought (chip-is i) k)) (refusedBy 4 h img) (deleteMade g n h img k al)))
+        ∙ go (worn g n img) (isNone (sought c k)) refl refl
       where
         go : (x y : Bool) → worn g n img ≡ x → isNone (sought c k) ≡ y
-            → pick x (reply (refused 3 img) (t .words)) (pick y (reply (refused 4 img) (t .words)) (deleteMade g n t img k al))
-            ≡ reply (pick x (refused 3 img) (pick y (refused 4 img) (made g (deleteStores g n img k) al img)))
-            (liveWords g n (pick x (refused 3 img) (pick y (refused 4 img) (made g (deleteStores g n img k) al img)) .image) (t .words))
-        go true y u v = ap (reply (refused 3 img)) words-are
-        go false true u v = ap (reply (refused 4 img)) words-are
+            → pick x (refusedBy 3 h img) (pick y (refusedBy 4 h img) (deleteMade g n h img k al))
+            ≡ left (pick x (refused 3 img) (pick y (refused 4 img) (made g takes al img)))
+        go true y u v = refused-is 3
+        go false true u v = refused-is 4
         go false false u v = delete-made (not-worn g n img u) v

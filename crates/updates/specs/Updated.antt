@@ -7,7 +7,7 @@ use native.Mathlib.Omega.{arith}
 use Rattle.geometry.specs.declared.Geometry.{Geometry}
 use Rattle.geometry.specs.declared.Entry.{Entry}
 use Rattle.geometry.specs.Shape.{Shape}
-use Rattle.model.specs.Count.{count}
+use Rattle.model.specs.Count.{count, peak}
 use Rattle.model.specs.Image.{pagesOf, maxSeq, Chip, chipOf}
 use Rattle.model.specs.Tree.{mapOf}
 use Rattle.model.specs.Next.{ahead, nextPage}
@@ -21,11 +21,13 @@ use Rattle.model.specs.Legal.{Legal}
 use Rattle.beside.specs.Update.{Crest}
 use Rattle.images.specs.Writes.{nextStore, put-legal, root-chip, root-held, root-frees}
 use Rattle.updates.specs.Along.{Along, along-append, Keeps, Runs, runs-end}
+use Rattle.updates.specs.Topped.{Topped}
 
--- the root stands there
-pub record Stands (t : Crest) (c : Chip) : Type 0 where
-  pub root-is : c .root ≡ t .page
-  pub level-is : c .level ≡ t .level
+-- e after m own pages from c on: the root stands at t, on the last of them
+pub record Stands (g : Geometry) (n : ℕ) (c : Chip) (m : ℕ) (t : Crest) (e : Chip) : Type 0 where
+  pub root-is : e .root ≡ t .page
+  pub level-is : e .level ≡ t .level
+  pub topped : Topped g n c m e
 
 -- Z is what more is known of the chip at the end
 pub record Updated (g : Geometry) (n : ℕ) (Z : Chip → Type 0) (old new : List Entry) (img : List ℕ) (ss : List Store) (b e : ℕ) : Type 0 where
@@ -39,13 +41,17 @@ pub record Updated (g : Geometry) (n : ℕ) (Z : Chip → Type 0) (old new : Lis
   pub programmed : programs ss ≤ b
   pub wiped : erases ss ≤ e
 
+number : (g : Geometry) (n : ℕ) (x : List ℕ) → suc (maxSeq g n x) ≡ suc (peak (pagesOf g n) (chipOf g n x .seq))
+unfolding maxSeq
+number g n x = refl
+
 -- the last store: of the chip after it is known that it is whole and holds the new map
 pub updated : (g : Geometry) → Shape g
     → (n : ℕ) (Z : Chip → Type 0) (old new : List Entry) (img : List ℕ) (ss : List Store) (d : Chip) (b e h : ℕ) (parts : ℕ → List Entry) (s : Store)
     → Runs g n old img ss d b e
     → g .pages + 1 ≤ count (pagesOf g n) (d .er) → suc (maxSeq g n (applyAll g ss img)) < 4294967295 → Parts g parts → 1 ≤ h → h ≤ g .top
     → s ≡ nextStore g n h parts (applyAll g ss img)
-    → ((q : ℕ) → Whole g n (rooted d (nextPage (g .pages) n (ahead g n d)) (builtView g q h parts)) ×
+    → ((q : ℕ) → q ≡ suc (peak (pagesOf g n) (d .seq)) → Whole g n (rooted d (nextPage (g .pages) n (ahead g n d)) (builtView g q h parts)) ×
     (mapOf (rooted d (nextPage (g .pages) n (ahead g n d)) (builtView g q h parts)) ≡ new) ×
     R8 g n (rooted d (nextPage (g .pages) n (ahead g n d)) (builtView g q h parts)) ×
     Z (rooted d (nextPage (g .pages) n (ahead g n d)) (builtView g q h parts)))
@@ -63,7 +69,7 @@ updated g shape n Z old new img ss d b e h parts s r f low ok i k se good =
     let ge = subst (λ (y : Chip). Whole g n (rooted y (nextPage (g .pages) n (ahead g n y)) (builtView g q h parts)) ×
     (mapOf (rooted y (nextPage (g .pages) n (ahead g n y)) (builtView g q h parts)) ≡ new) ×
     R8 g n (rooted y (nextPage (g .pages) n (ahead g n y)) (builtView g q h parts)) ×
-    Z (rooted y (nextPage (g .pages) n (ahead g n y)) (builtView g q h parts))) (sym ci) (good q) in
+    Z (rooted y (nextPage (g .pages) n (ahead g n y)) (builtView g q h parts))) (sym ci) (good q (number g n x ∙ ap (λ (y : Chip). suc (peak t (y .seq))) ci)) in
     let fr = root-frees g shape n x (z .held) free parts ok low h k i in
     let done : Keeps g n new (applyStore g (nextStore g n h parts x) x) = record {
       held = root-held g shape n x (z .held) free parts ok low h k i

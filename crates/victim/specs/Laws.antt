@@ -11,17 +11,9 @@ use Rattle.geometry.specs.declared.Geometry.{Geometry}
 use Rattle.model.specs.Bytes.{erased}
 use Rattle.model.specs.Collect.{better, victim}
 use Rattle.model.specs.Next.{full}
-use Rattle.chip.specs.Chip.{chipWith}
 use Rattle.live.specs.Words.{blockOnes}
-use Rattle.survey.specs.declared.Survey.{Survey}
-use Rattle.survey.specs.Survey.{surveyOf}
-use Rattle.survey.specs.Laws.{chip-is}
-use Rattle.walk.specs.Table.{Marked}
 use Rattle.victim.specs.declared.Best.{Best}
-use Rattle.victim.specs.Victim.{fullIn, onesBy, bestOf, Bests, Looked}
-
-pub looked : (g : Geometry) (n : ℕ) (img : List ℕ) (s : Survey) (tbl : List ℕ) → Marked (chipWith g img (s .level) (s .root)) tbl → s ≡ surveyOf g n img → s .level < 255 → Looked g n img s tbl
-looked g n img s tbl m e h = record { survey = e; marked = rw (chip-is g n img s e) at m; low = h }
+use Rattle.victim.specs.Victim.{fullIn, onesBy, bestOf, Bests}
 
 -- ---- the best block
 module _ (full : ℕ → Bool) (lives : ℕ → ℕ) where
@@ -102,4 +94,4 @@ pub victim-is : (g : Geometry) (n : ℕ) (img ws : List ℕ) (r : Best) → Best
 unfolding fullIn onesBy
 victim-is g n img ws r b = b .best
 
-pub ruleset victim-laws = (looked, best-start, best-end, better-not, better-first, better-fewer, better-stay)
+pub ruleset victim-laws = (best-start, best-end, better-not, better-first, better-fewer, better-stay)

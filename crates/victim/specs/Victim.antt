@@ -8,12 +8,8 @@ use Rattle.geometry.specs.declared.Geometry.{Geometry}
 use Rattle.geometry.specs.Tests.{pick}
 use Rattle.model.specs.Bytes.{erased}
 use Rattle.model.specs.Collect.{victim}
-use Rattle.model.specs.Image.{chipOf}
 use Rattle.model.specs.Next.{full}
 use Rattle.live.specs.Words.{blockOnes}
-use Rattle.survey.specs.declared.Survey.{Survey}
-use Rattle.survey.specs.Survey.{surveyOf}
-use Rattle.walk.specs.Table.{Marked}
 use Rattle.victim.specs.declared.Best.{Best}
 
 -- block b has no erased page
@@ -31,9 +27,3 @@ pub record Bests (full : ℕ → Bool) (lives : ℕ → ℕ) (n : ℕ) (r : Best
   pub best : bestOf r ≡ victim full lives n
   pub count : r .found ≡ true → r .lives ≡ lives (r .block)
   pub below : r .found ≡ true → r .block < n
-
--- a survey and a table that tell of the image
-pub record Looked (g : Geometry) (n : ℕ) (img : List ℕ) (s : Survey) (tbl : List ℕ) : Type 0 where
-  pub survey : s ≡ surveyOf g n img
-  pub marked : Marked (chipOf g n img) tbl
-  pub low : s .level < 255

@@ -1,26 +1,13 @@
-// What collection looks at: the image's numbers, its live pages in the lent tables, and the victim.
-ghost use mathlib.Core.Path.{_≡_};
+// What collection looks at: the live pages of each block in the lent words, and the victim.
 ghost use Prim.Native.Nat.{_+_};
-ghost use lib.ListN.{length};
-ghost use Rattle.victim.specs.Victim.{Looked, Bests, fullIn, onesBy};
+ghost use Rattle.victim.specs.Victim.{Bests, fullIn, onesBy};
 use geometry::Geometry;
-use survey::Survey;
 
 // The best block so far, if there is one, and its live pages.
 pub struct Best {
     pub found: bool,
     pub block: u16,
     pub lives: u32,
-}
-
-// Surveys an image of n blocks and fills the table with its lowest live levels.
-pub fn look(g: Geometry, img: &[u8], table: &mut [u8], n: u16) -> Survey
-    ensures { λ r. ⌜ length (now (table .exit)) ≡ length (now (table .entry)) ⌝ }
-    ensures { λ r. ⌜ Looked g n (now (img .entry)) r (now (table .exit)) ⌝ }
-{
-    let s = survey::take_survey(g, img, n);
-    walk::fill(g, img, &mut *table, s.level, s.root);
-    s
 }
 
 // The better of a block and the best before it.

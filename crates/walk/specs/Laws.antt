@@ -1,13 +1,13 @@
 -- The walk, in the form in which the code has the premises. Assumes nothing.
 use Prim.Native.Nat.{ℕ, zero, suc, _+_, _-_, _*_, _<_, _≤_}
 use mathlib.Core.Bool.{Bool, true, false, not}
-use mathlib.Core.Path.{_≡_, refl, sym, ap, _∙_}
+use mathlib.Core.Path.{_≡_, refl, sym, _∙_}
 use mathlib.Core.List.{List, [], _∷_, _++_}
 use lib.Dec.{eqb}
 use lib.ListN.{length, getD, set, length-set, List·getD-eq-default}
 use lib.Seq.{set-out, getD-set-same, getD-set-other}
 use native.Mathlib.Omega.{arith}
-use native.Mathlib.Numerals.{sub-one, add-one}
+use native.Mathlib.Numerals.{sub-one}
 use native.Mathlib.Nat.{min-eq-left, min-eq-right}
 use borrow.Author.Tests.{ne-eqb}
 use Rattle.geometry.specs.declared.Geometry.{Geometry}
@@ -18,13 +18,13 @@ use Rattle.model.specs.Count.{count}
 use Rattle.model.specs.Image.{Nodes}
 use Rattle.model.specs.Next.{inBlock}
 use Rattle.model.specs.Tree.{gather, Place, places}
-use Rattle.chip.specs.Chip.{entryAt, named, chipWith}
+use Rattle.chip.specs.Chip.{entryAt, named}
 use Rattle.chip.specs.Node.{node-read, entries-start, entries-turn, entries-past, addr-is}
 use Rattle.counts.specs.Least.{by-lt}
 use Rattle.counts.specs.Tally.{count-zero, count-more}
 use Rattle.counts.specs.Blocks.{within, within-is, within-count}
-use Rattle.walk.specs.Table.{lower, noteOne, noteAll, rest, Zeros, Marked, liveIn}
-use Rattle.walk.specs.Lows.{note-length, noted-lows}
+use Rattle.walk.specs.Table.{lower, noteOne, noteAll, rest, Zeros, liveIn}
+use Rattle.walk.specs.Lows.{note-length}
 
 pub noted-past : (tbl : List ℕ) (p w : ℕ) → w ≡ p → length tbl ≤ w → 0 ≡ getD tbl p 0
 noted-past tbl p w e h = sym (List·getD-eq-default tbl 0 (rw (← e) h))
@@ -103,32 +103,6 @@ unfolding noteAll
 note-append [] ys tbl = refl
 note-append (x ∷ xs) ys tbl = note-append xs ys (noteOne tbl (x .page) (x .level))
 
--- the loop of the walk
-module _ (g : Geometry) (img : List ℕ) (l p : ℕ) (tbl : List ℕ) where
-  pub walk-none : l ≡ 0 → tbl ≡ noteAll (places (nodeAt g img) l (named p)) tbl
-  unfolding noteAll places
-  walk-none e = rw e
-
-  pub walk-leaf : (t : List ℕ) → t ≡ noteOne tbl p l → l ≡ 1 → t ≡ noteAll (places (nodeAt g img) l (named p)) tbl
-  unfolding noteAll
-  walk-leaf t e h = e ∙ sym (rw (rest-leaf g img l p h) refl)
-
-  pub walk-end : (at n i : ℕ) (t u : List ℕ) → at ≡ nodePlace g p l → n ≡ nodeCount g img p l → t ≡ noteOne tbl p l
-      → noteAll (rest g img l at n 0) t ≡ noteAll (rest g img l at n i) u → n ≤ i → (l ≡ 0 → ⊥)
-      → u ≡ noteAll (places (nodeAt g img) l (named p)) tbl
-  walk-end at n i t u ea en et inv h some =
-      sym (ap (λ (xs : List Place). noteAll xs tbl) (rest-start g img l p at n ea en some)
-      ∙ note-cons (record { page = p; level = l }) (rest g img l at n 0) tbl
-      ∙ ap (λ (v : List ℕ). noteAll (rest g img l at n 0) v) (sym et) ∙ inv
-      ∙ ap (λ (xs : List Place). noteAll xs u) (rest-end g img l at n i h) ∙ note-nil u)
-
-pub walk-go : (g : Geometry) (img : List ℕ) (l at n i a : ℕ) (w t u : List ℕ) → w ≡ noteAll (rest g img l at n i) t → a ≡ u32At img (at + 8 * i + 4)
-    → u ≡ noteAll (places (nodeAt g img) (l - 1) (named a)) t → i < n → w ≡ noteAll (rest g img l at n (i + 1)) u
-walk-go g img l at n i a w t u e ea eu h =
-    e ∙ ap (λ (xs : List Place). noteAll xs t) (rest-turn g img l at n i h)
-    ∙ rw (← ea) (note-append (places (nodeAt g img) (l - 1) (named a)) (rest g img l at n (i + 1)) t)
-    ∙ ap (λ (v : List ℕ). noteAll (rest g img l at n (i + 1)) v) (sym eu)
-
 -- lengths
 pub walk-same : (xs : List Place) (t u : List ℕ) → u ≡ noteAll xs t → length u ≡ length t
 walk-same xs t u e = rw e (note-length xs t)
@@ -150,15 +124,6 @@ zeros-go tbl i z h = record {
 
 pub zeros-end : (tbl tbl₀ : List ℕ) (i : ℕ) → Zeros tbl i → length tbl ≡ length tbl₀ → length tbl ≤ i → Zeros tbl (length tbl₀)
 zeros-end tbl tbl₀ i z e h = record { zeros = λ p k. z .zeros p (omega (arith, e, h, k)) }
-
-pub fill-is : (g : Geometry) (img : List ℕ) (l p : ℕ) (tbl t u : List ℕ) → length t ≡ length tbl → Zeros t (length tbl)
-    → u ≡ noteAll (places (nodeAt g img) (l + 1) (named p)) t → Marked (chipWith g img l p) u
-fill-is g img l p tbl t u e z eu =
-    rw (eu, add-one l) (noted-lows (chipWith g img l p) t (rw e z))
-
-pub fill-same : (g : Geometry) (img : List ℕ) (l p : ℕ) (tbl t u : List ℕ) → length t ≡ length tbl
-    → u ≡ noteAll (places (nodeAt g img) l (named p)) t → length u ≡ length tbl
-fill-same g img l p tbl t u e eu = walk-same (places (nodeAt g img) l (named p)) t u eu ∙ e
 
 -- counting
 pub live-is : (tbl : List ℕ) (p r : ℕ) → r ≡ getD tbl p 0 → not (eqb r 0) ≡ liveIn tbl p
@@ -191,4 +156,4 @@ block-end p b i n tbl e h k =
     let w : i ≡ p = omega arith in
     e ∙ rw w (within-count p (liveIn tbl) b)
 
-pub ruleset walk-laws = (noted-past, noted-at, lower-first, lower-new, lower-old, note-past, note-at, walk-none, walk-leaf, walk-end, walk-go, walk-same, note-same, zeros-start, zeros-go, zeros-end, fill-is, fill-same, live-is, bit-live, bit-dead, pages-start, pages-go, pages-end, block-go, block-end)
+pub ruleset walk-laws = (noted-past, noted-at, lower-first, lower-new, lower-old, note-past, note-at, walk-same, note-same, zeros-start, zeros-go, zeros-end, live-is, bit-live, bit-dead, pages-start, pages-go, pages-end, block-go, block-end)

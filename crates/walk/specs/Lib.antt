@@ -2,3 +2,4 @@
 pub mod Table
 pub mod Lows
 pub mod Laws
+pub mod Stops

@@ -1,14 +1,14 @@
 // The live-page walk: from the root to all nodes it reaches. A lent table takes each page's lowest live level.
 ghost use mathlib.Core.Path.{_≡_};
-ghost use Prim.Native.Nat.{ℕ, _+_, _*_, _-_, _≤_, _<_};
-ghost use lib.ListN.{length, getD};
+ghost use Prim.Native.Nat.{_≤_, _<_};
+ghost use lib.ListN.{length, getD, take};
 ghost use Rattle.geometry.specs.Tests.{bit};
-ghost use Rattle.model.specs.Bytes.{nodeAt};
 ghost use Rattle.model.specs.Count.{count};
 ghost use Rattle.model.specs.Next.{inBlock};
-ghost use Rattle.model.specs.Tree.{places};
-ghost use Rattle.chip.specs.Chip.{named, chipWith};
-ghost use Rattle.walk.specs.Table.{lower, noteAll, noteOne, Zeros, Marked, liveIn};
+ghost use Rattle.model.specs.Tree.{placesOf};
+ghost use Rattle.chip.specs.Chip.{chipWith};
+ghost use Rattle.walk.specs.Table.{lower, noteAll, noteOne, Zeros, liveIn};
+ghost use Rattle.walk.specs.Stops.{Walked};
 use geometry::Geometry;
 
 fn byte_of(b: u8) -> u32
@@ -60,27 +60,31 @@ pub fn note(table: &mut [u8], page: u32, level: u32)
     }
 }
 
-// Notes the node at a level of a page and all that it reaches.
-fn note_nodes(g: Geometry, img: &[u8], table: &mut [u8], level: u32, page: u32)
+// Notes the node at a level of a page and all that it reaches, no more than `left` nodes. Gives how many are left.
+fn note_nodes(g: Geometry, img: &[u8], table: &mut [u8], level: u32, page: u32, left: u32) -> u32
     requires { ⌜ level < 256 ⌝ }
-    ensures { λ _.
-        ⌜ now (table .exit) ≡ noteAll (places (nodeAt g (now (img .entry))) level (named page)) (now (table .entry)) ⌝ }
+    ensures { λ r. ⌜ Walked noteAll g (now (img .entry)) level page left r (now (table .entry)) (now (table .exit)) ⌝ }
 {
     if level == 0 {
-        return;
+        return left;
+    }
+    if left == 0 {
+        return 0;
     }
     note(&mut *table, page, level);
     if level == 1 {
-        return;
+        return left - 1;
     }
     let at = chip::node_place(g, page, level);
     let n = chip::node_count(g, img, page, level);
+    let mut more = left - 1;
     let mut i: usize = 0;
     while i < n {
         let below = chip::read_u32(img, at + 8 * i + 4);
-        note_nodes(g, img, &mut *table, level - 1, below);
+        more = note_nodes(g, img, &mut *table, level - 1, below, more);
         i += 1;
     }
+    more
 }
 
 // Sets all levels to none.
@@ -95,14 +99,14 @@ pub fn clear(table: &mut [u8])
     }
 }
 
-// Fills the table with the lowest live level of each page, 0 for a dead one.
-pub fn fill(g: Geometry, img: &[u8], table: &mut [u8], level: u32, root: u32)
+// Notes the nodes from a root on, no more than 8,388,608 of them: so a walk ends soon on every image.
+pub fn note_from(g: Geometry, img: &[u8], table: &mut [u8], level: u32, root: u32)
     requires { ⌜ level < 255 ⌝ }
+    ensures { λ _.
+        ⌜ now (table .exit) ≡ noteAll (take 8388608 (placesOf (chipWith g (now (img .entry)) level root))) (now (table .entry)) ⌝ }
     ensures { λ _. ⌜ length (now (table .exit)) ≡ length (now (table .entry)) ⌝ }
-    ensures { λ _. ⌜ Marked (chipWith g (now (img .entry)) level root) (now (table .exit)) ⌝ }
 {
-    clear(&mut *table);
-    note_nodes(g, img, &mut *table, level + 1, root);
+    note_nodes(g, img, &mut *table, level + 1, root, 8388608);
 }
 
 // Whether a page is noted as live.

@@ -139,7 +139,7 @@ fn live_word(table: &[u8], i: usize) -> u32
 }
 
 // One word; outside the lent words nothing.
-fn put_word(words: &mut [u32], at: usize, w: u32)
+pub fn put_word(words: &mut [u32], at: usize, w: u32)
     ensures { λ _. ⌜ now (words .exit) ≡ set (now (words .entry)) at w ⌝ }
 {
     if at < words.len() {

@@ -1,6 +1,6 @@
 use native.Mathlib.Omega.{arith}
 use borrow.Author.Needs.{needs}
-use Rattle.collect.specs.Laws.{collect-laws, collect-none, collect-enough, collect-halt, collect-on}
+use Rattle.collect.specs.Laws.{collect-laws, collect-halt, collect-on}
 use Prim.Native.Nat.{ℕ, _<_}
 use borrow.Fn.Kinds.{In}
 use borrow.Fn.PlainCycle.{Measures, is, falls, and}
@@ -9,7 +9,6 @@ use Rattle.collect.proofs.collect.Kinds as collect-kinds
 use Rattle.collect.proofs.+collect.Lts-collect as collect-lts
 use Rattle.collect.proofs.clear.Reads as clear-reads
 use Rattle.collect.proofs.enough.Reads as enough-reads
-use Rattle.survey.proofs.take_survey.Reads as take-survey-reads
 use Rattle.collect.proofs.+collect.{statement}
 use Rattle.collect.proofs.+collect.Tie.{close}
 
@@ -30,25 +29,22 @@ pub +collect-spec : {M : Type 1} → statement M
   enough-reads.Learnt,
   clear-reads.Asked,
   clear-reads.Learnt,
-  take-survey-reads.Asked,
-  take-survey-reads.Learnt,
   collect-below t,
   collect.Post,
 )
     (collect-at t)
     collect.Post
-    (λ c. (let p = c .before .before .before .before .pre .1 in collect-none _ _ _ _ _ _ _ _ (p .0) (p .1) _ (c .if1 .taken)))
-    (λ c κs. search all)
-    (λ c. (let p = c .before .before .before .before .before .before .before .pre .1 in collect-enough _ _ _ _ _ _ _ _ (p .0) (p .1) _ (c .before .before .enough .ensures) _ (c .if2 .taken) (c .before .before .before .if1 .left)))
-    (λ c κs. (let p = c .before .before .before .before .before .before .before .before .before .before .pre .1 in (p .0, p .1, p .3, p .4, p .5)))
     (λ c. search all)
-    (λ c. search all)
-    (λ c. search all)
-    (λ c. (let p = c .before .before .before .before .before .before .before .before .before .before .before .before .before .before .before .before .before .before .pre .1 in collect-halt _ _ _ _ _ _ _ _ (p .0) (p .1) _ (c .before .before .before .before .before .before .before .before .before .before .before .before .before .enough .ensures) _ _ _ _ (c .before .before .before .before .before .before .before .clear .ensures) (c .before .before .before .before .before .before .before .before .before .before .before .if2 .left) _ _ (c .before .before .before .before .before .before .before .before .before .before .before .before .before .before .if1 .left) (p .5) (c .if3 .taken)))
     (λ c κs. search all)
     (λ c. search all)
-    (λ c κs. (let p = c .before .before .before .before .before .before .before .before .before .before .before .before .before .before .before .before .before .before .before .before .before .before .before .pre .1 in let t = c .before .before .before .take-survey .ensures in let z = c .before .before .before .before .before .before .before .before .before .before .before .before .before .before .before .before .before .before .before .if1 .left in (omega (arith, c .before .before .before .before .before .before .before .before .before .before .before .before .before .before .before .before .before .before .before .before .before .before .before .pre .0, z), (t .0, t .1, p .2, p .3, omega (arith, c .before .before .before .before .before .before .before .before .before .before .before .before .clear .ensures .ran .total, p .4), c .before .before .before .before .before .if3 .left))))
+    (λ c κs. search all)
+    (λ c. search all)
+    (λ c. search all)
+    (λ c. search all)
+    (λ c. collect-halt _ _ _ _ _ _ _ _ _ (c .before .before .before .before .before .before .before .before .before .before .before .before .before .before .before .enough .ensures) _ _ _ _ (c .before .before .before .before .before .before .before .before .before .clear .ensures) (c .before .before .before .before .before .before .before .before .before .before .before .before .before .if2 .left) _ (c .before .before .before .before .before .before .before .before .before .before .before .before .before .before .before .before .if1 .left) (c .before .before .before .before .before .before .before .before .before .before .before .before .before .before .before .before .before .before .before .before .pre .1 .4) (c .if3 .taken))
+    (λ c. search all)
+    (λ c κs. (let p = c .before .before .before .before .before .before .before .before .before .before .before .before .before .before .before .before .before .before .before .before .before .before .before .pre .1 in let z = c .before .before .before .before .before .before .before .before .before .before .before .before .before .before .before .before .before .before .before .if1 .left in let w = c .before .before .before .before .before .before .before .before .before .before .before .before .clear .ensures in (omega (arith, c .before .before .before .before .before .before .before .before .before .before .before .before .before .before .before .before .before .before .before .before .before .before .before .pre .0, z), (w .low, p .1, p .2, omega (arith, w .made .ran .total, p .3), c .before .before .before .if3 .left))))
     (λ c. omega (arith, c .before .before .before .before .before .before .collect .kept, c .before .before .before .before .before .before .before .before .before .before .before .before .before .before .before .before .before .before .before .clear .kept))
     (λ c. omega (arith, c .before .before .before .before .before .before .collect .kept, c .before .before .before .before .before .before .before .before .before .before .before .before .before .before .before .before .before .before .before .clear .kept))
     (λ c. omega (arith, c .before .before .before .before .before .before .collect .kept, c .before .before .before .before .before .before .before .before .before .before .before .before .before .before .before .before .before .before .before .clear .kept))
-    (λ c. (let p = c .before .before .before .before .before .before .before .before .before .before .before .before .before .before .before .before .before .before .before .before .before .before .before .before .before .before .before .before .before .before .pre .1 in collect-on _ _ _ _ _ _ _ _ (p .0) (p .1) _ (c .before .before .before .before .before .before .before .before .before .before .before .before .before .before .before .before .before .before .before .before .before .before .before .before .before .enough .ensures) _ _ _ _ (c .before .before .before .before .before .before .before .before .before .before .before .before .before .before .before .before .before .before .before .clear .ensures) (c .before .before .before .before .before .before .before .before .before .before .before .before .before .before .before .before .before .before .before .before .before .before .before .if2 .left) _ _ _ _ _ (c .before .before .before .before .before .before .collect .ensures) (c .before .before .before .before .before .before .before .before .before .before .before .before .before .before .before .before .before .before .before .before .before .before .before .before .before .before .if1 .left) (c .before .before .before .before .before .before .before .before .before .before .before .before .if3 .left)))
+    (λ c. collect-on _ _ _ _ _ _ _ _ _ (c .before .before .before .before .before .before .before .before .before .before .before .before .before .before .before .before .before .before .before .before .before .before .before .before .before .enough .ensures) _ _ _ _ (c .before .before .before .before .before .before .before .before .before .before .before .before .before .before .before .before .before .before .before .clear .ensures) (c .before .before .before .before .before .before .before .before .before .before .before .before .before .before .before .before .before .before .before .before .before .before .before .if2 .left) _ _ _ _ _ (c .before .before .before .before .before .before .collect .ensures) (c .before .before .before .before .before .before .before .before .before .before .before .before .before .before .before .before .before .before .before .before .before .before .before .before .before .before .if1 .left) (c .before .before .before .before .before .before .before .before .before .before .if3 .left))

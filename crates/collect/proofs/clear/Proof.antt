@@ -1,5 +1,5 @@
 use borrow.Author.Needs.{needs}
-use Rattle.collect.specs.Laws.{collect-laws, clear-none, clear-some}
+use Rattle.collect.specs.Laws.{collect-laws}
 use Rattle.collect.proofs.clear.Statement.{statement}
 use Rattle.collect.proofs.clear.Tie as tie
 use Rattle.collect.proofs.clear.Reads as reads
@@ -16,9 +16,9 @@ clear-spec =
     (λ c κs. search all)
     (λ c. search all)
     (λ c. search all)
-    (λ c. clear-none _ _ _ _ _ _ (c .before .before .find-victim .ensures) _ (c .if1 .taken))
+    (λ c. search all)
     (λ c κs. search all)
     (λ c. search all)
     (λ c. search all)
     (λ c. search all)
-    (λ c. clear-some _ _ _ _ _ _ (c .before .before .before .before .before .before .before .before .before .before .before .before .find-victim .ensures) _ _ _ _ _ (c .before .before .before .before .before .before .clear-block .ensures) (c .before .before .before .before .before .before .before .before .before .before .if1 .left)))
+    (λ c. search all))

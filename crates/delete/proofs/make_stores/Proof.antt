@@ -1,6 +1,5 @@
 use borrow.Author.Needs.{needs}
 use Rattle.delete.specs.Laws.{delete-both, delete-laws}
-use Rattle.account.specs.Rest.{collect-total}
 use Rattle.delete.proofs.make_stores.Statement.{statement}
 use Rattle.delete.proofs.make_stores.Tie as tie
 use Rattle.delete.proofs.make_stores.Reads as reads
@@ -21,8 +20,8 @@ make-stores-spec =
     (λ c. search all)
     (λ c. search all)
     (λ c. search all)
-    (λ c κs. (let w = c .before .before .before .before .before .before .before .before .before .before .collect .ensures in let e = c .before .if1 .left in (w .survey e, w .low e, search all, collect-total _ _ _ _ _ _ _ _ _ _ _ _ w (search all))))
+    (λ c κs. search all)
     (λ c. search all)
     (λ c. search all)
     (λ c. search all)
-    (λ c. (search all, delete-both _ _ _ _ _ _ _ _ _ _ _ (c .before .before .before .before .before .before .before .before .before .before .before .before .before .before .before .before .before .fresh .ensures .0) _ _ _ (c .before .before .delete-own .ensures) (c .before .before .before .before .before .before .before .before .before .before .before .before .before .collect .ensures) (c .before .before .before .before .if1 .left))))
+    (λ c. delete-both _ _ _ _ _ _ _ _ _ _ _ _ (c .before .before .before .before .before .before .before .before .before .before .before .before .before .before .before .before .before .fresh .ensures .0) _ _ _ (c .before .before .delete-own .ensures) (c .before .before .before .before .before .before .before .before .before .before .before .before .before .collect .ensures) (c .before .before .before .before .if1 .left) (c .before .before .before .before .before .before .before .before .before .before .before .before .before .before .before .before .before .before .before .before .before .pre .0)))

@@ -5,10 +5,18 @@ use Rattle.deletion.proofs.delete_own.Statement.{statement}
 use Rattle.deletion.proofs.delete_own.Tie as tie
 use Rattle.deletion.proofs.delete_own.Reads as reads
 use Rattle.deletion.proofs.delete_own.Lts as lts
+use Rattle.deletion.proofs.below.Reads as below-reads
 use Rattle.deletion.proofs.delete_job.Reads as delete-job-reads
 use Rattle.deletion.proofs.delete_with.Reads as delete-with-reads
 
 ruleset all = (needs, deletion-laws, tie-laws)
 
 pub delete-own-spec : {M : Type 1} → statement M
-delete-own-spec = tie.close (tie.spec (λ c κs. search all) (λ c κs. search all) (λ c. search all) (λ c. search all))
+delete-own-spec =
+    tie.close
+    (tie.spec
+    (λ c κs. search all)
+    (λ c κs. search all)
+    (λ c κs. search all)
+    (λ c. search all)
+    (λ c. search all))

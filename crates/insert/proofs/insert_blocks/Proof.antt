@@ -1,15 +1,13 @@
-use borrow.Author.Needs.{needs}
 use native.Mathlib.Omega.{arith}
-use Rattle.geometry.specs.Shape.{page-most}
-use Rattle.account.specs.Lent.{known-pages, known-top}
-use Rattle.judging.specs.Judging.{judged-room, judged-looked}
-use Rattle.insert.specs.Laws.{insert-broken, insert-sound, insert-laws}
+use Rattle.account.specs.Lent.{known-pages}
+use Rattle.account.specs.Low.{known-sized}
+use borrow.Author.Needs.{needs}
+use Rattle.insert.specs.Laws.{insert-laws, insert-sound}
 use Rattle.insert.proofs.insert_blocks.Statement.{statement}
 use Rattle.insert.proofs.insert_blocks.Tie as tie
 use Rattle.insert.proofs.insert_blocks.Reads as reads
 use Rattle.insert.proofs.insert_blocks.Lts as lts
-use Rattle.account.proofs.fill_words.Reads as fill-words-reads
-use Rattle.insert.proofs.insert_rest.Reads as insert-rest-reads
+use Rattle.insert.proofs.insert_judged.Reads as insert-judged-reads
 use Rattle.verdict.proofs.judge_image.Reads as judge-image-reads
 
 ruleset all = (needs, insert-laws)
@@ -21,12 +19,11 @@ insert-blocks-spec =
     (λ c κs. (let p = c .before .before .before .before .before .pre in (known-pages _ (p .0), p .1 .1, p .1 .3)))
     (λ c. search all)
     (λ c. search all)
-    (λ c κs. search all)
-    (λ c κs. (let p = c .before .before .before .before .before .before .before .before .before .before .before .before .before .before .before .before .before .before .before .pre in let j = c .before .before .before .before .before .before .before .before .before .before .before .before .before .judge-image .ensures in ((judged-room _ _ _ _ _ _ j (known-pages _ (p .0)) (p .1 .1) (p .1 .3), known-top _ (p .0), page-most _ (p .0)), judged-looked _ _ _ _ _ _ j (search needs))))
+    (λ c κs. (let p = c .before .before .before .before .before .before .before .before .before .before .before .before .before .before .pre in let j = c .before .before .before .before .before .before .before .before .judge-image .ensures in (known-sized _ _ (p .0) (p .1 .1), j .survey, j .level)))
     (λ c. search all)
     (λ c. search all)
     (λ c. search all)
     (λ c. search all)
     (λ c. search all)
     (λ c. search all)
-    (λ c. (let p = c .before .before .before .before .before .before .before .before .before .before .before .before .before .before .before .before .before .before .before .before .before .before .before .before .before .before .pre in let q = c .before .before .before .before .before .before .before .before .before .before .before .before .before .before .before .before .before .before .before .before .before .before .before .before .before .before .good .1 .1 .1 .1 .1 in insert-sound _ _ _ _ _ _ _ (p .1 .0) (p .1 .2) (p .1 .4) _ _ _ (c .before .before .before .before .before .before .before .before .before .before .before .before .before .before .before .before .before .before .before .before .judge-image .ensures) _ _ (c .before .before .before .before .before .before .insert-rest .ensures) (c .before .before .before .before .before .before .before .before .before .before .before .before .fill-words .ensures) (search needs) (p .0) (p .1 .1) (p .1 .3) (search needs) (omega (arith, q .0)) (omega (arith, q .1 .0)))))
+    (λ c. (let p = c .before .before .before .before .before .before .before .before .before .before .before .before .before .before .before .before .before .before .before .before .before .pre in let q = c .before .before .before .before .before .before .before .before .before .before .before .before .before .before .before .before .before .before .before .before .before .good .1 .1 .1 .1 .1 in insert-sound _ _ _ _ _ _ _ (p .1 .0) (p .1 .2) (p .1 .4) _ _ _ (c .before .before .before .before .before .before .before .before .before .before .before .before .before .before .before .judge-image .ensures) _ (c .before .before .before .before .before .before .insert-judged .ensures) (search needs) (p .0) (p .1 .1) (p .1 .3) (search needs) (omega (arith, q .0)) (omega (arith, q .1 .0)))))

@@ -1,5 +1,5 @@
 use borrow.Author.Needs.{needs}
-use Rattle.insert.specs.Laws.{insert-both, insert-laws}
+use Rattle.insert.specs.Laws.{insert-laws, insert-both}
 use Rattle.insert.proofs.make_stores.Statement.{statement}
 use Rattle.insert.proofs.make_stores.Tie as tie
 use Rattle.insert.proofs.make_stores.Reads as reads
@@ -7,7 +7,6 @@ use Rattle.insert.proofs.make_stores.Lts as lts
 use Rattle.account.proofs.fresh.Reads as fresh-reads
 use Rattle.collect.proofs.collect.Reads as collect-reads
 use Rattle.insertion.proofs.insert_own.Reads as insert-own-reads
-use Rattle.account.specs.Rest.{collect-total}
 
 ruleset all = (needs, insert-laws)
 
@@ -22,8 +21,8 @@ make-stores-spec =
     (λ c. search all)
     (λ c. search all)
     (λ c. search all)
-    (λ c κs. (let w = c .before .before .before .before .before .before .before .before .before .before .collect .ensures in let e = c .before .if1 .left in (w .survey e, w .low e, search all, search all, search all, collect-total _ _ _ _ _ _ _ _ _ _ _ _ w (search all))))
+    (λ c κs. search all)
     (λ c. search all)
     (λ c. search all)
     (λ c. search all)
-    (λ c. (search all, insert-both _ _ _ _ _ _ _ _ _ _ _ _ _ (c .before .before .before .before .before .before .before .before .before .before .before .before .before .before .before .before .before .fresh .ensures .0) _ _ _ (c .before .before .insert-own .ensures) (c .before .before .before .before .before .before .before .before .before .before .before .before .before .collect .ensures) (c .before .before .before .before .if1 .left) (c .before .before .before .before .before .before .before .before .before .before .before .before .before .before .before .before .before .before .before .before .before .pre .0))))
+    (λ c. insert-both _ _ _ _ _ _ _ _ _ _ _ _ _ _ (c .before .before .before .before .before .before .before .before .before .before .before .before .before .before .before .before .before .fresh .ensures .0) _ _ _ (c .before .before .insert-own .ensures) (c .before .before .before .before .before .before .before .before .before .before .before .before .before .collect .ensures) (c .before .before .before .before .if1 .left) (c .before .before .before .before .before .before .before .before .before .before .before .before .before .before .before .before .before .before .before .before .before .pre .0) (c .before .before .before .before .before .before .before .before .before .before .before .before .before .before .before .before .before .before .before .before .before .pre .2)))

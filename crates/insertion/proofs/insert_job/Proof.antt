@@ -7,8 +7,9 @@ use Rattle.insertion.proofs.insert_job.Reads as reads
 use Rattle.insertion.proofs.insert_job.Lts as lts
 use Rattle.geometry.proofs.index.Reads as index-reads
 use Rattle.insertion.proofs.larger.Reads as larger-reads
-use Rattle.insertion.proofs.number.Reads as number-reads
-use Rattle.next.proofs.coming.Reads as coming-reads
+use Rattle.insertion.proofs.long.Reads as long-reads
+use Rattle.next.proofs.coming_from.Reads as coming-from-reads
+use Rattle.next.proofs.next_by.Reads as next-by-reads
 
 ruleset all = (needs, insertion-laws, tie-laws)
 
@@ -19,6 +20,7 @@ insert-job-spec =
     (λ c κs. search all)
     (λ c κs. search all)
     (λ c. search all)
+    (λ c κs. search all)
     (λ c κs. search all)
     (λ c κs. search all)
     (λ c. search all)

@@ -5,6 +5,7 @@ use Rattle.insertion.proofs.insert_own.Statement.{statement}
 use Rattle.insertion.proofs.insert_own.Tie as tie
 use Rattle.insertion.proofs.insert_own.Reads as reads
 use Rattle.insertion.proofs.insert_own.Lts as lts
+use Rattle.insertion.proofs.below.Reads as below-reads
 use Rattle.insertion.proofs.insert_job.Reads as insert-job-reads
 use Rattle.insertion.proofs.insert_with.Reads as insert-with-reads
 use Rattle.insertion.proofs.number.Reads as number-reads
@@ -14,4 +15,10 @@ ruleset all = (needs, insertion-laws, tie-laws)
 pub insert-own-spec : {M : Type 1} → statement M
 insert-own-spec =
     tie.close
-    (tie.spec (λ c κs. search all) (λ c κs. search all) (λ c κs. search all) (λ c. search all) (λ c. search all))
+    (tie.spec
+    (λ c κs. search all)
+    (λ c κs. search all)
+    (λ c κs. search all)
+    (λ c κs. search all)
+    (λ c. search all)
+    (λ c. search all))

@@ -1,10 +1,9 @@
 use borrow.Author.Needs.{needs}
-use Rattle.listing.specs.Laws.{listing-laws, turn-count, turn-buffer}
-use Prim.Native.Nat.{_≤_, _+_, _-_}
+use Rattle.listing.specs.Laws.{listing-laws, goes-turn}
+use Prim.Native.Nat.{ℕ, _-_, _<_, _≤_}
 use mathlib.Core.Path.{_≡_}
 use lib.ListN.{length}
-use Rattle.listing.specs.Listing.{putPairs, rest}
-use Prim.Native.Nat.{ℕ, _<_}
+use Rattle.listing.specs.Listing.{Goes}
 use borrow.Fn.Kinds.{In}
 use borrow.Fn.PlainCycle.{Measures, is, falls, and}
 use Rattle.listing.proofs.list_under.Reads as list-under
@@ -33,9 +32,7 @@ list-under-below t =
 
 abbrev list-under-Inv-loop : list-under-lts.InvT-loop
 list-under-Inv-loop g img pairs₀ exist level low high at n count₀ i₀ pairs count i =
-    (i ≤ n) × (length pairs ≡ length pairs₀) × (exist + length (rest g img low high level at n i₀) < 4294967296) ×
-    (exist + length (rest g img low high level at n i₀) ≡ count + length (rest g img low high level at n i)) ×
-    (putPairs pairs₀ exist (rest g img low high level at n i₀) ≡ putPairs pairs count (rest g img low high level at n i))
+    (i ≤ n) × (length pairs ≡ length pairs₀) × Goes g img low high level at n i₀ exist pairs₀ i count pairs
 
 abbrev list-under-μ-loop : list-under-lts.MeasureT-loop
 list-under-μ-loop g img pairs₀ exist level low high at n count₀ i₀ pairs count i = n - i
@@ -59,6 +56,7 @@ pub +list-under-spec : {M : Type 1} → statement M
     list-under.Post
     list-under-Inv-loop
     list-under-μ-loop
+    (λ c. search all)
     (λ c κs. search all)
     (λ c. search all)
     (λ c. search all)
@@ -78,13 +76,9 @@ pub +list-under-spec : {M : Type 1} → statement M
     (λ c.
     let inv = c .before .before .before .before .before .before .before .before .loop .inv in
     let found = c .before .before .before .before .before .before .entry-at .ensures in
-    let goes = c .before .before .before .before .if2 .left in
-    let more = c .before .before .list-under .ensures in (
-      search all,
-      search all,
-      search all,
-      turn-count _ _ _ _ _ _ _ _ _ found (c .before .before .before .before .before .before .before .loop-test .taken) goes _ _ _ (inv .3) (more .0),
-      turn-buffer _ _ _ _ _ _ _ _ _ found (c .before .before .before .before .before .before .before .loop-test .taken) goes _ _ _ _ _ (inv .4) (more .0) (more .1),
-    ))
+    let taken = c .before .before .before .before .before .before .before .loop-test .taken in
+    let goes = c .before .before .before .before .if3 .left in
+    let more = c .before .before .list-under .ensures in
+    (search all, search all, goes-turn _ _ _ _ _ _ _ _ _ _ _ _ _ _ _ _ (inv .2) found taken goes more))
     (λ c. search all)
     (λ c. search all)

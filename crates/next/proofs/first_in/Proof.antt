@@ -6,21 +6,20 @@ use Prim.Native.Nat.{_-_, _≤_}
 use Rattle.model.specs.Bytes.{erased}
 use Rattle.model.specs.Count.{least}
 use Rattle.counts.specs.Blocks.{within}
-use Rattle.next.specs.Coming.{free}
 use Rattle.next.proofs.first_in.Statement.{statement}
 use Rattle.next.proofs.first_in.Tie as tie
 use Rattle.next.proofs.first_in.Reads as reads
 use Rattle.next.proofs.first_in.Lts as lts
 use Rattle.chip.proofs.page_of.Reads as page-of-reads
-use Rattle.next.proofs.is_free.Reads as is-free-reads
+use Rattle.chip.proofs.page_erased.Reads as page-erased-reads
 
 ruleset all = (needs, next-laws, block-laws)
 
 abbrev Inv-loop : tie.InvT-loop
-Inv-loop g img taken i block j₀ j = (j ≤ g .pages) × (least j (within (g .pages) (free (erased g img) taken i) block) ≡ j)
+Inv-loop g img block j₀ j = (j ≤ g .pages) × (least j (within (g .pages) (erased g img) block) ≡ j)
 
 abbrev μ-loop : tie.MeasureT-loop
-μ-loop g img taken i block j₀ j = g .pages - j
+μ-loop g img block j₀ j = g .pages - j
 
 pub first-in-spec : {M : Type 1} → statement M
 first-in-spec =

@@ -6,7 +6,6 @@ use Prim.Native.Nat.{_-_, _≤_}
 use Rattle.model.specs.Bytes.{erased}
 use Rattle.model.specs.Count.{least}
 use Rattle.model.specs.Next.{mixed}
-use Rattle.next.specs.Coming.{free}
 use Rattle.next.proofs.first_mixed.Statement.{statement}
 use Rattle.next.proofs.first_mixed.Tie as tie
 use Rattle.next.proofs.first_mixed.Reads as reads
@@ -16,10 +15,10 @@ use Rattle.next.proofs.is_mixed.Reads as is-mixed-reads
 ruleset all = (needs, next-laws, block-laws)
 
 abbrev Inv-loop : tie.InvT-loop
-Inv-loop g img taken i n block₀ block = (block ≤ n) × (least block (mixed (g .pages) (free (erased g img) taken i)) ≡ block)
+Inv-loop g img n block₀ block = (block ≤ n) × (least block (mixed (g .pages) (erased g img)) ≡ block)
 
 abbrev μ-loop : tie.MeasureT-loop
-μ-loop g img taken i n block₀ block = n - block
+μ-loop g img n block₀ block = n - block
 
 pub first-mixed-spec : {M : Type 1} → statement M
 first-mixed-spec =

@@ -6,7 +6,7 @@ use Rattle.next.proofs.is_mixed.Tie as tie
 use Rattle.next.proofs.is_mixed.Reads as reads
 use Rattle.next.proofs.is_mixed.Lts as lts
 use Rattle.chip.proofs.page_of.Reads as page-of-reads
-use Rattle.next.proofs.is_free.Reads as is-free-reads
+use Rattle.chip.proofs.page_erased.Reads as page-erased-reads
 use Rattle.chip.proofs.last_page.Reads as last-page-reads
 
 ruleset all = (needs, next-laws, block-laws)

@@ -4,11 +4,8 @@ use Rattle.next.proofs.next_after.Statement.{statement}
 use Rattle.next.proofs.next_after.Tie as tie
 use Rattle.next.proofs.next_after.Reads as reads
 use Rattle.next.proofs.next_after.Lts as lts
-use Rattle.chip.proofs.first_page.Reads as first-page-reads
-use Rattle.next.proofs.block_of.Reads as block-of-reads
-use Rattle.next.proofs.ends_block.Reads as ends-block-reads
 use Rattle.next.proofs.no_pages.Reads as no-pages-reads
-use Rattle.next.proofs.round_block.Reads as round-block-reads
+use Rattle.next.proofs.page_after.Reads as page-after-reads
 
 ruleset all = (needs, next-laws)
 
@@ -18,9 +15,4 @@ next-after-spec =
     (tie.spec
     (λ c κs. search all)
     (λ c κs. search all)
-    (λ c κs. search all)
-    (λ c κs. search all)
-    (λ c κs. search all)
-    (λ c. search all)
-    (λ c. search all)
     (λ c. search all))

@@ -6,6 +6,7 @@ use Rattle.next.proofs.next_block.Reads as reads
 use Rattle.next.proofs.next_block.Lts as lts
 use Rattle.next.proofs.block_of.Reads as block-of-reads
 use Rattle.next.proofs.first_mixed.Reads as first-mixed-reads
+use Rattle.next.proofs.no_pages.Reads as no-pages-reads
 use Rattle.next.proofs.round_block.Reads as round-block-reads
 
 ruleset all = (needs, next-laws)
@@ -13,4 +14,10 @@ ruleset all = (needs, next-laws)
 pub next-block-spec : {M : Type 1} → statement M
 next-block-spec =
     tie.close
-    (tie.spec (λ c κs. search all) (λ c. search all) (λ c κs. search all) (λ c κs. search all) (λ c. search all))
+    (tie.spec
+    (λ c κs. search all)
+    (λ c. search all)
+    (λ c κs. search all)
+    (λ c κs. search all)
+    (λ c κs. search all)
+    (λ c. search all))

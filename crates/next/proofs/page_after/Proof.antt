@@ -4,12 +4,21 @@ use Rattle.next.proofs.page_after.Statement.{statement}
 use Rattle.next.proofs.page_after.Tie as tie
 use Rattle.next.proofs.page_after.Reads as reads
 use Rattle.next.proofs.page_after.Lts as lts
-use Rattle.chip.proofs.page_of.Reads as page-of-reads
-use Rattle.next.proofs.first_in.Reads as first-in-reads
-use Rattle.next.proofs.next_block.Reads as next-block-reads
+use Rattle.chip.proofs.first_page.Reads as first-page-reads
+use Rattle.next.proofs.block_of.Reads as block-of-reads
+use Rattle.next.proofs.ends_block.Reads as ends-block-reads
+use Rattle.next.proofs.round_block.Reads as round-block-reads
 
 ruleset all = (needs, next-laws)
 
 pub page-after-spec : {M : Type 1} → statement M
 page-after-spec =
-    tie.close (tie.spec (λ c κs. search all) (λ c κs. search all) (λ c κs. search all) (λ c. search all))
+    tie.close
+    (tie.spec
+    (λ c κs. search all)
+    (λ c κs. search all)
+    (λ c κs. search all)
+    (λ c κs. search all)
+    (λ c. search all)
+    (λ c. search all)
+    (λ c. search all))

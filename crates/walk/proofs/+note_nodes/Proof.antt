@@ -1,10 +1,10 @@
-use Prim.Native.Nat.{_≤_, _<_, _+_, _-_}
-use mathlib.Core.Path.{_≡_}
-use lib.ListN.{length}
-use Rattle.walk.specs.Table.{noteAll, rest}
 use borrow.Author.Needs.{needs}
 use Rattle.walk.specs.Laws.{walk-laws}
-use Prim.Native.Nat.{ℕ, _<_}
+use Rattle.walk.specs.Table.{noteAll}
+use Rattle.walk.specs.Stops.{Going, note-laws}
+use mathlib.Core.Path.{_≡_}
+use lib.ListN.{length}
+use Prim.Native.Nat.{ℕ, _-_, _<_, _≤_}
 use borrow.Fn.Kinds.{In}
 use borrow.Fn.PlainCycle.{Measures, is, falls, and}
 use Rattle.walk.proofs.note_nodes.Reads as note-nodes
@@ -17,7 +17,7 @@ use Rattle.walk.proofs.note.Reads as note-reads
 use Rattle.walk.proofs.+note_nodes.{statement}
 use Rattle.walk.proofs.+note_nodes.Tie.{close}
 
-ruleset all = (needs, walk-laws)
+ruleset all = (needs, walk-laws, note-laws)
 
 abbrev μ-note-nodes : Measures 2 note-nodes-kinds.ps ℕ
 μ-note-nodes κs a = a .1 .1 .1 .0
@@ -31,11 +31,11 @@ note-nodes-below t =
     and 2 note-nodes-kinds.ps (falls 2 note-nodes-kinds.ps _<_ μ-note-nodes t) note-nodes.Pre
 
 abbrev note-nodes-Inv-loop : note-nodes-lts.InvT-loop
-note-nodes-Inv-loop g img table₀ level page at n i₀ table i =
-    (i ≤ n) × (length table ≡ length table₀) × (noteAll (rest g img level at n 0) table₀ ≡ noteAll (rest g img level at n i) table)
+note-nodes-Inv-loop g img table₀ level page left at n more₀ i₀ table more i =
+    (i ≤ n) × (length table ≡ length table₀) × Going noteAll g img level at n more₀ table₀ i more table
 
 abbrev note-nodes-μ-loop : note-nodes-lts.MeasureT-loop
-note-nodes-μ-loop g img table₀ level page at n i₀ table i = n - i
+note-nodes-μ-loop g img table₀ level page left at n more₀ i₀ table more i = n - i
 
 pub +note-nodes-spec : {M : Type 1} → statement M
 +note-nodes-spec = close μ-note-nodes λ t. note-nodes-lts.spec (
@@ -55,11 +55,14 @@ pub +note-nodes-spec : {M : Type 1} → statement M
     note-nodes-Inv-loop
     note-nodes-μ-loop
     (λ c. search all)
+    (λ c. search all)
     (λ c κs. search all)
     (λ c. search all)
     (λ c. search all)
+    (λ c. search all)
     (λ c κs. search all)
     (λ c κs. search all)
+    (λ c. search all)
     (λ c. search all)
     (λ c. search all)
     (λ c. search all)

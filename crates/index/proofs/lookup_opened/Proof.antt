@@ -1,0 +1,21 @@
+use borrow.Author.Needs.{needs}
+use Rattle.index.specs.Opened.{opened-laws}
+use Rattle.index.proofs.lookup_opened.Statement.{statement}
+use Rattle.index.proofs.lookup_opened.Tie as tie
+use Rattle.index.proofs.lookup_opened.Reads as reads
+use Rattle.index.proofs.lookup_opened.Lts as lts
+use Rattle.geometry.proofs.choose.Reads as choose-reads
+use Rattle.opening.proofs.lookup_opened_on.Reads as lookup-opened-on-reads
+
+ruleset all = (needs, opened-laws)
+
+pub lookup-opened-spec : {M : Type 1} → statement M
+lookup-opened-spec =
+    tie.close
+    (tie.spec
+    (λ c κs. search all)
+    (λ c. search all)
+    (λ c. search all)
+    (λ c. search all)
+    (λ c κs. search all)
+    (λ c. search all))

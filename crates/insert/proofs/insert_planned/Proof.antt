@@ -1,0 +1,25 @@
+use borrow.Author.Needs.{needs}
+use Rattle.insert.specs.With.{with-laws, planned-direct}
+use Rattle.insert.proofs.insert_planned.Statement.{statement}
+use Rattle.insert.proofs.insert_planned.Tie as tie
+use Rattle.insert.proofs.insert_planned.Reads as reads
+use Rattle.insert.proofs.insert_planned.Lts as lts
+use Rattle.account.proofs.needed.Reads as needed-reads
+use Rattle.insert.proofs.insert_direct.Reads as insert-direct-reads
+use Rattle.insert.proofs.insert_told.Reads as insert-told-reads
+
+ruleset all = (needs, with-laws)
+
+pub insert-planned-spec : {M : Type 1} → statement M
+insert-planned-spec =
+    tie.close
+    (tie.spec
+    (λ c κs. search all)
+    (λ c κs. search all)
+    (λ c. search all)
+    (λ c. search all)
+    (λ c. planned-direct _ _ _ _ _ _ _ _ _ _ _ (c .before .before .before .before .insert-direct .ensures) (c .before .before .before .before .before .before .before .before .before .needed .ensures) (c .before .before .before .before .before .before .before .if1 .taken))
+    (λ c κs. search all)
+    (λ c. search all)
+    (λ c. search all)
+    (λ c. search all))
