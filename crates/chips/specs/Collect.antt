@@ -10,7 +10,7 @@ use borrow.Author.Tests.{not-true, not-false, ltb-true, ltb-false}
 use Rattle.geometry.specs.declared.Geometry.{Geometry}
 use Rattle.geometry.specs.Tests.{pick, bit}
 use Rattle.geometry.specs.Geometry.{half, rootMost}
-use Rattle.geometry.specs.Shape.{Shape}
+use Rattle.geometry.specs.Shape.{Shape, shape-core}
 use Rattle.model.specs.Count.{count, least}
 use Rattle.model.specs.Image.{Chip}
 use Rattle.model.specs.Tree.{mapOf, placesOf, live}
@@ -88,7 +88,7 @@ module _ (g : Geometry) (shape : Shape g) (n k : ℕ) where
     -- a full block below n has no erased page
     pub full-none : (b i : ℕ) → b < n → full (g .pages) (c .er) b ≡ true → i < g .pages → c .er (g .pages * b + i) ≡ false
     full-none b i q f w = by-test (c .er (g .pages * b + i))
-        (λ a. let p = some-page g shape in absurd (true-false (c .er (g .pages * b + (g .pages - 1)))
+        (λ a. let p = some-page g (shape-core g shape) in absurd (true-false (c .er (g .pages * b + (g .pages - 1)))
         (h .r2 .mono b i (g .pages - 1) q (omega (arith, p)) (omega (arith, p)) a) (not-true (c .er (g .pages * b + (g .pages - 1))) f)))
         (λ a. a)
 
@@ -108,7 +108,7 @@ module _ (g : Geometry) (shape : Shape g) (n k : ℕ) where
         go false i = i
 
     some-er : mixedBlock < n → 1 ≤ inBlock (g .pages) (c .er) mixedBlock
-    some-er q = let p = some-page g shape in omega (
+    some-er q = let p = some-page g (shape-core g shape) in omega (
       arith,
       count-drop (g .pages) (g .pages - 1) (λ i. c .er (g .pages * mixedBlock + i)) (λ _. false)
           (omega (arith, p)) (mixed-last mixedBlock (mixed-is .there q)) refl (λ i _. omega arith),
@@ -135,7 +135,7 @@ module _ (g : Geometry) (shape : Shape g) (n k : ℕ) where
       where
         d : (v : ℕ) × (v < n) × (full (g .pages) (c .er) v ≡ true) × (livesIn (g .pages) v c < g .pages)
         d = dead-block (g .pages) k n (c .er) (live (placesOf c)) deadPage three (full (g .pages) (c .er)) mixedBlock some-er clean
-            (some-page g shape) room few
+            (some-page g (shape-core g shape)) room few
 
         go : (o : Option ℕ) → theVictim (g .pages) n c ≡ o → Found (full (g .pages) (c .er)) (λ b. livesIn (g .pages) b c) n o
             → (v : ℕ) × (theVictim (g .pages) n c ≡ some v) × (v < n) × (full (g .pages) (c .er) v ≡ true) × (livesIn (g .pages) v c < g .pages) ×

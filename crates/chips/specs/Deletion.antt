@@ -11,14 +11,14 @@ use Rattle.geometry.specs.declared.Geometry.{Geometry}
 use Rattle.geometry.specs.declared.Entry.{Entry}
 use Rattle.geometry.specs.Tests.{pick, and-true}
 use Rattle.geometry.specs.Geometry.{half, rootMost}
-use Rattle.geometry.specs.Shape.{Shape}
+use Rattle.geometry.specs.Shape.{Shape, shape-core}
 use Rattle.model.specs.Count.{count}
 use Rattle.model.specs.Image.{Nodes, Chip, theRoot}
-use Rattle.model.specs.Tree.{gather, under, places, placesOf, live, mapOf, next, chosen, find, sought}
+use Rattle.model.specs.Tree.{under, places, placesOf, live, mapOf, next, chosen, sought}
 use Rattle.model.specs.Next.{ahead, taken}
 use Rattle.model.specs.Edit.{remove, removeIn, kept, Top, collapse}
 use Rattle.model.specs.Update.{isNone, rootNode, sidePage, deleteList, deleteTop, deletePart}
-use Rattle.trees.specs.Tests.{by-le, true-false}
+use Rattle.trees.specs.Tests.{by-le}
 use Rattle.trees.specs.Lists.{split}
 use Rattle.trees.specs.Nodes.{Ok, the, fitOf}
 use Rattle.trees.specs.Edit.{splice-length, atRoot}
@@ -28,11 +28,11 @@ use Rattle.trees.specs.Path.{remove-as, root-is, onPath-top, made-from}
 use Rattle.trees.specs.Leaf.{bottom, bottom-fit, less-shifted, collapse-shifted}
 use Rattle.chips.specs.Count.{lives-shifted}
 use Rattle.chips.specs.Next.{R2, step}
-use Rattle.chips.specs.Whole.{some-page, Whole, sought-map}
+use Rattle.chips.specs.Whole.{some-page, Whole, some-entry}
 use Rattle.chips.specs.Pages.{keep, fit-side, new-side}
 
 -- the root that is left is no higher
-collapse-low : (r : Nodes) (l : ℕ) (cs : List Entry) → collapse r l cs .level ≤ l
+pub collapse-low : (r : Nodes) (l : ℕ) (cs : List Entry) → collapse r l cs .level ≤ l
 unfolding collapse
 collapse-low r zero cs = omega arith
 collapse-low r (suc l) [] = omega arith
@@ -70,13 +70,7 @@ module _ (g : Geometry) (shape : Shape g) (n k : ℕ) (k-low : k < 4294967296) (
   top = deleteTop c k N
 
   some-root : 0 < length es
-  unfolding under gather find
-  some-root = go es refl
-    where
-      go : (xs : List Entry) → es ≡ xs → 0 < length es
-      go [] e = absurd (true-false (isNone (sought c k)) (ap isNone (sought-map g n c good k k-low)
-          ∙ ap (λ m. isNone (find k (gather (under r (c .level)) m))) e) present)
-      go (x ∷ xs) e = rw e (omega arith)
+  some-root = some-entry g n c good k k-low present
 
   root-list : lists (suc (c .level)) ≡ rootList
   unfolding deleteList
@@ -107,13 +101,13 @@ module _ (g : Geometry) (shape : Shape g) (n k : ℕ) (k-low : k < 4294967296) (
     fit′ = fitOf (g .pages * n) (taken (g .pages) n (ahead g n c) 1 .er)
 
     after-r2 : R2 (g .pages) n (taken (g .pages) n (ahead g n c) 1 .er)
-    after-r2 = step (g .pages) n (ahead g n c) (some-page g shape) (good .r2) 1 free .r2
+    after-r2 = step (g .pages) n (ahead g n c) (some-page g (shape-core g shape)) (good .r2) 1 free .r2
 
     fit-N : (l : ℕ) → fit′ (suc l) N
-    fit-N l = fit-side g shape n c (good .r2) 1 free 1 (suc l) (omega arith) (omega arith)
+    fit-N l = fit-side g (shape-core g shape) n c (good .r2) 1 free 1 (suc l) (omega arith) (omega arith)
 
     new-N : (l : ℕ) → fit (suc l) N → ⊥
-    new-N l = new-side g shape n c (good .r2) 1 free 1 l (omega arith) (omega arith)
+    new-N l = new-side g (shape-core g shape) n c (good .r2) 1 free 1 l (omega arith) (omega arith)
 
     abbrev Done : ℕ → Type 0
     Done l = Whole g n (record { er = taken (g .pages) n (ahead g n c) 1 .er; seq = numbers; nodes = s; level = l; root = N }) ×
@@ -145,10 +139,10 @@ module _ (g : Geometry) (shape : Shape g) (n k : ℕ) (k-low : k < 4294967296) (
           le-leb j (c .level) d,
           and-true true,
         ) refl) in
-        let w = delete-stay N 4294967296 (half g) (rootMost g) r s fit fit′ fit-N (keep g shape n c (good .r2) 1 free) stays new-N k k-low (c .level)
+        let w = delete-stay N 4294967296 (half g) (rootMost g) r s fit fit′ fit-N (keep g (shape-core g shape) n c (good .r2) 1 free) stays new-N k k-low (c .level)
         (c .root) (good .sound) some-root made here
         (λ i. rw (← root-list) (two (c .level) i h)) in
-        let z = less-shifted N 4294967296 (half g) (rootMost g) r s fit fit′ fit-N (keep g shape n c (good .r2) 1 free) stays new-N k k-low (c .level)
+        let z = less-shifted N 4294967296 (half g) (rootMost g) r s fit fit′ fit-N (keep g (shape-core g shape) n c (good .r2) 1 free) stays new-N k k-low (c .level)
         (c .root) (good .sound) made some-root here in (
           record { r2 = after-r2; sound = w .0 },
           w .1,
@@ -182,16 +176,16 @@ module _ (g : Geometry) (shape : Shape g) (n k : ℕ) (k-low : k < 4294967296) (
         let w = splice-length (Ok fit roomAt r (suc l)) (deleted r k N (suc l)) k 4294967296 ls (omega (arith, b)) k-low (h .rooted .rises) in
         let z = ap length e in
         let made : DeleteMade r s k N (suc l) (chosen k ls) = none-made k N 4294967296 (half g) (rootMost g) r s fit fit′ fit-N
-        (keep g shape n c (good .r2) 1 free) stays k-low (suc l) (next (sp .post) 4294967296) (chosen k ls) (sp .under) (sp .here)
+        (keep g (shape-core g shape) n c (good .r2) 1 free) stays k-low (suc l) (next (sp .post) 4294967296) (chosen k ls) (sp .under) (sp .here)
         (none-left (deleted r k N (suc l) (chosen k ls)) (omega (arith, w, z, one, b))) in
         let one′ : length (atRoot (removeIn k) (deleted r k N (suc l)) k (suc l) ls) ≡ 1 = omega (arith, z, one) in
         subst (λ (x : List Entry). s N (suc (collapse r (suc l) x .level)) ≡ collapse r (suc l) x .list → Proper fit′ roomAt (rootMost g) 4294967296 s
         (collapse r (suc l) x .level) N × (under s (suc (collapse r (suc l) x .level)) (the N) ≡ remove k
         (under r (suc (suc l)) (the (c .root)))) × (count (g .pages * n) (live (places s (suc (collapse r (suc l) x .level)) (the N))) ≤
         count (g .pages * n) (live (places r (suc (suc l)) (the (c .root)))))) (sym e)
-        (λ at. let w = delete-collapse N 4294967296 (half g) (rootMost g) r s fit fit′ fit-N (keep g shape n c (good .r2) 1 free) stays new-N k k-low wide l
+        (λ at. let w = delete-collapse N 4294967296 (half g) (rootMost g) r s fit fit′ fit-N (keep g (shape-core g shape) n c (good .r2) 1 free) stays new-N k k-low wide l
         (c .root) h made one′ at in
-        let v = collapse-shifted N 4294967296 (half g) (rootMost g) r s fit fit′ fit-N (keep g shape n c (good .r2) 1 free) stays new-N k k-low wide l
+        let v = collapse-shifted N 4294967296 (half g) (rootMost g) r s fit fit′ fit-N (keep g (shape-core g shape) n c (good .r2) 1 free) stays new-N k k-low wide l
         (c .root) h made one′ at in
         let q = bottom-fit fit roomAt r k (rootMost g) 4294967296 (suc l) (c .root) k-low (h .rooted) .0 in (
           w .0,
@@ -253,7 +247,7 @@ module _ (g : Geometry) (shape : Shape g) (n k : ℕ) (k-low : k < 4294967296) (
     unfolding deletePart
     top-most =
         let w = delete-done free s (c .seq) (λ j _ _. s-N j) (λ q l h. rw (ne-eqb q N
-        (λ z. new-side g shape n c (good .r2) 1 free 1 l (omega arith) (omega arith)
+        (λ z. new-side g (shape-core g shape) n c (good .r2) 1 free 1 l (omega arith) (omega arith)
         (subst (fit (suc l)) z h))) refl) high .0 .sound .rooted .atmost in
         let e : s N (suc (top .level)) ≡ top .list = s-N (suc (top .level)) ∙ rw (eq-eqb (suc (top .level)) (suc (top .level)) refl) refl in
         subst (λ (x : List Entry). length x ≤ rootMost g (suc (top .level))) e w

@@ -11,7 +11,7 @@ use Rattle.geometry.specs.declared.Geometry.{Geometry}
 use Rattle.geometry.specs.declared.Entry.{Entry}
 use Rattle.geometry.specs.Tests.{pick, bit, and-true, and-left, and-right, and-both}
 use Rattle.geometry.specs.Geometry.{half, rootSlots, rootMost}
-use Rattle.geometry.specs.Shape.{Shape}
+use Rattle.geometry.specs.Shape.{Shape, halved, shape-core}
 use Rattle.model.specs.Count.{count}
 use Rattle.model.specs.Image.{Nodes, Chip, theRoot}
 use Rattle.model.specs.Tree.{gather, under, places, placesOf, live, mapOf, next, chosen, find, sought}
@@ -126,7 +126,7 @@ module _ (g : Geometry) (shape : Shape g) (n k a : ℕ) (k-low : k < 4294967296)
       let len = eqb-true (length (lists (suc (c .level)))) (rootSlots g (suc (c .level))) (and-right _ _ e) in
       let d = shape .double (suc (c .level)) (omega arith) lo in
       let s = shape .some (suc (c .level)) (omega arith) lo in
-      let am = rw (lt-ltb (suc (c .level)) (g .top) lo) at (good .sound .rooted .atmost) in (
+      let am = rw (halved g shape, lt-ltb (suc (c .level)) (g .top) lo) at (good .sound .rooted .atmost) in (
         lo,
         len ∙ d,
         all-below k a N side (half g) r fit absent (c .level) (chosen k es)
@@ -142,12 +142,12 @@ module _ (g : Geometry) (shape : Shape g) (n k a : ℕ) (k-low : k < 4294967296)
   pub stay-most : suc (c .level) ≤ g .top → tooHigh g c k ≡ false → grows ≡ false → length (lists (suc (c .level))) ≤ rootMost g (suc (c .level))
   unfolding fills rootMost tooHigh rootGains
   stay-most hi small e = by-test (ltb (suc (c .level)) (g .top))
-      (λ x. rw x (below (ltb-true (suc (c .level)) (g .top) x) (rw (
+      (λ x. rw (halved g shape, x) (below (ltb-true (suc (c .level)) (g .top) x) (rw (
         x,
         and-true
             (eqb (length (lists (suc (c .level)))) (rootSlots g (suc (c .level)))),
-      ) at e) (rw x at (good .sound .rooted .atmost))))
-      (λ x. rw x (at-top (ltb-false (suc (c .level)) (g .top) x) (rw x at (good .sound .rooted .atmost))))
+      ) at e) (rw (halved g shape, x) at (good .sound .rooted .atmost))))
+      (λ x. rw (halved g shape, x) (at-top (ltb-false (suc (c .level)) (g .top) x) (rw (halved g shape, x) at (good .sound .rooted .atmost))))
     where
       below : suc (c .level) < g .top → eqb (length (lists (suc (c .level)))) (rootSlots g (suc (c .level))) ≡ false
           → length es ≤ rootSlots g (suc (c .level)) - 1 → length (lists (suc (c .level))) ≤ rootSlots g (suc (c .level)) - 1
@@ -170,9 +170,9 @@ module _ (g : Geometry) (shape : Shape g) (n k a : ℕ) (k-low : k < 4294967296)
   unfolding rootMost
   two-root lo = by-test (ltb (suc (suc (c .level))) (g .top))
       (λ x. let y = ltb-true (suc (suc (c .level))) (g .top) x in let d = shape .double (suc (suc (c .level))) (omega arith) y in let z = shape .some
-      (suc (suc (c .level))) (omega arith) y in rw x (omega (arith, d, z)))
+      (suc (suc (c .level))) (omega arith) y in rw (halved g shape, x) (omega (arith, d, z)))
       (λ x. let y : suc (suc (c .level)) ≡ g .top = omega (arith, lo, ltb-false (suc (suc (c .level))) (g .top) x) in let d = ap (rootSlots g) y in
-      let z = shape .top-slots in rw x (omega (arith, d, z)))
+      let z = shape .top-slots in rw (halved g shape, x) (omega (arith, d, z)))
 
   -- ---- the nodes s after the m pages
   module _ (free : m ≤ count (g .pages * n) (c .er)) (s : Nodes) (numbers : ℕ → ℕ)
@@ -197,7 +197,7 @@ module _ (g : Geometry) (shape : Shape g) (n k a : ℕ) (k-low : k < 4294967296)
           at-N j b (omega (arith, d, high)) ∙ rw (le-leb j (c .level) d) (ap (pathPart k (half g) j) e),
           λ f. let w = cut-levels j b d .0 (rw e f) in let lt : j < m = omega (arith, needs-is, w) in (
             at-side j b lt ∙ rw (le-leb j (c .level) d) (ap (sideHalf k (half g j)) e),
-            fit-side g shape n c (good .r2) m free j j b
+            fit-side g (shape-core g shape) n c (good .r2) m free j j b
                 (omega (arith, lt)),
             (b, lt),
           ),
@@ -207,13 +207,13 @@ module _ (g : Geometry) (shape : Shape g) (n k a : ℕ) (k-low : k < 4294967296)
     some-m = omega (arith, needs-is)
 
     apart : (l : ℕ) → Cut l → side l ≡ N → ⊥
-    apart l h e = let z = side-inj g shape n c (good .r2) m free l m (h .0) (omega (arith, h .1)) some-m (omega arith) e in omega (arith, h .1, z)
+    apart l h e = let z = side-inj g (shape-core g shape) n c (good .r2) m free l m (h .0) (omega (arith, h .1)) some-m (omega arith) e in omega (arith, h .1, z)
 
     inj : (i j : ℕ) → Cut i → Cut j → side i ≡ side j → i ≡ j
-    inj i j h h′ e = side-inj g shape n c (good .r2) m free i j (h .0) (omega (arith, h .1)) (h′ .0) (omega (arith, h′ .1)) e
+    inj i j h h′ e = side-inj g (shape-core g shape) n c (good .r2) m free i j (h .0) (omega (arith, h .1)) (h′ .0) (omega (arith, h′ .1)) e
 
     pub after-r2 : R2 (g .pages) n (taken (g .pages) n (ahead g n c) m .er)
-    after-r2 = step (g .pages) n (ahead g n c) (some-page g shape) (good .r2) m free .r2
+    after-r2 = step (g .pages) n (ahead g n c) (some-page g (shape-core g shape)) (good .r2) m free .r2
 
     abbrev Done : ℕ → Type 0
     Done l = Whole g n (record { er = taken (g .pages) n (ahead g n c) m .er; seq = numbers; nodes = s; level = l; root = N }) ×
@@ -224,13 +224,13 @@ module _ (g : Geometry) (shape : Shape g) (n k a : ℕ) (k-low : k < 4294967296)
     -- the nodes below the root's changed list
     list-nodes : length (gather (places s (c .level)) rootList) ≡ length (nodesBelow c) + cuts
     unfolding under
-    list-nodes = root-nodes k a N 4294967296 side (half g) (rootMost g) r s fit fit′ Cut (λ l. fit-side g shape n c (good .r2) m free m (suc l)
-        some-m (omega arith)) tt (keep g shape n c (good .r2) m free) stays k-low absent (c .level) es some-root (good .sound .rooted .rises)
+    list-nodes = root-nodes k a N 4294967296 side (half g) (rootMost g) r s fit fit′ Cut (λ l. fit-side g (shape-core g shape) n c (good .r2) m free m (suc l)
+        some-m (omega arith)) tt (keep g (shape-core g shape) n c (good .r2) m free) stays k-low absent (c .level) es some-root (good .sound .rooted .rises)
         absent-is made
 
     list-filled : HalfFull g c → All (Filled (half g) s) (gather (places s (c .level)) rootList)
-    list-filled h = root-filled k a N 4294967296 side (half g) (rootMost g) r s fit fit′ Cut (λ l. fit-side g shape n c (good .r2) m free m (suc l)
-        some-m (omega arith)) tt (keep g shape n c (good .r2) m free) stays k-low (c .level) es some-root (good .sound .rooted .rises) h made
+    list-filled h = root-filled k a N 4294967296 side (half g) (rootMost g) r s fit fit′ Cut (λ l. fit-side g (shape-core g shape) n c (good .r2) m free m (suc l)
+        some-m (omega arith)) tt (keep g (shape-core g shape) n c (good .r2) m free) stays k-low (c .level) es some-root (good .sound .rooted .rises) h made
 
     -- the page of the leaf that K goes to
     abbrev p : ℕ
@@ -251,14 +251,14 @@ module _ (g : Geometry) (shape : Shape g) (n k a : ℕ) (k-low : k < 4294967296)
     stay small e =
         let here : s N (suc (c .level)) ≡ rootList = at-N (suc (c .level)) (omega arith) high
         ∙ rw (lt-leb (suc (c .level)) (c .level) (omega arith), e, eq-eqb (suc (c .level)) (suc (c .level)) refl) root-list in
-        let w = insert-stay N 4294967296 (half g) (rootMost g) r s fit fit′ (λ l. fit-side g shape n c (good .r2) m free m (suc l) some-m
-        (omega arith)) (keep g shape n c (good .r2) m free) stays (λ l. new-side g shape n c (good .r2) m free m l some-m (omega arith))
-        k a side Cut tt k-low apart inj (λ l j h. new-side g shape n c (good .r2) m free l j (h .0) (omega (arith, h .1)))
+        let w = insert-stay N 4294967296 (half g) (rootMost g) r s fit fit′ (λ l. fit-side g (shape-core g shape) n c (good .r2) m free m (suc l) some-m
+        (omega arith)) (keep g (shape-core g shape) n c (good .r2) m free) stays (λ l. new-side g (shape-core g shape) n c (good .r2) m free m l some-m (omega arith))
+        k a side Cut tt k-low apart inj (λ l j h. new-side g (shape-core g shape) n c (good .r2) m free l j (h .0) (omega (arith, h .1)))
         (c .level) (c .root) (good .sound) made here (rw (← root-list) (stay-most high small e)) in
-        let z = stay-shifted N 4294967296 (half g) (rootMost g) r s fit fit′ (λ l. fit-side g shape n c (good .r2) m free m (suc l) some-m
-        (omega arith)) (keep g shape n c (good .r2) m free) stays (λ l. new-side g shape n c (good .r2) m free m l some-m (omega arith))
+        let z = stay-shifted N 4294967296 (half g) (rootMost g) r s fit fit′ (λ l. fit-side g (shape-core g shape) n c (good .r2) m free m (suc l) some-m
+        (omega arith)) (keep g (shape-core g shape) n c (good .r2) m free) stays (λ l. new-side g (shape-core g shape) n c (good .r2) m free m l some-m (omega arith))
         k k-low (c .level) (c .root) (good .sound) a (m - 1) side Cut cut-in tt
-        (λ l j h. new-side g shape n c (good .r2) m free l j (h .0) (omega (arith, h .1))) made here in (
+        (λ l j h. new-side g (shape-core g shape) n c (good .r2) m free l j (h .0) (omega (arith, h .1))) made here in (
           record { r2 = after-r2; sound = w .0 },
           w .1,
           omega (
@@ -291,16 +291,16 @@ module _ (g : Geometry) (shape : Shape g) (n k a : ℕ) (k-low : k < 4294967296)
         let crown : s N (suc (suc l)) ≡ two k N (side (suc l)) (2 * h) (next rootList 0) rootList =
         at-N (suc (suc l)) (omega arith) (omega (arith, u .0)) ∙ rw (small′, e, ne, eq-eqb (suc (suc l)) (suc (suc l)) refl)
         (ap (λ x. two k N (side (suc l)) (2 * h) (next x 0) x) root-list) in
-        let w = insert-grow N 4294967296 (half g) (rootMost g) r s fit fit′ (λ l. fit-side g shape n c (good .r2) m free m (suc l) some-m
-        (omega arith)) (keep g shape n c (good .r2) m free) stays (λ l. new-side g shape n c (good .r2) m free m l some-m (omega arith))
-        k a side Cut tt k-low apart inj (λ l j h. new-side g shape n c (good .r2) m free l j (h .0) (omega (arith, h .1)))
-        l (c .root) (good .sound) made (path, other, fit-side g shape n c (good .r2) m free (suc l) (suc l) (omega arith) (omega (arith, lt)))
+        let w = insert-grow N 4294967296 (half g) (rootMost g) r s fit fit′ (λ l. fit-side g (shape-core g shape) n c (good .r2) m free m (suc l) some-m
+        (omega arith)) (keep g (shape-core g shape) n c (good .r2) m free) stays (λ l. new-side g (shape-core g shape) n c (good .r2) m free m l some-m (omega arith))
+        k a side Cut tt k-low apart inj (λ l j h. new-side g (shape-core g shape) n c (good .r2) m free l j (h .0) (omega (arith, h .1)))
+        l (c .root) (good .sound) made (path, other, fit-side g (shape-core g shape) n c (good .r2) m free (suc l) (suc l) (omega arith) (omega (arith, lt)))
         (omega arith, lt) crown (sym (ap length root-list) ∙ u .1) (two-root (u .0)) in
-        let z = grow-shifted N 4294967296 (half g) (rootMost g) r s fit fit′ (λ l. fit-side g shape n c (good .r2) m free m (suc l) some-m
-        (omega arith)) (keep g shape n c (good .r2) m free) stays (λ l. new-side g shape n c (good .r2) m free m l some-m (omega arith))
+        let z = grow-shifted N 4294967296 (half g) (rootMost g) r s fit fit′ (λ l. fit-side g (shape-core g shape) n c (good .r2) m free m (suc l) some-m
+        (omega arith)) (keep g (shape-core g shape) n c (good .r2) m free) stays (λ l. new-side g (shape-core g shape) n c (good .r2) m free m l some-m (omega arith))
         k k-low l (c .root) (good .sound) a (m - 1) side Cut cut-in tt
-        (λ l j h. new-side g shape n c (good .r2) m free l j (h .0) (omega (arith, h .1))) made
-        (path, other, fit-side g shape n c (good .r2) m free (suc l) (suc l) (omega arith) (omega (arith, lt))) (omega arith, lt)
+        (λ l j h. new-side g (shape-core g shape) n c (good .r2) m free l j (h .0) (omega (arith, h .1))) made
+        (path, other, fit-side g (shape-core g shape) n c (good .r2) m free (suc l) (suc l) (omega arith) (omega (arith, lt))) (omega arith, lt)
         (sym (ap length root-list) ∙ u .1) crown in (
           record { r2 = after-r2; sound = w .0 },
           w .1,
@@ -312,14 +312,14 @@ module _ (g : Geometry) (shape : Shape g) (n k a : ℕ) (k-low : k < 4294967296)
           ),
           record {
             nodes-are = (let x = ap (λ (d : List Entry). length (gather (places s (suc l)) d)) crown in
-                let y = two-nodes k a N 4294967296 side (half g) (rootMost g) r s fit fit′ Cut (λ l. fit-side g shape n c (good .r2) m free m (suc l)
-                some-m (omega arith)) tt (keep g shape n c (good .r2) m free) stays k-low l (2 * h) (next rootList 0) rootList
-                (path, other, fit-side g shape n c (good .r2) m free (suc l) (suc l) (omega arith) (omega (arith, lt))) in
+                let y = two-nodes k a N 4294967296 side (half g) (rootMost g) r s fit fit′ Cut (λ l. fit-side g (shape-core g shape) n c (good .r2) m free m (suc l)
+                some-m (omega arith)) tt (keep g (shape-core g shape) n c (good .r2) m free) stays k-low l (2 * h) (next rootList 0) rootList
+                (path, other, fit-side g (shape-core g shape) n c (good .r2) m free (suc l) (suc l) (omega arith) (omega (arith, lt))) in
                 omega (arith, x, y, list-nodes, needs-is, ap bit e));
             filled = λ f. subst (λ (d : List Entry). All (Filled (half g) s) (gather (places s (suc l)) d)) (sym crown)
-                (grown-filled k a N 4294967296 side (half g) (rootMost g) r s fit fit′ Cut (λ l. fit-side g shape n c (good .r2) m free m (suc l)
-                some-m (omega arith)) tt (keep g shape n c (good .r2) m free) stays k-low l rootList
-                (path, other, fit-side g shape n c (good .r2) m free (suc l) (suc l) (omega arith) (omega (arith, lt)))
+                (grown-filled k a N 4294967296 side (half g) (rootMost g) r s fit fit′ Cut (λ l. fit-side g (shape-core g shape) n c (good .r2) m free m (suc l)
+                some-m (omega arith)) tt (keep g (shape-core g shape) n c (good .r2) m free) stays k-low l rootList
+                (path, other, fit-side g (shape-core g shape) n c (good .r2) m free (suc l) (suc l) (omega arith) (omega (arith, lt)))
                 (sym (ap length root-list) ∙ u .1) (next rootList 0) (list-filled f));
           },
         )

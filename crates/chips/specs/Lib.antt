@@ -1,4 +1,4 @@
--- Theorems about an abstract chip: the next page, collection, an update's own pages. No bytes.
+-- Theorems about an abstract chip: the next page, collection, an update's own pages, the plain tree's too. No bytes.
 pub mod Count
 pub mod Next
 pub mod Coming
@@ -12,4 +12,9 @@ pub mod Collect
 pub mod Pages
 pub mod Insertion
 pub mod Deletion
+pub mod PlainPlans
+pub mod PlainInsertion
+pub mod PlainPresent
+pub mod PlainEmptied
+pub mod PlainDeletion
 pub mod Tests

@@ -11,7 +11,7 @@ use Rattle.geometry.specs.declared.Geometry.{Geometry}
 use Rattle.geometry.specs.declared.Entry.{Entry}
 use Rattle.geometry.specs.Tests.{pick, bit}
 use Rattle.geometry.specs.Geometry.{half, rootMost}
-use Rattle.geometry.specs.Shape.{Shape}
+use Rattle.geometry.specs.Shape.{Shape, shape-core}
 use Rattle.model.specs.Count.{count, peak}
 use Rattle.model.specs.Image.{Chip, theRoot}
 use Rattle.model.specs.Tree.{mapOf, placesOf, live, lowLevel, next, chosen, find}
@@ -62,10 +62,10 @@ module _ (g : Geometry) (shape : Shape g) (n : ℕ) (c : Chip) (good : Whole g n
   c′ = moveTo (g .pages * n) c p new
 
   found : (nextBlock (g .pages) n (ahead g n c) < n) × (firstIn (g .pages) (c .er) (nextBlock (g .pages) n (ahead g n c)) < g .pages) × (c .er new ≡ true)
-  found = next-found (g .pages) n (ahead g n c) (some-page g shape) (good .r2) free
+  found = next-found (g .pages) n (ahead g n c) (some-page g (shape-core g shape)) (good .r2) free
 
   new-in : new < g .pages * n
-  new-in = next-in (g .pages) n (ahead g n c) (some-page g shape) (good .r2) free
+  new-in = next-in (g .pages) n (ahead g n c) (some-page g (shape-core g shape)) (good .r2) free
 
   pub keep : (l b : ℕ) → fitOf (g .pages * n) (c .er) l b → fitOf (g .pages * n) (after new (c .er)) l b
   keep = fit-after (g .pages * n) new (c .er)
@@ -148,7 +148,7 @@ module _ (g : Geometry) (shape : Shape g) (n : ℕ) (c : Chip) (good : Whole g n
       }
     where
       good′ : Whole g n c′
-      good′ = record { r2 = r2-next (g .pages) n (ahead g n c) (some-page g shape) (good .r2) (found .0) (found .1); sound = the-move .sound }
+      good′ = record { r2 = r2-next (g .pages) n (ahead g n c) (some-page g (shape-core g shape)) (good .r2) (found .0) (found .1); sound = the-move .sound }
 
       alike′ : Same g c c′
       alike′ = same-like g (g .pages * n) (c .er) (c′ .er) (c .seq) (c′ .seq) (c .nodes) (c′ .nodes) (c .level) (c .root) new (good .sound .rooted)

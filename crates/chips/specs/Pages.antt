@@ -8,7 +8,7 @@ use lib.Dec.{ltb}
 use borrow.Author.Tests.{eq-eqb}
 use Rattle.geometry.specs.declared.Geometry.{Geometry}
 use Rattle.geometry.specs.Tests.{pick}
-use Rattle.geometry.specs.Shape.{Shape}
+use Rattle.geometry.specs.Shape.{Core}
 use Rattle.model.specs.Count.{count, least}
 use Rattle.model.specs.Image.{Chip}
 use Rattle.model.specs.Next.{mixed, Ahead, ahead, round, nextBlock, nextPage, after, taken, nth}
@@ -50,7 +50,7 @@ fit-after t p er zero q h = tt
 fit-after t p er (suc l) q h = (h .0, after-false p q er (h .1))
 
 -- m pages are left
-module _ (g : Geometry) (shape : Shape g) (n : ℕ) (c : Chip) (r2 : R2 (g .pages) n (c .er)) (m : ℕ) (free : m ≤ count (g .pages * n) (c .er)) where
+module _ (g : Geometry) (core : Core g) (n : ℕ) (c : Chip) (r2 : R2 (g .pages) n (c .er)) (m : ℕ) (free : m ≤ count (g .pages * n) (c .er)) where
   abbrev side : ℕ → ℕ
   side = sidePage g n c
 
@@ -62,14 +62,14 @@ module _ (g : Geometry) (shape : Shape g) (n : ℕ) (c : Chip) (r2 : R2 (g .page
 
   pub side-erased : (j : ℕ) → 1 ≤ j → j ≤ m → (c .er (side j) ≡ true) × (side j < g .pages * n)
   side-erased zero b d = absurd (omega arith)
-  side-erased (suc j) b d = nth-erased (g .pages) n (ahead g n c) (some-page g shape) r2 j (omega arith)
+  side-erased (suc j) b d = nth-erased (g .pages) n (ahead g n c) (some-page g core) r2 j (omega arith)
 
   pub side-inj : (i j : ℕ) → 1 ≤ i → i ≤ m → 1 ≤ j → j ≤ m → side i ≡ side j → i ≡ j
   side-inj zero j b b′ d d′ e = absurd (omega arith)
   side-inj (suc i) zero b b′ d d′ e = absurd (omega arith)
   side-inj (suc i) (suc j) b b′ d d′ e = by-le (suc i) j
-      (λ z. absurd (nth-apart (g .pages) n (ahead g n c) (some-page g shape) r2 j i z (omega arith) (sym e)))
-      (λ z. by-le (suc j) i (λ w. absurd (nth-apart (g .pages) n (ahead g n c) (some-page g shape) r2 i j w (omega arith) e)) (λ w. omega arith))
+      (λ z. absurd (nth-apart (g .pages) n (ahead g n c) (some-page g core) r2 j i z (omega arith) (sym e)))
+      (λ z. by-le (suc j) i (λ w. absurd (nth-apart (g .pages) n (ahead g n c) (some-page g core) r2 i j w (omega arith) e)) (λ w. omega arith))
 
   pub keep : (l q : ℕ) → fit l q → fit′ l q
   keep zero q h = tt

@@ -1,17 +1,19 @@
 -- R2, R5 and R6 of a chip; k and HEIGHT hang on the tree's counts alone. Assumes nothing.
-use mathlib.Core.Path.{_≡_, refl, sym, subst, _∙_}
-use mathlib.Core.List.{List}
-use mathlib.Core.Bool.{Bool}
+use mathlib.Core.Path.{_≡_, refl, ap, sym, subst, _∙_}
+use mathlib.Core.List.{List, [], _∷_}
+use mathlib.Core.Bool.{Bool, false}
 use Prim.Native.Nat.{ℕ, zero, suc, _*_, _<_, _≤_}
 use native.Mathlib.Omega.{arith}
 use lib.ListN.{length}
 use Rattle.geometry.specs.declared.Geometry.{Geometry}
+use Rattle.geometry.specs.declared.Entry.{Entry}
 use Rattle.geometry.specs.Geometry.{half, rootMost}
-use Rattle.geometry.specs.Shape.{Shape}
+use Rattle.geometry.specs.Shape.{Core}
 use Rattle.model.specs.Image.{Nodes, Chip}
-use Rattle.model.specs.Tree.{gather, Place, places, mapOf, next, chosen, find, sought}
+use Rattle.model.specs.Tree.{gather, under, Place, places, mapOf, next, chosen, find, sought}
 use Rattle.model.specs.Edit.{gains, splits}
 use Rattle.model.specs.Update.{isNone, rootNode, rootGains, needs, tooHigh}
+use Rattle.trees.specs.Tests.{true-false}
 use Rattle.trees.specs.Lists.{All, Rises, split}
 use Rattle.trees.specs.Nodes.{Ok, Rooted, fitOf}
 use Rattle.trees.specs.Proper.{Proper}
@@ -20,8 +22,8 @@ use Rattle.trees.specs.Fill.{Filled, list-nodes-like, list-filled-like}
 use Rattle.trees.specs.Like.{Likes, Like, like-key, likes-length, likes-chosen, gains-like, splits-like}
 use Rattle.chips.specs.Next.{R2}
 
-pub some-page : (g : Geometry) → Shape g → 1 ≤ g .pages
-some-page g shape = let z = shape .pages-low in omega (arith, z)
+pub some-page : (g : Geometry) → Core g → 1 ≤ g .pages
+some-page g core = let z = core .pages-low in omega (arith, z)
 
 pub record Whole (g : Geometry) (n : ℕ) (c : Chip) : Type 0 where
   pub r2 : R2 (g .pages) n (c .er)
@@ -31,6 +33,16 @@ pub record Whole (g : Geometry) (n : ℕ) (c : Chip) : Type 0 where
 pub sought-map : (g : Geometry) (n : ℕ) (c : Chip) → Whole g n c → (k : ℕ) → k < 4294967296 → sought c k ≡ find k (mapOf c)
 sought-map g n c h k q = find-root (fitOf (g .pages * n) (c .er)) (λ l. 2 * half g l) (c .nodes) k (rootMost g) 4294967296 (c .level) (c .root) q
     (h .sound .rooted)
+
+-- a present key: the root has entries
+pub some-entry : (g : Geometry) (n : ℕ) (c : Chip) → Whole g n c → (k : ℕ) → k < 4294967296 → isNone (sought c k) ≡ false → 0 < length (rootNode c)
+unfolding under gather find
+some-entry g n c h k q present = go (rootNode c) refl
+  where
+    go : (xs : List Entry) → rootNode c ≡ xs → 0 < length (rootNode c)
+    go [] e = absurd (true-false (isNone (sought c k)) (ap isNone (sought-map g n c h k q)
+        ∙ ap (λ m. isNone (find k (gather (under (c .nodes) (c .level)) m))) e) present)
+    go (x ∷ xs) e = rw e (omega arith)
 
 -- the keys of the map rise strictly
 pub map-rises : (g : Geometry) (n : ℕ) (c : Chip) → Whole g n c → Rises (λ y x. Unit {0}) 4294967296 (mapOf c)

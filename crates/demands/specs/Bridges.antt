@@ -8,7 +8,7 @@ use lib.ListN.{length, take, length-append}
 use lib.Seq.{take-append-le}
 use Rattle.geometry.specs.declared.Geometry.{Geometry}
 use Rattle.geometry.specs.declared.Entry.{Entry}
-use Rattle.geometry.specs.Shape.{Shape}
+use Rattle.geometry.specs.Shape.{Shape, shape-core}
 use Rattle.model.specs.Image.{blocksOf, pagesOf, Chip, chipOf}
 use Rattle.model.specs.Tree.{mapOf}
 use Rattle.model.specs.Rules.{verdict}
@@ -36,10 +36,10 @@ module _ (g : Geometry) (shape : Shape g) (img : List ℕ) (ready : Ready g img)
   few = few-pages g shape n (blocks .most)
 
   pub some-pages : 1 ≤ pagesOf g n
-  some-pages = let w = block-in (g .pages) 2 n (blocks .least) in let z = some-page g shape in omega (arith, w, z)
+  some-pages = let w = block-in (g .pages) 2 n (blocks .least) in let z = some-page g (shape-core g shape) in omega (arith, w, z)
 
   pub ready-keeps : Keeps g n (mapAt g img) img
-  ready-keeps = let z = sound-held g shape n img (let w = blocks .least in omega (arith, w)) (blocks .image) (ready .bytes) (ready .is-sound) in
+  ready-keeps = let z = sound-held g (shape-core g shape) n img (let w = blocks .least in omega (arith, w)) (blocks .image) (ready .bytes) (ready .is-sound) in
       record { held = z .0; r7 = z .1; r8 = z .2; map-is = refl }
 
   -- the map's keys rise
@@ -53,7 +53,7 @@ module _ (g : Geometry) (shape : Shape g) (img : List ℕ) (ready : Ready g img)
       record {
         ready = record {
           length-good = length-same g img x e ∙ ready .length-good;
-          is-sound = ap (λ m. verdict g m x) b ∙ held-sound g shape n x (h .held) (h .r7) (h .r8);
+          is-sound = ap (λ m. verdict g m x) b ∙ held-sound g (shape-core g shape) n x (h .held) (h .r7) (h .r8);
           bytes = h .held .bytes;
         };
         map-is = ap (λ m. mapOf (chipOf g m x)) b ∙ h .map-is;

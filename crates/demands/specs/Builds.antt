@@ -13,7 +13,7 @@ use Rattle.geometry.specs.declared.Geometry.{Geometry}
 use Rattle.geometry.specs.declared.Entry.{Entry}
 use Rattle.geometry.specs.Tests.{pick, _&_, bit, and-true, and-false}
 use Rattle.geometry.specs.Geometry.{half, rootSlots}
-use Rattle.geometry.specs.Shape.{Shape}
+use Rattle.geometry.specs.Shape.{Shape, shape-core}
 use Rattle.model.specs.Bytes.{byteAt}
 use Rattle.model.specs.Image.{blocksOf, goodLength, pagesOf, maxSeq, Chip, chipOf}
 use Rattle.model.specs.Tree.{mapOf, livePages, chosen, find, sought}
@@ -105,7 +105,7 @@ module _ (g : Geometry) (shape : Shape g) (some-worn : 1 ≤ g .worn) (img : Lis
   new-ready : Ready g new
   new-ready = record {
     length-good = length-same g img new new-length ∙ length-good;
-    is-sound = ap (λ m. verdict g m new) new-blocks ∙ held-sound g shape b new (keeps-new .held) (keeps-new .r7) (keeps-new .r8);
+    is-sound = ap (λ m. verdict g m new) new-blocks ∙ held-sound g (shape-core g shape) b new (keeps-new .held) (keeps-new .r7) (keeps-new .r8);
     bytes = keeps-new .held .bytes;
   }
 

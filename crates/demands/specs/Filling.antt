@@ -10,7 +10,7 @@ use lib.ListN.{length}
 use Rattle.geometry.specs.declared.Geometry.{Geometry}
 use Rattle.geometry.specs.Tests.{bit}
 use Rattle.geometry.specs.Geometry.{small, slotsOf, half}
-use Rattle.geometry.specs.Shape.{Shape, small-shape}
+use Rattle.geometry.specs.Shape.{Shape, small-shape, shape-core}
 use Rattle.model.specs.Bytes.{byteAt}
 use Rattle.model.specs.Image.{blocksOf, goodLength, Chip, chipOf}
 use Rattle.model.specs.Tree.{under, find}
@@ -117,7 +117,7 @@ pub small-most : (img : List ℕ) (n x : ℕ) → Stands small small-shape img n
 unfolding slotsOf under
 small-most img n x h =
     let c = chipAt small img in
-    let top = height-most small small-shape (blocksOf small img) img (some-pages small small-shape img (h .ready))
+    let top = height-most small (shape-core small small-shape) (blocksOf small img) img (some-pages small small-shape img (h .ready))
     (ready-keeps small small-shape img (h .ready) .held) in
     let z = nodes-most (half small) (c .nodes) refl refl refl refl (c .level) (rootNode c) (omega (arith, top)) (h .filled) in
     omega (arith, z, h .nodes, h .pairs)

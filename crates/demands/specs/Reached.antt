@@ -9,7 +9,7 @@ use lib.ListN.{length}
 use borrow.Author.Tests.{le-ltb}
 use Rattle.geometry.specs.declared.Geometry.{Geometry}
 use Rattle.geometry.specs.Geometry.{small, large}
-use Rattle.geometry.specs.Shape.{Known, Shape, shape}
+use Rattle.geometry.specs.Shape.{Known, Shape, shape, shape-core}
 use Rattle.model.specs.Bytes.{byteAt}
 use Rattle.model.specs.Image.{blocksOf, goodLength, chipOf}
 use Rattle.model.specs.Calls.{Outcome, roomless, freePages, insert, delete, format}
@@ -60,7 +60,7 @@ module _ (g : Geometry) (shape : Shape g) where
   -- so a deletion, which needs one page, is never short of room
   pub delete-roomy : (img : List ℕ) → Ready g img → roomless g (freePages g (blocksOf g img) (chipOf g (blocksOf g img) img)) 1 ≡ false
   unfolding roomless
-  delete-roomy img h = let z = sound-room img h in let p = some-page g shape in
+  delete-roomy img h = let z = sound-room img h in let p = some-page g (shape-core g shape) in
       le-ltb (freePages g (blocksOf g img) (chipOf g (blocksOf g img) img)) (2 * g .pages - 1 + 1) (omega (arith, z, p))
 
 module _ (g : Geometry) (known : Known g) where

@@ -5,7 +5,7 @@ use mathlib.Core.List.{List}
 use mathlib.Core.Bool.{false}
 use Prim.Native.Nat.{ℕ, _<_}
 use Rattle.geometry.specs.declared.Geometry.{Geometry}
-use Rattle.geometry.specs.Shape.{Shape}
+use Rattle.geometry.specs.Shape.{Shape, shape-core}
 use Rattle.model.specs.Bytes.{erased}
 use Rattle.model.specs.Image.{blocksOf, pagesOf, seqOf, chipOf}
 use Rattle.model.specs.Next.{mixed, ahead}
@@ -20,5 +20,5 @@ pub first-block-met : (g : Geometry) → Shape g → (img : List ℕ) → Ready 
     → (c : ℕ) → c < blocksOf g img → Wholly (g .pages) (erased g img) c
     → First (g .pages) (blocksOf g img) (ahead g (blocksOf g img) (chipOf g (blocksOf g img) img)) c
 first-block-met g shape img ready none c q h =
-    next-first (g .pages) (blocksOf g img) (ahead g (blocksOf g img) (chipOf g (blocksOf g img) img)) (some-page g shape)
+    next-first (g .pages) (blocksOf g img) (ahead g (blocksOf g img) (chipOf g (blocksOf g img) img)) (some-page g (shape-core g shape))
     (ready-keeps g shape img ready .held .whole .r2) none (arg-less (seqOf g img) (pagesOf g (blocksOf g img)) (some-pages g shape img ready)) c q h

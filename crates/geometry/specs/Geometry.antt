@@ -17,6 +17,10 @@ small = record { pages = 32; main = 512; spare = 16; top = 5; worn = 4294967000;
 abbrev pub large : Geometry
 large = record { pages = 64; main = 2048; spare = 64; top = 7; worn = 4294966000; table = 1 }
 
+-- request 12's plain tree on the small chip: one node to a page, 64 slots at each level
+abbrev pub plain : Geometry
+plain = record { pages = 32; main = 512; spare = 16; top = 5; worn = 4294967000; table = 2 }
+
 -- "The caller says which geometry by a number, 0 or 1"
 abbrev pub chosenOf : ℕ → Chosen
 chosenOf zero = Of small
@@ -56,7 +60,11 @@ largeFirst = 0 ∷ 0 ∷ 128 ∷ 192 ∷ 224 ∷ 240 ∷ 248 ∷ 252 ∷ []
 abbrev pub largeSlots : List ℕ
 largeSlots = 0 ∷ 128 ∷ 64 ∷ 32 ∷ 16 ∷ 8 ∷ 4 ∷ 0 ∷ []
 
--- a level's entry in the table of a geometry, told by its number
+-- the plain tree, levels 0 to 5: a node starts at slot 0
+abbrev pub plainSlots : List ℕ
+plainSlots = 0 ∷ 64 ∷ 64 ∷ 64 ∷ 64 ∷ 64 ∷ []
+
+-- a level's entry in the table of a μ-Tree's geometry, told by its number
 abbrev pub byTable : Geometry → List ℕ → List ℕ → ℕ → ℕ
 byTable g s b l = pick (eqb (g .table) 0) (getD s l 0) (pick (eqb (g .table) 1) (getD b l 0) 0)
 
@@ -66,7 +74,7 @@ firstSlot g l = byTable g smallFirst largeFirst l
 
 -- the slots c of a node at level l below the root
 unfoldable pub slotsOf : Geometry → ℕ → ℕ
-slotsOf g l = byTable g smallSlots largeSlots l
+slotsOf g l = pick (eqb (g .table) 2) (getD plainSlots l 0) (byTable g smallSlots largeSlots l)
 
 -- c/2; the slots are even (`Shape`), so c is 2 * half
 abbrev pub half : Geometry → ℕ → ℕ
@@ -78,7 +86,7 @@ rootSlots g l = slots g - firstSlot g l
 
 -- column "most entries stored as root"
 unfoldable pub rootMost : Geometry → ℕ → ℕ
-rootMost g l = pick (ltb l (g .top)) (rootSlots g l - 1) (rootSlots g l)
+rootMost g l = pick (eqb (g .table) 2) (rootSlots g l) (pick (ltb l (g .top)) (rootSlots g l - 1) (rootSlots g l))
 
 -- levels 1 to top
 unfoldable pub inTable : Geometry → ℕ → Bool

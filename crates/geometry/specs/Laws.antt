@@ -15,7 +15,7 @@ use Rattle.geometry.specs.Table.{at, every}
 use Rattle.geometry.specs.declared.Geometry.{Geometry}
 use Rattle.geometry.specs.declared.Chosen.{Chosen}
 use Rattle.geometry.specs.declared.Chosen.the-variants.{Of, Unknown}
-use Rattle.geometry.specs.Geometry.{small, large, chosenOf, slots, pageBytes, pageBase, smallFirst, smallSlots, largeFirst, largeSlots, byTable, firstSlot, slotsOf, half, rootSlots, rootMost, inTable}
+use Rattle.geometry.specs.Geometry.{small, large, chosenOf, slots, pageBytes, pageBase, smallFirst, smallSlots, largeFirst, largeSlots, plainSlots, byTable, firstSlot, slotsOf, half, rootSlots, rootMost, inTable}
 
 pub base-below : (p b : ℕ) → p < 4294967296 → b < 131072 → p * b < 562949953421312
 base-below p b hp hb = lt-of-le-of-lt (mul-le-mul-left p (le-of-lt hb)) (omega arith)
@@ -74,26 +74,36 @@ pub first-other : (g : Geometry) (l : ℕ) → (g .table ≡ 0 → ⊥) → (g .
 unfolding firstSlot
 first-other g l n f = in-neither g smallFirst largeFirst l n f
 
+no-plain : (g : Geometry) (t : ℕ) → g .table ≡ t → t < 2 → eqb (g .table) 2 ≡ false
+no-plain g t f h = ne-eqb (g .table) 2 (λ e. omega (arith, e, f, h))
+
 module _ (g : Geometry) (l k : ℕ) (e : k ≡ l) where
   pub slots-small : g .table ≡ 0 → getD smallSlots k 0 ≡ slotsOf g l
   unfolding slotsOf
-  slots-small f = in-small g smallSlots largeSlots l k e f
+  slots-small f = rw (no-plain g 0 f (omega arith)) (in-small g smallSlots largeSlots l k e f)
 
   pub slots-past : 6 ≤ k → g .table ≡ 0 → 0 ≡ slotsOf g l
   unfolding slotsOf
-  slots-past h f = past-small g smallSlots largeSlots l k e h f
+  slots-past h f = rw (no-plain g 0 f (omega arith)) (past-small g smallSlots largeSlots l k e h f)
 
   pub slots-large : (g .table ≡ 0 → ⊥) → g .table ≡ 1 → getD largeSlots k 0 ≡ slotsOf g l
   unfolding slotsOf
-  slots-large n f = in-large g smallSlots largeSlots l k e n f
+  slots-large n f = rw (no-plain g 1 f (omega arith)) (in-large g smallSlots largeSlots l k e n f)
 
   pub slots-beyond : 8 ≤ k → (g .table ≡ 0 → ⊥) → g .table ≡ 1 → 0 ≡ slotsOf g l
   unfolding slotsOf
-  slots-beyond h n f = past-large g smallSlots largeSlots l k e h n f
+  slots-beyond h n f = rw (no-plain g 1 f (omega arith)) (past-large g smallSlots largeSlots l k e h n f)
 
-pub slots-other : (g : Geometry) (l : ℕ) → (g .table ≡ 0 → ⊥) → (g .table ≡ 1 → ⊥) → 0 ≡ slotsOf g l
+  pub slots-plain : g .table ≡ 2 → getD plainSlots k 0 ≡ slotsOf g l
+  unfolding slotsOf
+  slots-plain f = rw (e, eq-eqb (g .table) 2 f) refl
+
+  pub slots-plain-past : 6 ≤ k → g .table ≡ 2 → 0 ≡ slotsOf g l
+  slots-plain-past h f = sym (List·getD-eq-default plainSlots 0 h) ∙ slots-plain f
+
+pub slots-other : (g : Geometry) (l : ℕ) → (g .table ≡ 0 → ⊥) → (g .table ≡ 1 → ⊥) → (g .table ≡ 2 → ⊥) → 0 ≡ slotsOf g l
 unfolding slotsOf
-slots-other g l n f = in-neither g smallSlots largeSlots l n f
+slots-other g l n f z = rw (ne-eqb (g .table) 2 z) (in-neither g smallSlots largeSlots l n f)
 
 pub first-256 : (k : ℕ) → k < 6 → getD smallFirst k 0 < 256
 unfolding low
@@ -106,6 +116,10 @@ slots-256 k h = below-256 smallSlots tt k h
 pub first-large-256 : (k : ℕ) → k < 8 → getD largeFirst k 0 < 256
 unfolding low
 first-large-256 k h = below-256 largeFirst tt k h
+
+pub slots-plain-256 : (k : ℕ) → k < 6 → getD plainSlots k 0 < 256
+unfolding low
+slots-plain-256 k h = below-256 plainSlots tt k h
 
 pub slots-large-256 : (k : ℕ) → k < 8 → getD largeSlots k 0 < 256
 unfolding low
@@ -135,16 +149,20 @@ pub root-some : (g : Geometry) (l a f : ℕ) → a ≡ slots g → f ≡ firstSl
 unfolding rootSlots
 root-some g l a f e d = rw (e, d)
 
-pub most-below : (g : Geometry) (l a b s : ℕ) → s ≡ rootSlots g l → a ≡ l → b ≡ g .top → a < b → s - 1 ≡ rootMost g l
+pub most-plain : (g : Geometry) (l s : ℕ) → s ≡ rootSlots g l → g .table ≡ 2 → s ≡ rootMost g l
 unfolding rootMost
-most-below g l a b s e d f h = simp (lt-ltb l (g .top) (rw (← d, ← f) h), e)
+most-plain g l s e f = rw (e, eq-eqb (g .table) 2 f) refl
 
-pub most-none : (g : Geometry) (l a b s : ℕ) → s ≡ rootSlots g l → a ≡ l → b ≡ g .top → a < b → s ≡ 0 → 0 ≡ rootMost g l
-most-none g l a b s e d f h z = (let w : 0 ≡ s - 1 = omega arith in w) ∙ most-below g l a b s e d f h
-
-pub most-top : (g : Geometry) (l a b s : ℕ) → s ≡ rootSlots g l → a ≡ l → b ≡ g .top → b ≤ a → s ≡ rootMost g l
+pub most-below : (g : Geometry) (l a b s : ℕ) → (g .table ≡ 2 → ⊥) → s ≡ rootSlots g l → a ≡ l → b ≡ g .top → a < b → s - 1 ≡ rootMost g l
 unfolding rootMost
-most-top g l a b s e d f h = simp (le-ltb l (g .top) (rw (← d, ← f) h), e)
+most-below g l a b s p e d f h = rw (ne-eqb (g .table) 2 p, lt-ltb l (g .top) (rw (← d, ← f) h), e) refl
+
+pub most-none : (g : Geometry) (l a b s : ℕ) → (g .table ≡ 2 → ⊥) → s ≡ rootSlots g l → a ≡ l → b ≡ g .top → a < b → s ≡ 0 → 0 ≡ rootMost g l
+most-none g l a b s p e d f h z = (let w : 0 ≡ s - 1 = omega arith in w) ∙ most-below g l a b s p e d f h
+
+pub most-top : (g : Geometry) (l a b s : ℕ) → (g .table ≡ 2 → ⊥) → s ≡ rootSlots g l → a ≡ l → b ≡ g .top → b ≤ a → s ≡ rootMost g l
+unfolding rootMost
+most-top g l a b s p e d f h = rw (ne-eqb (g .table) 2 p, le-ltb l (g .top) (rw (← d, ← f) h), e) refl
 
 pub table-zero : (g : Geometry) (l : ℕ) → l ≡ 0 → false ≡ inTable g l
 unfolding inTable
@@ -154,4 +172,4 @@ pub table-some : (g : Geometry) (l a b : ℕ) → a ≡ l → b ≡ g .top → (
 unfolding inTable
 table-some g l a b e f h = rw (e, f, le-leb 1 l (omega arith), and-true)
 
-pub ruleset geometry-laws = (base-below, base-fits, base-is, first-small, first-past, first-large, first-beyond, first-other, slots-small, slots-past, slots-large, slots-beyond, slots-other, first-256, slots-256, first-large-256, slots-large-256, chosen-small, chosen-large, chosen-none, half-is, root-none, root-some, most-below, most-none, most-top, table-zero, table-some)
+pub ruleset geometry-laws = (base-below, base-fits, base-is, first-small, first-past, first-large, first-beyond, first-other, slots-small, slots-past, slots-large, slots-beyond, slots-plain, slots-plain-past, slots-plain-256, slots-other, most-plain, first-256, slots-256, first-large-256, slots-large-256, chosen-small, chosen-large, chosen-none, half-is, root-none, root-some, most-below, most-none, most-top, table-zero, table-some)

@@ -6,7 +6,7 @@ use mathlib.Core.Path.{_≡_, refl, sym, ap, subst, _∙_}
 use mathlib.Core.List.{List, [], _∷_}
 use lib.Dec.{T, eqb, leb, ltb, eqb→eq, leb→le, ltb→lt, lit<, lit≤}
 use lib.ListN.{getD, length, List·getD-eq-default}
-use borrow.Author.Tests.{ltb-true, ltb-false}
+use borrow.Author.Tests.{ne-eqb, ltb-true, ltb-false}
 use native.Mathlib.Omega.{arith}
 use native.Mathlib.Nat.{suc-mul, mul-le-mul-right}
 use Rattle.geometry.specs.Tests.{pick}
@@ -14,7 +14,7 @@ use Rattle.geometry.specs.Table.{at, every}
 use Rattle.geometry.specs.declared.Geometry.{Geometry}
 use Rattle.geometry.specs.declared.Chosen.{Chosen}
 use Rattle.geometry.specs.declared.Chosen.the-variants.{Of, Unknown}
-use Rattle.geometry.specs.Geometry.{small, large, chosenOf, slots, pageBytes, halves, codePlace, pageBase, smallFirst, smallSlots, largeFirst, largeSlots, firstSlot, slotsOf, half, rootSlots, rootMost}
+use Rattle.geometry.specs.Geometry.{small, large, plain, chosenOf, slots, pageBytes, halves, codePlace, pageBase, smallFirst, smallSlots, largeFirst, largeSlots, plainSlots, firstSlot, slotsOf, half, rootSlots, rootMost}
 
 -- "The first slot of level l is 64 − 64/2^(l−1)", with 256 for 64 on the large chip, over each table once
 rule : ℕ → ℕ → ℕ → Bool
@@ -37,7 +37,7 @@ pub halving : (g : Geometry) → Known g → (l : ℕ) → l ≤ g .top → firs
 halving _ is-small l h = halving-small l h
 halving _ is-large l h = halving-large l h
 
--- what holds of a geometry and its table
+-- what holds of a μ-Tree's geometry and its table
 pub record Shape (g : Geometry) : Type 0 where
   pub pages-low : 2 ≤ g .pages
   pub pages-high : g .pages ≤ 64
@@ -116,7 +116,7 @@ record Tested (g : Geometry) : Type 0 where
   -- no slots above the table
   past : (l : ℕ) → suc (g .top) ≤ l → slotsOf g l ≡ 0
 
--- the linear facts of the five numbers
+-- the facts of the numbers
 record Numbers (g : Geometry) : Type 0 where
   pages-low : 2 ≤ g .pages
   pages-high : g .pages ≤ 64
@@ -130,18 +130,20 @@ record Numbers (g : Geometry) : Type 0 where
   top-none : half g (g .top) ≡ 0
   top-slots : rootSlots g (g .top) ≡ 4
 
-module _ (g : Geometry) (x : Numbers g) (t : Tested g) where
-  here : (f : ℕ → ℕ → Bool) (n l : ℕ) → T (every f 0 (levels n)) → l < n → T (f l (getD (levels n) l 0))
-  here f n l y h = at f (levels n) y l (rw (levels-length n) h)
+here : (f : ℕ → ℕ → Bool) (n l : ℕ) → T (every f 0 (levels n)) → l < n → T (f l (getD (levels n) l 0))
+here f n l y h = at f (levels n) y l (rw (levels-length n) h)
 
-  even-all : (l : ℕ) → slotsOf g l ≡ 2 * half g l
+-- at every level, where there are no slots above the table
+module _ (g : Geometry) (past : (l : ℕ) → suc (g .top) ≤ l → slotsOf g l ≡ 0) where
+  even-all : T (every (even-test g) 0 (levels (suc (g .top)))) → (l : ℕ) → slotsOf g l ≡ 2 * half g l
   unfolding even-test
-  even-all l = by-lt l (suc (g .top)) (λ h. eqb→eq _ _ (here (even-test g) (suc (g .top)) l (t .even) h)) (λ h. let e = t .past l h in rw e refl)
+  even-all t l = by-lt l (suc (g .top)) (λ h. eqb→eq _ _ (here (even-test g) (suc (g .top)) l t h)) (λ h. let e = past l h in rw e refl)
 
-  most-all : (l : ℕ) → slotsOf g l ≤ rootMost g l
+  most-all : T (every (most-test g) 0 (levels (suc (g .top)))) → (l : ℕ) → slotsOf g l ≤ rootMost g l
   unfolding most-test
-  most-all l = by-lt l (suc (g .top)) (λ h. leb→le _ _ (here (most-test g) (suc (g .top)) l (t .most) h)) (λ h. let e = t .past l h in omega (arith, e))
+  most-all t l = by-lt l (suc (g .top)) (λ h. leb→le _ _ (here (most-test g) (suc (g .top)) l t h)) (λ h. let e = past l h in omega (arith, e))
 
+module _ (g : Geometry) (x : Numbers g) (t : Tested g) where
   shape-by : Shape g
   unfolding room-test steps-test double-test some-test byte-test
   shape-by = record {
@@ -156,12 +158,12 @@ module _ (g : Geometry) (x : Numbers g) (t : Tested g) where
     worn-low = x .worn-low;
     room = λ l h. leb→le _ _ (here (room-test g) (suc (g .top)) l (t .room) (omega arith));
     steps = λ l h. leb→le _ _ (here (steps-test g) (g .top) l (t .steps) h);
-    even = even-all;
+    even = even-all g (t .past) (t .even);
     double = λ l i h. rw (← (pred l i)) (eqb→eq _ _ (here (double-test g) (g .top - 1) (l - 1) (t .double) (omega arith)));
     some = λ l i h. rw (← (pred l i)) (leb→le _ _ (here (some-test g) (g .top - 1) (l - 1) (t .some) (omega arith)));
     top-none = x .top-none;
     top-slots = x .top-slots;
-    fits = most-all;
+    fits = most-all g (t .past) (t .most);
     byte = λ l i h. ltb→lt _ _ (here (byte-test g) (suc (g .top)) l (t .byte) (omega arith));
   }
 
@@ -222,6 +224,89 @@ large-shape = shape-by large large-numbers large-tested
 pub shape : (g : Geometry) → Known g → Shape g
 shape _ is-small = small-shape
 shape _ is-large = large-shape
+
+-- what holds of the plain tree's geometry too: all that the laws of bytes, stores, next pages and R1 to R6 use. Of `Shape`
+-- those of the μ-Tree's updates use also steps, double, some, top-none and top-slots
+pub record Core (g : Geometry) : Type 0 where
+  pub pages-low : 2 ≤ g .pages
+  pub pages-high : g .pages ≤ 64
+  pub spare-low : 4 + g .top < g .spare
+  pub code-room : codePlace g (halves g) ≤ pageBytes g
+  pub top-low : 5 ≤ g .top
+  pub top-high : g .top ≤ 7
+  pub main-is : g .main ≡ 8 * slots g
+  pub slots-high : slots g ≤ 256
+  pub worn-low : g .worn + (g .top + 1) * g .pages + g .top < 4294967295
+  pub room : (l : ℕ) → l ≤ g .top → firstSlot g l + slotsOf g l ≤ slots g
+  pub even : (l : ℕ) → slotsOf g l ≡ 2 * half g l
+  pub fits : (l : ℕ) → slotsOf g l ≤ rootMost g l
+  pub byte : (l : ℕ) → 1 ≤ l → l ≤ g .top → rootMost g l < 256
+
+pub shape-core : (g : Geometry) → Shape g → Core g
+shape-core g s = record {
+  pages-low = s .pages-low;
+  pages-high = s .pages-high;
+  spare-low = s .spare-low;
+  code-room = s .code-room;
+  top-low = s .top-low;
+  top-high = s .top-high;
+  main-is = s .main-is;
+  slots-high = s .slots-high;
+  worn-low = s .worn-low;
+  room = s .room;
+  even = s .even;
+  fits = s .fits;
+  byte = s .byte;
+}
+
+plain-past : (l : ℕ) → 6 ≤ l → slotsOf plain l ≡ 0
+unfolding slotsOf
+plain-past l h = List·getD-eq-default plainSlots 0 h
+
+pub plain-core : Core plain
+unfolding room-test even-test most-test byte-test levels firstSlot slotsOf rootSlots rootMost
+plain-core = record {
+  pages-low = lit≤ tt;
+  pages-high = lit≤ tt;
+  spare-low = lit< tt;
+  code-room = lit≤ tt;
+  top-low = lit≤ tt;
+  top-high = lit≤ tt;
+  main-is = refl;
+  slots-high = lit≤ tt;
+  worn-low = lit< tt;
+  room = λ l h. leb→le _ _ (here (room-test plain) 6 l tt (omega arith));
+  even = even-all plain plain-past tt;
+  fits = most-all plain plain-past tt;
+  byte = λ l i h. ltb→lt _ _ (here (byte-test plain) 6 l tt (omega arith));
+}
+
+-- a root of the plain tree holds as many as a node below it: two halves
+pub plain-most : (l : ℕ) → 1 ≤ l → l ≤ 5 → rootMost plain l ≡ 2 * half plain l
+unfolding levels firstSlot slotsOf rootSlots rootMost
+plain-most l i h = rw (← (pred l i)) (eqb→eq _ _ (here (λ l x. eqb (rootMost plain (suc l)) (2 * half plain (suc l))) 5 (l - 1) tt (omega arith)))
+
+pub most-slots : (g : Geometry) (l : ℕ) → rootMost g l ≤ rootSlots g l
+unfolding rootMost
+most-slots g l = go (eqb (g .table) 2) (ltb l (g .top))
+  where
+    go : (s t : Bool) → pick s (rootSlots g l) (pick t (rootSlots g l - 1) (rootSlots g l)) ≤ rootSlots g l
+    go true t = omega arith
+    go false true = omega arith
+    go false false = omega arith
+
+-- a μ-Tree's geometry has another table
+pub halved : (g : Geometry) → Shape g → eqb (g .table) 2 ≡ false
+unfolding firstSlot slotsOf rootSlots
+halved g s = ne-eqb (g .table) 2 (λ e.
+    let f : (l : ℕ) → firstSlot g l ≡ 0 = λ l. rw e refl in
+    let c : slotsOf g 1 ≡ 64 = rw e refl in
+    let t = s .top-low in
+    let r = s .room 1 (omega (arith, t)) in
+    let z = s .top-slots in
+    let d = f 1 in
+    let w = f (g .top) in
+    omega (arith, c, r, z, d, w))
 
 -- the page of the large chip is the longest
 pub page-most : (g : Geometry) → Known g → pageBytes g ≤ 2112

@@ -1,10 +1,10 @@
 // The geometry of a chip as a value, what is read off it, and the types that every layer shares.
 ghost use mathlib.Core.Path.{_≡_};
 ghost use Prim.Native.Nat.{_<_, _≤_};
-ghost use Rattle.geometry.specs.Geometry.{small, large, chosenOf, pageBytes, halves, codePlace, pageBase, slots, firstSlot, slotsOf, half, rootSlots, rootMost, inTable};
+ghost use Rattle.geometry.specs.Geometry.{small, large, plain, chosenOf, pageBytes, halves, codePlace, pageBase, slots, firstSlot, slotsOf, half, rootSlots, rootMost, inTable};
 
 // A block's pages, a page's main and spare bytes, the greatest height, the number above which the chip is WORN, and the
-// number of its table of levels: 0 the small chip's, 1 the large one's.
+// number of its table of levels: 0 the small chip's, 1 the large one's, 2 the plain tree's on the small chip.
 pub struct Geometry {
     pub pages: u16,
     pub main: u16,
@@ -38,6 +38,22 @@ impl Geometry {
             top: Geometry::SMALL_TOP,
             worn: Geometry::SMALL_WORN,
             table: Geometry::SMALL_TABLE,
+        }
+    }
+
+    pub const PLAIN_TABLE: u16 = 2;
+
+    // The same chip with one node to a page: 64 slots at each level.
+    pub fn plain() -> Geometry
+        ensures { λ r. ⌜ r ≡ plain ⌝ }
+    {
+        Geometry {
+            pages: Geometry::SMALL_PAGES,
+            main: Geometry::SMALL_MAIN,
+            spare: Geometry::SMALL_SPARE,
+            top: Geometry::SMALL_TOP,
+            worn: Geometry::SMALL_WORN,
+            table: Geometry::PLAIN_TABLE,
         }
     }
 
@@ -162,6 +178,8 @@ const LARGE_FIRST: [usize; 8] = [0, 0, 128, 192, 224, 240, 248, 252];
 
 const LARGE_SLOTS: [usize; 8] = [0, 128, 64, 32, 16, 8, 4, 0];
 
+const PLAIN_SLOTS: [usize; 6] = [0, 64, 64, 64, 64, 64];
+
 // The first slot of a level; 0 for a level that the geometry has not.
 pub fn first_slot(g: Geometry, level: u32) -> usize
     ensures { λ r. ⌜ (r ≡ firstSlot g level) × (r < 256) ⌝ }
@@ -199,6 +217,12 @@ pub fn slots_of(g: Geometry, level: u32) -> usize
         }
         return 0;
     }
+    if g.table == Geometry::PLAIN_TABLE {
+        if l < 6 {
+            return PLAIN_SLOTS[l];
+        }
+        return 0;
+    }
     0
 }
 
@@ -233,6 +257,9 @@ pub fn root_most(g: Geometry, level: u32) -> usize
     ensures { λ r. ⌜ (r ≡ rootMost g level) × (r < 8192) ⌝ }
 {
     let full = root_slots(g, level);
+    if g.table == Geometry::PLAIN_TABLE {
+        return full;
+    }
     if index(level) < wide(g.top) {
         if full == 0 {
             return 0;

@@ -9,7 +9,7 @@ use lib.ListN.{length, length-append}
 use Rattle.geometry.specs.declared.Geometry.{Geometry}
 use Rattle.geometry.specs.declared.Entry.{Entry}
 use Rattle.geometry.specs.Geometry.{small, large, firstSlot, slotsOf, half, rootSlots, rootMost}
-use Rattle.geometry.specs.Shape.{Known, is-small, is-large, Shape}
+use Rattle.geometry.specs.Shape.{Known, is-small, is-large, Shape, shape-core}
 use Rattle.model.specs.Image.{pagesOf, Nodes, Chip, chipOf}
 use Rattle.model.specs.Tree.{gather, places, mapOf, placesOf}
 use Rattle.model.specs.Listing.{rangedOf}
@@ -64,7 +64,7 @@ module _ (g : Geometry) (shape : Shape g) (few : Few g) (n : ℕ) (img : List �
   c = chipOf g n img
 
   low : c .level < g .top
-  low = let z = height-most g shape n img some-pages held in omega (arith, z)
+  low = let z = height-most g (shape-core g shape) n img some-pages held in omega (arith, z)
 
   abbrev root : Rooted (fitOf (pagesOf g n) (c .er)) (λ l. 2 * half g l) (rootMost g) 4294967296 (c .nodes) (c .level) (c .root)
   root = held .whole .sound .rooted

@@ -14,13 +14,13 @@ use Rattle.geometry.specs.declared.Verdict.{Verdict}
 use Rattle.geometry.specs.declared.Verdict.the-variants.{Sound}
 use Rattle.geometry.specs.Tests.{pick, _&_, and-true, and-false, and-left, and-right, and-both}
 use Rattle.geometry.specs.Geometry.{pageBytes, halves, codePlace, pageBase, half, rootMost}
-use Rattle.geometry.specs.Shape.{Shape}
+use Rattle.geometry.specs.Shape.{Core}
 use Rattle.model.specs.Bytes.{byteAt, u32At, blank, erased, seqAt, heightAt, tailAt}
 use Rattle.model.specs.Codes.{codesFit}
 use Rattle.model.specs.Count.{any}
 use Rattle.model.specs.Image.{pagesOf, seqOf, heightOf, rootScore, rootOf, chipOf}
 use Rattle.model.specs.Tree.{placesOf}
-use Rattle.model.specs.Rules.{lowest, wellFormed, r1, repeated, r3, r4, orElse, verdict}
+use Rattle.model.specs.Rules.{lowest, wellFormed, r1, r2, repeated, r3, r4, r5, r6, orElse, verdict}
 use Rattle.counts.specs.Least.{least-none, any-clear}
 use Rattle.counts.specs.Peak.{arg-less}
 use Rattle.counts.specs.Lowest.{lowest-good, good-lowest, good-unless, or-sound}
@@ -154,10 +154,53 @@ sound-or : (r : ℕ) (f : Finding) (w : Verdict) → f ≡ Good → w ≡ Sound 
 unfolding orElse
 sound-or r f w h i = rw (h, i) refl
 
-module _ (g : Geometry) (shape : Shape g) (n : ℕ) (img : List ℕ) where
+-- R1 to R6 find nothing
+pub record Ruled (g : Geometry) (n : ℕ) (img : List ℕ) : Type 0 where
+  pub first : r1 g n img ≡ Good
+  pub second : r2 (g .pages) n (erased g img) ≡ Good
+  pub third : r3 g n img ≡ Good
+  pub fourth : r4 g n img ≡ Good
+  pub fifth : r5 g (pagesOf g n) (chipOf g n img) ≡ Good
+  pub sixth : r6 (pagesOf g n) (chipOf g n img) ≡ Good
+
+module _ (g : Geometry) (core : Core g) (n : ℕ) (img : List ℕ) where
+  -- an image that keeps R1 to R6 is held
+  pub ruled-held : 1 ≤ n → Image g n img → Small img → Ruled g n img → Held g n img
+  unfolding r1 r3 r4
+  ruled-held pos image bytes h =
+      let t = pagesOf g n in
+      let chip = chipOf g n img in
+      let high = leb-true 1 (heightOf g img (rootOf g n img)) (good-unless _ _ _ (h .fourth) .0) in
+      let pages : 1 ≤ t = let z = block-in (g .pages) 0 n pos in let w = some-page g core in omega (arith, z, w, mul-zero (g .pages)) in
+      let root = r5-rooted g core t chip (root-below g n img pages, root-er g n img high) (h .fifth) in
+      let fits = root-fit (fitOf t (chip .er)) (λ l. 2 * half g l) (rootMost g) (chip .nodes) (chip .level) (chip .root) 4294967296 root in
+      let tied = r6-tied t chip (all-map (λ x. (1 ≤ x .level) × fitOf t (chip .er) (x .level) (x .page)) (λ x. x .page < t) (placesOf chip)
+      (λ x i. fit-page t (chip .er) (x .level) (x .page) (i .0) (i .1) .0) fits) (h .sixth) in
+      record {
+        image = image;
+        bytes = bytes;
+        r1 = λ p q. page-r1 g n img p (not-false (wellFormed g img p) (good-lowest (λ p. not (wellFormed g img p)) t (h .first) p q));
+        r3 = differ g n img (good-lowest (repeated (erased g img) (seqAt g img)) t (h .third));
+        r4 = subst (λ m. 1 ≤ m) (sym (root-height g n img)) high;
+        whole = record { r2 = r2-holds (g .pages) n (erased g img) (h .second); sound = record { rooted = root; tied = tied } };
+      }
+
+  pub held-ruled : Held g n img → Ruled g n img
+  unfolding r1 r3 r4
+  held-ruled h =
+      let t = pagesOf g n in
+      record {
+        first = none-lowest t (λ p. not (wellFormed g img p)) (λ p q. rw (r1-page g n img p (h .r1 p q)) refl);
+        second = holds-r2 (g .pages) n (erased g img) (h .whole .r2);
+        third = none-lowest t (repeated (erased g img) (seqAt g img)) (no-repeat g n img (h .r3));
+        fourth = unless-both _ _ _ (le-leb 1 (heightOf g img (rootOf g n img)) (subst (λ m. 1 ≤ m) (root-height g n img) (h .r4))) refl;
+        fifth = rooted-r5 g core t (chipOf g n img) (h .whole .sound .rooted);
+        sixth = tied-r6 t (chipOf g n img) (h .whole .sound .tied);
+      }
+
   -- a sound image is held, and R7 and R8 hold
   pub sound-held : 1 ≤ n → Image g n img → Small img → verdict g n img ≡ Sound → Held g n img × R7 g n (chipOf g n img) × R8 g n (chipOf g n img)
-  unfolding verdict r1 r3 r4
+  unfolding verdict
   sound-held pos image bytes h =
       let a = or-sound _ _ _ h in
       let b = or-sound _ _ _ (a .1) in
@@ -166,40 +209,19 @@ module _ (g : Geometry) (shape : Shape g) (n : ℕ) (img : List ℕ) where
       let e = or-sound _ _ _ (d .1) in
       let f = or-sound _ _ _ (e .1) in
       let k = or-sound _ _ _ (f .1) in
-      let m = or-sound _ _ _ (k .1) in
-      let t = pagesOf g n in
-      let chip = chipOf g n img in
-      let high = leb-true 1 (heightOf g img (rootOf g n img)) (good-unless _ _ _ (d .0) .0) in
-      let pages : 1 ≤ t = let z = block-in (g .pages) 0 n pos in let w = some-page g shape in omega (arith, z, w, mul-zero (g .pages)) in
-      let root = r5-rooted g shape t chip (root-below g n img pages, root-er g n img high) (e .0) in
-      let fits = root-fit (fitOf t (chip .er)) (λ l. 2 * half g l) (rootMost g) (chip .nodes) (chip .level) (chip .root) 4294967296 root in
-      let tied = r6-tied t chip (all-map (λ x. (1 ≤ x .level) × fitOf t (chip .er) (x .level) (x .page)) (λ x. x .page < t) (placesOf chip)
-      (λ x i. fit-page t (chip .er) (x .level) (x .page) (i .0) (i .1) .0) fits) (f .0) in (
-        record {
-          image = image;
-          bytes = bytes;
-          r1 = λ p q. page-r1 g n img p (not-false (wellFormed g img p) (good-lowest (λ p. not (wellFormed g img p)) t (a .0) p q));
-          r3 = differ g n img (good-lowest (repeated (erased g img) (seqAt g img)) t (c .0));
-          r4 = subst (λ m. 1 ≤ m) (sym (root-height g n img)) high;
-          whole = record { r2 = r2-holds (g .pages) n (erased g img) (b .0); sound = record { rooted = root; tied = tied } };
-        },
-        r7-holds g n chip (k .0),
-        r8-holds g (some-page g shape) n chip (m .0),
+      let m = or-sound _ _ _ (k .1) in (
+        ruled-held pos image bytes (record { first = a .0; second = b .0; third = c .0; fourth = d .0; fifth = e .0; sixth = f .0 }),
+        r7-holds g n (chipOf g n img) (k .0),
+        r8-holds g (some-page g core) n (chipOf g n img) (m .0),
       )
 
   pub held-sound : Held g n img → R7 g n (chipOf g n img) → R8 g n (chipOf g n img) → verdict g n img ≡ Sound
-  unfolding verdict r1 r3 r4
+  unfolding verdict
   held-sound h s u =
-      let t = pagesOf g n in
-      let high = subst (λ m. 1 ≤ m) (root-height g n img) (h .r4) in
-      sound-or _ _ _ (none-lowest t (λ p. not (wellFormed g img p)) (λ p q. rw (r1-page g n img p (h .r1 p q)) refl))
-      (sound-or _ _ _ (holds-r2 (g .pages) n (erased g img) (h .whole .r2))
-      (sound-or _ _ _ (none-lowest t (repeated (erased g img) (seqAt g img)) (no-repeat g n img (h .r3)))
-      (sound-or _ _ _ (unless-both _ _ _ (le-leb 1 (heightOf g img (rootOf g n img)) high) refl)
-      (sound-or _ _ _ (rooted-r5 g shape t (chipOf g n img) (h .whole .sound .rooted))
-      (sound-or _ _ _ (tied-r6 t (chipOf g n img) (h .whole .sound .tied))
-      (sound-or _ _ _ (holds-r7 g n (chipOf g n img) s)
-      (sound-or _ _ _ (holds-r8 g (some-page g shape) n (chipOf g n img) u) refl)))))))
+      let w = held-ruled h in
+      sound-or _ _ _ (w .first) (sound-or _ _ _ (w .second) (sound-or _ _ _ (w .third) (sound-or _ _ _ (w .fourth) (sound-or _ _ _ (w .fifth)
+      (sound-or _ _ _ (w .sixth) (sound-or _ _ _ (holds-r7 g n (chipOf g n img) s)
+      (sound-or _ _ _ (holds-r8 g (some-page g core) n (chipOf g n img) u) refl)))))))
 
   pub height-most : 1 ≤ pagesOf g n → Held g n img → suc (chipOf g n img .level) ≤ g .top
   height-most i h =

@@ -9,16 +9,16 @@ use native.Mathlib.Nat.{zero-add, zero-mul, mod-eq-of-lt}
 use lib.ListN.{length, set, replicate, length-set, length-replicate, getD-replicate}
 use lib.Seq.{getD-set-same, getD-set-other}
 use lib.Dec.{ltb}
-use borrow.Author.Tests.{le-leb, ltb-true, ltb-false, leb-true}
+use borrow.Author.Tests.{eq-eqb, ne-eqb, le-leb, ltb-true, ltb-false, leb-true}
 use Rattle.geometry.specs.declared.Geometry.{Geometry}
 use Rattle.geometry.specs.declared.Entry.{Entry}
 use Rattle.geometry.specs.Tests.{pick, _&_, and-left, and-right, and-both}
-use Rattle.geometry.specs.Geometry.{pageBytes, halves, codePlace, pageBase, slots, firstSlot, slotsOf, rootSlots, inTable}
-use Rattle.geometry.specs.Shape.{Shape}
+use Rattle.geometry.specs.Geometry.{pageBytes, halves, codePlace, pageBase, slots, firstSlot, slotsOf, rootSlots, rootMost, inTable}
+use Rattle.geometry.specs.Shape.{Shape, Core, most-slots}
 use Rattle.model.specs.Bytes.{byteAt, u32At, blank, erased, seqAt, heightAt, countAt, entriesAt, nodePlace, nodeCount, nodeAt}
 use Rattle.model.specs.Codes.{codesFit}
 use Rattle.model.specs.Image.{pagesOf, seqOf, heightOf, maxSeq, rootScore, rootOf, chipOf}
-use Rattle.model.specs.Page.{putU32, putEntries, putLevel, putLevels, numbered, sealed, built}
+use Rattle.model.specs.Page.{putU32, putEntries, putLevel, putLevels, numbered, sealed, built, only}
 use Rattle.trees.specs.Tests.{by-eq}
 use Rattle.trees.specs.Lists.{All}
 use Rattle.chips.specs.Erase.{blankNode}
@@ -63,7 +63,7 @@ pub view-max : (g : Geometry) (n : ℕ) (img : List ℕ) → topOf (pagesOf g n)
 unfolding viewFrom topOf maxSeq seqOf erased seqAt
 view-max g n img = refl
 
-module _ (g : Geometry) (shape : Shape g) where
+module _ (g : Geometry) (core : Core g) where
   -- what is read of a page hangs on the page's bytes alone
   pub copy-node : (a : List ℕ) (p : ℕ) (b : List ℕ) (q : ℕ) → Copy a p b q (pageBytes g) → (l : ℕ) → nodeFrom g b q l ≡ nodeFrom g a p l
   unfolding nodeFrom rootSlots entriesAt
@@ -73,9 +73,9 @@ module _ (g : Geometry) (shape : Shape g) where
           → entriesAt b (q + 8 * firstSlot g l) (min (byteAt b (q + g .main + 4 + l)) (suc (slots g - firstSlot g l))) ≡ entriesAt a
           (p + 8 * firstSlot g l) (min (byteAt a (p + g .main + 4 + l)) (suc (slots g - firstSlot g l)))
       at h =
-          let s = shape .spare-low in
-          let r = shape .room l (h .1) in
-          let m = shape .main-is in
+          let s = core .spare-low in
+          let r = core .room l (h .1) in
+          let m = core .main-is in
           let e : byteAt b (q + g .main + 4 + l) ≡ byteAt a (p + g .main + 4 + l) = copy-byte a p b q (pageBytes g) c (g .main + 4 + l)
           (p + g .main + 4 + l) (q + g .main + 4 + l) (omega arith) (omega arith) (omega (arith, s, h)) in
           rw e (copy-entries a p b q (pageBytes g) c (min (byteAt a (p + g .main + 4 + l)) (suc (slots g - firstSlot g l))) (8 * firstSlot g l)
@@ -90,7 +90,7 @@ module _ (g : Geometry) (shape : Shape g) where
   copy-tail : (a : List ℕ) (p : ℕ) (b : List ℕ) (q : ℕ) → Copy a p b q (pageBytes g) → tailFrom g b q ≡ tailFrom g a p
   unfolding tailFrom
   copy-tail a p b q c =
-      let r = shape .code-room in
+      let r = core .code-room in
       rw (
         copy-blank a p b q (pageBytes g) c (pageBytes g - codePlace g (halves g)) (codePlace g (halves g)) (p + codePlace g (halves g))
             (q + codePlace g (halves g)) refl refl (omega (arith, r)),
@@ -100,7 +100,7 @@ module _ (g : Geometry) (shape : Shape g) where
   pub copy-view : (a : List ℕ) (p : ℕ) (b : List ℕ) (q : ℕ) → Copy a p b q (pageBytes g) → viewFrom g b q ≡ viewFrom g a p
   unfolding viewFrom
   copy-view a p b q c =
-      let s = shape .spare-low in
+      let s = core .spare-low in
       let e₁ : blank b q (pageBytes g) ≡ blank a p (pageBytes g) = copy-blank a p b q (pageBytes g) c (pageBytes g) 0 p q (omega arith) (omega arith)
       (omega arith) in
       let e₂ : u32At b (q + g .main) ≡ u32At a (p + g .main) = copy-u32 a p b q (pageBytes g) c (g .main) (p + g .main) (q + g .main) refl refl
@@ -182,6 +182,21 @@ parts-table g shape h parts fits low high above bytes = record {
     apart l m i q k true y e f = let a = low l i (ltb-true l h e) in let b = step l m q k in inr (omega (arith, a, b))
     apart l m i q k false y e f = let z = ltb-false l h e in inl (above m (omega (arith, z, q)))
 
+-- level h alone, within the most entries of a root; a lower level begins no later
+pub parts-only : (g : Geometry) → Core g → (h : ℕ) (es : List Entry) → 1 ≤ h → h ≤ g .top → All Fits es → length es ≤ rootMost g h
+    → ((l : ℕ) → l < h → firstSlot g l ≤ firstSlot g h) → Parts g (only h es)
+unfolding rootSlots
+parts-only g core h es a b fit most rises = record {
+  fits = λ l i k. by-eq l h (λ e. rw (eq-eqb l h e) fit) (λ e. rw (ne-eqb l h e) tt);
+  inside = λ l i k. by-eq l h
+      (λ e. rw (eq-eqb l h e) (let x = most-slots g h in let y = core .room h b in let z = ap (firstSlot g) e in omega (arith, x, y, z, most)))
+      (λ e. rw (ne-eqb l h e) (let y = core .room l k in omega (arith, y)));
+  bytes = λ l i k. by-eq l h (λ e. rw (eq-eqb l h e) (let y = core .byte h a b in omega (arith, y, most))) (λ e. rw (ne-eqb l h e) (omega arith));
+  apart = λ l m i q k. by-eq m h
+      (λ e. inr (rw (ne-eqb l h (λ z. omega (arith, z, e, q))) (let y = rises l (omega (arith, q, e)) in let z = ap (firstSlot g) e in omega (arith, y, z))))
+      (λ e. inl (rw (ne-eqb m h e) refl));
+}
+
 -- what a built page reads as
 abbrev pub builtView : Geometry → ℕ → ℕ → (ℕ → List Entry) → View
 builtView g seq h parts = record { er = false; seq = seq; height = h; tail = true; node = λ l. pick (inTable g l) (parts l) [] }
@@ -193,7 +208,7 @@ off-nothing i at = go (ltb i at) refl
     go true e = inl (ltb-true i at e)
     go false e = inr (omega (arith, ltb-false i at e))
 
-module _ (g : Geometry) (shape : Shape g) (parts : ℕ → List Entry) where
+module _ (g : Geometry) (core : Core g) (parts : ℕ → List Entry) where
   length-levels : (n : ℕ) (b : List ℕ) → length (putLevels g parts n b) ≡ length b
   unfolding putLevels putLevel
   length-levels zero b = refl
@@ -259,7 +274,7 @@ module _ (g : Geometry) (shape : Shape g) (parts : ℕ → List Entry) where
         getD-set-other (putEntries (putLevels g parts n b) (8 * firstSlot g (suc n)) (parts (suc n))) (g .main + 4 + suc n) k
         (length (parts (suc n)) % 256) 0 (apart o)
         ∙ entries-off (putLevels g parts n b) (8 * firstSlot g (suc n)) (parts (suc n)) k
-        (inr (let i = ok .inside (suc n) (omega arith) h in let m = shape .main-is in omega (arith, i, m, q)))
+        (inr (let i = ok .inside (suc n) (omega arith) h in let m = core .main-is in omega (arith, i, m, q)))
         ∙ levels-off n b k (omega arith) q (less o)
       where
         apart : ((k < g .main + 5) ⊎ (g .main + 4 + suc n < k)) → k ≡ g .main + 4 + suc n → ⊥
@@ -282,7 +297,7 @@ module _ (g : Geometry) (shape : Shape g) (parts : ℕ → List Entry) where
         (λ e. getD-set-other (putEntries (putLevels g parts n b) (8 * firstSlot g (suc n)) (parts (suc n))) (g .main + 4 + suc n) (g .main + 4 + l)
         (length (parts (suc n)) % 256) 0 (omega arith)
         ∙ entries-off (putLevels g parts n b) (8 * firstSlot g (suc n)) (parts (suc n)) (g .main + 4 + l)
-        (inr (let z = ok .inside (suc n) (omega arith) t in let m = shape .main-is in omega (arith, z, m)))
+        (inr (let z = ok .inside (suc n) (omega arith) t in let m = core .main-is in omega (arith, z, m)))
         ∙ levels-count n b l (omega arith) (omega arith) i (omega arith))
 
     levels-same : (n : ℕ) (b : List ℕ) (l : ℕ) → n ≤ g .top → g .main ≤ length b → 1 ≤ l → l ≤ n
@@ -312,7 +327,7 @@ module _ (g : Geometry) (shape : Shape g) (parts : ℕ → List Entry) where
         put₁ = putEntries (putLevels g parts n b) (8 * firstSlot g (suc n)) (parts (suc n))
 
         m : g .main ≡ 8 * slots g
-        m = shape .main-is
+        m = core .main-is
 
         w : firstSlot g (suc n) + length (parts (suc n)) ≤ slots g
         w = ok .inside (suc n) (omega arith) h
@@ -334,21 +349,21 @@ module _ (g : Geometry) (shape : Shape g) (parts : ℕ → List Entry) where
 
       pub built-seq : u32At (built g seq h parts) (g .main) ≡ seq
       unfolding built
-      built-seq = let s = shape .spare-low in sealed-seq seq h laidLevels (omega (arith, length-laid, s)) (omega arith)
+      built-seq = let s = core .spare-low in sealed-seq seq h laidLevels (omega (arith, length-laid, s)) (omega arith)
 
       built-height : byteAt (built g seq h parts) (g .main + 4) ≡ h
       unfolding built
-      built-height = let s = shape .spare-low in sealed-height seq h laidLevels (omega (arith, length-laid, s)) high
+      built-height = let s = core .spare-low in sealed-height seq h laidLevels (omega (arith, length-laid, s)) high
 
       built-count : (l : ℕ) → 1 ≤ l → l ≤ g .top → byteAt (built g seq h parts) (g .main + 4 + l) ≡ length (parts l)
       unfolding built
-      built-count l i k = let s = shape .spare-low in sealed-off seq h laidLevels (g .main + 4 + l) (inr (omega arith)) (inl (omega arith)) ∙ levels-count (g .top)
+      built-count l i k = let s = core .spare-low in sealed-off seq h laidLevels (g .main + 4 + l) (inr (omega arith)) (inl (omega arith)) ∙ levels-count (g .top)
           (replicate (pageBytes g) 255) l (omega arith) (omega (arith, len-bare, s)) i k
 
       built-node : (l : ℕ) → 1 ≤ l → l ≤ g .top → entriesAt (built g seq h parts) (8 * firstSlot g l) (length (parts l)) ≡ parts l
       unfolding built
       built-node l i k =
-          let m = shape .main-is in
+          let m = core .main-is in
           let w = ok .inside l i k in
           copy-entries laidLevels (8 * firstSlot g l) (sealed g laidLevels seq h) (8 * firstSlot g l) (8 * length (parts l))
           (λ o q. sealed-off seq h laidLevels (8 * firstSlot g l + o) (inl (omega (arith, m, w, q))) (inl (omega (arith, m, w, q))))
@@ -366,7 +381,7 @@ module _ (g : Geometry) (shape : Shape g) (parts : ℕ → List Entry) where
       built-codes : codesFit g (built g seq h parts) 0 (halves g) ≡ true
       unfolding built sealed
       built-codes = coded-fits g (halves g) (numbered g laidLevels seq h) (omega arith)
-          (let r = shape .code-room in omega (arith, r, length-numbered seq h laidLevels, length-laid))
+          (let r = core .code-room in omega (arith, r, length-numbered seq h laidLevels, length-laid))
 
       built-tail : tailFrom g (built g seq h parts) 0 ≡ true
       unfolding tailFrom
@@ -380,7 +395,7 @@ module _ (g : Geometry) (shape : Shape g) (parts : ℕ → List Entry) where
           go : (t : Bool) → blank (built g seq h parts) 0 (pageBytes g) ≡ t → t ≡ false
           go false e = refl
           go true e =
-              let s = shape .spare-low in
+              let s = core .spare-low in
               let at : (k : ℕ) → k < pageBytes g → byteAt (built g seq h parts) k ≡ 255 = λ k q.
               blank-get (built g seq h parts) (pageBytes g) 0 k e (omega arith) (omega (arith, q)) in
               let b₀ = at (g .main) (omega (arith, s)) in

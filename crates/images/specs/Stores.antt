@@ -13,7 +13,7 @@ use Rattle.geometry.specs.declared.Geometry.{Geometry}
 use Rattle.geometry.specs.declared.Entry.{Entry}
 use Rattle.geometry.specs.Tests.{pick}
 use Rattle.geometry.specs.Geometry.{pageBytes, pageBase}
-use Rattle.geometry.specs.Shape.{Shape, base-apart}
+use Rattle.geometry.specs.Shape.{Core, base-apart}
 use Rattle.model.specs.Bytes.{byteAt}
 use Rattle.model.specs.Image.{pagesOf, Chip, chipOf}
 use Rattle.model.specs.Page.{built}
@@ -55,7 +55,7 @@ pub within : (p b q : ℕ) → p * b ≤ q → q < p * b + p → inB p b q ≡ t
 unfolding inB
 within p b q x y = rw (le-leb (p * b) q x, lt-ltb q (p * b + p) y) refl
 
-module _ (g : Geometry) (shape : Shape g) (img : List ℕ) where
+module _ (g : Geometry) (core : Core g) (img : List ℕ) where
   -- program: one view changes
   pub views-program : (p : ℕ) (bs : List ℕ) → pageBase g p + pageBytes g ≤ length img
       → views g (applyStore g (program p bs) img) ≡ laid (views g img) p (viewFrom g bs 0)
@@ -69,9 +69,9 @@ module _ (g : Geometry) (shape : Shape g) (img : List ℕ) where
           → viewFrom g (written img (pageBase g p) (byteAt bs) (pageBytes g)) (pageBase g q) ≡ pick (eqb q p) (viewFrom g bs 0)
           (viewFrom g img (pageBase g q))
       at q = by-eq q p
-          (λ e. rw (eq-eqb q p e, e) (copy-view g shape bs 0 (written img (pageBase g p) (byteAt bs) (pageBytes g)) (pageBase g p)
+          (λ e. rw (eq-eqb q p e, e) (copy-view g core bs 0 (written img (pageBase g p) (byteAt bs) (pageBytes g)) (pageBase g p)
           (λ k h. rw zero-add (written-inside img (pageBase g p) (byteAt bs) (pageBytes g) k 0 room h))))
-          (λ e. rw (ne-eqb q p e) (copy-view g shape img (pageBase g q) (written img (pageBase g p) (byteAt bs) (pageBytes g)) (pageBase g q)
+          (λ e. rw (ne-eqb q p e) (copy-view g core img (pageBase g q) (written img (pageBase g p) (byteAt bs) (pageBytes g)) (pageBase g q)
           (λ k h. written-off img (pageBase g p) (byteAt bs) (pageBytes g) (pageBase g q + k) (page-off g p q k e h))))
 
   -- erase: the views of one block go
@@ -105,9 +105,9 @@ module _ (g : Geometry) (shape : Shape g) (img : List ℕ) where
       at : (q : ℕ) (t : Bool) → inB (g .pages) b q ≡ t
           → viewFrom g (written img (pageBase g (g .pages * b)) (λ k. 255) (pageBase g (g .pages))) (pageBase g q) ≡ pick (inB (g .pages) b q)
           (noView g) (viewFrom g img (pageBase g q))
-      at q true e = rw e (view-erased g shape (written img (pageBase g (g .pages * b)) (λ k. 255) (pageBase g (g .pages))) (pageBase g q)
+      at q true e = rw e (view-erased g core (written img (pageBase g (g .pages * b)) (λ k. 255) (pageBase g (g .pages))) (pageBase g q)
           (λ k h. inside q k (range (g .pages) b q e) h))
-      at q false e = rw e (copy-view g shape img (pageBase g q) (written img (pageBase g (g .pages * b)) (λ k. 255) (pageBase g (g .pages)))
+      at q false e = rw e (copy-view g core img (pageBase g q) (written img (pageBase g (g .pages * b)) (λ k. 255) (pageBase g (g .pages)))
           (pageBase g q) (λ k h. written-off img (pageBase g (g .pages * b)) (λ k. 255) (pageBase g (g .pages)) (pageBase g q + k) (outside q k e h)))
 
   -- the stores on the chip. T pages; max is the largest number on the image
@@ -125,7 +125,7 @@ module _ (g : Geometry) (shape : Shape g) (img : List ℕ) where
     module _ (p : ℕ) (p-in : p < t) (seq h : ℕ) (parts : ℕ → List Entry) (ok : Parts g parts) (small : seq < 4294967295) (high : h < 256) where
       pub views-built : views g (applyStore g (program p (built g seq h parts)) img) ≡ laid (views g img) p (builtView g seq h parts)
       views-built = views-program p (built g seq h parts) (page-room p p-in) ∙ ap (laid (views g img) p)
-          (view-built g shape parts ok seq h small high)
+          (view-built g core parts ok seq h small high)
 
       -- a page with a root and the number max + 1: it holds the root
       pub program-root : 1 ≤ h → seq ≡ suc (topOf t (views g img))
@@ -137,7 +137,7 @@ module _ (g : Geometry) (shape : Shape g) (img : List ℕ) where
       pub program-beside : h ≡ 0 → views g img p .er ≡ true
           → chipOf g n (applyStore g (program p (built g seq h parts)) img) ≡ beside (chipOf g n img) p (builtView g seq h parts)
       program-beside hh e = sym (view-chip g n _) ∙ ap (chip t) views-built ∙ chip-beside g t (views g img) p (builtView g seq h parts) refl
-          (view-none g shape img (pageBase g p) e) hh ∙ ap (λ (c : Chip). beside c p (builtView g seq h parts)) (view-chip g n img)
+          (view-none g core img (pageBase g p) e) hh ∙ ap (λ (c : Chip). beside c p (builtView g seq h parts)) (view-chip g n img)
 
       pub program-r1 : h ≤ g .top → 1 ≤ seq → AllR1 (g .top) t (views g img)
           → AllR1 (g .top) t (views g (applyStore g (program p (built g seq h parts)) img))
@@ -152,7 +152,7 @@ module _ (g : Geometry) (shape : Shape g) (img : List ℕ) where
 
       pub beside-r4 : h ≡ 0 → views g img p .er ≡ true → R4 t (views g img) → R4 t (views g (applyStore g (program p (built g seq h parts)) img))
       beside-r4 hh e r = subst (R4 t) (sym views-built) (r4-beside g t (views g img) p (builtView g seq h parts) refl
-          (view-none g shape img (pageBase g p) e) hh r)
+          (view-none g core img (pageBase g p) e) hh r)
 
       pub program-max : seq ≡ suc (topOf t (views g img))
           → topOf t (views g (applyStore g (program p (built g seq h parts)) img)) ≤ suc (topOf t (views g img))
@@ -163,7 +163,7 @@ module _ (g : Geometry) (shape : Shape g) (img : List ℕ) where
     module _ (b : ℕ) (b-in : b < n) where
       pub erase-chip : inB (g .pages) b (rootAt t (views g img)) ≡ false → chipOf g n (applyStore g (erase b) img) ≡ eraseBlock g b (chipOf g n img)
       erase-chip e = sym (view-chip g n _) ∙ ap (chip t) (views-erase b (block-room b b-in)) ∙ chip-wipe t g b (views g img)
-          (let w = block-in (g .pages) b n b-in in let z = shape .pages-low in omega (arith, w, z)) e ∙ ap (eraseBlock g b) (view-chip g n img)
+          (let w = block-in (g .pages) b n b-in in let z = core .pages-low in omega (arith, w, z)) e ∙ ap (eraseBlock g b) (view-chip g n img)
 
       pub erase-r1 : AllR1 (g .top) t (views g img) → AllR1 (g .top) t (views g (applyStore g (erase b) img))
       erase-r1 r = subst (AllR1 (g .top) t) (sym (views-erase b (block-room b b-in))) (r1-wipe (g .top) t g b (views g img) r)
@@ -173,7 +173,7 @@ module _ (g : Geometry) (shape : Shape g) (img : List ℕ) where
 
       pub erase-r4 : inB (g .pages) b (rootAt t (views g img)) ≡ false → R4 t (views g img) → R4 t (views g (applyStore g (erase b) img))
       erase-r4 e r = subst (R4 t) (sym (views-erase b (block-room b b-in))) (r4-wipe t g b (views g img)
-          (let w = block-in (g .pages) b n b-in in let z = shape .pages-low in omega (arith, w, z)) e r)
+          (let w = block-in (g .pages) b n b-in in let z = core .pages-low in omega (arith, w, z)) e r)
 
       pub erase-max : topOf t (views g (applyStore g (erase b) img)) ≤ topOf t (views g img)
       erase-max = subst (λ v. topOf t v ≤ topOf t (views g img)) (sym (views-erase b (block-room b b-in))) (max-wipe t g b (views g img))

@@ -11,7 +11,7 @@ use Rattle.geometry.specs.declared.Geometry.{Geometry}
 use Rattle.geometry.specs.declared.Entry.{Entry}
 use Rattle.geometry.specs.Tests.{pick}
 use Rattle.geometry.specs.Geometry.{half, rootMost}
-use Rattle.geometry.specs.Shape.{Shape}
+use Rattle.geometry.specs.Shape.{Core}
 use Rattle.model.specs.Count.{count, peak, arg}
 use Rattle.model.specs.Image.{pagesOf, maxSeq, Chip, chipOf}
 use Rattle.model.specs.Tree.{mapOf, places, placesOf, live}
@@ -57,7 +57,7 @@ ahead-beside g n c p w h s = λ i. record { er = after p (c .er); last = last-is
         let y = peak-le (pagesOf g n) (c .seq) j q in
         rw (ne-eqb j p d, eq-eqb p p refl) (omega (arith, y, s)))
 
-module _ (g : Geometry) (shape : Shape g) (n : ℕ) (img : List ℕ) (held : Held g n img) where
+module _ (g : Geometry) (core : Core g) (n : ℕ) (img : List ℕ) (held : Held g n img) where
   abbrev t : ℕ
   t = pagesOf g n
 
@@ -69,10 +69,10 @@ module _ (g : Geometry) (shape : Shape g) (n : ℕ) (img : List ℕ) (held : Hel
     N = nextPage (g .pages) n (ahead g n c)
 
     found : (nextBlock (g .pages) n (ahead g n c) < n) × (firstIn (g .pages) (c .er) (nextBlock (g .pages) n (ahead g n c)) < g .pages) × (c .er N ≡ true)
-    found = next-found (g .pages) n (ahead g n c) (some-page g shape) (held .whole .r2) free
+    found = next-found (g .pages) n (ahead g n c) (some-page g core) (held .whole .r2) free
 
     N-in : N < t
-    N-in = next-in (g .pages) n (ahead g n c) (some-page g shape) (held .whole .r2) free
+    N-in = next-in (g .pages) n (ahead g n c) (some-page g core) (held .whole .r2) free
 
     pub next-free : c .er N ≡ true
     next-free = found .2
@@ -85,7 +85,7 @@ module _ (g : Geometry) (shape : Shape g) (n : ℕ) (img : List ℕ) (held : Hel
       next = applyStore g (nextStore g n h parts img) img
 
       h-low : h < 256
-      h-low = let z = shape .top-high in omega (arith, z, high)
+      h-low = let z = core .top-high in omega (arith, z, high)
 
       seq-is : suc (maxSeq g n img) ≡ suc (topOf t (views g img))
       seq-is = ap suc (sym (view-max g n img))
@@ -96,14 +96,14 @@ module _ (g : Geometry) (shape : Shape g) (n : ℕ) (img : List ℕ) (held : Hel
         refl,
         N-in,
         next-free,
-        length-built g shape parts (suc (maxSeq g n img)) h,
-        built-seq g shape parts ok
+        length-built g core parts (suc (maxSeq g n img)) h,
+        built-seq g core parts ok
             (suc (maxSeq g n img)) h low h-low,
       )
 
       pub put-max : maxSeq g n next ≡ suc (maxSeq g n img)
       unfolding nextStore
-      put-max = sym (view-max g n next) ∙ ap (topOf t) (views-built g shape img n (held .image) N N-in (suc (maxSeq g n img)) h parts ok low h-low)
+      put-max = sym (view-max g n next) ∙ ap (topOf t) (views-built g core img n (held .image) N N-in (suc (maxSeq g n img)) h parts ok low h-low)
           ∙ max-new t (views g img) N (builtView g (suc (maxSeq g n img)) h parts) N-in seq-is ∙ sym seq-is
 
       put-image : Image g n next
@@ -115,17 +115,17 @@ module _ (g : Geometry) (shape : Shape g) (n : ℕ) (img : List ℕ) (held : Hel
 
       put-r1 : AllR1 (g .top) t (views g next)
       unfolding nextStore
-      put-r1 = program-r1 g shape img n (held .image) N N-in (suc (maxSeq g n img)) h parts ok low h-low high (omega arith) (held .r1)
+      put-r1 = program-r1 g core img n (held .image) N N-in (suc (maxSeq g n img)) h parts ok low h-low high (omega arith) (held .r1)
 
       put-r3 : R3 t (views g next)
       unfolding nextStore
-      put-r3 = program-r3 g shape img n (held .image) N N-in (suc (maxSeq g n img)) h parts ok low h-low seq-is (held .r3)
+      put-r3 = program-r3 g core img n (held .image) N N-in (suc (maxSeq g n img)) h parts ok low h-low seq-is (held .r3)
 
       -- with a root: what is to be shown is that the abstract chip is whole
       module _ (some-h : 1 ≤ h) where
         pub root-chip : chipOf g n next ≡ rooted c N (builtView g (suc (maxSeq g n img)) h parts)
         unfolding nextStore
-        root-chip = program-root g shape img n (held .image) N N-in (suc (maxSeq g n img)) h parts ok low h-low some-h seq-is
+        root-chip = program-root g core img n (held .image) N N-in (suc (maxSeq g n img)) h parts ok low h-low some-h seq-is
 
         pub root-held : Whole g n (rooted c N (builtView g (suc (maxSeq g n img)) h parts)) → Held g n next
         unfolding nextStore
@@ -134,7 +134,7 @@ module _ (g : Geometry) (shape : Shape g) (n : ℕ) (img : List ℕ) (held : Hel
           bytes = put-small;
           r1 = put-r1;
           r3 = put-r3;
-          r4 = program-r4 g shape img n (held .image) N N-in (suc (maxSeq g n img)) h parts ok low h-low some-h seq-is;
+          r4 = program-r4 g core img n (held .image) N N-in (suc (maxSeq g n img)) h parts ok low h-low some-h seq-is;
           whole = subst (Whole g n) (sym root-chip) w;
         }
 
@@ -149,7 +149,7 @@ module _ (g : Geometry) (shape : Shape g) (n : ℕ) (img : List ℕ) (held : Hel
 
         pub side-chip : chipOf g n next ≡ beside c N w
         unfolding nextStore
-        side-chip = program-beside g shape img n (held .image) N N-in (suc (maxSeq g n img)) h parts ok low h-low no-h view-free
+        side-chip = program-beside g core img n (held .image) N N-in (suc (maxSeq g n img)) h parts ok low h-low no-h view-free
 
         stays : (q l : ℕ) → fitOf t (c .er) (suc l) q → beside c N w .nodes q (suc l) ≡ c .nodes q (suc l)
         unfolding beside
@@ -158,7 +158,7 @@ module _ (g : Geometry) (shape : Shape g) (n : ℕ) (img : List ℕ) (held : Hel
         side-whole : Whole g n (beside c N w)
         unfolding beside
         side-whole = record {
-          r2 = r2-next (g .pages) n (ahead g n c) (some-page g shape) (held .whole .r2) (found .0) (found .1);
+          r2 = r2-next (g .pages) n (ahead g n c) (some-page g core) (held .whole .r2) (found .0) (found .1);
           sound = sound-same 4294967296 (λ l. 2 * half g l) (rootMost g) (c .nodes) (beside c N w .nodes) (fitOf t (c .er))
               (fitOf t (after N (c .er))) (fit-after t N (c .er)) stays (c .level) (c .root) (held .whole .sound);
         }
@@ -170,7 +170,7 @@ module _ (g : Geometry) (shape : Shape g) (n : ℕ) (img : List ℕ) (held : Hel
           bytes = put-small;
           r1 = put-r1;
           r3 = put-r3;
-          r4 = beside-r4 g shape img n (held .image) N N-in (suc (maxSeq g n img)) h parts ok low h-low no-h view-free (held .r4);
+          r4 = beside-r4 g core img n (held .image) N N-in (suc (maxSeq g n img)) h parts ok low h-low no-h view-free (held .r4);
           whole = subst (Whole g n) (sym side-chip) side-whole;
         }
 
@@ -208,18 +208,18 @@ module _ (g : Geometry) (shape : Shape g) (n : ℕ) (img : List ℕ) (held : Hel
     wiped = applyStore g (erase b) img
 
     pub wipe-chip : chipOf g n wiped ≡ eraseBlock g b c
-    wipe-chip = erase-chip g shape img n (held .image) b b-in root-out
+    wipe-chip = erase-chip g core img n (held .image) b b-in root-out
 
     pub wipe-held : Whole g n (eraseBlock g b c) → Held g n wiped
     wipe-held w = record {
       image = length-store g (erase b) img ∙ held .image;
       bytes = store-small g (erase b) img tt (held .bytes);
-      r1 = erase-r1 g shape img n (held .image) b b-in (held .r1);
-      r3 = erase-r3 g shape img n (held .image) b b-in (held .r3);
-      r4 = erase-r4 g shape img n (held .image) b b-in root-out (held .r4);
+      r1 = erase-r1 g core img n (held .image) b b-in (held .r1);
+      r3 = erase-r3 g core img n (held .image) b b-in (held .r3);
+      r4 = erase-r4 g core img n (held .image) b b-in root-out (held .r4);
       whole = subst (Whole g n) (sym wipe-chip) w;
     }
 
     pub wipe-max : maxSeq g n wiped ≤ maxSeq g n img
-    wipe-max = let z = erase-max g shape img n (held .image) b b-in in let x = view-max g n wiped in let y = view-max g n img in
+    wipe-max = let z = erase-max g core img n (held .image) b b-in in let x = view-max g n wiped in let y = view-max g n img in
         omega (arith, x, y, z)

@@ -1,4 +1,4 @@
--- Document 01 as definitions, in its order: Bytes to Calls, then request 1 of document 02, Listing, and Legal, a word of demand 3. These a
+-- Document 01 as definitions, in its order: Bytes to Calls, then request 1 of document 02, Listing, Legal, a word of demand 3, and Plain, request 12. These a
 -- reader must believe; Halving, Cases and Examples are theorems about them.
 pub mod Bytes
 pub mod Codes
@@ -15,6 +15,7 @@ pub mod Update
 pub mod Calls
 pub mod Listing
 pub mod Legal
+pub mod Plain
 pub mod Halving
 pub mod Cases
 pub mod Examples

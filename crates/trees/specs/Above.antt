@@ -14,6 +14,7 @@ use Rattle.geometry.specs.Tests.{pick}
 use Rattle.model.specs.Image.{Nodes}
 use Rattle.model.specs.Tree.{gather, under, next, chosen}
 use Rattle.model.specs.Edit.{splice, put, putIn}
+use Rattle.model.specs.Plain.{both}
 use Rattle.trees.specs.Lists.{All, In, Rises, gather-append, gather-one, next-append, rises-left, rises-right, next-le}
 use Rattle.trees.specs.Nodes.{Ok, next-more, the, Rooted}
 use Rattle.trees.specs.Edit.{Local, splice-op, edit, atRoot, Made, Out, Changed, edit-list, edit-list-ok}
@@ -62,10 +63,6 @@ first-less P y (suc zero) (e ∷ []) q b h = absurd (omega arith)
 first-less P y (suc zero) (e ∷ g ∷ es) q b h = h .0
 first-less P y (suc (suc m)) (e ∷ []) q b h = absurd (omega arith)
 first-less P y (suc (suc m)) (e ∷ g ∷ es) q b h = let i = first-less P y (suc m) (g ∷ es) (omega arith) (omega arith) (h .2) in omega arith
-
--- two entries over the halves of c: z is the key kept, left and right are the pages
-abbrev pub both : ℕ → ℕ → ℕ → ℕ → List Entry → List Entry
-both left right m z c = record { key = z; addr = left } ∷ record { key = next (drop m c) 0; addr = right } ∷ []
 
 -- what stands above a changed node c at level l
 abbrev pub above : ℕ → (ℕ → ℕ) → (ℕ → List Entry → ℕ) → (ℕ → List Entry → ℕ) → (ℕ → ℕ) → ℕ → Entry → List Entry → List Entry

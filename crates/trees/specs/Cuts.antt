@@ -15,12 +15,13 @@ use Rattle.model.specs.Image.{Nodes}
 use Rattle.model.specs.Tree.{gather, under, next, chosen, find}
 use Rattle.model.specs.Edit.{splice, onPath, put, putIn, gains, splits}
 use Rattle.model.specs.Update.{isNone}
+use Rattle.model.specs.Plain.{both}
 use Rattle.counts.specs.Tally.{bit-most}
 use Rattle.trees.specs.Tests.{by-eq, and-pick}
 use Rattle.trees.specs.Lists.{Rises, gather-one, rises-map, Split, split}
 use Rattle.trees.specs.Nodes.{Ok}
 use Rattle.trees.specs.Edit.{splice-length, edit, atRoot}
-use Rattle.trees.specs.Above.{put-in, both, above}
+use Rattle.trees.specs.Above.{put-in, above}
 use Rattle.trees.specs.Seek.{find-list}
 use Rattle.trees.specs.Path.{put-as, below-is, onPath-top, onPath-below}
 

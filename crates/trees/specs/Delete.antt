@@ -12,6 +12,7 @@ use Rattle.geometry.specs.Tests.{pick}
 use Rattle.model.specs.Image.{Nodes}
 use Rattle.model.specs.Tree.{gather, under, next, chosen}
 use Rattle.model.specs.Edit.{splice, remove, removeIn, kept, Top, collapse}
+use Rattle.model.specs.Plain.{keptOn}
 use Rattle.trees.specs.Lists.{All, In, Rises, gather-eq, gather-one, rises-map, rises-all, split, splice-cong}
 use Rattle.trees.specs.Nodes.{Ok, ok-more, ok-same, under-same, the, Rooted}
 use Rattle.trees.specs.Edit.{Local, splice-op, splice-length, splice-rises, edit, atRoot, Made, made-map, Out, edit-list, edit-list-ok}
@@ -49,9 +50,6 @@ remove-in k hi [] q h = refl
 remove-in k hi (e ∷ es) q h = remove-splice k hi (e ∷ es) (omega arith) q h
 
 -- n l is the page of the path's node at level l
-abbrev pub keptOn : (ℕ → ℕ) → ℕ → Entry → List Entry → List Entry
-keptOn n l e c = kept (n l) l e c
-
 abbrev pub deletedOn : Nodes → ℕ → (ℕ → ℕ) → ℕ → Entry → List Entry
 deletedOn r k n l e = edit r k (λ e. remove k (e ∷ [])) (keptOn n) l e
 

@@ -12,10 +12,11 @@ use Rattle.geometry.specs.Tests.{pick}
 use Rattle.model.specs.Image.{Nodes}
 use Rattle.model.specs.Tree.{under, next, chosen}
 use Rattle.model.specs.Edit.{splice, put, putIn, turn, pathHalf, sideHalf, two, named, pathPart}
+use Rattle.model.specs.Plain.{both}
 use Rattle.trees.specs.Lists.{Rises}
 use Rattle.trees.specs.Nodes.{Ok, the, Rooted}
 use Rattle.trees.specs.Edit.{edit, atRoot, Made, Changed, made-map}
-use Rattle.trees.specs.Above.{both, Both, AboveHeld}
+use Rattle.trees.specs.Above.{Both, AboveHeld}
 use Rattle.trees.specs.Above as over
 pub use Rattle.trees.specs.Above.{put-local, put-splice, put-in, first-below}
 

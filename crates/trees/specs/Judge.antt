@@ -14,7 +14,7 @@ use Rattle.geometry.specs.declared.Finding.{Finding}
 use Rattle.geometry.specs.declared.Finding.the-variants.{Good, Bad}
 use Rattle.geometry.specs.Tests.{pick, _&_, and-true, and-false, and-left, and-right, and-both}
 use Rattle.geometry.specs.Geometry.{slotsOf, half, rootMost}
-use Rattle.geometry.specs.Shape.{Shape}
+use Rattle.geometry.specs.Shape.{Core}
 use Rattle.model.specs.Image.{Nodes, Chip}
 use Rattle.model.specs.Tree.{Place, placesOf, lowLevel, next}
 use Rattle.model.specs.Rules.{unless, first, names, rising, own, ownRoot, judgeEntries, judgeNode, r5, namesPage, loose, lowestPage, r6}
@@ -91,7 +91,7 @@ unfolding judgeEntries first
 good-entries sub [] hi h = refl
 good-entries sub (e ∷ es) hi h = rw (h .1) (good-entries sub es hi (h .2))
 
-module _ (g : Geometry) (shape : Shape g) (er : ℕ → Bool) (r : Nodes) (t : ℕ) where
+module _ (g : Geometry) (core : Core g) (er : ℕ → Bool) (r : Nodes) (t : ℕ) where
   abbrev room : ℕ → ℕ
   room l = 2 * half g l
 
@@ -114,7 +114,7 @@ module _ (g : Geometry) (shape : Shape g) (er : ℕ → Bool) (r : Nodes) (t : �
       let most = leb-true (length es) (slotsOf g (suc l)) (and-right _ _ a) in (
         f,
         one,
-        omega (arith, most, shape .even (suc l)),
+        omega (arith, most, core .even (suc l)),
         up .1 one,
         rises-map (λ y x. (names er t (suc l) (x .addr) ≡ true) × (judge l (x .addr) (x .key) y ≡ Good)) (Fine l) y es
             (λ y x _ _ i. entry-ok l y x (names-fit er t l (x .addr) (i .0)) (i .1))
@@ -131,12 +131,12 @@ module _ (g : Geometry) (shape : Shape g) (er : ℕ → Bool) (r : Nodes) (t : �
   ok-entry (suc l) y x h =
       let es = r (x .addr) (suc l) in
       unless-both _ _ _
-      (and-both _ _ (and-both _ _ (le-leb 1 (length es) (h .1)) (le-leb (length es) (slotsOf g (suc l)) (omega (arith, h .2, shape .even (suc l)))))
+      (and-both _ _ (and-both _ _ (le-leb 1 (length es) (h .1)) (le-leb (length es) (slotsOf g (suc l)) (omega (arith, h .2, core .even (suc l)))))
       (up-rising (names er t (suc l)) es (x .key) y (may-all l y es (h .4)) (λ _. h .3)))
       (good-entries (judge l) es y (rises-map (Fine l) (λ y x. judge l (x .addr) (x .key) y ≡ Good) y es (λ y x _ _ i. ok-entry l y x i) (h .4)))
 
 -- ---- R5
-module _ (g : Geometry) (shape : Shape g) (t : ℕ) (c : Chip) where
+module _ (g : Geometry) (core : Core g) (t : ℕ) (c : Chip) where
   abbrev Root : Type 0
   Root = Rooted (fitOf t (c .er)) (λ l. 2 * half g l) (rootMost g) 4294967296 (c .nodes) (c .level) (c .root)
 
@@ -169,7 +169,7 @@ module _ (g : Geometry) (shape : Shape g) (t : ℕ) (c : Chip) where
       let up = rising-up (names (c .er) t (suc l)) es 0 4294967296 (and-right _ _ (u .0)) in
       rises-map (λ y x. (names (c .er) t (suc l) (x .addr) ≡ true) × (judgeNode g (c .er) (c .nodes) t l (x .addr) (x .key) y ≡ Good))
       (Ok (fitOf t (c .er)) (λ l. 2 * half g l) (c .nodes) l) 4294967296 es
-      (λ y x _ _ i. entry-ok g shape (c .er) (c .nodes) t l y x (names-fit (c .er) t l (x .addr) (i .0)) (i .1))
+      (λ y x _ _ i. entry-ok g core (c .er) (c .nodes) t l y x (names-fit (c .er) t l (x .addr) (i .0)) (i .1))
       (entries-good (names (c .er) t (suc l)) (judgeNode g (c .er) (c .nodes) t l) es 4294967296 (up .0) (u .1))
 
   pub r5-rooted : fitOf t (c .er) (suc (c .level)) (c .root) → r5 g t c ≡ Good → Root
@@ -188,10 +188,10 @@ module _ (g : Geometry) (shape : Shape g) (t : ℕ) (c : Chip) where
       let es = c .nodes (c .root) (suc l) in
       unless-both _ _ _
       (and-both _ _ (and-both _ _ (of-least l (length es) (h .least)) (le-leb (length es) (rootMost g (suc l)) (h .atmost)))
-      (up-rising (names (c .er) t (suc l)) es 0 4294967296 (may-all g shape (c .er) (c .nodes) t l 4294967296 es (h .rises)) (λ _. omega arith)))
+      (up-rising (names (c .er) t (suc l)) es 0 4294967296 (may-all g core (c .er) (c .nodes) t l 4294967296 es (h .rises)) (λ _. omega arith)))
       (good-entries (judgeNode g (c .er) (c .nodes) t l) es 4294967296
       (rises-map (Ok (fitOf t (c .er)) (λ l. 2 * half g l) (c .nodes) l) (λ y x. judgeNode g (c .er) (c .nodes) t l (x .addr) (x .key) y ≡ Good)
-      4294967296 es (λ y x _ _ i. ok-entry g shape (c .er) (c .nodes) t l y x i) (h .rises)))
+      4294967296 es (λ y x _ _ i. ok-entry g core (c .er) (c .nodes) t l y x i) (h .rises)))
 
 -- ---- R6
 pub names-some : (p : ℕ) (es : List Entry) → namesPage p es ≡ true → Some (λ e. e .addr ≡ p) es

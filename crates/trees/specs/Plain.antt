@@ -1,25 +1,17 @@
--- The plain tree of request 12, one node to a page: what stands above a changed node, and where the new nodes stand.
+-- The plain tree of request 12, one node to a page: where the new nodes stand.
 -- Definitions alone; assumes nothing.
 use mathlib.Core.Path.{_≡_}
 use mathlib.Core.List.{List, [], _∷_}
-use Prim.Native.Nat.{ℕ, _*_, _<_, _≤_, min}
+use Prim.Native.Nat.{ℕ, _*_, _<_, _≤_}
 use lib.ListN.{length}
-use lib.Dec.{leb}
 use Rattle.geometry.specs.declared.Entry.{Entry}
-use Rattle.geometry.specs.Tests.{pick}
 use Rattle.model.specs.Image.{Nodes}
 use Rattle.model.specs.Edit.{put, remove}
+use Rattle.model.specs.Plain.{renewed, keptOn}
 use Rattle.trees.specs.Edit.{edit, Made}
-use Rattle.trees.specs.Above.{both, Both}
-use Rattle.trees.specs.Delete.{keptOn}
+use Rattle.trees.specs.Above.{Both}
 
 -- ---- insert
--- what stands above an edited node c at level l: one entry that names `left l`, its key lowered to K where it is above K, or
--- two where c exceeds the level's slots, 2 * half: `left l` is the page of the left half, `right l` that of the right
-abbrev pub renewed : ℕ → (ℕ → ℕ) → (ℕ → ℕ) → (ℕ → ℕ) → ℕ → Entry → List Entry → List Entry
-renewed k left right half l e c =
-    pick (leb (length c) (2 * half l)) (record { key = min (e .key) k; addr = left l } ∷ []) (both (left l) (right l) (half l) (min (e .key) k) c)
-
 abbrev pub renews : Nodes → ℕ → ℕ → (ℕ → ℕ) → (ℕ → ℕ) → (ℕ → ℕ) → ℕ → Entry → List Entry
 renews r k a left right half l e = edit r k (λ e. put k a (e ∷ [])) (renewed k left right half) l e
 

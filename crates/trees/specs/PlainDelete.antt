@@ -10,10 +10,11 @@ use Rattle.geometry.specs.declared.Entry.{Entry}
 use Rattle.model.specs.Image.{Nodes}
 use Rattle.model.specs.Tree.{gather, under, Place, places, chosen}
 use Rattle.model.specs.Edit.{splice, remove, removeIn, Top, collapse}
+use Rattle.model.specs.Plain.{keptOn}
 use Rattle.trees.specs.Lists.{All, Rises, all-append, all-map, gather-all, rises-all}
 use Rattle.trees.specs.Nodes.{Ok, places-fit, places-same, the, Rooted}
 use Rattle.trees.specs.Edit.{atRoot, Made, made-map, no-places, page-where, edit-list-places}
-use Rattle.trees.specs.Delete.{keptOn, deletedOn, DeleteHeldOn, DeleteMadeOn, less-pairs, less-ok, the-top, collapse-pairs, collapse-ok}
+use Rattle.trees.specs.Delete.{deletedOn, DeleteHeldOn, DeleteMadeOn, less-pairs, less-ok, the-top, collapse-pairs, collapse-ok}
 use Rattle.trees.specs.Tied.{Tied}
 use Rattle.trees.specs.Proper.{Proper, with-live}
 use Rattle.trees.specs.Plain.{KeptHeld, KeptMade}

@@ -14,13 +14,14 @@ use Rattle.geometry.specs.Tests.{pick}
 use Rattle.model.specs.Image.{Nodes}
 use Rattle.model.specs.Tree.{gather, under, Place, places, next, chosen}
 use Rattle.model.specs.Edit.{splice, put, putIn}
+use Rattle.model.specs.Plain.{both, renewed}
 use Rattle.trees.specs.Lists.{All, all-left, all-right, all-append, all-map, gather-append}
 use Rattle.trees.specs.Nodes.{Ok, places-fit, the, Rooted}
 use Rattle.trees.specs.Edit.{atRoot, Made, made-map, no-places, page-where, edit-list-places}
-use Rattle.trees.specs.Above.{both, Both, AboveHeld, stay-pairs, stay-ok, grow-pairs, grow-ok}
+use Rattle.trees.specs.Above.{Both, AboveHeld, stay-pairs, stay-ok, grow-pairs, grow-ok}
 use Rattle.trees.specs.Tied.{Tied}
 use Rattle.trees.specs.Proper.{Proper, with-live}
-use Rattle.trees.specs.Plain.{renewed, renews, RenewHeld, RenewMade}
+use Rattle.trees.specs.Plain.{renews, RenewHeld, RenewMade}
 use Rattle.trees.specs.PlainTied.{LiveFit, PlainWhere, plain-tied}
 
 -- where the nodes stand: W holds of the new pages and of the old ones

@@ -7,7 +7,7 @@ use native.Mathlib.Omega.{arith}
 use lib.ListN.{take}
 use Rattle.geometry.specs.declared.Geometry.{Geometry}
 use Rattle.geometry.specs.declared.Entry.{Entry}
-use Rattle.geometry.specs.Shape.{Shape}
+use Rattle.geometry.specs.Shape.{Shape, shape-core}
 use Rattle.model.specs.Count.{count}
 use Rattle.model.specs.Image.{pagesOf, maxSeq, Chip, chipOf}
 use Rattle.model.specs.Tree.{mapOf, Place, live}
@@ -98,18 +98,18 @@ module _ (g : Geometry) (n : ℕ) (base : List Entry) where
   unfolding Along applyAll programs erases nextStore
   side-runs shape img h parts ok f low =
       let free : 1 ≤ count (pagesOf g n) (chipOf g n img .er) = omega (arith, f) in
-      let sf = side-frees g shape n img (h .held) free parts ok low 0 (omega arith) refl in
-      let mx = put-max g shape n img (h .held) free parts ok low 0 (omega arith) in
+      let sf = side-frees g (shape-core g shape) n img (h .held) free parts ok low 0 (omega arith) refl in
+      let mx = put-max g (shape-core g shape) n img (h .held) free parts ok low 0 (omega arith) in
       let end : Keeps g n base (applyStore g (nextStore g n 0 parts img) img) = record {
-        held = side-held g shape n img (h .held) free parts ok low 0 (omega arith) refl;
+        held = side-held g (shape-core g shape) n img (h .held) free parts ok low 0 (omega arith) refl;
         r7 = inl (omega (arith, f, sf));
-        r8 = (let z = ap (λ (x : List Place). count (pagesOf g n) (live x)) (side-lives g shape n img (h .held) free parts ok low 0 (omega arith) refl) in
+        r8 = (let z = ap (λ (x : List Place). count (pagesOf g n) (live x)) (side-lives g (shape-core g shape) n img (h .held) free parts ok low 0 (omega arith) refl) in
             omega (arith, z, h .r8));
-        map-is = side-map g shape n img (h .held) free parts ok low 0 (omega arith) refl ∙ h .map-is;
+        map-is = side-map g (shape-core g shape) n img (h .held) free parts ok low 0 (omega arith) refl ∙ h .map-is;
       } in
       record {
-        along = (h, put-legal g shape n img (h .held) free parts ok low 0 (omega arith), end);
-        chip-is = side-chip g shape n img (h .held) free parts ok low 0 (omega arith) refl;
+        along = (h, put-legal g (shape-core g shape) n img (h .held) free parts ok low 0 (omega arith), end);
+        chip-is = side-chip g (shape-core g shape) n img (h .held) free parts ok low 0 (omega arith) refl;
         grows = omega (arith, mx);
         programmed = omega arith;
         wiped = omega arith;

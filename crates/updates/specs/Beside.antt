@@ -10,7 +10,7 @@ use lib.Dec.{eqb, leb, ltb}
 use borrow.Author.Tests.{eq-eqb, ne-eqb, le-ltb}
 use Rattle.geometry.specs.declared.Geometry.{Geometry}
 use Rattle.geometry.specs.Tests.{pick, _&_, and-right}
-use Rattle.geometry.specs.Shape.{Shape}
+use Rattle.geometry.specs.Shape.{Shape, shape-core}
 use Rattle.model.specs.Bytes.{erased, nodeAt}
 use Rattle.model.specs.Count.{count, least, peak, arg}
 use Rattle.model.specs.Image.{pagesOf, seqOf, maxSeq, Chip, chipOf}
@@ -143,7 +143,7 @@ pub record Tracks (g : Geometry) (n : ℕ) (o : Opened) (img : List ℕ) (h : Be
 pub next-of : (g : Geometry) → Shape g → (n : ℕ) (o : Opened) (img : List ℕ) (h : Beside) → Held g n img → Tracks g n o img h
     → 1 ≤ count (pagesOf g n) (chipOf g n img .er) → h .next ≡ nextPage (g .pages) n (ahead g n (chipOf g n img))
 next-of g shape n o img h held t free =
-    let z = next-in (g .pages) n (ahead g n (chipOf g n img)) (some-page g shape) (held .whole .r2) free in
+    let z = next-in (g .pages) n (ahead g n (chipOf g n img)) (some-page g (shape-core g shape)) (held .whole .r2) free in
     t .next-is ∙ omega (arith, z)
 
 -- the record of the image, with a right table
@@ -202,18 +202,18 @@ module _ (g : Geometry) (shape : Shape g) (n : ℕ) (few : pagesOf g n + g .page
     where
       last-is : arg (pagesOf g n) (λ j. pick (eqb j N) (suc (peak (pagesOf g n) (c .seq))) (c .seq j)) ≡ N
       last-is = arg-new (pagesOf g n) (λ j. pick (eqb j N) (suc (peak (pagesOf g n) (c .seq))) (c .seq j)) N
-          (next-in (g .pages) n (ahead g n c) (some-page g shape) (held .whole .r2) free)
+          (next-in (g .pages) n (ahead g n c) (some-page g (shape-core g shape)) (held .whole .r2) free)
           (λ j p d. let y = peak-le (pagesOf g n) (c .seq) j p in rw (ne-eqb j N d, eq-eqb N N refl) (omega (arith, y)))
 
   next-moved : nextAfter (g .pages) n (erased g then) N ≡ min (pagesOf g n) (nextPage (g .pages) n (ahead g n (chipOf g n then)))
   next-moved = ap (λ (f : ℕ → Bool). nextAfter (g .pages) n f N) er-is
-      ∙ next-least (g .pages) n (ahead g n c) (some-page g shape) (held .whole .r2) free
+      ∙ next-least (g .pages) n (ahead g n c) (some-page g (shape-core g shape)) (held .whole .r2) free
       ∙ sym (ap (λ (w : Ahead). min (pagesOf g n) (nextPage (g .pages) n w)) ahead-is)
 
   -- one page fewer is erased
   frees : count (pagesOf g n) (c .er) ≡ suc (count (pagesOf g n) (chipOf g n then .er))
-  frees = let z = count-gone (pagesOf g n) N (c .er) (next-in (g .pages) n (ahead g n c) (some-page g shape) (held .whole .r2) free)
-      (next-found (g .pages) n (ahead g n c) (some-page g shape) (held .whole .r2) free .2) in
+  frees = let z = count-gone (pagesOf g n) N (c .er) (next-in (g .pages) n (ahead g n c) (some-page g (shape-core g shape)) (held .whole .r2) free)
+      (next-found (g .pages) n (ahead g n c) (some-page g (shape-core g shape)) (held .whole .r2) free .2) in
       let e = ap (count (pagesOf g n)) er-is in omega (arith, z, e)
 
   -- the root's page has the largest number

@@ -13,7 +13,7 @@ use borrow.Author.Tests.{ltb-true}
 use Rattle.geometry.specs.declared.Geometry.{Geometry}
 use Rattle.geometry.specs.declared.Entry.{Entry}
 use Rattle.geometry.specs.Tests.{pick}
-use Rattle.geometry.specs.Shape.{Shape}
+use Rattle.geometry.specs.Shape.{Shape, shape-core}
 use Rattle.model.specs.Bytes.{erased}
 use Rattle.model.specs.Count.{count}
 use Rattle.model.specs.Image.{pagesOf, maxSeq, Chip, chipOf}
@@ -162,7 +162,7 @@ module _ (g : Geometry) (shape : Shape g) (n : ℕ) (few : pagesOf g n + g .page
   unfolding eraseBy applyAll
   erase-same o v q img h hd s t =
       let dead : (j : ℕ) → j < g .pages → live (placesOf (chipOf g n img)) (g .pages * v + j) ≡ false = λ j z. s .dead j (omega (arith, z)) in
-      let e = ap placesOf (wipe-chip g shape n img hd v q dead) ∙ erased-places g shape n v q (chipOf g n img) s in
+      let e = ap placesOf (wipe-chip g (shape-core g shape) n img hd v q dead) ∙ erased-places g shape n v q (chipOf g n img) s in
       record {
         stores-are = refl;
         image-is = refl;
@@ -246,5 +246,5 @@ module _ (g : Geometry) (shape : Shape g) (n : ℕ) (few : pagesOf g n + g .page
             let i = applyAll g cs img in
             same-then g (Tells g n) (Tells g n) img cs (collectStores g n k m i) run (collectBy g n k m) s
             (ih i (run .kept) (runs-end g n base img cs d (g .pages - 1) 1 a) (subst (Room k) (sym (a .chip-is)) (omega (arith, rd .0 .lives, rm)))
-            (let u = a .grows in let x = a .programmed in let o = some-page g shape in omega (arith, u, x, o, w, y))
+            (let u = a .grows in let x = a .programmed in let o = some-page g (shape-core g shape) in omega (arith, u, x, o, w, y))
             (same-tells g (Tells g n) img cs run s))

@@ -13,7 +13,7 @@ use borrow.Author.Tests.{ltb-true}
 use Rattle.geometry.specs.declared.Geometry.{Geometry}
 use Rattle.geometry.specs.declared.Entry.{Entry}
 use Rattle.geometry.specs.Tests.{pick}
-use Rattle.geometry.specs.Shape.{Shape}
+use Rattle.geometry.specs.Shape.{Shape, shape-core}
 use Rattle.model.specs.Count.{count}
 use Rattle.model.specs.Image.{pagesOf, maxSeq, Chip, chipOf}
 use Rattle.model.specs.Tree.{mapOf, Place, placesOf, live}
@@ -37,7 +37,7 @@ module _ (g : Geometry) (shape : Shape g) (n : ℕ) (few : pagesOf g n + g .page
   t = pagesOf g n
 
   sweeping-r7 : (v j : ℕ) (c : Chip) → v < n → Sweeping g n v j c → R7 g n c
-  sweeping-r7 v j c q h = let z = some-page g shape in inr (
+  sweeping-r7 v j c q h = let z = some-page g (shape-core g shape) in inr (
     v,
     q,
     ap not
@@ -108,10 +108,10 @@ module _ (g : Geometry) (shape : Shape g) (n : ℕ) (few : pagesOf g n + g .page
   erase-runs v q img h s u m =
       let c = chipOf g n img in
       let dead : (j : ℕ) → j < g .pages → live (placesOf c) (g .pages * v + j) ≡ false = λ j z. s .dead j (omega (arith, z)) in
-      let ec = wipe-chip g shape n img h v q dead in
-      let mx = wipe-max g shape n img h v q dead in
+      let ec = wipe-chip g (shape-core g shape) n img h v q dead in
+      let mx = wipe-max g (shape-core g shape) n img h v q dead in
       let fr = erased-frees g shape n v q c s in
-      let held = wipe-held g shape n img h v q dead (erased-good g shape n v q c s) in
+      let held = wipe-held g (shape-core g shape) n img h v q dead (erased-good g shape n v q c s) in
       record {
         along = (
           record { held = h; r7 = sweeping-r7 v 0 c q s; r8 = u; map-is = m },
@@ -205,7 +205,7 @@ module _ (g : Geometry) (shape : Shape g) (n : ℕ) (few : pagesOf g n + g .page
           let i = applyAll g cs img in
           let ci = a .chip-is in
           let b = ih i (runs-end g n base img cs d (g .pages - 1) 1 a) (subst (Roomy k) (sym ci) (omega (arith, rd .0 .lives, rm)))
-          (let u = a .grows in let x = a .programmed in let o = some-page g shape in omega (arith, u, x, o, w, y)) in
+          (let u = a .grows in let x = a .programmed in let o = some-page g (shape-core g shape) in omega (arith, u, x, o, w, y)) in
           runs-as g n base img (cs ++ collectStores g n k m i) (collect g n k m (chipOf g n i)) (collect g n k m d)
           (g .pages - 1 + m * (g .pages - 1)) (suc m * (g .pages - 1)) (1 + m) (suc m) (ap (collect g n k m) ci) (omega (arith, y′)) (omega arith)
           (runs-then g n base img cs (collectStores g n k m i) d (collect g n k m (chipOf g n i)) (g .pages - 1) (m * (g .pages - 1)) 1 m a b)

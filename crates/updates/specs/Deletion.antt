@@ -11,7 +11,7 @@ use Rattle.geometry.specs.declared.Geometry.{Geometry}
 use Rattle.geometry.specs.declared.Entry.{Entry}
 use Rattle.geometry.specs.Tests.{pick, _&_, and-true, and-false}
 use Rattle.geometry.specs.Geometry.{slotsOf, half}
-use Rattle.geometry.specs.Shape.{Shape}
+use Rattle.geometry.specs.Shape.{Shape, shape-core}
 use Rattle.model.specs.Count.{count, peak}
 use Rattle.model.specs.Image.{pagesOf, maxSeq, Nodes, Chip, chipOf, theRoot}
 use Rattle.model.specs.Tree.{mapOf, sought}
@@ -102,10 +102,10 @@ module _ (g : Geometry) (shape : Shape g) (n : ℕ) (few : pagesOf g n + g .page
   free = omega (arith, room)
 
   N-in : N < t
-  N-in = side-erased g shape n c (whole .r2) 1 free 1 (omega arith) (omega arith) .1
+  N-in = side-erased g (shape-core g shape) n c (whole .r2) 1 free 1 (omega arith) (omega arith) .1
 
   high : suc (c .level) ≤ g .top
-  high = height-most g shape n img (omega (arith, N-in)) (keeps .held)
+  high = height-most g (shape-core g shape) n img (omega (arith, N-in)) (keeps .held)
 
   all-fit : (q l : ℕ) → All Fits (c .nodes q l)
   all-fit = node-fits g img (keeps .held .bytes)
@@ -174,7 +174,7 @@ module _ (g : Geometry) (shape : Shape g) (n : ℕ) (few : pagesOf g n + g .page
 
     stays : (p l : ℕ) → fitOf t (c .er) (suc l) p → e′ .nodes p (suc l) ≡ c .nodes p (suc l)
     unfolding rooted taken
-    stays p l h = rw (ne-eqb p N (λ z. new-side g shape n c (whole .r2) 1 free 1 l (omega arith) (omega arith)
+    stays p l h = rw (ne-eqb p N (λ z. new-side g (shape-core g shape) n c (whole .r2) 1 free 1 l (omega arith) (omega arith)
         (subst (fitOf t (c .er) (suc l)) z h))) refl
 
     final-is : e′ ≡ record { er = taken (g .pages) n (ahead g n c) 1 .er; seq = e′ .seq; nodes = e′ .nodes; level = top .level; root = N }
@@ -190,7 +190,7 @@ module _ (g : Geometry) (shape : Shape g) (n : ℕ) (few : pagesOf g n + g .page
           record {
             root-is = ap (λ (x : Chip). x .root) final-is;
             level-is = ap (λ (x : Chip). x .level) final-is;
-            topped = topped g shape n c c 0 1 (builtView g q height (leftList g n c k)) (whole .r2) (let p = some-page g shape in omega (arith, room, p))
+            topped = topped g shape n c c 0 1 (builtView g q height (leftList g n c k)) (whole .r2) (let p = some-page g (shape-core g shape) in omega (arith, room, p))
                 number-is (omega arith) (omega arith) refl;
           },
         )

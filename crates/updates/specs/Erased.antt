@@ -11,7 +11,7 @@ use borrow.Author.Tests.{eq-eqb, ne-eqb}
 use Rattle.geometry.specs.declared.Geometry.{Geometry}
 use Rattle.geometry.specs.Tests.{pick, _&_, and-both}
 use Rattle.geometry.specs.Geometry.{pageBase}
-use Rattle.geometry.specs.Shape.{Shape}
+use Rattle.geometry.specs.Shape.{Shape, shape-core}
 use Rattle.model.specs.Bytes.{u32At, erased, seqAt}
 use Rattle.model.specs.Count.{count, arg}
 use Rattle.model.specs.Image.{pagesOf, seqOf, heightOf, maxSeq, rootOf, Chip, chipOf}
@@ -77,10 +77,10 @@ module _ (g : Geometry) (shape : Shape g) (n : ℕ) (img : List ℕ) (held : Hel
   dead j z = sw .dead j (omega (arith, z))
 
   chip-is : chipOf g n then ≡ eraseBlock g v c
-  chip-is = wipe-chip g shape n img held v v-in dead
+  chip-is = wipe-chip g (shape-core g shape) n img held v v-in dead
 
   held-then : Held g n then
-  held-then = wipe-held g shape n img held v v-in dead (erased-good g shape n v v-in c sw)
+  held-then = wipe-held g (shape-core g shape) n img held v v-in dead (erased-good g shape n v v-in c sw)
 
   -- the root stands outside the block
   outside : inB (g .pages) v (c .root) ≡ false
@@ -125,7 +125,7 @@ module _ (g : Geometry) (shape : Shape g) (n : ℕ) (img : List ℕ) (held : Hel
     most-then : maxSeq g n then ≡ h .most
     unfolding maxSeq
     most-then =
-        let a = wipe-max g shape n img held v v-in dead in
+        let a = wipe-max g (shape-core g shape) n img held v v-in dead in
         let b = peak-le (pagesOf g n) (seqOf g then) (rootOf g n then) (held-then .whole .sound .rooted .fits .0) in
         let e = number-then in
         let f = t .most-is in
@@ -137,7 +137,7 @@ module _ (g : Geometry) (shape : Shape g) (n : ℕ) (img : List ℕ) (held : Hel
     next-then : nextErased (g .pages) n (erased g then) (h .root) (h .next) ≡ nextPage (g .pages) n (ahead g n (chipOf g n then))
     next-then =
         let last : arg (pagesOf g n) (seqOf g then) ≡ h .root = last-root g n then held-then (number-then ∙ sym most-then) ∙ root-then in
-        let pages = some-page g shape in
+        let pages = some-page g (shape-core g shape) in
         (λ i. nextErased (g .pages) n (erased g then) (sym last i) (t .next-is i))
         ∙ next-erased (g .pages) n v (ahead g n c) (ahead g n (chipOf g n then)) pages (held .whole .r2) (held-then .whole .r2) (sw .full) er-own er-other
         (omega (arith, frees, pages))

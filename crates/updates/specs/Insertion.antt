@@ -11,7 +11,7 @@ use Rattle.geometry.specs.declared.Geometry.{Geometry}
 use Rattle.geometry.specs.declared.Entry.{Entry}
 use Rattle.geometry.specs.Tests.{pick, bit}
 use Rattle.geometry.specs.Geometry.{half}
-use Rattle.geometry.specs.Shape.{Shape}
+use Rattle.geometry.specs.Shape.{Shape, shape-core}
 use Rattle.model.specs.Count.{count, peak}
 use Rattle.model.specs.Image.{pagesOf, maxSeq, Chip, chipOf}
 use Rattle.model.specs.Tree.{mapOf, placesOf, live, chosen, sought}
@@ -106,7 +106,7 @@ module _ (g : Geometry) (shape : Shape g) (n : ℕ) (few : pagesOf g n + g .page
   free = omega (arith, room)
 
   high : suc (c .level) ≤ g .top
-  high = height-most g shape n img (let z = side-erased g shape n c (whole .r2) m free m (omega (arith, m-is)) (omega arith) .1 in omega (arith, z))
+  high = height-most g (shape-core g shape) n img (let z = side-erased g (shape-core g shape) n c (whole .r2) m free m (omega (arith, m-is)) (omega arith) .1 in omega (arith, z))
       (keeps .held)
 
   all-fit : (q l : ℕ) → All Fits (c .nodes q l)
@@ -141,7 +141,7 @@ module _ (g : Geometry) (shape : Shape g) (n : ℕ) (few : pagesOf g n + g .page
     there q j e = rw (ne-eqb q (nextPage (g .pages) n (ahead g n d)) (λ z. e (z ∙ next-side))) refl
 
     next-in : nextPage (g .pages) n (ahead g n d) < t
-    next-in = let z = side-erased g shape n c (whole .r2) m free (suc i) (omega arith) (omega (arith, lt)) .1 in omega (arith, z, next-side)
+    next-in = let z = side-erased g (shape-core g shape) n c (whole .r2) m free (suc i) (omega arith) (omega (arith, lt)) .1 in omega (arith, z, next-side)
 
     pub laid-more : s ≡ suc (peak t (d .seq)) → Laid g n c k a (suc i) d′
     unfolding taken
@@ -149,15 +149,15 @@ module _ (g : Geometry) (shape : Shape g) (n : ℕ) (few : pagesOf g n + g .page
       ahead-is = ahead-beside g n d (nextPage (g .pages) n (ahead g n d)) (builtView g s 0 parts) next-in num
           ∙ ap (λ (x : Ahead). onward (nextPage (g .pages) n x) x) (laid .ahead-is);
       sides = λ j b q. by-eq j (suc i) (λ e. rw e (here (side (suc i)) refl))
-          (λ e. there (side j) j (λ z. e (side-inj g shape n c (whole .r2) m free j (suc i) b (omega (arith, q, lt)) (omega arith)
+          (λ e. there (side j) j (λ z. e (side-inj g (shape-core g shape) n c (whole .r2) m free j (suc i) b (omega (arith, q, lt)) (omega arith)
           (omega (arith, lt)) z)) ∙ laid .sides j b (omega (arith, q, e)));
-      stays = λ q l h. there q (suc l) (λ z. new-side g shape n c (whole .r2) m free (suc i) l (omega arith) (omega (arith, lt))
+      stays = λ q l h. there q (suc l) (λ z. new-side g (shape-core g shape) n c (whole .r2) m free (suc i) l (omega arith) (omega (arith, lt))
           (subst (fitOf (g .pages * n) (c .er) (suc l)) z h)) ∙ laid .stays q l h;
     }
 
   -- the pages left after i are taken
   left : (i : ℕ) → i ≤ m → count t (taken (g .pages) n (ahead g n c) i .er) + i ≡ count t (c .er)
-  left i q = let z = step (g .pages) n (ahead g n c) (some-page g shape) (whole .r2) i (omega (arith, q, free)) .left in omega (arith, z)
+  left i q = let z = step (g .pages) n (ahead g n c) (some-page g (shape-core g shape)) (whole .r2) i (omega (arith, q, free)) .left in omega (arith, z)
 
   next-is : (h l : ℕ) (parts : ℕ → List Entry) (x : List ℕ) → nextPage (g .pages) n (ahead g n (chipOf g n x)) ≡ side l → suc (maxSeq g n x) ≡ seq + l
       → program (side l) (built g (seq + l) h parts) ≡ nextStore g n h parts x
@@ -187,7 +187,7 @@ module _ (g : Geometry) (shape : Shape g) (n : ℕ) (few : pagesOf g n + g .page
       (s .chip) (s .laid) 0 in
       let e = next-is 0 (suc i) p x page (omega (arith, s .max-is)) in
       let r = side-runs g n base shape x z p ok few′ low′ in
-      let mx = put-max g shape n x (z .held) (omega (arith, few′)) p ok low′ 0 (omega arith) in
+      let mx = put-max g (shape-core g shape) n x (z .held) (omega (arith, few′)) p ok low′ 0 (omega arith) in
       let q = suc (maxSeq g n x) in
       let st = program (side (suc i)) (built g (seq + suc i) 0 p) in
       let r′ = subst (λ (u : Store). Runs g n base x (u ∷ []) (beside (chipOf g n x) (nextPage (g .pages) n (ahead g n (chipOf g n x))) (builtView g q 0 p)) 1
@@ -316,11 +316,11 @@ module _ (g : Geometry) (shape : Shape g) (n : ℕ) (few : pagesOf g n + g .page
     elsewhere p j h = rw (ne-eqb p P (λ z. h (z ∙ page-is))) refl
 
     at-side : (j : ℕ) → 1 ≤ j → j < m → e′ .nodes (side j) j ≡ sideList g n c k a j
-    at-side j b h = elsewhere (side j) j (λ z. let w = side-inj g shape n c (whole .r2) m free j m b (omega (arith, h)) (omega (arith, m-is))
+    at-side j b h = elsewhere (side j) j (λ z. let w = side-inj g (shape-core g shape) n c (whole .r2) m free j m b (omega (arith, h)) (omega (arith, m-is))
         (omega arith) z in omega (arith, w, h)) ∙ laid .sides j b (omega (arith, h, m-is))
 
     stays : (p l : ℕ) → fitOf t (c .er) (suc l) p → e′ .nodes p (suc l) ≡ c .nodes p (suc l)
-    stays p l h = elsewhere p (suc l) (λ z. new-side g shape n c (whole .r2) m free m l (omega (arith, m-is)) (omega arith)
+    stays p l h = elsewhere p (suc l) (λ z. new-side g (shape-core g shape) n c (whole .r2) m free m l (omega (arith, m-is)) (omega arith)
         (subst (fitOf t (c .er) (suc l)) z h)) ∙ laid .stays p l h
 
     final-is : e′ ≡ record { er = taken (g .pages) n (ahead g n c) m .er; seq = e′ .seq; nodes = e′ .nodes; level = height - 1; root = N }
@@ -333,12 +333,12 @@ module _ (g : Geometry) (shape : Shape g) (n : ℕ) (few : pagesOf g n + g .page
 
     d-r2 : R2 (g .pages) n (d .er)
     d-r2 = subst (λ (x : Ahead). R2 (g .pages) n (x .er)) (sym (laid .ahead-is))
-        (step (g .pages) n (ahead g n c) (some-page g shape) (whole .r2) i (omega (arith, m-is, free)) .r2)
+        (step (g .pages) n (ahead g n c) (some-page g (shape-core g shape)) (whole .r2) i (omega (arith, m-is, free)) .r2)
 
     pub final-done : Whole g n e′ × (mapOf e′ ≡ put k a (mapOf c)) × R8 g n e′ × Inserted g n c m k a e′
     final-done =
         let w = insert-done g shape n k a k-low c whole free (e′ .nodes) (e′ .seq) at-N at-side stays high not-high in
-        let p = some-page g shape in (
+        let p = some-page g (shape-core g shape) in (
           subst (Whole g n) (sym final-is) (w .0),
           ap mapOf final-is ∙ w .1,
           subst (R8 g n) (sym final-is) (omega (arith, w .2, space)),

@@ -8,7 +8,7 @@ use native.Mathlib.Nat.{mul-le-mul-left, mul-le-mul-right}
 use borrow.Author.Tests.{ltb-false}
 use Rattle.geometry.specs.declared.Geometry.{Geometry}
 use Rattle.geometry.specs.declared.Entry.{Entry}
-use Rattle.geometry.specs.Shape.{Shape}
+use Rattle.geometry.specs.Shape.{Shape, shape-core}
 use Rattle.model.specs.Count.{count}
 use Rattle.model.specs.Image.{pagesOf, maxSeq, Chip, chipOf}
 use Rattle.model.specs.Tree.{placesOf, live, find, sought}
@@ -55,7 +55,7 @@ module _ (g : Geometry) (shape : Shape g) (n : ℕ) (few : pagesOf g n + g .page
   -- not ROOM
   pub roomy : (k : ℕ) → 1 ≤ k → roomless g (freePages g n c) k ≡ false → count t (live (placesOf c)) + (2 * g .pages + k) ≤ suc t
   unfolding roomless
-  roomy k h r = let z = ltb-false (freePages g n c) (2 * g .pages - 1 + k) r in let p = some-page g shape in omega (arith, z, p, h)
+  roomy k h r = let z = ltb-false (freePages g n c) (2 * g .pages - 1 + k) r in let p = some-page g (shape-core g shape) in omega (arith, z, p, h)
 
   -- an insertion
   module _ (some-pages : 1 ≤ t) (k a : ℕ) (k-low : k < 4294967296) (a-low : a < 4294967296) (not-high : tooHigh g c k ≡ false)
@@ -64,7 +64,7 @@ module _ (g : Geometry) (shape : Shape g) (n : ℕ) (few : pagesOf g n + g .page
     m = needs g c k
 
     pub m-top : m ≤ g .top
-    m-top = needs-top g shape n k a k-low c (keeps .held .whole) (height-most g shape n img some-pages (keeps .held))
+    m-top = needs-top g shape n k a k-low c (keeps .held .whole) (height-most g (shape-core g shape) n img some-pages (keeps .held))
 
     pub m-some : 1 ≤ m
     m-some = let z = needs-is g shape n k a k-low c (keeps .held .whole) in omega (arith, z)

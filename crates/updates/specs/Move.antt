@@ -10,7 +10,7 @@ use Rattle.geometry.specs.declared.Geometry.{Geometry}
 use Rattle.geometry.specs.declared.Entry.{Entry}
 use Rattle.geometry.specs.Tests.{pick}
 use Rattle.geometry.specs.Geometry.{slotsOf, half, rootMost, inTable}
-use Rattle.geometry.specs.Shape.{Shape}
+use Rattle.geometry.specs.Shape.{Shape, shape-core}
 use Rattle.model.specs.Count.{count, peak}
 use Rattle.model.specs.Image.{pagesOf, maxSeq, Chip, chipOf, theRoot}
 use Rattle.model.specs.Tree.{mapOf, placesOf, live, lowLevel}
@@ -45,10 +45,10 @@ module _ (g : Geometry) (shape : Shape g) (n : ℕ) (few : pagesOf g n + g .page
   N = nextPage (g .pages) n (ahead g n c)
 
   N-in : N < t
-  N-in = next-in (g .pages) n (ahead g n c) (some-page g shape) (held .whole .r2) free
+  N-in = next-in (g .pages) n (ahead g n c) (some-page g (shape-core g shape)) (held .whole .r2) free
 
   high : suc (c .level) ≤ g .top
-  high = height-most g shape n img (omega (arith, N-in)) held
+  high = height-most g (shape-core g shape) n img (omega (arith, N-in)) held
 
   abbrev a : ℕ
   a = lowLevel (placesOf c) p
@@ -124,20 +124,20 @@ module _ (g : Geometry) (shape : Shape g) (n : ℕ) (few : pagesOf g n + g .page
 
   module _ (alive : live (placesOf c) p ≡ true) (low : suc (maxSeq g n img) < 4294967295) where
     pub move-chip : chipOf g n (applyStore g st img) ≡ moveTo t c p N
-    move-chip = rw store-is (root-chip g shape n img held free (movePart c p N) move-parts low (suc (c .level)) high (omega arith) ∙ moved-chip)
+    move-chip = rw store-is (root-chip g (shape-core g shape) n img held free (movePart c p N) move-parts low (suc (c .level)) high (omega arith) ∙ moved-chip)
 
     step : MoveStep g n c (moveTo t c p N) p N
     step = move-step g shape n c (held .whole) p alive free
 
     pub move-held : Held g n (applyStore g st img)
-    move-held = rw store-is (root-held g shape n img held free (movePart c p N) move-parts low (suc (c .level)) high (omega arith)
+    move-held = rw store-is (root-held g (shape-core g shape) n img held free (movePart c p N) move-parts low (suc (c .level)) high (omega arith)
         (subst (Whole g n) (sym moved-chip) (step .good)))
 
     pub move-map : mapOf (chipOf g n (applyStore g st img)) ≡ mapOf c
     move-map = ap mapOf move-chip ∙ step .pairs-are
 
     pub move-max : maxSeq g n (applyStore g st img) ≡ suc (maxSeq g n img)
-    move-max = rw store-is (put-max g shape n img held free (movePart c p N) move-parts low (suc (c .level)) high)
+    move-max = rw store-is (put-max g (shape-core g shape) n img held free (movePart c p N) move-parts low (suc (c .level)) high)
 
     pub move-legal : Legal g n img st
-    move-legal = rw store-is (put-legal g shape n img held free (movePart c p N) move-parts low (suc (c .level)) high)
+    move-legal = rw store-is (put-legal g (shape-core g shape) n img held free (movePart c p N) move-parts low (suc (c .level)) high)

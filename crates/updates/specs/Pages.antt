@@ -4,7 +4,7 @@ use mathlib.Core.List.{List}
 use Prim.Native.Nat.{ℕ, zero, suc, _+_, _*_, _<_, _≤_}
 use native.Mathlib.Omega.{arith}
 use Rattle.geometry.specs.declared.Geometry.{Geometry}
-use Rattle.geometry.specs.Shape.{Shape}
+use Rattle.geometry.specs.Shape.{Shape, shape-core}
 use Rattle.model.specs.Count.{count}
 use Rattle.model.specs.Image.{pagesOf, chipOf}
 use Rattle.model.specs.Next.{Ahead, ahead, nextPage, taken, nth}
@@ -33,7 +33,7 @@ pub pages-right : (g : Geometry) → Shape g → (n : ℕ) (img : List ℕ) → 
 unfolding openedIn taken
 pages-right g shape n img held i h =
     let w = ahead g n (chipOf g n img) in
-    let z = next-in (g .pages) n w (some-page g shape) (held .whole .r2) (omega (arith, h)) in
+    let z = next-in (g .pages) n w (some-page g (shape-core g shape)) (held .whole .r2) (omega (arith, h)) in
     let e : nextBy g n (openedIn g n img) ≡ nextPage (g .pages) n w = omega (arith, z) in
-    ap (λ x. pageFrom (g .pages) n (w .er) x i) e ∙ nth-right (g .pages) n w (some-page g shape) (held .whole .r2) i 0 (omega (arith, h))
+    ap (λ x. pageFrom (g .pages) n (w .er) x i) e ∙ nth-right (g .pages) n w (some-page g (shape-core g shape)) (held .whole .r2) i 0 (omega (arith, h))
     ∙ ap (nth (g .pages) n w) (let v : 0 + i ≡ i = omega arith in v)

@@ -1,16 +1,14 @@
 -- What fits a page, by the table. Assumes nothing.
 use mathlib.Core.Path.{_≡_, ap}
 use mathlib.Core.List.{List, []}
-use mathlib.Core.Bool.{Bool, true, false}
-use Prim.Native.Nat.{ℕ, suc, _+_, _-_, _<_, _≤_}
+use mathlib.Core.Bool.{false}
+use Prim.Native.Nat.{ℕ, suc, _+_, _<_, _≤_}
 use native.Mathlib.Omega.{arith}
 use lib.ListN.{length}
-use lib.Dec.{ltb}
 use Rattle.geometry.specs.declared.Geometry.{Geometry}
 use Rattle.geometry.specs.declared.Entry.{Entry}
-use Rattle.geometry.specs.Tests.{pick}
 use Rattle.geometry.specs.Geometry.{slots, firstSlot, slotsOf, rootSlots, rootMost, inTable}
-use Rattle.geometry.specs.Shape.{Shape}
+use Rattle.geometry.specs.Shape.{Shape, most-slots}
 use Rattle.trees.specs.Tests.{by-eq, by-le, true-false}
 use Rattle.trees.specs.Lists.{All}
 use Rattle.images.specs.Bytes.{Fits}
@@ -20,17 +18,9 @@ module _ (g : Geometry) (shape : Shape g) where
   pub slots-byte : (l : ℕ) → 1 ≤ l → l ≤ g .top → slotsOf g l < 256
   slots-byte l a b = let x = shape .fits l in let y = shape .byte l a b in omega (arith, x, y)
 
-  most-slots : (l : ℕ) → rootMost g l ≤ rootSlots g l
-  unfolding rootMost
-  most-slots l = go (ltb l (g .top))
-    where
-      go : (t : Bool) → pick t (rootSlots g l - 1) (rootSlots g l) ≤ rootSlots g l
-      go true = omega arith
-      go false = omega arith
-
   pub root-inside : (l m : ℕ) → l ≤ g .top → m ≤ rootMost g l → firstSlot g l + m ≤ slots g
   unfolding rootSlots
-  root-inside l m b h = let x = most-slots l in let y = shape .room l b in omega (arith, x, y, h)
+  root-inside l m b h = let x = most-slots g l in let y = shape .room l b in omega (arith, x, y, h)
 
   -- a level that the table has not is 0 or above the root
   pub off-table : (l h : ℕ) → h ≤ g .top → inTable g l ≡ false → 1 ≤ l → h < l

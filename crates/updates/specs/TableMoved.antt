@@ -7,7 +7,7 @@ use mathlib.Core.List.{List}
 use mathlib.Core.Logic.{inl, inr}
 use lib.ListN.{length}
 use Rattle.geometry.specs.declared.Geometry.{Geometry}
-use Rattle.geometry.specs.Shape.{Shape}
+use Rattle.geometry.specs.Shape.{Shape, shape-core}
 use Rattle.model.specs.Bytes.{nodeAt}
 use Rattle.model.specs.Count.{count}
 use Rattle.model.specs.Image.{Chip, chipOf, pagesOf, maxSeq, theRoot}
@@ -69,7 +69,7 @@ module _ (g : Geometry) (shape : Shape g) (n : ℕ) (few : pagesOf g n + g .page
       (sym (move-chip g shape n few img held q free alive (omega arith))) (low-moved g shape n c (held .whole) q alive free)
 
   new-in : new < pagesOf g n
-  new-in = next-in (g .pages) n (ahead g n c) (some-page g shape) (held .whole .r2) free
+  new-in = next-in (g .pages) n (ahead g n c) (some-page g (shape-core g shape)) (held .whole .r2) free
 
   pub table-moved : (t : Table) → Right g n img t
       → Right g n (applyStore g (moveStore g n q img) img)

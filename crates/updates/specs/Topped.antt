@@ -7,7 +7,7 @@ use lib.Dec.{eqb}
 use borrow.Author.Tests.{eq-eqb}
 use Rattle.geometry.specs.declared.Geometry.{Geometry}
 use Rattle.geometry.specs.Tests.{pick}
-use Rattle.geometry.specs.Shape.{Shape}
+use Rattle.geometry.specs.Shape.{Shape, shape-core}
 use Rattle.model.specs.Count.{count, peak}
 use Rattle.model.specs.Image.{pagesOf, Chip}
 use Rattle.model.specs.Next.{ahead, nextPage, after}
@@ -34,7 +34,7 @@ unfolding rooted beside
 topped g shape n c d i m w r2 many num most left e = record {
   number-is = ap (λ (b : Bool). pick b (w .seq) (d .seq P)) (eq-eqb P P refl) ∙ (let z : w .seq ≡ peak t (c .seq) + m = omega (arith, num, most, e) in z);
   most-is = largest ∙ (let z : w .seq ≡ peak t (c .seq) + m = omega (arith, num, most, e) in z);
-  next-is = next-after (g .pages) n (ahead g n d) (some-page g shape) r2 (omega (arith, many)) (omega (arith, gone, many)) ∙ sym (ap (nextPage (g .pages) n) goes);
+  next-is = next-after (g .pages) n (ahead g n d) (some-page g (shape-core g shape)) r2 (omega (arith, many)) (omega (arith, gone, many)) ∙ sym (ap (nextPage (g .pages) n) goes);
   frees = omega (arith, gone, left, e);
 }
   where
@@ -45,10 +45,10 @@ topped g shape n c d i m w r2 many num most left e = record {
     P = nextPage (g .pages) n (ahead g n d)
 
     P-in : P < t
-    P-in = next-in (g .pages) n (ahead g n d) (some-page g shape) r2 (omega (arith, many))
+    P-in = next-in (g .pages) n (ahead g n d) (some-page g (shape-core g shape)) r2 (omega (arith, many))
 
     gone : count t (d .er) ≡ suc (count t (after P (d .er)))
-    gone = let z = count-gone t P (d .er) P-in (next-found (g .pages) n (ahead g n d) (some-page g shape) r2 (omega (arith, many)) .2) in omega (arith, z)
+    gone = let z = count-gone t P (d .er) P-in (next-found (g .pages) n (ahead g n d) (some-page g (shape-core g shape)) r2 (omega (arith, many)) .2) in omega (arith, z)
 
     goes : ahead g n (rooted d P w) ≡ record { er = after P (d .er); last = P }
     goes = ahead-beside g n d P w P-in num

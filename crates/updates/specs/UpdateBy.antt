@@ -9,7 +9,7 @@ use lib.Dec.{ltb}
 use Rattle.geometry.specs.declared.Geometry.{Geometry}
 use Rattle.geometry.specs.declared.Entry.{Entry}
 use Rattle.geometry.specs.Tests.{pick, _&_}
-use Rattle.geometry.specs.Shape.{Shape}
+use Rattle.geometry.specs.Shape.{Shape, shape-core}
 use Rattle.model.specs.Count.{count}
 use Rattle.model.specs.Image.{pagesOf, maxSeq, Chip, chipOf}
 use Rattle.model.specs.Tree.{placesOf, live, sought}
@@ -95,7 +95,7 @@ module _ (g : Geometry) (shape : Shape g) (n : ℕ) (few : pagesOf g n + g .page
         let d = chipOf g n then in
         let held = insert-keeps g shape n few base img keeps w some-pages k a k-low a-low y z .held in
         let room = insert-collected g shape n few base img keeps w some-pages k a k-low a-low y z in
-        let high = height-most g shape n then some-pages held in
+        let high = height-most g (shape-core g shape) n then some-pages held in
         let levels : suc (d .level) ≤ count (pagesOf g n) (d .er) = omega (arith, high, tall, room) in
         let enough : m ≤ count (pagesOf g n) (d .er) = omega (arith, room) in
         let at : collectBy g n m (suc m) h img .kept .at ≡ openedIn g n then = s .tells .at-is ∙ ap (openedIn g n) (s .image-is) in

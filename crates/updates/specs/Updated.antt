@@ -6,7 +6,7 @@ use Prim.Native.Nat.{ℕ, suc, _+_, _<_, _≤_}
 use native.Mathlib.Omega.{arith}
 use Rattle.geometry.specs.declared.Geometry.{Geometry}
 use Rattle.geometry.specs.declared.Entry.{Entry}
-use Rattle.geometry.specs.Shape.{Shape}
+use Rattle.geometry.specs.Shape.{Shape, shape-core}
 use Rattle.model.specs.Count.{count, peak}
 use Rattle.model.specs.Image.{pagesOf, maxSeq, Chip, chipOf}
 use Rattle.model.specs.Tree.{mapOf}
@@ -65,14 +65,14 @@ updated g shape n Z old new img ss d b e h parts s r f low ok i k se good =
     let many : g .pages + 1 ≤ count t (chipOf g n x .er) = subst (λ (y : Chip). g .pages + 1 ≤ count t (y .er)) (sym ci) f in
     let free : 1 ≤ count t (chipOf g n x .er) = omega (arith, many) in
     let q = suc (maxSeq g n x) in
-    let rc = root-chip g shape n x (z .held) free parts ok low h k i in
+    let rc = root-chip g (shape-core g shape) n x (z .held) free parts ok low h k i in
     let ge = subst (λ (y : Chip). Whole g n (rooted y (nextPage (g .pages) n (ahead g n y)) (builtView g q h parts)) ×
     (mapOf (rooted y (nextPage (g .pages) n (ahead g n y)) (builtView g q h parts)) ≡ new) ×
     R8 g n (rooted y (nextPage (g .pages) n (ahead g n y)) (builtView g q h parts)) ×
     Z (rooted y (nextPage (g .pages) n (ahead g n y)) (builtView g q h parts))) (sym ci) (good q (number g n x ∙ ap (λ (y : Chip). suc (peak t (y .seq))) ci)) in
-    let fr = root-frees g shape n x (z .held) free parts ok low h k i in
+    let fr = root-frees g (shape-core g shape) n x (z .held) free parts ok low h k i in
     let done : Keeps g n new (applyStore g (nextStore g n h parts x) x) = record {
-      held = root-held g shape n x (z .held) free parts ok low h k i
+      held = root-held g (shape-core g shape) n x (z .held) free parts ok low h k i
           (ge .0);
       r7 = inl (omega (arith, fr, many));
       r8 = subst (R8 g n) (sym rc) (ge .2);
@@ -83,7 +83,7 @@ updated g shape n Z old new img ss d b e h parts s r f low ok i k se good =
       last = s;
       list-is = refl;
       along = r .along;
-      legal = subst (Legal g n x) (sym se) (put-legal g shape n x (z .held) free parts ok low h k);
+      legal = subst (Legal g n x) (sym se) (put-legal g (shape-core g shape) n x (z .held) free parts ok low h k);
       end = subst (Keeps g n new) (sym (all-append g ss (s ∷ []) img)) (subst (λ (u : Store). Keeps g n new (applyStore g u x)) (sym se) done);
       also = subst (λ (u : List ℕ). Z (chipOf g n u)) (sym (all-append g ss (s ∷ []) img)) (subst (λ (u : Store). Z (chipOf g n (applyStore g u x)))
           (sym se) (subst Z (sym rc) (ge .3)));

@@ -15,6 +15,7 @@ root-most-spec =
     tie.close
     (tie.spec
     (λ c κs. search all)
+    (λ c. search all)
     (λ c κs. search all)
     (λ c κs. search all)
     (λ c. search all)

@@ -21,4 +21,8 @@ slots-of-spec =
     (λ c. search all)
     (λ c. search all)
     (λ c. search all)
+    (λ c. search all)
+    (λ c. search all)
+    (λ c. search all)
+    (λ c. search all)
     (λ c. search all))
