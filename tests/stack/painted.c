@@ -36,11 +36,14 @@ uint32_t __real_mutree_insert_opened(uint32_t geometry, uint8_t *image, size_t i
 uint32_t __real_mutree_delete_opened(uint32_t geometry, uint8_t *image, size_t image_len, uint8_t *record, size_t record_len, uint32_t *live,
                                      size_t live_len, uint32_t key, uint32_t allowance, uint8_t *result, size_t result_len);
 
-enum { FORMAT, LOOKUP, INSERT, DELETE, PATROL, LIST, EXPORT, IMPORT, OPEN, LOOKUP_OPENED, LIST_OPENED, INSERT_OPENED, DELETE_OPENED, NOTHING, CALLS };
-enum { ROOM = 1 << 20, PAINT = 0xA5 };
+/* OTHER_PAIR is an insert or a delete with a record that is not what opening gives for the image. */
+enum {
+    FORMAT, LOOKUP, INSERT, DELETE, PATROL, LIST, EXPORT, IMPORT, OPEN, LOOKUP_OPENED, LIST_OPENED, INSERT_OPENED, DELETE_OPENED, OTHER_PAIR, NOTHING, CALLS
+};
+enum { ROOM = 1 << 20, MOST_ROOM = 4 << 20, PAINT = 0xA5 };
 
 static const char *const names[CALLS] = { "format", "lookup", "insert", "delete", "patrol", "list", "export", "import", "open", "lookup, opened",
-                                          "list, opened", "insert, opened", "delete, opened", "nothing" };
+                                          "list, opened", "insert, opened", "delete, opened", "update, another pair", "nothing" };
 static unsigned long most[CALLS], made[CALLS];
 static unsigned char *stack;
 static ucontext_t caller, callee;
@@ -59,12 +62,13 @@ static struct {
     size_t text_len;
     uint8_t *record; /* of an opening, or a call with a record */
     size_t record_len;
+    int adds; /* of another pair */
 } now;
 
 /* The calls with a record. */
 static void make_opened_call(void)
 {
-    switch (now.which) {
+    switch (now.which == OTHER_PAIR ? now.adds ? INSERT_OPENED : DELETE_OPENED : now.which) {
     case OPEN:
         now.answer = __real_mutree_open(now.geometry, now.image, now.image_len, now.record, now.record_len, now.result, now.result_len);
         break;
@@ -121,26 +125,31 @@ static void make_call(void)
     }
 }
 
-static unsigned long unpainted(void)
+static unsigned long room_of(int which)
+{
+    return which == OTHER_PAIR ? MOST_ROOM : ROOM;
+}
+
+static unsigned long unpainted(unsigned long room)
 {
     unsigned long i = 0;
-    while (i < ROOM && stack[i] == PAINT)
+    while (i < room && stack[i] == PAINT)
         i++;
-    return ROOM - i;
+    return room - i;
 }
 
 static uint32_t on_painted_stack(int which)
 {
     unsigned long used;
     now.which = which;
-    memset(stack, PAINT, ROOM);
+    memset(stack, PAINT, room_of(which));
     getcontext(&callee);
     callee.uc_stack.ss_sp = stack;
-    callee.uc_stack.ss_size = ROOM;
+    callee.uc_stack.ss_size = room_of(which);
     callee.uc_link = &caller;
     makecontext(&callee, make_call, 0);
     swapcontext(&caller, &callee);
-    used = unpainted();
+    used = unpainted(room_of(which));
     made[which]++;
     if (used > most[which])
         most[which] = used;
@@ -159,7 +168,7 @@ static void prepare(void)
 {
     if (stack != NULL)
         return;
-    stack = malloc(ROOM);
+    stack = malloc(MOST_ROOM);
     if (stack == NULL)
         exit(71);
     on_painted_stack(NOTHING);
@@ -273,7 +282,14 @@ uint32_t __wrap_mutree_insert(uint32_t geometry, uint8_t *image, size_t image_le
     return answer;
 }
 
-/* ---- request 8: the calls with a record. The independent test makes each of its updates with one too, on the same trees */
+/* ---- request 8: the calls with a record. The independent test makes each of its updates with one too, on the same trees. Of the many openings,
+ * lookups and lists every 20th is made on the painted stack */
+static int is_one_of_20(void)
+{
+    static unsigned long calls;
+    return calls++ % 20 == 0;
+}
+
 static void set_record(const uint8_t *record, size_t record_len)
 {
     now.record = (uint8_t *)record;
@@ -283,6 +299,8 @@ static void set_record(const uint8_t *record, size_t record_len)
 uint32_t __wrap_mutree_open(uint32_t geometry, const uint8_t *image, size_t image_len, uint8_t *record, size_t record_len, uint8_t *result,
                             size_t result_len)
 {
+    if (!is_one_of_20())
+        return __real_mutree_open(geometry, image, image_len, record, record_len, result, result_len);
     set_buffers(geometry, image, image_len, result, result_len);
     set_record(record, record_len);
     return on_painted_stack(OPEN);
@@ -291,6 +309,8 @@ uint32_t __wrap_mutree_open(uint32_t geometry, const uint8_t *image, size_t imag
 uint32_t __wrap_mutree_lookup_opened(uint32_t geometry, const uint8_t *image, size_t image_len, const uint8_t *record, size_t record_len, uint32_t key,
                                      uint8_t *result, size_t result_len)
 {
+    if (!is_one_of_20())
+        return __real_mutree_lookup_opened(geometry, image, image_len, record, record_len, key, result, result_len);
     set_buffers(geometry, image, image_len, result, result_len);
     set_record(record, record_len);
     now.key = key;
@@ -300,6 +320,8 @@ uint32_t __wrap_mutree_lookup_opened(uint32_t geometry, const uint8_t *image, si
 uint32_t __wrap_mutree_list_opened(uint32_t geometry, const uint8_t *image, size_t image_len, const uint8_t *record, size_t record_len, uint32_t low,
                                    uint32_t high, uint32_t *pairs, size_t pairs_len, uint8_t *result, size_t result_len)
 {
+    if (!is_one_of_20())
+        return __real_mutree_list_opened(geometry, image, image_len, record, record_len, low, high, pairs, pairs_len, result, result_len);
     set_buffers(geometry, image, image_len, result, result_len);
     set_record(record, record_len);
     now.key = low;
@@ -307,6 +329,14 @@ uint32_t __wrap_mutree_list_opened(uint32_t geometry, const uint8_t *image, size
     now.pairs = pairs;
     now.pairs_len = pairs_len;
     return on_painted_stack(LIST_OPENED);
+}
+
+/* Whether the record is another than opening gives. */
+static int is_other(uint32_t geometry, const uint8_t *image, size_t image_len, const uint8_t *record, size_t record_len)
+{
+    uint8_t right[MUTREE_RECORD_BYTES], ignored[MUTREE_RESULT_BYTES];
+    __real_mutree_open(geometry, image, image_len, right, sizeof right, ignored, sizeof ignored);
+    return record_len >= sizeof right && memcmp(right, record, sizeof right) != 0;
 }
 
 static void set_update(uint32_t *live, size_t live_len, uint32_t key, uint32_t address, uint32_t allowance)
@@ -324,7 +354,8 @@ uint32_t __wrap_mutree_insert_opened(uint32_t geometry, uint8_t *image, size_t i
     set_buffers(geometry, image, image_len, result, result_len);
     set_record(record, record_len);
     set_update(live, live_len, key, address, allowance);
-    return on_painted_stack(INSERT_OPENED);
+    now.adds = 1;
+    return on_painted_stack(is_other(geometry, image, image_len, record, record_len) ? OTHER_PAIR : INSERT_OPENED);
 }
 
 uint32_t __wrap_mutree_delete_opened(uint32_t geometry, uint8_t *image, size_t image_len, uint8_t *record, size_t record_len, uint32_t *live,
@@ -333,5 +364,6 @@ uint32_t __wrap_mutree_delete_opened(uint32_t geometry, uint8_t *image, size_t i
     set_buffers(geometry, image, image_len, result, result_len);
     set_record(record, record_len);
     set_update(live, live_len, key, 0, allowance);
-    return on_painted_stack(DELETE_OPENED);
+    now.adds = 0;
+    return on_painted_stack(is_other(geometry, image, image_len, record, record_len) ? OTHER_PAIR : DELETE_OPENED);
 }
