@@ -59,9 +59,10 @@
  *     the tree stops after 8,388,608 nodes, a list after 536,870,912 pairs.
  *   - A store to a page that is not erased is not made, and ends the call with STOPPED. So STOPPED with fewer stores than the allowance
  *     (programmed + erased below it) says that the record is not this image's: open again. It is given on no other occasion.
- *   - Stack: a record whose height is above the chip's greatest (5, 7) comes from no opening. Where a damaged page has that height byte
- *     too it is not STALE, and an update then goes down so many levels: 2,010,064 bytes of stack were measured on ARM64. A caller that
- *     can't be sure of its record's bytes looks at mutree_read_record(record).height first.
+ *   - STACK: on other pairs an update may go down 255 levels and take some 2 MB of stack (2,010,064 bytes measured on ARM64). Either the
+ *     record has a height above the chip's greatest (5, 7) that a damaged page has too; or the record lies otherwise, the update erases
+ *     a block and goes on by a damaged page's height byte. Looking at the record's height does not rule out the second. Keep image
+ *     and record together, and put a guard page below the stack.
  *
  * The caller owns all buffers. They must not overlap. Each pointer must be valid for its length; a call with a length of 0 may
  * pass any non-null pointer. mutree_list's buffer of numbers and the words of live pages are aligned as uint32_t is; the others need
