@@ -732,7 +732,7 @@ static void plot(const char *path, const char *title, const int *shown)
     need(f != NULL, "cannot write the plot");
     fprintf(f, "<svg xmlns='http://www.w3.org/2000/svg' width='%d' height='460' font-family='sans-serif' font-size='12'>\n"
                "<rect width='100%%' height='100%%' fill='#ffffff'/>\n"
-               "<text x='70' y='14'>%s, both axes logarithmic</text>\n", LEFT + PANEL * CHIPS + 220, title);
+               "<text x='70' y='14'>%s, both axes logarithmic</text>\n", LEFT + PANEL * CHIPS + 250, title);
     plot_frame(f, shown);
     for (chip = 0; chip < CHIPS; chip++)
         plot_panel(f, chip, shown);
