@@ -72,17 +72,16 @@
  *   memory      the whole image lies in RAM, 3 to 1,024 blocks: 50,688 to 17,301,504 bytes of a small chip, 405,504 to
  *               138,412,032 bytes of a large one. Any alignment will do where the processor takes unaligned reads (on
  *               ARM64: normal memory, not device memory).
- *   stack       measured, in bytes, on the large chip, whose trees are deeper; it does not grow with the image:
- *                              format   lookup      list    export    insert    delete   patrol
- *                     ARM64     5,568  112,256   112,288   112,352   185,648   176,448      760
- *                     x86-64    2,240  160,240         -         -   178,080   169,920        -
- *               x86-64 was measured with version 0.3.0, before the codes and the one pass of judging.
- *               The calls with a record, on both chips; the last column is an insert or a delete with another record than opening gives:
- *                                      open    lookup      list    insert    delete   another record
- *                     ARM64, small   FIGURE-STACK-SMALL-OPEN FIGURE-STACK-SMALL-LOOKUP FIGURE-STACK-SMALL-LIST
- *                                    FIGURE-STACK-SMALL-INSERT FIGURE-STACK-SMALL-DELETE FIGURE-STACK-OTHER-SMALL
- *                     ARM64, large   FIGURE-STACK-LARGE-OPEN FIGURE-STACK-LARGE-LOOKUP FIGURE-STACK-LARGE-LIST
- *                                    FIGURE-STACK-LARGE-INSERT FIGURE-STACK-LARGE-DELETE FIGURE-STACK-OTHER-LARGE
+ *   stack       measured, in bytes; it does not grow with the image:
+ *                                    format   lookup     list   export   insert   delete  patrol
+ *                     x86-64, small   7,640  111,984  112,016  112,096  144,536  140,976     768
+ *                     x86-64, large   7,640  112,344  112,376  112,456  169,264  167,152     768
+@ARM1@
+ *               The calls with a record; the last column is an insert or a delete with another record than opening gives:
+ *                                      open   lookup     list   insert   delete   another record
+ *                     x86-64, small  112,032     384    1,584  144,600  141,008   144,600
+ *                     x86-64, large  112,392     384    1,584  169,328  167,184   159,512
+@ARM2@
  *               An import takes what its inserts do and 32,768 for its pairs. 224 KiB serve every call, 192 KiB on the small chip;
  *               without import 192 and 160 KiB.
  *               Large frames are touched page by page as they are made, so a guard page below the stack catches a stack that is
