@@ -42,19 +42,19 @@ static const char *const chip_names[CHIPS] = { "small pages", "large pages" };
 
 enum {
     MEMCPY, READ, LOOKUP, DISORDER, INSERT, COLLECT, DELETE, FORMAT, PATROL,
-    OPEN, LOOKUP_OPENED, LIST_OPENED, INSERT_OPENED, COLLECT_OPENED, DELETE_OPENED, /* in this order */
+    OPEN, LOOKUP_OPENED, LIST_OPENED, INSERT_OPENED, COLLECT_OPENED, DELETE_OPENED, INSERT_NEXT, DELETE_NEXT, /* in this order */
     LMDB_GET, LMDB_PUT, KINDS
 };
 
 static const char *const names[KINDS] = {
     "memcpy of the image", "reading the image", "lookup, judged", "lookup, a number out of order", "insert, no collection", "insert, with collection", "delete", "format",
     "patrol of the whole image", "opening", "lookup, opened", "list of 100 pairs, opened", "insert, opened, no collection", "insert, opened, with collection",
-    "delete, opened", "LMDB get", "LMDB put, no sync"
+    "delete, opened", "insert, opened, the next one", "delete, opened, the next one", "LMDB get", "LMDB put, no sync"
 };
 
 /* What the plot of calls with and without a record shows. */
 static const int in_opened_plot[KINDS] = { [MEMCPY] = 1, [LOOKUP] = 1, [INSERT] = 1, [COLLECT] = 1, [DELETE] = 1, [OPEN] = 1, [LOOKUP_OPENED] = 1,
-                                           [INSERT_OPENED] = 1, [COLLECT_OPENED] = 1, [DELETE_OPENED] = 1, [LMDB_GET] = 1 };
+                                           [INSERT_OPENED] = 1, [COLLECT_OPENED] = 1, [DELETE_OPENED] = 1, [INSERT_NEXT] = 1, [LMDB_GET] = 1 };
 
 /* The insert with the most stores that there is: how long it takes, a memcpy of its image, its blocks, pages and erases. */
 struct worst {
@@ -262,17 +262,23 @@ static void open_at_start(uint32_t chip, const uint8_t *start, size_t length)
     memcpy(record, first_record, sizeof record);
 }
 
+static void take_first_record(void)
+{
+    memcpy(record, first_record, sizeof record);
+}
+
 static uint32_t call_opened(int kind, uint32_t chip, uint8_t *image, size_t length, uint32_t key)
 {
     static uint32_t pairs[200];
     uint8_t result[MUTREE_RESULT_BYTES];
-    if (kind >= INSERT_OPENED)
-        memcpy(record, first_record, sizeof record);
+    if (kind >= INSERT_OPENED && kind <= DELETE_OPENED)
+        take_first_record();
     switch (kind) {
     case OPEN: return mutree_open(chip, image, length, record, sizeof record, result, sizeof result);
     case LOOKUP_OPENED: return mutree_lookup_opened(chip, image, length, record, sizeof record, key, result, sizeof result);
     case LIST_OPENED: return mutree_list_opened(chip, image, length, record, sizeof record, key, key + 16 * 99, pairs, 200, result, sizeof result);
-    case DELETE_OPENED: return mutree_delete_opened(chip, image, length, record, sizeof record, LENT key, UINT32_MAX, result, sizeof result);
+    case DELETE_OPENED:
+    case DELETE_NEXT: return mutree_delete_opened(chip, image, length, record, sizeof record, LENT key, UINT32_MAX, result, sizeof result);
     default: return mutree_insert_opened(chip, image, length, record, sizeof record, LENT key + 1, key, UINT32_MAX, result, sizeof result);
     }
 }
@@ -282,6 +288,10 @@ enum { OPENED_KINDS = 1 };
 static void open_at_start(uint32_t chip, const uint8_t *start, size_t length)
 {
     (void)chip, (void)start, (void)length;
+}
+
+static void take_first_record(void)
+{
 }
 
 static uint32_t call_opened(int kind, uint32_t chip, uint8_t *image, size_t length, uint32_t key)
@@ -295,7 +305,7 @@ enum { OPENED_KINDS = 0 };
 
 static int is_opened(int kind)
 {
-    return kind >= OPEN && kind <= DELETE_OPENED;
+    return kind >= OPEN && kind <= DELETE_NEXT;
 }
 
 /* Calls that write nothing: they need no copy back. Short ones are timed many at once. */
@@ -327,10 +337,30 @@ static uint32_t call(int kind, uint32_t chip, const uint8_t *start, uint8_t *ima
     }
 }
 
+enum { MOST_ROUNDS = 200 };
+
+static int rising(const void *a, const void *b)
+{
+    double x = *(const double *)a, y = *(const double *)b;
+    return (x > y) - (x < y);
+}
+
+/* The one in the middle: a round in which the machine did something else does not count. */
+static double median(double *times, int rounds)
+{
+    qsort(times, (size_t)rounds, sizeof *times, rising);
+    return times[rounds / 2];
+}
+
+static int rounds_for(size_t length)
+{
+    return length > 4000000 ? 13 : MOST_ROUNDS;
+}
+
 static double time_call(int kind, uint32_t chip, const uint8_t *start, uint8_t *image, size_t length, uint32_t keys)
 {
-    double total = 0;
-    int i, j, rounds = length > 4000000 ? 12 : 200, at_once = times_at_once(kind);
+    double times[MOST_ROUNDS];
+    int i, j, rounds = rounds_for(length), at_once = times_at_once(kind);
     memcpy(image, start, length);
     if (is_opened(kind))
         open_at_start(chip, start, length);
@@ -342,10 +372,34 @@ static double time_call(int kind, uint32_t chip, const uint8_t *start, uint8_t *
         from = now();
         for (j = 0; j < at_once; j++)
             answer |= call(kind, chip, start, image, length, 16 * (1 + some(keys)));
-        total += now() - from;
+        times[i] = now() - from;
         need(answer == 0, "a call was refused");
     }
-    return total / rounds / at_once;
+    return median(times, rounds) / at_once;
+}
+
+/* Updates one after another, as a camera makes them: the record goes on from each to the next, and what the one before read is in the
+ * caches. The first after the copy back is not counted. Their keys lie far apart. */
+static double time_next(int kind, uint32_t chip, const uint8_t *start, uint8_t *image, size_t length, uint32_t keys)
+{
+    enum { COUNTED = 8 };
+    double times[MOST_ROUNDS];
+    int i, rounds = rounds_for(length);
+    uint32_t j;
+    open_at_start(chip, start, length);
+    for (i = 0; i < rounds; i++) {
+        uint32_t answer, first = some(keys), apart = keys / (COUNTED + 1);
+        double from;
+        memcpy(image, start, length);
+        take_first_record();
+        answer = call(kind, chip, start, image, length, 16 * (1 + first));
+        from = now();
+        for (j = 1; j <= COUNTED; j++)
+            answer |= call(kind, chip, start, image, length, 16 * (1 + (first + j * apart) % keys));
+        times[i] = now() - from;
+        need(answer == 0, "a call was refused");
+    }
+    return median(times, rounds) / COUNTED;
 }
 
 static int is_tight(int kind)
@@ -367,6 +421,8 @@ static void measure(const struct mutree_geometry *chip, int at)
     for (kind = MEMCPY; kind <= (OPENED_KINDS ? DELETE_OPENED : PATROL); kind++)
         f->time[kind] = time_call(kind, chip->number, is_tight(kind) ? tight : kind == DISORDER ? unsorted : roomy, image, length,
                                   (uint32_t)f->keys);
+    for (kind = INSERT_NEXT; OPENED_KINDS && kind <= DELETE_NEXT; kind++)
+        f->time[kind] = time_next(kind, chip->number, roomy, image, length, (uint32_t)f->keys);
     free(image);
     free(roomy);
     free(tight);
@@ -377,6 +433,7 @@ static void measure(const struct mutree_geometry *chip, int at)
 static void measure_worst(uint32_t number)
 {
     enum { ROUNDS = 40 };
+    double copies[ROUNDS], times[ROUNDS];
     const struct chip *chip = &chips[number];
     struct worst *w = &worst[number];
     uint32_t row = chip->block_pages, blocks = row + chip->own_pages;
@@ -389,11 +446,13 @@ static void measure_worst(uint32_t number)
     for (i = 0; i < ROUNDS; i++) {
         double from = now();
         memcpy(image, start, length);
-        w->copy += (now() - from) / ROUNDS;
+        copies[i] = now() - from;
         from = now();
         need(mutree_insert(number, image, length, LENT 3, 99, UINT32_MAX, result, sizeof result) == MUTREE_DONE, "the worst insert was refused");
-        w->time += (now() - from) / ROUNDS;
+        times[i] = now() - from;
     }
+    w->copy = median(copies, ROUNDS);
+    w->time = median(times, ROUNDS);
     w->pages = mutree_read_result(result).programmed;
     w->erases = mutree_read_result(result).erased;
     free(start);
@@ -585,15 +644,19 @@ static void lmdb_remove(struct store *s)
 
 static void measure_lmdb(struct figures *f)
 {
-    enum { ROUNDS = 2000 };
+    enum { ROUNDS = 20, AT_ONCE = 100 };
+    double times[ROUNDS];
     struct store s;
-    int kind, i;
+    int kind, i, j;
     lmdb_fill(&s, (uint32_t)f->keys);
     for (kind = LMDB_GET; kind <= LMDB_PUT; kind++) {
-        double from = now();
-        for (i = 0; i < ROUNDS; i++)
-            lmdb_call(&s, kind == LMDB_PUT, 16 * (1 + some((uint32_t)f->keys)) + (kind == LMDB_PUT));
-        f->time[kind] = (now() - from) / ROUNDS;
+        for (i = 0; i < ROUNDS; i++) {
+            double from = now();
+            for (j = 0; j < AT_ONCE; j++)
+                lmdb_call(&s, kind == LMDB_PUT, 16 * (1 + some((uint32_t)f->keys)) + (kind == LMDB_PUT));
+            times[i] = (now() - from) / AT_ONCE;
+        }
+        f->time[kind] = median(times, ROUNDS);
     }
     lmdb_remove(&s);
 }
@@ -670,7 +733,7 @@ static double across(uint32_t chip, unsigned blocks)
 }
 
 static const char *const colours[KINDS] = { "#000000", "#999999", "#1b7837", "#7fbf7b", "#2166ac", "#b2182b", "#762a83", "#e08214", "#c51b7d",
-                                            "#f1b6da", "#1b7837", "#a6d96a", "#2166ac", "#b2182b", "#762a83", "#4d9221", "#8073ac" };
+                                            "#f1b6da", "#1b7837", "#a6d96a", "#2166ac", "#b2182b", "#762a83", "#67a9cf", "#af8dc3", "#4d9221", "#8073ac" };
 
 /* A call with a record has the colour of the one without, and a broken line. */
 static const char *dashes(int kind)
@@ -732,7 +795,7 @@ static void plot(const char *path, const char *title, const int *shown)
     need(f != NULL, "cannot write the plot");
     fprintf(f, "<svg xmlns='http://www.w3.org/2000/svg' width='%d' height='460' font-family='sans-serif' font-size='12'>\n"
                "<rect width='100%%' height='100%%' fill='#ffffff'/>\n"
-               "<text x='70' y='14'>%s, both axes logarithmic</text>\n", LEFT + PANEL * CHIPS + 220, title);
+               "<text x='70' y='14'>%s, both axes logarithmic</text>\n", LEFT + PANEL * CHIPS + 250, title);
     plot_frame(f, shown);
     for (chip = 0; chip < CHIPS; chip++)
         plot_panel(f, chip, shown);

@@ -59,10 +59,8 @@
  *     the tree stops after 8,388,608 nodes, a list after 536,870,912 pairs.
  *   - A store to a page that is not erased is not made, and ends the call with STOPPED. So STOPPED with fewer stores than the allowance
  *     (programmed + erased below it) says that the record is not this image's: open again. It is given on no other occasion.
- *   - STACK: on other pairs an update may go down 255 levels and take some 2 MB of stack (2,010,064 bytes measured on ARM64). Either the
- *     record has a height above the chip's greatest (5, 7) that a damaged page has too; or the record lies otherwise, the update erases
- *     a block and goes on by a damaged page's height byte. Looking at the record's height does not rule out the second. Keep image
- *     and record together, and put a guard page below the stack.
+ *   - On other pairs a call takes no more stack than on sound ones: a height above the chip's greatest (5, 7), in the record or read
+ *     off a damaged image after an erase, is taken for the greatest.
  *
  * The caller owns all buffers. They must not overlap. Each pointer must be valid for its length; a call with a length of 0 may
  * pass any non-null pointer. mutree_list's buffer of numbers and the words of live pages are aligned as uint32_t is; the others need
@@ -74,11 +72,18 @@
  *   memory      the whole image lies in RAM, 3 to 1,024 blocks: 50,688 to 17,301,504 bytes of a small chip, 405,504 to
  *               138,412,032 bytes of a large one. Any alignment will do where the processor takes unaligned reads (on
  *               ARM64: normal memory, not device memory).
- *   stack       measured, in bytes, on the large chip, whose trees are deeper; it does not grow with the image:
- *                              format   lookup      list    export    insert    delete   patrol
- *                     ARM64     5,568  112,256   112,288   112,352   185,648   176,448      760
- *                     x86-64    2,240  160,240         -         -   178,080   169,920        -
- *               x86-64 was measured with version 0.3.0, before the codes and the one pass of judging.
+ *   stack       measured, in bytes; it does not grow with the image:
+ *                                    format   lookup     list   export   insert   delete  patrol
+ *                     x86-64, small   7,640  111,984  112,016  112,096  144,536  140,976     768
+ *                     x86-64, large   7,640  112,344  112,376  112,456  169,264  167,152     768
+ *                     ARM64, small    5,568  111,952  111,984  112,048  144,576  141,072     760
+ *                     ARM64, large    5,568  112,256  112,288  112,352  185,648  176,448     760
+ *               The calls with a record; the last column is an insert or a delete with another record than opening gives:
+ *                                      open   lookup     list   insert   delete   another record
+ *                     x86-64, small  112,032     384    1,584  144,600  141,008   144,600
+ *                     x86-64, large  112,392     384    1,584  169,328  167,184   159,512
+ *                     ARM64, small   112,016     368    1,536  144,640  141,104         -
+ *               ARM64 was measured with version 0.8.0 (large) and 0.9.0 before heights were cut (small).
  *               An import takes what its inserts do and 32,768 for its pairs. 224 KiB serve every call, 192 KiB on the small chip;
  *               without import 192 and 160 KiB.
  *               Large frames are touched page by page as they are made, so a guard page below the stack catches a stack that is

@@ -40,7 +40,7 @@ uint32_t __real_mutree_delete_opened(uint32_t geometry, uint8_t *image, size_t i
 enum {
     FORMAT, LOOKUP, INSERT, DELETE, PATROL, LIST, EXPORT, IMPORT, OPEN, LOOKUP_OPENED, LIST_OPENED, INSERT_OPENED, DELETE_OPENED, OTHER_PAIR, NOTHING, CALLS
 };
-enum { ROOM = 1 << 20, MOST_ROOM = 4 << 20, PAINT = 0xA5 };
+enum { ROOM = 1 << 20, MOST_ROOM = 4 << 20, LIMIT = 256 << 10, PAINT = 0xA5 };
 
 static const char *const names[CALLS] = { "format", "lookup", "insert", "delete", "patrol", "list", "export", "import", "open", "lookup, opened",
                                           "list, opened", "insert, opened", "delete, opened", "update, another pair", "nothing" };
@@ -156,12 +156,22 @@ static uint32_t on_painted_stack(int which)
     return now.answer;
 }
 
-/* The least is what a stack with no call on it shows: this program's own part. */
+/* The least is what a stack with no call on it shows: this program's own part. No call may take more than LIMIT, on other pairs neither. */
 static void print_most(void)
 {
-    int i;
-    for (i = 0; i < NOTHING; i++)
-        fprintf(stderr, "stack: %s: %lu bytes at most in %lu calls\n", names[i], made[i] ? most[i] - most[NOTHING] : 0, made[i]);
+    int i, long_ones = 0;
+    for (i = 0; i < NOTHING; i++) {
+        unsigned long used = made[i] ? most[i] - most[NOTHING] : 0;
+        fprintf(stderr, "stack: %s: %lu bytes at most in %lu calls\n", names[i], used, made[i]);
+        if (used > LIMIT) {
+            fprintf(stderr, "stack: %s: that is more than %d bytes\n", names[i], LIMIT);
+            long_ones++;
+        }
+    }
+    if (long_ones) {
+        fflush(NULL);
+        _Exit(1);
+    }
 }
 
 static void prepare(void)

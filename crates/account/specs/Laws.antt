@@ -10,7 +10,7 @@ use native.Mathlib.Nat.{zero-add, mul-le-mul-right}
 use native.Mathlib.Omega.{arith}
 use borrow.Author.Tests.{lt-ltb, le-ltb, lt-leb, le-leb, ltb-true, ltb-false}
 use Rattle.geometry.specs.declared.Geometry.{Geometry}
-use Rattle.geometry.specs.Tests.{pick, _&_, and-true, and-false}
+use Rattle.geometry.specs.Tests.{pick, _&_, and-true, and-false, and-none}
 use Rattle.model.specs.Calls.{gives, roomless}
 use Rattle.model.specs.Image.{Chip}
 use Rattle.model.specs.Tree.{placesOf, live}
@@ -21,7 +21,7 @@ use Rattle.walk.specs.Lows.{marked-live}
 use Rattle.live.specs.Words.{wordsOf, filled, allOnes}
 use Rattle.live.specs.Filled.{filled-alike}
 use Rattle.opened.specs.declared.Opened.{Opened}
-use Rattle.opened.specs.Opened.{openedIn}
+use Rattle.opened.specs.Opened.{openedIn, levelBy}
 use Rattle.beside.specs.Update.{returned, wordsBy, recordMade}
 use Rattle.beside.specs.Calls.{noLevels}
 use Rattle.recording.specs.Recording.{recordAt}
@@ -47,15 +47,19 @@ answer-done b e = rw e
 pub needed-none : (p k : ℕ) → p ≡ 0 → k ≡ 2 * p - 1 + k
 needed-none p k e = omega arith
 
-module _ (g : Geometry) (n e k w : ℕ) (lent : List ℕ) (ew : w ≡ 2 * g .pages - 1 + k) where
-  pub room-erased : w ≤ e → false ≡ (roomless g e k & roomless g (g .pages * n - allOnes g n lent) k)
-  unfolding roomless
-  room-erased h = sym (rw (← ew, le-ltb e w h, and-false))
+pub room-one : (g : Geometry) (n e k : ℕ) (lent : List ℕ) → k ≤ 1
+    → false ≡ (ltb 1 k & roomless g e k & roomless g (g .pages * n - allOnes g n lent) k)
+room-one g n e k lent h = sym (rw (le-ltb 1 k h, and-false, and-false))
 
-  pub room-words : (p l : ℕ) → p ≡ g .pages * n → l ≡ allOnes g n lent → e < w
-      → ltb (p - l) w ≡ (roomless g e k & roomless g (g .pages * n - allOnes g n lent) k)
+module _ (g : Geometry) (n e k w : ℕ) (lent : List ℕ) (ew : w ≡ 2 * g .pages - 1 + k) where
+  pub room-erased : w ≤ e → false ≡ (ltb 1 k & roomless g e k & roomless g (g .pages * n - allOnes g n lent) k)
   unfolding roomless
-  room-words p l ep el h = sym (rw (← ew, lt-ltb e w h, and-true, ← el, ← ep))
+  room-erased h = sym (rw (← ew, le-ltb e w h, and-none, and-false))
+
+  pub room-words : (p l : ℕ) → p ≡ g .pages * n → l ≡ allOnes g n lent → 1 < k → e < w
+      → ltb (p - l) w ≡ (ltb 1 k & roomless g e k & roomless g (g .pages * n - allOnes g n lent) k)
+  unfolding roomless
+  room-words p l ep el s h = sym (rw (← ew, lt-ltb 1 k s, lt-ltb e w h, and-true, and-true, ← el, ← ep))
 
 -- ---- the lent words
 pub fill-is : (g : Geometry) (n m : ℕ) (tbl x y : List ℕ) → y ≡ filled (liveIn tbl) m x → m ≡ wordsOf g n → y ≡ filled (liveIn tbl) (wordsOf g n) x
@@ -72,12 +76,9 @@ by-table g n c tbl x m h =
     filled-alike (liveIn tbl) (live (placesOf c)) (wordsOf g n) (λ p k. marked-live c tbl m p (omega (arith, w, h))) x
 
 pub tell-is : (g : Geometry) (n l : ℕ) (o : Opened) (img x y : List ℕ) → y ≡ filled (live (take 8388608 (placesOf (chipWith g img l (o .root))))) (wordsOf g n) x
-    → l ≡ o .height - 1 → y ≡ wordsBy g n o img x
+    → l ≡ levelBy g o → y ≡ wordsBy g n o img x
 unfolding wordsBy
 tell-is g n l o img x y e el = e ∙ ap (λ (z : ℕ). filled (live (take 8388608 (placesOf (chipWith g img z (o .root))))) (wordsOf g n) x) el
-
-pub low-height : (h l : ℕ) → l ≡ h - 1 → h < 256 → l < 255
-low-height h l e b = omega arith
 
 -- a table of zeros
 zeros-are : (n : ℕ) (tbl : List ℕ) → length tbl ≡ n → Zeros tbl n → tbl ≡ replicate n 0
@@ -87,7 +88,7 @@ no-levels : (t tbl : List ℕ) → Zeros tbl (length t) → length tbl ≡ lengt
 unfolding noLevels
 no-levels t tbl z e h = zeros-are 65536 tbl (e ∙ h) (rw h at z)
 
-pub levels-is : (g : Geometry) (l : ℕ) (o : Opened) (img t u tbl : List ℕ) → tbl ≡ noteAll (take 8388608 (placesOf (chipWith g img l (o .root)))) u → l ≡ o .height - 1
+pub levels-is : (g : Geometry) (l : ℕ) (o : Opened) (img t u tbl : List ℕ) → tbl ≡ noteAll (take 8388608 (placesOf (chipWith g img l (o .root)))) u → l ≡ levelBy g o
     → Zeros u (length t) → length u ≡ length t → length t ≡ 65536 → tbl ≡ levelsBy g img o
 unfolding levelsBy
 levels-is g l o img t u tbl e el z eu h =
@@ -142,4 +143,4 @@ module _ (g : Geometry) (ss : List Store) (a : ℕ) (r : Budget) (i o : List ℕ
       go true e = rw (halted-is e, e, programmed, erased, run .image)
       go false e = rw (whole-is e, e, programmed, erased, run .image)
 
-pub ruleset account-laws = (answer-stopped, answer-done, needed-none, room-erased, room-words, fill-is, tell-is, low-height, levels-is, refuses, left-stopped, left-made, left-low, leaves)
+pub ruleset account-laws = (answer-stopped, answer-done, needed-none, room-one, room-erased, room-words, fill-is, tell-is, levels-is, refuses, left-stopped, left-made, left-low, leaves)

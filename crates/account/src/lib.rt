@@ -3,6 +3,7 @@
 ghost use mathlib.Core.Path.{_≡_};
 ghost use mathlib.Core.Bool.{false};
 ghost use Prim.Native.Nat.{_+_, _*_, _-_, _≤_, _<_};
+ghost use lib.Dec.{ltb};
 ghost use lib.ListN.{length};
 ghost use Rattle.geometry.specs.Tests.{_&_};
 ghost use Rattle.model.specs.Calls.{roomless};
@@ -61,11 +62,14 @@ pub fn needed(g: Geometry, k: u32) -> u32
     2 * (g.pages as u32) - 1 + k
 }
 
-// ROOM, by the erased pages alone where they are enough, else by the lent words of live pages.
+// ROOM, not for one page, by the erased pages alone where they are enough, else by the lent words of live pages.
 pub fn is_roomless(g: Geometry, lent: &[u32], n: u16, erased: u32, k: u32) -> bool
     requires { ⌜ k < 65536 ⌝ }
-    ensures { λ r. ⌜ r ≡ (roomless g erased k & roomless g (g .pages * n - allOnes g n (now (lent .entry))) k) ⌝ }
+    ensures { λ r. ⌜ r ≡ (ltb 1 k & roomless g erased k & roomless g (g .pages * n - allOnes g n (now (lent .entry))) k) ⌝ }
 {
+    if k <= 1 {
+        return false;
+    }
     let need = needed(g, k);
     if need <= erased {
         return false;
@@ -87,7 +91,7 @@ pub fn tell(g: Geometry, img: &[u8], lent: &mut [u32], n: u16, o: Opened)
     requires { ⌜ o .height < 256 ⌝ }
     ensures { λ _. ⌜ now (lent .exit) ≡ wordsBy g n o (now (img .entry)) (now (lent .entry)) ⌝ }
 {
-    let level = survey::less_one(o.height);
+    let level = survey::level_by(g, o.height);
     telling::tell_words(g, img, &mut *lent, n, level, o.root);
 }
 
@@ -97,7 +101,7 @@ pub fn note_levels(g: Geometry, img: &[u8], table: &mut [u8], o: Opened)
     ensures { λ _. ⌜ now (table .exit) ≡ levelsBy g (now (img .entry)) o ⌝ }
 {
     walk::clear(&mut *table);
-    let level = survey::less_one(o.height);
+    let level = survey::level_by(g, o.height);
     walk::note_from(g, img, &mut *table, level, o.root);
 }
 

@@ -16,6 +16,7 @@ use Rattle.model.specs.Edit.{onPath, renamed, same}
 use Rattle.chip.specs.Chip.{named}
 use Rattle.live.specs.Words.{wordsOf}
 use Rattle.opened.specs.declared.Opened.{Opened}
+use Rattle.opened.specs.Opened.{levelBy}
 use Rattle.beside.specs.Table.{Table, lowIn, tableMoved}
 
 -- the record, and the table
@@ -55,7 +56,7 @@ pub record Beside : Type 0 where
 
 -- at its start
 abbrev pub besideBy : Geometry → ℕ → Held → Beside
-besideBy g n h = record { root = h .at .root; most = h .at .most; level = h .at .height - 1; next = nextBy g n (h .at); table = h .table }
+besideBy g n h = record { root = h .at .root; most = h .at .most; level = levelBy g (h .at); next = nextBy g n (h .at); table = h .table }
 
 -- the key by which descent comes to the lowest live node of page q
 abbrev pub keyBy : Geometry → Beside → ℕ → List ℕ → ℕ

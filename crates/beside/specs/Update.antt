@@ -114,9 +114,9 @@ insertMade g n h img k a allowance =
 abbrev pub freeBy : Geometry → ℕ → Table → ℕ
 freeBy g n t = pagesOf g n - allOnes g n (t .words)
 
--- ROOM: not where the erased pages alone are enough, so that L need not be known then
+-- ROOM: by R8 not for one page, and not where the erased pages alone are enough, so that L need not be known then
 abbrev pub roomlessBy : Geometry → ℕ → Held → ℕ → Bool
-roomlessBy g n h k = roomless g (h .at .erased) k & roomless g (freeBy g n (h .table)) k
+roomlessBy g n h k = ltb 1 k & roomless g (h .at .erased) k & roomless g (freeBy g n (h .table)) k
 
 abbrev pub refusedBy : ℕ → Held → List ℕ → Returned
 refusedBy answer h img = returned (refused answer img) (h .at) (h .table .words)

@@ -1,5 +1,5 @@
 -- A run of stores under an allowance, with what is kept beside the image. Definitions alone; assumes nothing.
-use Prim.Native.Nat.{ℕ, suc, _-_, _<_}
+use Prim.Native.Nat.{ℕ, suc, _<_}
 use mathlib.Core.Bool.{false}
 use mathlib.Core.Path.{_≡_}
 use mathlib.Core.List.{List, [], _∷_}
@@ -12,6 +12,7 @@ use Rattle.chip.specs.Chip.{named}
 use Rattle.live.specs.Words.{wordsOf, Past}
 use Rattle.beside.specs.Table.{Table, tableIn, tableMoved}
 use Rattle.opened.specs.declared.Opened.{Opened}
+use Rattle.opened.specs.Opened.{levelBy}
 use Rattle.beside.specs.Beside.{Held, holding, Beside, besideBy, nextAfter}
 use Rattle.beside.specs.Collect.{Run, collectBy}
 use Rattle.recording.specs.Recording.{recordSwept}
@@ -44,7 +45,7 @@ pub record Clears (g : Geometry) (n : ℕ) (run : Run Held) (b : Budget) (r : Sw
 
 -- what is kept at the start of a sweep, by the record
 pub record Begins (g : Geometry) (n : ℕ) (o : Opened) (k : Kept) : Type 0 where
-  pub beside : (t : Table) → besideIn k (o .height - 1) t ≡ besideBy g n (holding o t)
+  pub beside : (t : Table) → besideIn k (levelBy g o) t ≡ besideBy g n (holding o t)
 
 -- block v erased, and the record then; h the record before the sweep, k what it kept
 pub record Wipes (g : Geometry) (n v : ℕ) (h : Opened) (k : Kept) (b : Budget) (r : Swept) (i o : List ℕ) : Type 0 where

@@ -22,6 +22,7 @@ use Rattle.live.specs.Words.{wordsOf, Past}
 use Rattle.live.specs.Filled.{past-none, past-then}
 use Rattle.beside.specs.Table.{Table, tableIn, tableMoved}
 use Rattle.opened.specs.declared.Opened.{Opened}
+use Rattle.opened.specs.Opened.{levelBy}
 use Rattle.beside.specs.Beside.{Held, holding, Beside, besideBy, nextAfter, keyBy, moveStoreBy, besideMoved}
 use Rattle.beside.specs.Collect.{Run, still, andThen, moveBy, pageBy, sweepBy, eraseBy, clearBy, victimBy, collectBy}
 use Rattle.walk.specs.Table.{liveIn}
@@ -155,7 +156,7 @@ module _ (g : Geometry) (n l v : ℕ) (b : Budget) (i tbl ws : List ℕ) (h : Ke
 -- ---- clear
 pub begins : (g : Geometry) (n x y : ℕ) (o : Opened) → x ≡ min (pagesOf g n) (o .next) → y ≡ o .most → Begins g n o (record { root = o .root; most = y; next = x })
 unfolding besideIn
-begins g n x y o ex ey = record { beside = λ t z. record { root = o .root; most = ey z; level = o .height - 1; next = ex z; table = t } }
+begins g n x y o ex ey = record { beside = λ t z. record { root = o .root; most = ey z; level = levelBy g o; next = ex z; table = t } }
 
 -- room to count the moves of a block
 pub most-room : (p y : ℕ) → y < 4294967296 → Fits w16 p → y + p < 8589934592
@@ -173,7 +174,7 @@ pub wipes : (g : Geometry) (n v : ℕ) (o t : Opened) (k : Kept) (b r : Budget) 
 wipes g n v o t k b r i h run e low = record { ran = run; opened = e; low = low }
 
 module _ (g : Geometry) (n v l : ℕ) (s : Opened) (b c : Budget) (i o tbl u ws x : List ℕ) (h k : Kept) (bg : Begins g n s h)
-    (sw : Sweeps g n l (sweepBy g n v (g .pages) (besideIn h l (tableIn tbl ws)) i) b c i o k tbl u ws x) (el : l ≡ s .height - 1) (low : s .height < 256) where
+    (sw : Sweeps g n l (sweepBy g n v (g .pages) (besideIn h l (tableIn tbl ws)) i) b c i o k tbl u ws x) (el : l ≡ levelBy g s) (low : s .height < 256) where
   start : besideIn h l (tableIn tbl ws) ≡ besideBy g n (holding s (tableIn tbl ws))
   start = ap (λ (y : ℕ). besideIn h y (tableIn tbl ws)) el ∙ bg .beside (tableIn tbl ws)
 

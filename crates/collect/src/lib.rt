@@ -230,7 +230,7 @@ fn clear_block(
     ensures { λ r. ⌜ Clears g n (clearBy g n (some v) (holding o (tableIn (now (table .entry)) (now (words .entry)))) (now (img .entry))) b r (now (img .entry)) (now (img .exit)) (now (table .entry)) (now (table .exit)) (now (words .entry)) (now (words .exit)) ⌝ }
 {
     let h = begin(g, n, o);
-    let level = survey::less_one(o.height);
+    let level = survey::level_by(g, o.height);
     let w = sweep(
         g,
         &mut *img,

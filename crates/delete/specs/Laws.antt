@@ -1,5 +1,5 @@
 -- Delete, in the form in which the code has the premises. Assumes nothing.
-use Prim.Native.Nat.{ℕ, _-_, _<_, _≤_}
+use Prim.Native.Nat.{ℕ, _<_, _≤_}
 use mathlib.Core.Bool.{Bool, true, false}
 use mathlib.Core.Path.{_≡_, refl, sym, ap, subst, _∙_}
 use mathlib.Core.List.{List}
@@ -32,7 +32,7 @@ use Rattle.live.specs.Words.{wordsOf, filled}
 use Rattle.live.specs.Filled.{filled-past}
 use Rattle.live.specs.Live.{Reply, reply, deleteLive}
 use Rattle.opened.specs.declared.Opened.{Opened}
-use Rattle.opened.specs.Opened.{openedIn, chipBy}
+use Rattle.opened.specs.Opened.{openedIn, levelBy, chipBy}
 use Rattle.recording.specs.Laws.{height-low}
 use Rattle.beside.specs.Table.{tableIn}
 use Rattle.beside.specs.Beside.{Held, holding}
@@ -45,7 +45,6 @@ use Rattle.collect.specs.Collect.{Collects}
 use Rattle.account.specs.declared.Made.{Made}
 use Rattle.account.specs.declared.Renewed.{Renewed}
 use Rattle.account.specs.Account.{Sized, freshOf, Leaves, Makes}
-use Rattle.account.specs.Laws.{low-height}
 use Rattle.account.specs.Rest.{collect-laws, makes-first, makes-both, finished}
 use Rattle.account.specs.Lent.{known-pages, lent-enough, whole, lent-length, lent-short, lent-broken, right}
 use Rattle.account.specs.Low.{page-low, known-sized}
@@ -55,7 +54,7 @@ use Rattle.deletion.specs.Tie.{crest-low}
 use Rattle.delete.specs.Delete.{ownOn, crestOn, runBy, storesBy, crestBy, replied}
 
 -- ---- ABSENT
-module _ (g : Geometry) (i : List ℕ) (k l : ℕ) (o : Opened) (f : Found) (ef : found f ≡ sought (chipWith g i l (o .root)) k) (el : l ≡ o .height - 1) where
+module _ (g : Geometry) (i : List ℕ) (k l : ℕ) (o : Opened) (f : Found) (ef : found f ≡ sought (chipWith g i l (o .root)) k) (el : l ≡ levelBy g o) where
   found-is : found f ≡ sought (chipBy g i o) k
   found-is = ef ∙ ap (λ (m : ℕ). sought (chipWith g i m (o .root)) k) el
 
@@ -166,4 +165,4 @@ module _ (g : Geometry) (img old : List ℕ) (k x n : ℕ) (en : n ≡ goodBlock
           ∙ delete-replies g (shape g known) (whole g known) n img (some-good g img n en some) (some-blocks g img n en some) (λ i. bytes i .fits) (sym (d .verdict) ∙ es)
           (holding (openedIn g n img) (tableIn tbl words)) tells known old (filled-past (liveIn tbl) (wordsOf g n) old) k x kb
 
-pub ruleset delete-laws = (collect-laws, known-sized, known-pages, lent-enough, low-height, height-low, absent-no, absent-is, delete-first, delete-both, made-is, makes-low, makes-page, rest-worn, rest-absent, rest-made, judged-is, delete-length, delete-short, delete-broken, delete-sound)
+pub ruleset delete-laws = (collect-laws, known-sized, known-pages, lent-enough, height-low, absent-no, absent-is, delete-first, delete-both, made-is, makes-low, makes-page, rest-worn, rest-absent, rest-made, judged-is, delete-length, delete-short, delete-broken, delete-sound)

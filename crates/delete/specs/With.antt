@@ -1,20 +1,20 @@
 -- Delete with the record, in the form in which the code has the premises. Assumes nothing.
-use Prim.Native.Nat.{ℕ, _+_, _-_, _<_, _≤_}
+use Prim.Native.Nat.{ℕ, _+_, _<_, _≤_}
 use mathlib.Core.Bool.{Bool, true, false, not}
 use mathlib.Core.Path.{_≡_, refl, sym, ap, _∙_}
 use mathlib.Core.List.{List, [], _++_}
-use lib.ListN.{length, take}
+use lib.ListN.{length}
 use native.Mathlib.Omega.{arith}
 use borrow.Author.Tests.{le-ltb, not-false}
 use mir.Syntax.{w8}
 use mir.Val.{Fits}
 use Rattle.geometry.specs.declared.Geometry.{Geometry}
 use Rattle.model.specs.Bytes.{byteAt}
-use Rattle.model.specs.Tree.{sought, placesOf}
+use Rattle.model.specs.Tree.{sought}
 use Rattle.model.specs.Update.{isNone}
 use Rattle.answers.specs.declared.Answer.the-variants.{Length, Worn, Absent, Stale}
 use Rattle.answers.specs.Answers.{told}
-use Rattle.chip.specs.Chip.{chipWith, goodBlocks}
+use Rattle.chip.specs.Chip.{goodBlocks}
 use Rattle.chip.specs.Blocks.{some-blocks}
 use Rattle.stores.specs.declared.Budget.{Budget}
 use Rattle.stores.specs.Runs.{ran-none}
@@ -32,11 +32,10 @@ use Rattle.beside.specs.Calls.{noLevels, heldBy, deleteWith}
 use Rattle.crown.specs.declared.Own.{Own}
 use Rattle.crown.specs.Owns.{Owns}
 use Rattle.account.specs.declared.Renewed.{Renewed}
-use Rattle.account.specs.Account.{Sized, freshOf, Leaves}
-use Rattle.account.specs.Laws.{low-height}
+use Rattle.account.specs.Account.{Sized, freshOf, levelsBy, Leaves}
 use Rattle.account.specs.Rest.{makes-both, finished, made-words}
 use Rattle.account.specs.Low.{known-sized}
-use Rattle.account.specs.Opened.{opened-length, opened-short, opened-stale, opened-rest, told-past}
+use Rattle.account.specs.Opened.{opened-length, opened-short, opened-stale, opened-rest, told-past, held-told, held-is}
 use Rattle.delete.specs.Delete.{ownOn, crestOn}
 use Rattle.delete.specs.Laws.{crest-level, crest-page, rest-worn, rest-absent, rest-made}
 
@@ -69,12 +68,14 @@ module _ (g : Geometry) (n k : ℕ) (o : Opened) (i out : List ℕ) (b : Budget)
       ∙ sym (no-collection g n k x o i h (tableIn (noteAll (placesBy g i o) noLevels) (wordsBy g n o i old)))
 
 -- ---- with collection: the table worked out from the record's root, and the words told
-pub collected-is : (g : Geometry) (n k x l : ℕ) (o : Opened) (i t tbl old words : List ℕ) (r : Returned) → r ≡ deleteMade g n (holding o (tableIn tbl words)) i k x
-    → tbl ≡ noteAll (take 8388608 (placesOf (chipWith g i l (o .root)))) t → l ≡ o .height - 1 → t ≡ noLevels → words ≡ wordsBy g n o i old
-    → r ≡ deleteMade g n (heldBy g n o i old) i k x
-collected-is g n k x l o i t tbl old words r e et el en ew =
-    let levels : tbl ≡ noteAll (placesBy g i o) noLevels = et ∙ (λ z. noteAll (take 8388608 (placesOf (chipWith g i (el z) (o .root)))) (en z)) in
-    e ∙ (λ z. deleteMade g n (holding o (tableIn (levels z) (ew z))) i k x)
+module _ (g : Geometry) (n k x : ℕ) (o : Opened) (i : List ℕ) (r : Returned) where
+  pub noted-is : (tbl ws : List ℕ) → r ≡ deleteMade g n (holding o (tableIn tbl ws)) i k x → tbl ≡ levelsBy g i o
+      → r ≡ deleteMade g n (holding o (tableIn (levelsBy g i o) ws)) i k x
+  noted-is tbl ws e et = e ∙ ap (λ (y : List ℕ). deleteMade g n (holding o (tableIn y ws)) i k x) et
+
+  pub collected-is : (old words : List ℕ) → r ≡ deleteMade g n (holding o (tableIn (levelsBy g i o) words)) i k x → words ≡ wordsBy g n o i old
+      → r ≡ deleteMade g n (heldBy g n o i old) i k x
+  collected-is old words e ew = e ∙ ap (λ (h : Held). deleteMade g n h i k x) (held-told g n o i old words ew ∙ held-is g n o i old)
 
 -- ---- by a record that stands
 module _ (g : Geometry) (n k x : ℕ) (o : Opened) (i old : List ℕ) (r : Returned) where
@@ -114,4 +115,4 @@ module _ (g : Geometry) (img old : List ℕ) (o : Opened) (k x n : ℕ) (en : n 
 pub stands-low : (g : Geometry) (n : ℕ) (img : List ℕ) (o : Opened) (t : Bool) → t ≡ standing g n img o → not t ≡ false → ((i : ℕ) → Fits w8 (byteAt img i)) → o .height < 256
 stands-low g n img o t et q bytes = standing-low g n img o (sym et ∙ not-false t q) bytes
 
-pub ruleset with-laws = (known-sized, low-height, own-level, own-page, direct-is, collected-is, by-worn, by-absent, by-found, with-length, with-short, with-stale, with-rest, stands-low)
+pub ruleset with-laws = (known-sized, own-level, own-page, direct-is, noted-is, collected-is, by-worn, by-absent, by-found, with-length, with-short, with-stale, with-rest, stands-low)

@@ -8,7 +8,7 @@ ghost use Rattle.model.specs.Tree.{sought};
 ghost use Rattle.model.specs.Update.{isNone};
 ghost use Rattle.answers.specs.Answers.{told};
 ghost use Rattle.chip.specs.Chip.{goodBlocks};
-ghost use Rattle.account.specs.Account.{Sized, Makes};
+ghost use Rattle.account.specs.Account.{Sized, levelsBy, Makes};
 ghost use Rattle.survey.specs.Survey.{surveyOf};
 ghost use Rattle.walk.specs.Table.{liveIn};
 ghost use Rattle.live.specs.Words.{wordsOf, filled};
@@ -17,7 +17,7 @@ ghost use Rattle.opened.specs.Opened.{openedIn, chipBy};
 ghost use Rattle.beside.specs.Table.{tableIn};
 ghost use Rattle.beside.specs.Beside.{holding};
 ghost use Rattle.beside.specs.Update.{returned, deleteMade, deleteBy};
-ghost use Rattle.beside.specs.Calls.{noLevels, heldBy, deleteWith};
+ghost use Rattle.beside.specs.Calls.{heldBy, deleteWith};
 ghost use Rattle.delete.specs.Delete.{runBy, storesBy, crestBy, replied};
 use account::Made;
 use account::Renewed;
@@ -96,7 +96,7 @@ fn is_absent(g: Geometry, img: &[u8], o: Opened, key: u32) -> bool
     requires { ⌜ o .height < 256 ⌝ }
     ensures { λ r. ⌜ r ≡ isNone (sought (chipBy g (now (img .entry)) o) key) ⌝ }
 {
-    let level = survey::less_one(o.height);
+    let level = survey::level_by(g, o.height);
     match descent::find_key(g, img, level, o.root, key) {
         Found::At(_) => false,
         Found::Nothing => true,
@@ -228,14 +228,27 @@ fn delete_direct(
     account::finish(g, &*img, &mut *lent, n, own, o, 1)
 }
 
-// Levels of 65,536 pages, none noted.
-fn no_levels() -> [u8; 65536]
-    ensures { λ r. ⌜ r ≡ noLevels ⌝ }
+// Collection and the store, by the words that are told and a table worked out from the record's root.
+fn delete_noted(
+    g: Geometry,
+    img: &mut [u8],
+    table: &mut [u8],
+    lent: &mut [u32],
+    n: u16,
+    o: Opened,
+    key: u32,
+    allowance: u32,
+) -> Renewed
+    requires { ⌜ (Sized g n) × (o .height < 256) × (length (now table) ≡ 65536) ⌝ }
+    ensures { λ r.
+        ⌜ returned (told (r .answer) (now (img .exit))) (r .opened) (now (lent .exit))
+        ≡ deleteMade g n (holding o (tableIn (levelsBy g (now (img .entry)) o) (now (lent .entry)))) (now (img .entry)) key allowance ⌝ }
 {
-    [0u8; 65536]
+    account::note_levels(g, &*img, &mut *table, o);
+    delete_made(g, &mut *img, &mut *table, &mut *lent, n, o, key, allowance)
 }
 
-// Collection and the store, by words told and a table worked out from the record's root.
+// The same with the words told first, and a table of its own.
 fn delete_collected(
     g: Geometry,
     img: &mut [u8],
@@ -251,10 +264,8 @@ fn delete_collected(
         ≡ deleteMade g n (heldBy g n o (now (img .entry)) (now (lent .entry))) (now (img .entry)) key allowance ⌝ }
 {
     account::tell(g, &*img, &mut *lent, n, o);
-    let mut table = no_levels();
-    let level = survey::less_one(o.height);
-    walk::note_from(g, &*img, &mut table, level, o.root);
-    delete_made(g, &mut *img, &mut table, &mut *lent, n, o, key, allowance)
+    let mut table: [u8; 65536] = [0; 65536];
+    delete_noted(g, &mut *img, &mut table, &mut *lent, n, o, key, allowance)
 }
 
 // The store, with collection only if the erased pages are too few.

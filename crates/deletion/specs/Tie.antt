@@ -30,7 +30,7 @@ use Rattle.crown.specs.declared.Own.{Own}
 use Rattle.crown.specs.Crown.{pathStore}
 use Rattle.crown.specs.Owns.{Owns}
 use Rattle.opened.specs.declared.Opened.{Opened}
-use Rattle.opened.specs.Opened.{chipBy}
+use Rattle.opened.specs.Opened.{levelBy, chipBy}
 use Rattle.beside.specs.Beside.{pageFrom, nextBy, pageBy}
 use Rattle.beside.specs.Update.{deleteStoreAt, deleteCrest}
 use Rattle.deletion.specs.Own.{rootAt, topStore, rootStore, storeBy, topBy, Removes}
@@ -136,7 +136,7 @@ module _ (g : Geometry) (i : List ℕ) (at seq l p k : ℕ) (j : Job) (pj : Remo
 -- by the record
 pub deleted : (g : Geometry) (n : ℕ) (i : List ℕ) (o : Opened) (k : ℕ) (j : Job) (b : Budget) (r : Own) (then : List ℕ) (l : ℕ)
     → Owns g (storeBy g j l (rootAt (o .root)) i ∷ []) (topBy g j l (rootAt (o .root)) i) b r i then
-    → l ≡ o .height - 1 → Removes (nextBy g n o) (o .most) k j → pageBytes g ≤ 2112
+    → l ≡ levelBy g o → Removes (nextBy g n o) (o .most) k j → pageBytes g ≤ 2112
     → Owns g (deleteStoreAt g (o .most) (chipBy g i o) (pageBy g n i o 0) k ∷ []) (deleteCrest (chipBy g i o) (pageBy g n i o 0) k) b r i then
 unfolding pageFrom
 deleted g n i o k j b r then l run eh pj le =

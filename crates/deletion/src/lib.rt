@@ -1,7 +1,7 @@
 // Delete's own store: page N with the root and the path's nodes left below it.
 ghost use mathlib.Core.Path.{_≡_};
 ghost use mathlib.Core.List.{[], _∷_};
-ghost use Prim.Native.Nat.{_+_, _-_, _≤_, _<_};
+ghost use Prim.Native.Nat.{_+_, _≤_, _<_};
 ghost use Rattle.geometry.specs.Geometry.{pageBytes};
 ghost use Rattle.model.specs.Bytes.{nodeAt};
 ghost use Rattle.node.specs.Node.{entries};
@@ -127,16 +127,6 @@ fn long(x: u32) -> u64
     x as u64
 }
 
-// The levels below a root of a height.
-fn below(height: u32) -> u32
-    ensures { λ r. ⌜ r ≡ height - 1 ⌝ }
-{
-    if height == 0 {
-        return 0;
-    }
-    height - 1
-}
-
 // The job of removing a key, with the record's next page.
 fn delete_job(g: Geometry, n: u16, o: Opened, key: u32) -> Job
     ensures { λ r. ⌜ Removes (nextBy g n o) (o .most) key r ⌝ }
@@ -160,7 +150,7 @@ pub fn delete_own(g: Geometry, img: &mut [u8], n: u16, b: Budget, o: Opened, key
         ⌜ Owns g (deleteStoreAt g (o .most) (chipBy g (now (img .entry)) o) (pageBy g n (now (img .entry)) o 0) key ∷ []) (deleteCrest (chipBy g (now (img .entry)) o) (pageBy g n (now (img .entry)) o 0) key) b r
         (now (img .entry)) (now (img .exit)) ⌝ }
 {
-    let level = below(o.height);
+    let level = survey::level_by(g, o.height);
     let job = delete_job(g, n, o, key);
     delete_with(g, &mut *img, b, job, level, o.root)
 }

@@ -11,10 +11,10 @@ use Rattle.geometry.specs.declared.Geometry.{Geometry}
 use Rattle.geometry.specs.declared.Entry.{Entry}
 use Rattle.geometry.specs.declared.Verdict.{Verdict}
 use Rattle.geometry.specs.declared.Verdict.the-variants.{Sound, Broken}
-use Rattle.geometry.specs.Shape.{Known, Shape, shape}
+use Rattle.geometry.specs.Shape.{Known, Shape, shape-core, shape}
 use Rattle.geometry.specs.Tests.{pick, and-both}
 use Rattle.model.specs.Bytes.{seqAt, heightAt}
-use Rattle.model.specs.Image.{pagesOf, blocksOf, goodLength, seqOf, heightOf, rootOf, chipOf}
+use Rattle.model.specs.Image.{pagesOf, blocksOf, goodLength, seqOf, heightOf, rootOf, Chip, chipOf}
 use Rattle.model.specs.Tree.{sought}
 use Rattle.model.specs.Rules.{verdict}
 use Rattle.model.specs.Calls.{gives, refused, damaged, byVerdict, judged, answered, lookup}
@@ -22,6 +22,7 @@ use Rattle.model.specs.Listing.{rangedOf, lists, listsNone, listing}
 use Rattle.images.specs.Few.{known-few, few-ranged}
 use Rattle.opened.specs.declared.Opened.{Opened}
 use Rattle.opened.specs.Opened.{openedIn, noRecord, opened, opening, standing, openedCall, chipBy, lookupWith, pairsMost, listWith}
+use Rattle.updates.specs.Level.{chip-right}
 use Rattle.demands.specs.Words.{Ready}
 use Rattle.demands.specs.Bridges.{some-pages, ready-keeps}
 
@@ -91,20 +92,24 @@ module _ (g : Geometry) (shape : Shape g) (img : List ℕ) (ready : Ready g img)
   pub standing-opened : standing g n img (opened g img) ≡ true
   standing-opened = ap (standing g n img) (opened-ready g img ready) ∙ standing-in
 
+  -- what is seen by the record is what the rules see
+  pub chip-opened : chipBy g img (opened g img) ≡ chipOf g n img
+  chip-opened = ap (chipBy g img) (opened-ready g img ready) ∙ chip-right g (shape-core g shape) n img (ready-keeps g shape img ready .held)
+
   -- "answers and bytes equal the old calls'"
   pub lookup-same : (k : ℕ) → lookupWith g img (opened g img) k ≡ lookup g img k
-  unfolding lookupWith openedCall lookup judged byVerdict openedIn
+  unfolding lookupWith openedCall lookup judged byVerdict
   lookup-same k = rw (ready .length-good, ready .is-sound, standing-opened)
-      (ap (λ (o : Opened). answered (sought (chipBy g img o) k) img) (opened-ready g img ready))
+      (ap (λ (c : Chip). answered (sought c k) img) chip-opened)
 
 -- a listing stops at no pair of a sound image
 pub list-same : (g : Geometry) → Known g → (img : List ℕ) → Ready g img → (low high : ℕ) (buffer : List ℕ)
     → listWith g img (opened g img) low high buffer ≡ listing g img low high buffer
-unfolding listWith openedCall listing judged byVerdict openedIn
+unfolding listWith openedCall listing judged byVerdict
 list-same g known img ready low high buffer =
     let s = shape g known in
     let n = blocksOf g img in
     let few = few-ranged g s (known-few g known) n img (some-pages g s img ready) (ready-keeps g s img ready .held) low high in
     rw (ready .length-good, ready .is-sound, standing-opened g s img ready)
-    (ap (λ (o : Opened). lists (take pairsMost (rangedOf (chipBy g img o) low high)) buffer) (opened-ready g img ready)
+    (ap (λ (c : Chip). lists (take pairsMost (rangedOf c low high)) buffer) (chip-opened g s img ready)
     ∙ ap (λ (es : List Entry). lists es buffer) (take-all pairsMost (rangedOf (chipOf g n img) low high) few))

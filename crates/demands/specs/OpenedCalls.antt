@@ -8,7 +8,6 @@ use Prim.Native.Nat.{ℕ, _<_, _≤_}
 use native.Mathlib.Omega.{arith}
 use native.Mathlib.Nat.{mul-le-mul-left}
 use lib.ListN.{length, length-replicate, getD-replicate}
-use lib.Seq.{take-all}
 use borrow.Author.Tests.{le-leb, lt-leb}
 use Rattle.geometry.specs.declared.Geometry.{Geometry}
 use Rattle.geometry.specs.Shape.{Known, Shape, shape}
@@ -16,7 +15,7 @@ use Rattle.geometry.specs.Tests.{and-false, and-none, and-both}
 use Rattle.model.specs.Image.{blocksOf, goodLength, Chip, chipOf}
 use Rattle.model.specs.Tree.{Place, placesOf, live}
 use Rattle.model.specs.Calls.{Outcome, refused, insertRest, deleteRest, insert, delete}
-use Rattle.images.specs.Few.{known-few, few-places}
+use Rattle.images.specs.Few.{known-few}
 use Rattle.images.specs.Held.{Held}
 use Rattle.images.specs.Lengths.{blocks-same}
 use Rattle.walk.specs.Table.{noteAll, Zeros, Marked}
@@ -27,10 +26,10 @@ use Rattle.live.specs.Ones.{whole-words}
 use Rattle.live.specs.Filled.{filled-past, filled-told}
 use Rattle.opened.specs.declared.Opened.{Opened}
 use Rattle.opened.specs.Opened.{openedIn, opened, standing}
-use Rattle.beside.specs.Update.{Returned, returned, placesMost, placesBy, wordsBy, insertBy, deleteBy}
+use Rattle.beside.specs.Update.{Returned, returned, placesBy, wordsBy, insertBy, deleteBy}
 use Rattle.beside.specs.Calls.{noLevels, heldBy, updateWith, insertWith, deleteWith}
 use Rattle.updates.specs.CollectBy.{Tells}
-use Rattle.updates.specs.Records.{words-by}
+use Rattle.updates.specs.Records.{places-by, words-by}
 use Rattle.demands.specs.Words.{Ready}
 use Rattle.demands.specs.Bridges.{blocks, some-pages, ready-keeps}
 use Rattle.demands.specs.Calls.{judged-ready}
@@ -113,8 +112,7 @@ module _ (g : Geometry) (known : Known g) (img : List ℕ) (ready : Ready g img)
 
   -- the table worked out from the record is right
   places-are : placesBy g img o ≡ placesOf c
-  unfolding openedIn
-  places-are = take-all placesMost (placesOf c) (few-places g shaped (known-few g known) n img (some-pages g shaped img ready) held)
+  places-are = places-by g shaped (known-few g known) n img (some-pages g shaped img ready) held
 
   words-are : wordsBy g n o img old ≡ liveWords g n img old
   words-are = words-by g shaped (known-few g known) n img old (some-pages g shaped img ready) held

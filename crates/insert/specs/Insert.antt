@@ -1,6 +1,7 @@
 -- Insert's stores for m pages by the record and the table, and what they leave. Definitions alone; assumes nothing.
-use Prim.Native.Nat.{ℕ, _+_}
+use Prim.Native.Nat.{ℕ, _+_, _-_, _*_}
 use mathlib.Core.List.{List, _++_}
+use lib.Dec.{leb}
 use Rattle.geometry.specs.declared.Geometry.{Geometry}
 use Rattle.geometry.specs.Tests.{pick}
 use Rattle.model.specs.Stores.{Store}
@@ -28,6 +29,10 @@ madeFor g n m h i k a x = madeBy g n (storesBy g n m h i k a) (runBy g n m h i .
 -- the same without collection
 unfoldable pub ownFor : Geometry → ℕ → ℕ → Opened → List ℕ → List ℕ → ℕ → ℕ → ℕ → Returned
 ownFor g n m o i old k a x = madeBy g n (ownBy g n i o m k a) o m (crestBy g n i o m k a) x i old
+
+-- with so many erased pages nothing is collected for m pages, and ROOM is not asked
+unfoldable pub plentyFor : Geometry → ℕ → ℕ
+plentyFor g m = pick (leb m 1) (g .pages + m) (2 * g .pages - 1 + m)
 
 -- ROOM, else this
 unfoldable pub plannedFor : Geometry → ℕ → ℕ → Held → List ℕ → ℕ → ℕ → ℕ → Returned

@@ -1,8 +1,9 @@
 -- Insert, in the form in which the code has the premises. Assumes nothing.
-use Prim.Native.Nat.{ℕ, suc, _+_, _-_, _*_, _<_, _≤_}
+use Prim.Native.Nat.{ℕ, suc, _+_, _-_, _*_, _<_, _≤_, min}
 use mathlib.Core.Bool.{Bool, true, false}
 use mathlib.Core.Path.{_≡_, refl, sym, ap, subst, _∙_}
 use mathlib.Core.List.{List}
+use lib.Dec.{ltb}
 use lib.ListN.{length}
 use native.Mathlib.Omega.{arith}
 use native.Mathlib.Numerals.{add-one}
@@ -34,7 +35,7 @@ use Rattle.live.specs.Words.{wordsOf, filled, allOnes}
 use Rattle.live.specs.Filled.{filled-past}
 use Rattle.live.specs.Live.{Reply, reply, insertLive}
 use Rattle.opened.specs.declared.Opened.{Opened}
-use Rattle.opened.specs.Opened.{openedIn, chipBy}
+use Rattle.opened.specs.Opened.{openedIn, levelBy, chipBy}
 use Rattle.recording.specs.Laws.{height-low}
 use Rattle.beside.specs.Table.{tableIn}
 use Rattle.beside.specs.Beside.{Held, holding}
@@ -112,7 +113,7 @@ module _ (g : Geometry) (n k a x : ℕ) (s : Opened) (i tbl ws : List ℕ) where
   unfolding insertBy
   rest-worn h = sym (rw (lt-ltb (g .worn) (s .most) h))
 
-  module _ (l : ℕ) (p : Plan) (pl : Plans g (chipWith g i l (s .root)) k p) (el : l ≡ s .height - 1) (h : s .most ≤ g .worn) where
+  module _ (l : ℕ) (p : Plan) (pl : Plans g (chipWith g i l (s .root)) k p) (el : l ≡ levelBy g s) (h : s .most ≤ g .worn) where
     plan-is : Plans g (chipBy g i s) k p
     plan-is = rw el at pl
 
@@ -125,7 +126,7 @@ module _ (g : Geometry) (n k a x : ℕ) (s : Opened) (i tbl ws : List ℕ) where
       unfolding insertBy insertMade plannedFor madeFor
       rest-planned r e = e ∙ sym (rw (le-ltb (g .worn) (s .most) h, ← plan-is .high, low, ← plan-is .needs, ← add-one (p .needs)))
 
-      module _ (v : Bool) (ev : v ≡ (roomless g (s .erased) (p .needs) & roomless g (g .pages * n - allOnes g n ws) (p .needs))) where
+      module _ (v : Bool) (ev : v ≡ (ltb 1 (p .needs) & roomless g (s .erased) (p .needs) & roomless g (g .pages * n - allOnes g n ws) (p .needs))) where
         pub rest-room : v ≡ true → returned (told Room i) s ws ≡ insertBy g n t i k a x
         unfolding plannedFor
         rest-room e = rest-planned _ (sym (rw (← ev, e)))
@@ -135,7 +136,7 @@ module _ (g : Geometry) (n k a x : ℕ) (s : Opened) (i tbl ws : List ℕ) where
         rest-made r er e = rest-planned r (er ∙ sym (rw (← ev, e)))
 
 -- the pages of a plan
-pub plan-few : (g : Geometry) (i : List ℕ) (l root k h : ℕ) (p : Plan) → Plans g (chipWith g i l root) k p → l ≡ h - 1 → h < 256 → p .needs ≤ 256
+pub plan-few : (g : Geometry) (i : List ℕ) (l root k h : ℕ) (p : Plan) → Plans g (chipWith g i l root) k p → l ≡ min (h - 1) (g .top - 1) → h < 256 → p .needs ≤ 256
 plan-few g i l root k h p pl el low = let w : p .needs ≤ l + 2 = pl .few in omega (arith, w)
 
 pub plan-some : (g : Geometry) (i : List ℕ) (l root k : ℕ) (p : Plan) → Plans g (chipWith g i l root) k p → 1 ≤ p .needs

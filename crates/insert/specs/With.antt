@@ -3,20 +3,22 @@ use Prim.Native.Nat.{ℕ, _+_, _-_, _*_, _<_, _≤_}
 use mathlib.Core.Bool.{Bool, true, false, not}
 use mathlib.Core.Path.{_≡_, refl, sym, ap, _∙_}
 use mathlib.Core.List.{List, [], _++_}
+use lib.Dec.{ltb}
 use lib.ListN.{length}
 use native.Mathlib.Omega.{arith}
 use native.Mathlib.Numerals.{add-one}
-use borrow.Author.Tests.{le-ltb, not-false}
+use borrow.Author.Tests.{lt-leb, le-leb, le-ltb, not-false}
 use mir.Syntax.{w8}
 use mir.Val.{Fits}
 use Rattle.geometry.specs.declared.Geometry.{Geometry}
-use Rattle.geometry.specs.Tests.{_&_, and-false}
+use Rattle.geometry.specs.Tests.{_&_, and-false, and-none}
 use Rattle.model.specs.Bytes.{byteAt}
 use Rattle.model.specs.Calls.{roomless}
 use Rattle.answers.specs.declared.Answer.the-variants.{Length, Worn, Height, Room, Stale}
 use Rattle.answers.specs.Answers.{told}
 use Rattle.chip.specs.Chip.{chipWith, goodBlocks}
 use Rattle.chip.specs.Blocks.{some-blocks}
+use Rattle.trees.specs.Tests.{by-le}
 use Rattle.stores.specs.declared.Budget.{Budget}
 use Rattle.stores.specs.Runs.{ran-none}
 use Rattle.plan.specs.declared.Plan.{Plan}
@@ -24,12 +26,12 @@ use Rattle.plan.specs.Plan.{Plans}
 use Rattle.live.specs.Words.{wordsOf, allOnes}
 use Rattle.live.specs.Filled.{past-none}
 use Rattle.opened.specs.declared.Opened.{Opened}
-use Rattle.opened.specs.Opened.{standing, chipBy}
+use Rattle.opened.specs.Opened.{standing, levelBy, chipBy}
 use Rattle.recording.specs.Laws.{standing-low}
 use Rattle.beside.specs.Table.{Table, tableIn}
 use Rattle.beside.specs.Beside.{Held, holding}
 use Rattle.beside.specs.Collect.{Run, still, collectBy}
-use Rattle.beside.specs.Update.{Crest, Returned, returned, wordsBy, sidesBy, ownBy, crestBy, madeBy, insertBy}
+use Rattle.beside.specs.Update.{Crest, Returned, returned, wordsBy, sidesBy, ownBy, crestBy, madeBy, roomlessBy, insertBy}
 use Rattle.beside.specs.Calls.{heldBy, insertWith}
 use Rattle.crown.specs.declared.Own.{Own}
 use Rattle.crown.specs.Owns.{Owns}
@@ -38,7 +40,7 @@ use Rattle.account.specs.Account.{Sized, freshOf, levelsBy, heldOf, Leaves}
 use Rattle.account.specs.Rest.{makes-both, finished, made-words}
 use Rattle.account.specs.Low.{side-low, known-sized}
 use Rattle.account.specs.Opened.{opened-length, opened-short, opened-stale, opened-rest, told-past, held-told, held-is}
-use Rattle.insert.specs.Insert.{madeFor, ownFor, plannedFor}
+use Rattle.insert.specs.Insert.{madeFor, ownFor, plentyFor, plannedFor}
 use Rattle.insert.specs.Laws.{crest-low, rest-worn, rest-high, rest-planned, plan-few, plan-some}
 
 -- ---- without collection
@@ -73,6 +75,24 @@ module _ (g : Geometry) (n m k a x : ℕ) (o : Opened) (i : List ℕ) (h : g .pa
   unfolding ownFor
   own-words ws = made-words g n m x (ownBy g n i o m k a) o (crestBy g n i o m k a) i ws (wordsBy g n o i ws) (told-past g n o i ws)
 
+-- ---- plenty of erased pages
+module _ (g : Geometry) (m : ℕ) where
+  pub plenty-one : (w : ℕ) → w ≡ g .pages + m → m ≤ 1 → w ≡ plentyFor g m
+  unfolding plentyFor
+  plenty-one w e h = e ∙ sym (rw (le-leb m 1 h))
+
+  pub plenty-more : (w : ℕ) → w ≡ 2 * g .pages - 1 + m → 1 < m → w ≡ plentyFor g m
+  unfolding plentyFor
+  plenty-more w e h = e ∙ sym (rw (lt-leb m 1 h))
+
+  plenty-enough : g .pages + m ≤ plentyFor g m
+  plenty-enough = by-le m 1 (λ h. rw (← plenty-one _ refl h) (omega arith)) (λ h. rw (← plenty-more _ refl h) (omega arith))
+
+plenty-room : (g : Geometry) (n m : ℕ) (h : Held) → plentyFor g m ≤ h .at .erased → roomlessBy g n h m ≡ false
+unfolding roomless
+plenty-room g n m h some = by-le m 1 (λ few. rw (le-ltb 1 m few, and-false, and-false))
+    (λ more. rw (le-ltb (h .at .erased) (2 * g .pages - 1 + m) (rw (← plenty-more g m _ refl more) at some), and-none, and-false))
+
 -- ---- the stores, with collection or without
 module _ (g : Geometry) (n m k a x : ℕ) (o : Opened) (i ws : List ℕ) (r : Returned) where
   abbrev levels : List ℕ
@@ -84,18 +104,19 @@ module _ (g : Geometry) (n m k a x : ℕ) (o : Opened) (i ws : List ℕ) (r : Re
   pub collected-is : (tbl : List ℕ) → r ≡ madeFor g n m (holding o (tableIn tbl ws)) i k a x → tbl ≡ levels → r ≡ madeFor g n m (holding o (tableIn levels ws)) i k a x
   collected-is tbl e et = e ∙ ap (λ (y : List ℕ). madeFor g n m (holding o (tableIn y ws)) i k a x) et
 
-  pub planned-direct : (w : ℕ) → r ≡ ownFor g n m o i ws k a x → w ≡ 2 * g .pages - 1 + m → w ≤ o .erased → r ≡ plannedFor g n m (heldOf g n o i ws) i k a x
-  unfolding plannedFor roomless
+  pub planned-direct : (w : ℕ) → r ≡ ownFor g n m o i ws k a x → w ≡ plentyFor g m → w ≤ o .erased → r ≡ plannedFor g n m (heldOf g n o i ws) i k a x
+  unfolding plannedFor
   planned-direct w e ew h =
-      let enough : g .pages + m ≤ o .erased = omega (arith, ew, h) in
+      let some : plentyFor g m ≤ o .erased = rw (← ew) h in
+      let enough : g .pages + m ≤ o .erased = let y = plenty-enough g m in omega (arith, y, some) in
       e
       ∙ sym (own-words g n m k a x o i enough ws)
       ∙ sym (no-collection g n m k a x o i enough levels (wordsBy g n o i ws))
-      ∙ sym (rw (← ew, le-ltb (o .erased) w h, and-false))
+      ∙ sym (rw (plenty-room g n m (heldOf g n o i ws) some))
 
 -- ---- ROOM by the words that were told
 module _ (g : Geometry) (n m k a x : ℕ) (o : Opened) (i ws mid : List ℕ) (em : mid ≡ wordsBy g n o i ws) (v : Bool)
-    (ev : v ≡ (roomless g (o .erased) m & roomless g (g .pages * n - allOnes g n mid) m)) where
+    (ev : v ≡ (ltb 1 m & roomless g (o .erased) m & roomless g (g .pages * n - allOnes g n mid) m)) where
   abbrev now-held : Held
   now-held = holding o (tableIn (levelsBy g i o) mid)
 
@@ -115,7 +136,7 @@ module _ (g : Geometry) (n k a x : ℕ) (o : Opened) (i ws : List ℕ) (r : Retu
   pub by-worn : r ≡ returned (told Worn i) o (wordsBy g n o i ws) → g .worn < o .most → r ≡ insertBy g n (heldOf g n o i ws) i k a x
   by-worn e h = e ∙ rest-worn g n k a x o i (levelsBy g i o) (wordsBy g n o i ws) h
 
-  module _ (l : ℕ) (p : Plan) (pl : Plans g (chipWith g i l (o .root)) k p) (el : l ≡ o .height - 1) (h : o .most ≤ g .worn) where
+  module _ (l : ℕ) (p : Plan) (pl : Plans g (chipWith g i l (o .root)) k p) (el : l ≡ levelBy g o) (h : o .most ≤ g .worn) where
     pub by-high : r ≡ returned (told Height i) o (wordsBy g n o i ws) → p .high ≡ true → r ≡ insertBy g n (heldOf g n o i ws) i k a x
     by-high e q = e ∙ rest-high g n k a x o i (levelsBy g i o) (wordsBy g n o i ws) l p pl el h q
 
@@ -149,4 +170,4 @@ module _ (g : Geometry) (img old : List ℕ) (o : Opened) (k a x n : ℕ) (en : 
 pub stands-low : (g : Geometry) (n : ℕ) (img : List ℕ) (o : Opened) (t : Bool) → t ≡ standing g n img o → not t ≡ false → ((i : ℕ) → Fits w8 (byteAt img i)) → o .height < 256
 stands-low g n img o t et q bytes = standing-low g n img o (sym et ∙ not-false t q) bytes
 
-pub ruleset with-laws = (known-sized, own-level, own-page, own-is, roomy-direct, collected-is, planned-direct, told-room, told-made, by-worn, by-high, by-planned, plan-few, plan-some, with-length, with-short, with-stale, with-rest, stands-low)
+pub ruleset with-laws = (known-sized, own-level, own-page, own-is, roomy-direct, collected-is, plenty-one, plenty-more, planned-direct, told-room, told-made, by-worn, by-high, by-planned, plan-few, plan-some, with-length, with-short, with-stale, with-rest, stands-low)

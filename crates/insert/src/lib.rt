@@ -16,7 +16,7 @@ ghost use Rattle.beside.specs.Table.{tableIn};
 ghost use Rattle.beside.specs.Beside.{holding};
 ghost use Rattle.beside.specs.Update.{returned, insertBy};
 ghost use Rattle.beside.specs.Calls.{insertWith};
-ghost use Rattle.insert.specs.Insert.{runBy, storesBy, crestOn, madeFor, ownFor, plannedFor, replied};
+ghost use Rattle.insert.specs.Insert.{runBy, storesBy, crestOn, madeFor, ownFor, plentyFor, plannedFor, replied};
 use account::Made;
 use account::Renewed;
 use answers::Answer;
@@ -126,7 +126,7 @@ fn insert_rest(
             opened: o,
         };
     }
-    let level = survey::less_one(o.height);
+    let level = survey::level_by(g, o.height);
     let p = plan::make_plan(g, &*img, level, o.root, key);
     if p.high {
         return Renewed {
@@ -394,7 +394,18 @@ fn insert_told(
     insert_roomy(g, &mut *img, &mut *lent, n, o, m, key, addr, allowance)
 }
 
-// An insert of m pages: the words are told first only where the erased pages leave ROOM in question.
+// The erased pages with which an insert of m pages is made at once: nothing is collected, and ROOM is not in question.
+fn plenty(g: Geometry, m: u32) -> u32
+    requires { ⌜ m ≤ 256 ⌝ }
+    ensures { λ r. ⌜ r ≡ plentyFor g m ⌝ }
+{
+    if m <= 1 {
+        return collect::enough(g, m);
+    }
+    account::needed(g, m)
+}
+
+// An insert of m pages: the words are told first only where the erased pages leave something in question.
 fn insert_planned(
     g: Geometry,
     img: &mut [u8],
@@ -411,7 +422,7 @@ fn insert_planned(
         ⌜ returned (told (r .answer) (now (img .exit))) (r .opened) (now (lent .exit))
         ≡ plannedFor g n m (heldOf g n o (now (img .entry)) (now (lent .entry))) (now (img .entry)) key addr allowance ⌝ }
 {
-    if account::needed(g, m) <= o.erased {
+    if plenty(g, m) <= o.erased {
         return insert_direct(g, &mut *img, &mut *lent, n, o, m, key, addr, allowance);
     }
     insert_told(g, &mut *img, &mut *lent, n, o, m, key, addr, allowance)
@@ -437,7 +448,7 @@ fn insert_by(
     if g.worn < most {
         return account::refuse(g, &*img, &mut *lent, n, o, Answer::Worn);
     }
-    let level = survey::less_one(o.height);
+    let level = survey::level_by(g, o.height);
     let p = plan::make_plan(g, &*img, level, o.root, key);
     if p.high {
         return account::refuse(g, &*img, &mut *lent, n, o, Answer::Height);

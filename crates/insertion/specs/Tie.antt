@@ -24,6 +24,7 @@ use Rattle.crown.specs.Crown.{topPart}
 use Rattle.crown.specs.Owns.{Owns}
 use Rattle.chip.specs.Chip.{chipWith}
 use Rattle.opened.specs.declared.Opened.{Opened}
+use Rattle.opened.specs.Opened.{levelBy}
 use Rattle.beside.specs.Update.{ownStoresAt, insertCrest, sidesBy, ownBy, crestBy}
 use Rattle.insertion.specs.Own.{rootAt, crownParts, storesBy, topBy, sidesOn, Puts}
 
@@ -102,7 +103,7 @@ module _ (g : Geometry) (i : List ℕ) (side : ℕ → ℕ) (seq l p m k a : ℕ
 -- by the record
 pub inserted : (g : Geometry) (n : ℕ) (i : List ℕ) (o : Opened) (m k a : ℕ) (j : Job) (b : Budget) (r : Own) (then : List ℕ) (last l : ℕ)
     → Owns g (storesBy g j i last l (rootAt (o .root))) (topBy g j i l (rootAt (o .root))) b r i then
-    → last ≡ o .most + m → l ≡ o .height - 1 → Puts (sidesOn g n i o) (o .most) l m k a j
+    → last ≡ o .most + m → l ≡ levelBy g o → Puts (sidesOn g n i o) (o .most) l m k a j
     → Owns g (ownBy g n i o m k a) (crestBy g n i o m k a) b r i then
 unfolding sidesOn
 inserted g n i o m k a j b r then last l run el eh pj =

@@ -1,6 +1,6 @@
 // Insert's own stores: other halves, lower level first, then page N.
 ghost use mathlib.Core.Path.{_≡_};
-ghost use Prim.Native.Nat.{_+_, _-_, _≤_, _<_, max};
+ghost use Prim.Native.Nat.{_+_, _≤_, _<_, max};
 ghost use Rattle.geometry.specs.Geometry.{pageBytes};
 ghost use Rattle.crown.specs.Owns.{Owns};
 ghost use Rattle.beside.specs.Update.{ownBy, crestBy};
@@ -96,16 +96,6 @@ fn number(seq: u32, more: u32) -> u64
     long(seq) + long(more)
 }
 
-// The levels below a root of a height.
-fn below(height: u32) -> u32
-    ensures { λ r. ⌜ r ≡ height - 1 ⌝ }
-{
-    if height == 0 {
-        return 0;
-    }
-    height - 1
-}
-
 // The job of putting a key at an address, with m pages to come after the record's next one.
 fn insert_job(
     g: Geometry,
@@ -150,7 +140,7 @@ pub fn insert_own(
     ensures { λ r.
         ⌜ Owns g (ownBy g n (now (img .entry)) o m key addr) (crestBy g n (now (img .entry)) o m key addr) b r (now (img .entry)) (now (img .exit)) ⌝ }
 {
-    let level = below(o.height);
+    let level = survey::level_by(g, o.height);
     let job = insert_job(g, &*img, n, o, m, level, key, addr);
     insert_with(g, &mut *img, b, job, number(o.most, m), level, o.root)
 }

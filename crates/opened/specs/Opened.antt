@@ -49,9 +49,13 @@ standing g n img o = ltb (o .root) (pagesOf g n) & not (erased g img (o .root)) 
 unfoldable pub openedCall : {A : Type 0} → Geometry → List ℕ → Opened → A → A → A → A
 openedCall g img o short stale rest = pick (goodLength g img) (pick (standing g (blocksOf g img) img o) rest stale) short
 
+-- the levels below the record's root, no more than below the highest root: a record that no opening gave may name any height
+abbrev pub levelBy : Geometry → Opened → ℕ
+levelBy g o = min (o .height - 1) (g .top - 1)
+
 -- what the rules see of an image whose root is the record's
 abbrev pub chipBy : Geometry → List ℕ → Opened → Chip
-chipBy g img o = chipWith g img (o .height - 1) (o .root)
+chipBy g img o = chipWith g img (levelBy g o) (o .root)
 
 unfoldable pub lookupWith : Geometry → List ℕ → Opened → ℕ → Outcome
 lookupWith g img o k = openedCall g img o (refused 1 img) (refused 8 img) (answered (sought (chipBy g img o) k) img)

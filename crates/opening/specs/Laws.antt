@@ -1,5 +1,5 @@
 -- Opening and the calls with a record, in the form in which the code has the premises. Assumes nothing.
-use Prim.Native.Nat.{ℕ, _-_}
+use Prim.Native.Nat.{ℕ, _-_, min}
 use mathlib.Core.Bool.{Bool, true, false, not}
 use mathlib.Core.Path.{_≡_, sym, ap, _∙_}
 use mathlib.Core.List.{List}
@@ -28,7 +28,7 @@ use Rattle.verdict.specs.Verdict.{Judged}
 use Rattle.judging.specs.Judging.{judged-broken, judged-rest, judged-length, judged-blocks}
 use Rattle.lookup.specs.Lookup.{answerOf, answer-tells}
 use Rattle.opened.specs.declared.Opened.{Opened}
-use Rattle.opened.specs.Opened.{openedIn, noRecord, opened, opening, standing, openedCall, lookupWith, pairsMost, listWith}
+use Rattle.opened.specs.Opened.{openedIn, noRecord, opened, opening, standing, openedCall, levelBy, chipBy, lookupWith, pairsMost, listWith}
 use Rattle.opening.specs.Opening.{openingIn, openedBlocks}
 
 -- ---- opening
@@ -94,8 +94,8 @@ module _ (g : Geometry) (img : List ℕ) (o : Opened) (n : ℕ) (en : n ≡ good
     call-rest short stale rest f = sym (simp (some-good g img n en h, stands, not-false s f))
 
     -- the levels below the root are those of the record
-    call-level : (l : ℕ) → l ≡ heightAt g img (o .root) - 1 → not s ≡ false → l ≡ o .height - 1
-    call-level l el f = el ∙ ap (λ (x : ℕ). x - 1) (stands-height g n img o (sym es ∙ not-false s f))
+    call-level : (l : ℕ) → l ≡ min (heightAt g img (o .root) - 1) (g .top - 1) → not s ≡ false → l ≡ levelBy g o
+    call-level l el f = el ∙ ap (λ (x : ℕ). min (x - 1) (g .top - 1)) (stands-height g n img o (sym es ∙ not-false s f))
 
   -- lookup
   module _ (k : ℕ) where
@@ -108,11 +108,11 @@ module _ (g : Geometry) (img : List ℕ) (o : Opened) (n : ℕ) (en : n ≡ good
       unfolding lookupWith
       lookup-stale f = call-stale s es h (refused 1 img) (refused 8 img) _ f
 
-      pub lookup-sought : (l : ℕ) (f : Found) (a : Answer) → l ≡ heightAt g img (o .root) - 1 → found f ≡ sought (chipWith g img l (o .root)) k
+      pub lookup-sought : (l : ℕ) (f : Found) (a : Answer) → l ≡ min (heightAt g img (o .root) - 1) (g .top - 1) → found f ≡ sought (chipWith g img l (o .root)) k
           → a ≡ answerOf f → not s ≡ false → told a img ≡ lookupWith g img o k
       unfolding lookupWith
       lookup-sought l f a el ef ea e =
-          let c : found f ≡ sought (chipWith g img (o .height - 1) (o .root)) k = ef ∙ ap (λ (m : ℕ). sought (chipWith g img m (o .root)) k) (call-level s es h l el e) in
+          let c : found f ≡ sought (chipBy g img o) k = ef ∙ ap (λ (m : ℕ). sought (chipWith g img m (o .root)) k) (call-level s es h l el e) in
           ap (λ (y : Answer). told y img) ea ∙ answer-tells f img ∙ ap (λ (y : Option ℕ). answered y img) c
           ∙ call-rest s es h (refused 1 img) (refused 8 img) _ e
 
@@ -127,7 +127,7 @@ module _ (g : Geometry) (img : List ℕ) (o : Opened) (n : ℕ) (en : n ≡ good
       unfolding listWith
       list-stale f = ap asOutcome (call-stale s es h (listsNone 1 0 0 b) (listsNone 8 0 0 b) _ f)
 
-      pub list-listed : (l : ℕ) (r : Outcome) → l ≡ heightAt g img (o .root) - 1
+      pub list-listed : (l : ℕ) (r : Outcome) → l ≡ min (heightAt g img (o .root) - 1) (g .top - 1)
           → r ≡ asOutcome (lists (take pairsMost (rangedOf (chipWith g img l (o .root)) low high)) b) → not s ≡ false
           → r ≡ asOutcome (listWith g img o low high b)
       unfolding listWith

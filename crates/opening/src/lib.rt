@@ -1,7 +1,7 @@
 // Request 8, "Open once, call often": opening, which judges an image and hands back its record, and lookup and listing with a
 // record. With a record nothing is judged: one page is read, and the record is STALE where that page is not the root that it names.
 ghost use mathlib.Core.Path.{_≡_};
-ghost use Prim.Native.Nat.{_-_, _≤_, _<_};
+ghost use Prim.Native.Nat.{_-_, _≤_, _<_, min};
 ghost use lib.ListN.{length};
 ghost use Rattle.model.specs.Bytes.{heightAt};
 ghost use Rattle.model.specs.Listing.{asOutcome};
@@ -78,11 +78,11 @@ pub fn open_on(g: Geometry, img: &[u8]) -> Opening
     open_blocks(g, img, &mut table, n)
 }
 
-// The levels below the root that a page carries.
+// The levels below the root that a page carries, no more than below the highest root.
 fn levels_below(g: Geometry, img: &[u8], root: u32) -> u32
-    ensures { λ r. ⌜ (r ≡ heightAt g (now (img .entry)) root - 1) × (r < 255) ⌝ }
+    ensures { λ r. ⌜ (r ≡ min (heightAt g (now (img .entry)) root - 1) (g .top - 1)) × (r < 255) ⌝ }
 {
-    survey::less_one(chip::height_at(g, img, root))
+    survey::level_by(g, chip::height_at(g, img, root))
 }
 
 // Lookup with a record.

@@ -1,6 +1,6 @@
 // One pass over the pages of an image: the root, the largest number, the erased pages. And R4.
 ghost use mathlib.Core.Path.{_≡_};
-ghost use Prim.Native.Nat.{ℕ, _+_, _*_, _-_, _≤_, _<_, max};
+ghost use Prim.Native.Nat.{ℕ, _+_, _*_, _-_, _≤_, _<_, max, min};
 ghost use mathlib.Core.Bool.{false};
 ghost use lib.Dec.{ltb};
 ghost use Rattle.geometry.specs.Tests.{pick};
@@ -139,6 +139,18 @@ pub fn less_one(x: u32) -> u32
         return 0;
     }
     x - 1
+}
+
+// The levels below a root of a height, no more than below the highest root.
+pub fn level_by(g: Geometry, height: u32) -> u32
+    ensures { λ r. ⌜ r ≡ min (height - 1) (g .top - 1) ⌝ }
+{
+    let level = less_one(height);
+    let most = less_one(g.top as u32);
+    if most < level {
+        return most;
+    }
+    level
 }
 
 // The survey of n blocks.

@@ -10,7 +10,7 @@ use lib.Dec.{eqb, leb, ltb}
 use borrow.Author.Tests.{eq-eqb, ne-eqb, le-ltb}
 use Rattle.geometry.specs.declared.Geometry.{Geometry}
 use Rattle.geometry.specs.Tests.{pick, _&_, and-right}
-use Rattle.geometry.specs.Shape.{Shape, shape-core}
+use Rattle.geometry.specs.Shape.{Shape, Core, shape-core}
 use Rattle.model.specs.Bytes.{erased, nodeAt}
 use Rattle.model.specs.Count.{count, least, peak, arg}
 use Rattle.model.specs.Image.{pagesOf, seqOf, maxSeq, Chip, chipOf}
@@ -32,11 +32,12 @@ use Rattle.images.specs.Held.{Held, root-height}
 use Rattle.chip.specs.Chip.{named}
 use Rattle.live.specs.Words.{wordsOf}
 use Rattle.opened.specs.declared.Opened.{Opened}
-use Rattle.opened.specs.Opened.{openedIn}
+use Rattle.opened.specs.Opened.{openedIn, levelBy}
 use Rattle.beside.specs.Table.{Table, lowIn, tableMoved, Right}
 use Rattle.beside.specs.Beside.{Held as Kept, Beside, besideBy, nextAfter, movePartBy, moveStoreBy, besideMoved}
 use Rattle.updates.specs.Move.{move-chip, move-max}
 use Rattle.updates.specs.TableMoved.{table-moved}
+use Rattle.updates.specs.Level.{level-right}
 
 -- ---- no page is left
 none-true : (t : ℕ) (f : ℕ → Bool) → count t f ≡ 0 → (q : ℕ) → q < t → f q ≡ false
@@ -147,18 +148,19 @@ next-of g shape n o img h held t free =
     t .next-is ∙ omega (arith, z)
 
 -- the record of the image, with a right table
-pub tracks-fresh : (g : Geometry) (n : ℕ) (img : List ℕ) (h : Kept) → Held g n img → h .at ≡ openedIn g n img → Right g n img (h .table)
+pub tracks-fresh : (g : Geometry) → Core g → (n : ℕ) (img : List ℕ) (h : Kept) → Held g n img → h .at ≡ openedIn g n img → Right g n img (h .table)
     → Tracks g n (h .at) img (besideBy g n h)
 unfolding openedIn
-tracks-fresh g n img h held e r = record {
+tracks-fresh g core n img h held e r = record {
   root-is = ap (λ (o : Opened). o .root) e;
   most-is = ap (λ (o : Opened). o .most) e;
-  level-is = ap (λ (o : Opened). o .height - 1) e;
+  level-is = ap (levelBy g) e ∙ level-right g core n img held;
   next-is = let z = ap (λ (o : Opened). o .next) e in omega (arith, z);
   right = r;
   sum-is = let z = ap (λ (o : Opened). o .erased) e in omega (arith, z);
   grown = omega arith;
-  height-is = let z = ap (λ (o : Opened). o .height) e in let y = root-height g n img in let x = held .r4 in omega (arith, x, y, z);
+  height-is = let z = ap (λ (o : Opened). o .height) e in let y = root-height g n img in let x = held .r4 in
+      let w = ap (levelBy g) e ∙ level-right g core n img held in omega (arith, x, y, z, w);
   crest = inl (refl, ap (λ (o : Opened). seqOf g img (o .root)) e ∙ sym (ap (λ (o : Opened). o .number) e));
 }
 

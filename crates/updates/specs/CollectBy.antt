@@ -198,7 +198,7 @@ module _ (g : Geometry) (shape : Shape g) (n : ℕ) (few : pagesOf g n + g .page
             let done = subst (Sweeping g n v 0) (sym (a .chip-is)) (emptied g shape n v c (kp .held .whole) is-full le .done) in
             let run = sweepBy g n v (g .pages) (besideBy g n h) img in
             let s = sweep-same (h .at) v q (g .pages) img (besideBy g n h) (omega arith) (kp .held) begin w
-            (tracks-fresh g n img h (kp .held) (r .at-is) (r .right)) in
+            (tracks-fresh g (shape-core g shape) n img h (kp .held) (r .at-is) (r .right)) in
             same-then g (Tracks g n (h .at)) (Tells g n) img ss (erase v ∷ []) run (eraseBy g n v (h .at)) s
             (erase-same (h .at) v q (applyAll g ss img) (run .kept) (z .held) done (same-tells g (Tracks g n (h .at)) img ss run s))
 

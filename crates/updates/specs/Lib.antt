@@ -3,6 +3,7 @@ pub mod Along
 pub mod Table
 pub mod Move
 pub mod TableMoved
+pub mod Level
 pub mod Beside
 pub mod Pages
 pub mod NextErased

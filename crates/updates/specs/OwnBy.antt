@@ -10,7 +10,7 @@ use Rattle.geometry.specs.declared.Geometry.{Geometry}
 use Rattle.geometry.specs.declared.Entry.{Entry}
 use Rattle.geometry.specs.Tests.{pick}
 use Rattle.geometry.specs.Geometry.{half}
-use Rattle.geometry.specs.Shape.{Shape}
+use Rattle.geometry.specs.Shape.{Shape, shape-core}
 use Rattle.model.specs.Count.{count}
 use Rattle.model.specs.Image.{pagesOf, maxSeq, Nodes, Chip, chipOf, theRoot}
 use Rattle.model.specs.Tree.{next, chosen}
@@ -22,6 +22,7 @@ use Rattle.images.specs.Held.{Held}
 use Rattle.opened.specs.Opened.{openedIn}
 use Rattle.beside.specs.Beside.{pageBy}
 use Rattle.beside.specs.Update.{ownStoresAt, insertCrest, sidesBy, ownBy, crestBy}
+use Rattle.updates.specs.Level.{chip-right}
 use Rattle.updates.specs.Pages.{pages-right}
 
 -- ---- names that agree at the levels below
@@ -110,17 +111,19 @@ module _ (g : Geometry) (shape : Shape g) (n : ℕ) (img : List ℕ) (held : Hel
 
   side-by : (l : ℕ) → 1 ≤ l → l ≤ count (pagesOf g n) (c .er) → sidesBy g n img (openedIn g n img) l ≡ sidePage g n c l
   side-by zero b h = absurd (omega (arith, b))
-  side-by (suc l) b h = pages-right g shape n img held l (omega (arith, h))
+  side-by (suc l) b h = pages-right g (shape-core g shape) n img held l (omega (arith, h))
 
   module _ (m k a : ℕ) (levels : suc (c .level) ≤ count (pagesOf g n) (c .er)) (some : 1 ≤ m) (most : m ≤ count (pagesOf g n) (c .er)) where
     pub own-by : ownBy g n img (openedIn g n img) m k a ≡ ownStores g n (maxSeq g n img) c m k a
     unfolding ownStoresAt ownStores openedIn
-    own-by = own-alike g (maxSeq g n img) c (sidesBy g n img (openedIn g n img)) (sidePage g n c) m k a
+    own-by = ap (λ (d : Chip). ownStoresAt g (maxSeq g n img) d (sidesBy g n img (openedIn g n img)) m k a) (chip-right g (shape-core g shape) n img held)
+        ∙ own-alike g (maxSeq g n img) c (sidesBy g n img (openedIn g n img)) (sidePage g n c) m k a
         (λ l b h. side-by l b (omega (arith, h, levels))) (side-by m some most)
 
     pub crest-by : crestBy g n img (openedIn g n img) m k a ≡ insertCrest g c (sidePage g n c) m k a
     unfolding openedIn
-    crest-by = crest-alike g (maxSeq g n img) c (sidesBy g n img (openedIn g n img)) (sidePage g n c) m k a
+    crest-by = ap (λ (d : Chip). insertCrest g d (sidesBy g n img (openedIn g n img)) m k a) (chip-right g (shape-core g shape) n img held)
+        ∙ crest-alike g (maxSeq g n img) c (sidesBy g n img (openedIn g n img)) (sidePage g n c) m k a
         (λ l b h. side-by l b (omega (arith, h, levels))) (side-by m some most)
 
   pub page-by : 1 ≤ count (pagesOf g n) (c .er) → pageBy g n img (openedIn g n img) 0 ≡ sidePage g n c 1

@@ -4,7 +4,7 @@ use mathlib.Core.List.{List}
 use Prim.Native.Nat.{ℕ, zero, suc, _+_, _*_, _<_, _≤_}
 use native.Mathlib.Omega.{arith}
 use Rattle.geometry.specs.declared.Geometry.{Geometry}
-use Rattle.geometry.specs.Shape.{Shape, shape-core}
+use Rattle.geometry.specs.Shape.{Core}
 use Rattle.model.specs.Count.{count}
 use Rattle.model.specs.Image.{pagesOf, chipOf}
 use Rattle.model.specs.Next.{Ahead, ahead, nextPage, taken, nth}
@@ -28,12 +28,12 @@ module _ (p n : ℕ) (w : Ahead) (pos : 1 ≤ p) (start : R2 p n (w .er)) where
       ap (λ x. pageFrom p n (taken p n w (suc s) .er) x i) e ∙ nth-right i (suc s) (omega arith)
       ∙ ap (nth p n w) (let v : suc s + i ≡ s + suc i = omega arith in v)
 
-pub pages-right : (g : Geometry) → Shape g → (n : ℕ) (img : List ℕ) → Held g n img → (i : ℕ) → i < count (pagesOf g n) (chipOf g n img .er)
+pub pages-right : (g : Geometry) → Core g → (n : ℕ) (img : List ℕ) → Held g n img → (i : ℕ) → i < count (pagesOf g n) (chipOf g n img .er)
     → pageBy g n img (openedIn g n img) i ≡ nth (g .pages) n (ahead g n (chipOf g n img)) i
 unfolding openedIn taken
-pages-right g shape n img held i h =
+pages-right g core n img held i h =
     let w = ahead g n (chipOf g n img) in
-    let z = next-in (g .pages) n w (some-page g (shape-core g shape)) (held .whole .r2) (omega (arith, h)) in
+    let z = next-in (g .pages) n w (some-page g core) (held .whole .r2) (omega (arith, h)) in
     let e : nextBy g n (openedIn g n img) ≡ nextPage (g .pages) n w = omega (arith, z) in
-    ap (λ x. pageFrom (g .pages) n (w .er) x i) e ∙ nth-right (g .pages) n w (some-page g (shape-core g shape)) (held .whole .r2) i 0 (omega (arith, h))
+    ap (λ x. pageFrom (g .pages) n (w .er) x i) e ∙ nth-right (g .pages) n w (some-page g core) (held .whole .r2) i 0 (omega (arith, h))
     ∙ ap (nth (g .pages) n w) (let v : 0 + i ≡ i = omega arith in v)

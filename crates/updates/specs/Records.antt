@@ -12,9 +12,9 @@ use lib.Seq.{take-all}
 use borrow.Author.Tests.{leb-true}
 use Rattle.geometry.specs.declared.Geometry.{Geometry}
 use Rattle.geometry.specs.Tests.{pick}
-use Rattle.geometry.specs.Shape.{Shape}
+use Rattle.geometry.specs.Shape.{Shape, shape-core}
 use Rattle.model.specs.Bytes.{erased}
-use Rattle.model.specs.Image.{pagesOf, heightOf, maxSeq, rootOf, chipOf}
+use Rattle.model.specs.Image.{pagesOf, heightOf, maxSeq, rootOf, Chip, chipOf}
 use Rattle.model.specs.Tree.{Place, placesOf, live, erasedPages}
 use Rattle.model.specs.Stores.{Store, applyAll, programs, erases}
 use Rattle.model.specs.Calls.{gives, made}
@@ -26,7 +26,8 @@ use Rattle.live.specs.Live.{liveWords}
 use Rattle.opened.specs.declared.Opened.{Opened}
 use Rattle.opened.specs.Opened.{openedIn}
 use Rattle.beside.specs.Beside.{nextAfter}
-use Rattle.beside.specs.Update.{returned, placesMost, wordsBy, Crest, recordMade, madeBy}
+use Rattle.beside.specs.Update.{returned, placesMost, placesBy, wordsBy, Crest, recordMade, madeBy}
+use Rattle.updates.specs.Level.{chip-right}
 use Rattle.updates.specs.Updated.{Stands}
 use Rattle.updates.specs.Made.{made-is, all-made}
 
@@ -48,12 +49,17 @@ record-made g n start then m t s held low =
       erased = (let z : erasedPages (pagesOf g n) (chipOf g n start) - m ≡ erasedPages (pagesOf g n) (chipOf g n then) = omega (arith, left) in z) i;
     }
 
--- the words by the record of a held image
+-- the nodes and the words by the record of a held image
+pub places-by : (g : Geometry) → Shape g → Few g → (n : ℕ) (img : List ℕ) → 1 ≤ pagesOf g n → Held g n img
+    → placesBy g img (openedIn g n img) ≡ placesOf (chipOf g n img)
+places-by g shape few n img some held =
+    ap (λ (c : Chip). take placesMost (placesOf c)) (chip-right g (shape-core g shape) n img held)
+    ∙ take-all placesMost (placesOf (chipOf g n img)) (few-places g shape few n img some held)
+
 pub words-by : (g : Geometry) → Shape g → Few g → (n : ℕ) (img old : List ℕ) → 1 ≤ pagesOf g n → Held g n img
     → wordsBy g n (openedIn g n img) img old ≡ liveWords g n img old
-unfolding wordsBy liveWords openedIn
-words-by g shape few n img old some held =
-    ap (λ (x : List Place). filled (live x) (wordsOf g n) old) (take-all placesMost (placesOf (chipOf g n img)) (few-places g shape few n img some held))
+unfolding wordsBy liveWords
+words-by g shape few n img old some held = ap (λ (x : List Place). filled (live x) (wordsOf g n) old) (places-by g shape few n img some held)
 
 module _ (g : Geometry) (shape : Shape g) (few : Few g) (n : ℕ) (some : 1 ≤ pagesOf g n) (ss : List Store) (img : List ℕ) (cautious : Cautious g ss img)
     (held : (j : ℕ) → Held g n (applyAll g (take j ss) img)) (o : Opened) (m : ℕ) (t : Crest)

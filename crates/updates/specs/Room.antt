@@ -1,4 +1,4 @@
--- ROOM by the record and the words is ROOM: no live page is erased, so T − L is at least F. Assumes nothing.
+-- ROOM by the record and the words is ROOM: no live page is erased, so T − L is at least F; and by R8 there is room for one page. Assumes nothing.
 use mathlib.Core.Path.{_≡_, ap, sym, _∙_}
 use mathlib.Core.Bool.{Bool, true, false}
 use Prim.Native.Nat.{ℕ, zero, suc, _+_, _-_, _*_, _≤_}
@@ -19,6 +19,7 @@ use Rattle.trees.specs.Nodes.{fitOf, fit-page}
 use Rattle.trees.specs.Live.{dead-live}
 use Rattle.trees.specs.Proper.{root-fit}
 use Rattle.chips.specs.Whole.{Whole}
+use Rattle.chips.specs.Collect.{R8}
 
 -- no number passes both
 count-apart : (t : ℕ) (f h : ℕ → Bool) → ((j : ℕ) → bit (f j) + bit (h j) ≤ 1) → count t f + count t h ≤ t
@@ -40,8 +41,19 @@ module _ (g : Geometry) (n : ℕ) (c : Chip) (whole : Whole g n c) where
       (λ e. let y = bit-most (live (placesOf c) j) in let w : bit (c .er j) ≡ 0 = ap bit e in omega (arith, y, w))) in
       omega (arith, z)
 
-  pub room-same : (k : ℕ) → (roomless g (count (pagesOf g n) (c .er)) k & roomless g (freePages g n c) k) ≡ roomless g (freePages g n c) k
+  both-same : (k : ℕ) → (roomless g (count (pagesOf g n) (c .er)) k & roomless g (freePages g n c) k) ≡ roomless g (freePages g n c) k
   unfolding roomless
-  room-same k = by-le (2 * g .pages - 1 + k) (freePages g n c)
+  both-same k = by-le (2 * g .pages - 1 + k) (freePages g n c)
       (λ q. rw (le-ltb (freePages g n c) (2 * g .pages - 1 + k) q) (and-none (ltb (count (pagesOf g n) (c .er)) (2 * g .pages - 1 + k))))
       (λ q. rw (lt-ltb (count (pagesOf g n) (c .er)) (2 * g .pages - 1 + k) (omega (arith, q, free-most))) (and-true (ltb (freePages g n c) (2 * g .pages - 1 + k))))
+
+  -- R8 leaves room for one page
+  module _ (some : 1 ≤ g .pages) (r8 : R8 g n c) where
+    one-roomy : (k : ℕ) → k ≤ 1 → roomless g (freePages g n c) k ≡ false
+    unfolding roomless
+    one-roomy k low = le-ltb (freePages g n c) (2 * g .pages - 1 + k) (omega (arith, some, r8, low))
+
+    pub room-same : (k : ℕ) → (ltb 1 k & roomless g (count (pagesOf g n) (c .er)) k & roomless g (freePages g n c) k) ≡ roomless g (freePages g n c) k
+    room-same k = by-le k 1
+        (λ q. rw (one-roomy k q) (and-none (ltb 1 k & roomless g (count (pagesOf g n) (c .er)) k)))
+        (λ q. rw (lt-ltb 1 k q, and-true (roomless g (count (pagesOf g n) (c .er)) k)) (both-same k))

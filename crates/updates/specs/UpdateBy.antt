@@ -18,6 +18,7 @@ use Rattle.model.specs.Edit.{put, remove}
 use Rattle.model.specs.Collect.{collectStores}
 use Rattle.model.specs.Update.{isNone, needs, tooHigh, sidePage, deleteStore, insertStores, deleteStores}
 use Rattle.model.specs.Calls.{Outcome, refused, made, worn, roomless, freePages, insertRest, deleteRest}
+use Rattle.chips.specs.Whole.{some-page}
 use Rattle.chips.specs.Insertion.{Fuller}
 use Rattle.images.specs.Held.{height-most}
 use Rattle.images.specs.Few.{Few}
@@ -33,6 +34,7 @@ use Rattle.beside.specs.Collect.{collectBy}
 use Rattle.beside.specs.Update.{Returned, returned, madeBy, insertCrest, ownBy, crestBy, insertMade, freeBy, roomlessBy, refusedBy, insertBy, deleteStoreAt, deleteCrest, deleteMade, deleteBy}
 use Rattle.updates.specs.Along.{Keeps}
 use Rattle.updates.specs.Updated.{Stands}
+use Rattle.updates.specs.Level.{chip-right}
 use Rattle.updates.specs.Lists.{programMost, not-worn, numbers, roomy, m-top, m-some, insert-keeps, insert-low, insert-collected, insert-updated, insert-stands, one-top, delete-keeps, delete-collected, delete-low, delete-updated}
 use Rattle.updates.specs.CollectBy.{Tells, collect-same}
 use Rattle.updates.specs.Made.{updated-cautious, updated-held}
@@ -62,8 +64,7 @@ module _ (g : Geometry) (shape : Shape g) (n : ℕ) (few : pagesOf g n + g .page
   refused-is answer = λ i. returned (refused answer img) (tells .at-is i) (words-are i)
 
   chip-is : chipBy g img (h .at) ≡ c
-  unfolding openedIn
-  chip-is = ap (chipBy g img) (tells .at-is)
+  chip-is = ap (chipBy g img) (tells .at-is) ∙ chip-right g (shape-core g shape) n img (keeps .held)
 
   worn-is : ltb (g .worn) (h .at .most) ≡ worn g n img
   unfolding openedIn worn
@@ -115,7 +116,8 @@ module _ (g : Geometry) (shape : Shape g) (n : ℕ) (few : pagesOf g n + g .page
     unfolding openedIn
     room-is =
         let f : freeBy g n (h .table) ≡ freePages g n c = ap (λ l. pagesOf g n - l) (all-ones g (live (placesOf c)) n words whole (tells .right .told)) in
-        (λ i. roomless g (tells .at-is i .erased) m & roomless g (f i) m) ∙ room-same g n c (keeps .held .whole) m
+        (λ i. ltb 1 m & roomless g (tells .at-is i .erased) m & roomless g (f i) m)
+        ∙ room-same g n c (keeps .held .whole) (some-page g (shape-core g shape)) (keeps .r8) m
 
     pub inserts : insertBy g n h img k a al ≡ left (insertRest g n img k a al)
     unfolding insertBy insertMade insertRest
@@ -150,6 +152,7 @@ module _ (g : Geometry) (shape : Shape g) (n : ℕ) (few : pagesOf g n + g .page
         let room = delete-collected g shape n few base img keeps w some-pages k k-low present in
         let at : collectBy g n 1 2 h img .kept .at ≡ openedIn g n then = s .tells .at-is ∙ ap (openedIn g n) (s .image-is) in
         let page = page-by g shape n then held (omega (arith, room)) in
+        let chip = chip-right g (shape-core g shape) n then held in
         let u = delete-updated g shape n few base img keeps w some-pages k k-low present in
         let low = delete-low g shape n few base img keeps w some-pages k k-low present in
         let t = deleteCrest d (sidePage g n d 1) k in
@@ -157,7 +160,8 @@ module _ (g : Geometry) (shape : Shape g) (n : ℕ) (few : pagesOf g n + g .page
         let goes = record-made g n then (applyAll g takes img) 1 t (u .also) (u .end .held) (omega (arith, low)) in
         (λ i. madeBy g n (s .stores-are i ++ (deleteStoreAt g (at i .most) (chipBy g (s .image-is i) (at i)) (pageBy g n (s .image-is i) (at i) 0) k ∷ [])) (at i) 1
         (deleteCrest (chipBy g (s .image-is i) (at i)) (pageBy g n (s .image-is i) (at i) 0) k) al img words)
-        ∙ (λ i. madeBy g n (first ++ (deleteStoreAt g (maxSeq g n then) d (page i) k ∷ [])) (openedIn g n then) 1 (deleteCrest d (page i) k) al img words)
+        ∙ (λ i. madeBy g n (first ++ (deleteStoreAt g (maxSeq g n then) (chip i) (page i) k ∷ [])) (openedIn g n then) 1
+        (deleteCrest (chip i) (page i) k) al img words)
         ∙ made-by g shape nodes n some-pages takes img (updated-cautious g n Z base (remove k base) img takes (programMost g 1) 2 u)
         (updated-held g n Z base (remove k base) img takes (programMost g 1) 2 u) (openedIn g n then) 1 t goes al words
 

@@ -57,36 +57,46 @@ module _ (full : ℕ → Bool) (lives : ℕ → ℕ) where
   unfolding better bestOf
   no-fewer k r e f h = rw (f, e, le-ltb (lives k) (lives (r .block)) h)
 
-module _ (g : Geometry) (img ws : List ℕ) (k : ℕ) (r : Best) (b : Bests (fullIn g img) (onesBy g ws) k r) (e : Bool) (ee : e ≡ erased g img (g .pages * k + (g .pages - 1))) where
-  not-full : e ≡ true → fullIn g img k ≡ false
-  unfolding fullIn
-  not-full q = rw (← ee, q)
+  -- full or not, a block with no fewer live pages is passed over
+  no-better : (k : ℕ) (r : Best) → r .found ≡ true → lives (r .block) ≤ lives k → better full lives k (bestOf r) ≡ bestOf r
+  no-better k r f h = go (full k) refl
+    where
+      go : (t : Bool) → full k ≡ t → better full lives k (bestOf r) ≡ bestOf r
+      go true e = no-fewer k r e f h
+      go false e = unfull k (bestOf r) e
 
-  is-full : e ≡ false → fullIn g img k ≡ true
-  unfolding fullIn
-  is-full q = rw (← ee, q)
-
-  pub better-not : e ≡ true → Bests (fullIn g img) (onesBy g ws) (k + 1) r
-  better-not q = rw add-one (keep (fullIn g img) (onesBy g ws) k r b (unfull (fullIn g img) (onesBy g ws) k (bestOf r) (not-full q)))
-
-  module _ (l : ℕ) (el : l ≡ blockOnes g ws k) (q : e ≡ false) where
+module _ (g : Geometry) (img ws : List ℕ) (k : ℕ) (r : Best) (b : Bests (fullIn g img) (onesBy g ws) k r) where
+  module _ (l : ℕ) (el : l ≡ blockOnes g ws k) where
     lives-is : l ≡ onesBy g ws k
     unfolding onesBy
     lives-is = el
 
-    pub better-first : not (r .found) ≡ true → Bests (fullIn g img) (onesBy g ws) (k + 1) (record { found = true; block = k; lives = l })
-    better-first f =
-        rw add-one (take (fullIn g img) (onesBy g ws) k l r b lives-is (first (fullIn g img) (onesBy g ws) k r (is-full q) (not-true (r .found) f)))
-
-    pub better-fewer : not (r .found) ≡ false → l < r .lives → Bests (fullIn g img) (onesBy g ws) (k + 1) (record { found = true; block = k; lives = l })
-    better-fewer f h =
-        let t : r .found ≡ true = not-false (r .found) f in
-        rw add-one (take (fullIn g img) (onesBy g ws) k l r b lives-is (fewer (fullIn g img) (onesBy g ws) k r (is-full q) t (rw (← lives-is, ← (b .count t)) h)))
-
     pub better-stay : not (r .found) ≡ false → r .lives ≤ l → Bests (fullIn g img) (onesBy g ws) (k + 1) r
     better-stay f h =
         let t : r .found ≡ true = not-false (r .found) f in
-        rw add-one (keep (fullIn g img) (onesBy g ws) k r b (no-fewer (fullIn g img) (onesBy g ws) k r (is-full q) t (rw (← lives-is, ← (b .count t)) h)))
+        rw add-one (keep (fullIn g img) (onesBy g ws) k r b (no-better (fullIn g img) (onesBy g ws) k r t (rw (← lives-is, ← (b .count t)) h)))
+
+  module _ (e : Bool) (ee : e ≡ erased g img (g .pages * k + (g .pages - 1))) where
+    not-full : e ≡ true → fullIn g img k ≡ false
+    unfolding fullIn
+    not-full q = rw (← ee, q)
+
+    is-full : e ≡ false → fullIn g img k ≡ true
+    unfolding fullIn
+    is-full q = rw (← ee, q)
+
+    pub better-not : e ≡ true → Bests (fullIn g img) (onesBy g ws) (k + 1) r
+    better-not q = rw add-one (keep (fullIn g img) (onesBy g ws) k r b (unfull (fullIn g img) (onesBy g ws) k (bestOf r) (not-full q)))
+
+    module _ (l : ℕ) (el : l ≡ blockOnes g ws k) (q : e ≡ false) where
+      pub better-first : not (r .found) ≡ true → Bests (fullIn g img) (onesBy g ws) (k + 1) (record { found = true; block = k; lives = l })
+      better-first f =
+          rw add-one (take (fullIn g img) (onesBy g ws) k l r b (lives-is l el) (first (fullIn g img) (onesBy g ws) k r (is-full q) (not-true (r .found) f)))
+
+      pub better-fewer : not (r .found) ≡ false → l < r .lives → Bests (fullIn g img) (onesBy g ws) (k + 1) (record { found = true; block = k; lives = l })
+      better-fewer f h =
+          let t : r .found ≡ true = not-false (r .found) f in
+          rw add-one (take (fullIn g img) (onesBy g ws) k l r b (lives-is l el) (fewer (fullIn g img) (onesBy g ws) k r (is-full q) t (rw (← (lives-is l el), ← (b .count t)) h)))
 
 -- ---- the definition's victim
 pub victim-is : (g : Geometry) (n : ℕ) (img ws : List ℕ) (r : Best) → Bests (fullIn g img) (onesBy g ws) n r

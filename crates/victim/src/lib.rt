@@ -10,30 +10,30 @@ pub struct Best {
     pub lives: u32,
 }
 
-// The better of a block and the best before it.
+// The better of a block and the best before it. The image is looked at only where the block would win by its live pages.
 fn better(g: Geometry, img: &[u8], words: &[u32], block: u16, best: Best) -> Best
     requires { ⌜ Bests (fullIn g (now img)) (onesBy g (now words)) block best ⌝ }
     ensures { λ r. ⌜ Bests (fullIn g (now (img .entry))) (onesBy g (now (words .entry))) (block + 1) r ⌝ }
 {
+    let lives = words::block_ones(g, words, block);
+    let won = Best {
+        found: true,
+        block: block,
+        lives: lives,
+    };
+    if !best.found {
+        if chip::last_erased(g, img, block) {
+            return best;
+        }
+        return won;
+    }
+    if best.lives <= lives {
+        return best;
+    }
     if chip::last_erased(g, img, block) {
         return best;
     }
-    let lives = words::block_ones(g, words, block);
-    if !best.found {
-        return Best {
-            found: true,
-            block: block,
-            lives: lives,
-        };
-    }
-    if lives < best.lives {
-        return Best {
-            found: true,
-            block: block,
-            lives: lives,
-        };
-    }
-    best
+    won
 }
 
 // The block without erased pages that has fewest live pages by the words, the lowest on a tie.

@@ -122,8 +122,8 @@ zeros-go tbl i z h = record {
       (λ m. (let w : p ≡ i = omega arith in rw w (getD-set-same tbl i 0 0 h)));
 }
 
-pub zeros-end : (tbl tbl₀ : List ℕ) (i : ℕ) → Zeros tbl i → length tbl ≡ length tbl₀ → length tbl ≤ i → Zeros tbl (length tbl₀)
-zeros-end tbl tbl₀ i z e h = record { zeros = λ p k. z .zeros p (omega (arith, e, h, k)) }
+pub zeros-end : (tbl tbl₀ : List ℕ) (n i : ℕ) → Zeros tbl i → n ≡ length tbl₀ → n ≤ i → Zeros tbl (length tbl₀)
+zeros-end tbl tbl₀ n i z e h = record { zeros = λ p k. z .zeros p (omega (arith, e, h, k)) }
 
 -- counting
 pub live-is : (tbl : List ℕ) (p r : ℕ) → r ≡ getD tbl p 0 → not (eqb r 0) ≡ liveIn tbl p

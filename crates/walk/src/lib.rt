@@ -1,6 +1,6 @@
 // The live-page walk: from the root to all nodes it reaches. A lent table takes each page's lowest live level.
 ghost use mathlib.Core.Path.{_≡_};
-ghost use Prim.Native.Nat.{_≤_, _<_};
+ghost use Prim.Native.Nat.{_+_, _*_, _-_, _≤_, _<_, min};
 ghost use lib.ListN.{length, getD, take};
 ghost use Rattle.geometry.specs.Tests.{bit};
 ghost use Rattle.model.specs.Count.{count};
@@ -8,7 +8,7 @@ ghost use Rattle.model.specs.Next.{inBlock};
 ghost use Rattle.model.specs.Tree.{placesOf};
 ghost use Rattle.chip.specs.Chip.{chipWith};
 ghost use Rattle.walk.specs.Table.{lower, noteAll, noteOne, Zeros, liveIn};
-ghost use Rattle.walk.specs.Stops.{Walked};
+ghost use Rattle.walk.specs.Stops.{Walked, leavesAt};
 use geometry::Geometry;
 
 fn byte_of(b: u8) -> u32
@@ -60,6 +60,77 @@ pub fn note(table: &mut [u8], page: u32, level: u32)
     }
 }
 
+// Notes the leaves that k entries from byte `at` name, all inside the image.
+fn note_inside(img: &[u8], table: &mut [u8], at: usize, k: usize)
+    requires { ⌜ (k < 256) × (at + 8 * k ≤ length (now img)) ⌝ }
+    ensures { λ _. ⌜ now (table .exit) ≡ noteAll (leavesAt (now (img .entry)) at k) (now (table .entry)) ⌝ }
+{
+    let mut i: usize = 0;
+    while i < k {
+        let leaf = chip::raw_u32(img, at + 8 * i + 4);
+        note(&mut *table, leaf, 1);
+        i += 1;
+    }
+}
+
+// The same where the image may end before the entries do.
+fn note_across(img: &[u8], table: &mut [u8], at: usize, k: usize)
+    requires { ⌜ (k < 256) × (at < 1125899906842624) ⌝ }
+    ensures { λ _. ⌜ now (table .exit) ≡ noteAll (leavesAt (now (img .entry)) at k) (now (table .entry)) ⌝ }
+{
+    let mut i: usize = 0;
+    while i < k {
+        let leaf = chip::read_u32(img, at + 8 * i + 4);
+        note(&mut *table, leaf, 1);
+        i += 1;
+    }
+}
+
+// Notes the leaves that k entries from byte `at` name.
+fn note_entries(img: &[u8], table: &mut [u8], at: usize, k: usize)
+    requires { ⌜ (k < 256) × (at < 1125899906842624) ⌝ }
+    ensures { λ _. ⌜ now (table .exit) ≡ noteAll (leavesAt (now (img .entry)) at k) (now (table .entry)) ⌝ }
+{
+    if img.len() < at + 8 * k {
+        note_across(img, &mut *table, at, k);
+        return;
+    }
+    note_inside(img, &mut *table, at, k);
+}
+
+// A node's count, but no more than are left.
+pub fn at_most(n: usize, left: u32) -> usize
+    requires { ⌜ n < 256 ⌝ }
+    ensures { λ r. ⌜ (r ≡ min n left) × (r < 256) × (r ≤ left) ⌝ }
+{
+    let most = geometry::index(left);
+    if n < most {
+        return n;
+    }
+    most
+}
+
+// What is left after k nodes.
+pub fn left_after(left: u32, k: usize) -> u32
+    requires { ⌜ k ≤ left ⌝ }
+    ensures { λ r. ⌜ r ≡ left - k ⌝ }
+{
+    left - (k as u32)
+}
+
+// Notes the node at level 2 of a page and its leaves, no more than `left` nodes. Gives how many are left.
+fn note_leaves(g: Geometry, img: &[u8], table: &mut [u8], page: u32, left: u32) -> u32
+    requires { ⌜ (left ≡ 0 → ⊥) ⌝ }
+    ensures { λ r. ⌜ Walked noteAll g (now (img .entry)) 2 page left r (now (table .entry)) (now (table .exit)) ⌝ }
+{
+    note(&mut *table, page, 2);
+    let at = chip::node_place(g, page, 2);
+    let n = chip::node_count(g, img, page, 2);
+    let k = at_most(n, left - 1);
+    note_entries(img, &mut *table, at, k);
+    left_after(left - 1, k)
+}
+
 // Notes the node at a level of a page and all that it reaches, no more than `left` nodes. Gives how many are left.
 fn note_nodes(g: Geometry, img: &[u8], table: &mut [u8], level: u32, page: u32, left: u32) -> u32
     requires { ⌜ level < 256 ⌝ }
@@ -70,6 +141,9 @@ fn note_nodes(g: Geometry, img: &[u8], table: &mut [u8], level: u32, page: u32, 
     }
     if left == 0 {
         return 0;
+    }
+    if level == 2 {
+        return note_leaves(g, img, &mut *table, page, left);
     }
     note(&mut *table, page, level);
     if level == 1 {
@@ -92,8 +166,9 @@ pub fn clear(table: &mut [u8])
     ensures { λ _. ⌜ length (now (table .exit)) ≡ length (now (table .entry)) ⌝ }
     ensures { λ _. ⌜ Zeros (now (table .exit)) (length (now (table .entry))) ⌝ }
 {
+    let n = table.len();
     let mut i: usize = 0;
-    while i < table.len() {
+    while i < n {
         table[i] = 0;
         i += 1;
     }

@@ -13,4 +13,4 @@ ruleset all = (needs, account-laws)
 pub is-roomless-spec : {M : Type 1} → statement M
 is-roomless-spec =
     tie.close
-    (tie.spec (λ c κs. search all) (λ c. search all) (λ c κs. search all) (λ c κs. search all) (λ c. search all) (λ c. search all))
+    (tie.spec (λ c. search all) (λ c κs. search all) (λ c. search all) (λ c κs. search all) (λ c κs. search all) (λ c. search all) (λ c. search all))

@@ -4,7 +4,7 @@ use Rattle.account.proofs.note_levels.Statement.{statement}
 use Rattle.account.proofs.note_levels.Tie as tie
 use Rattle.account.proofs.note_levels.Reads as reads
 use Rattle.account.proofs.note_levels.Lts as lts
-use Rattle.survey.proofs.less_one.Reads as less-one-reads
+use Rattle.survey.proofs.level_by.Reads as level-by-reads
 use Rattle.walk.proofs.clear.Reads as clear-reads
 use Rattle.walk.proofs.note_from.Reads as note-from-reads
 

@@ -4,7 +4,7 @@ use Rattle.account.proofs.tell.Statement.{statement}
 use Rattle.account.proofs.tell.Tie as tie
 use Rattle.account.proofs.tell.Reads as reads
 use Rattle.account.proofs.tell.Lts as lts
-use Rattle.survey.proofs.less_one.Reads as less-one-reads
+use Rattle.survey.proofs.level_by.Reads as level-by-reads
 use Rattle.telling.proofs.tell_words.Reads as tell-words-reads
 
 ruleset all = (needs, account-laws)

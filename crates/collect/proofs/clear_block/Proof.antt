@@ -7,7 +7,7 @@ use Rattle.collect.proofs.clear_block.Lts as lts
 use Rattle.collect.proofs.begin.Reads as begin-reads
 use Rattle.collect.proofs.sweep.Reads as sweep-reads
 use Rattle.collect.proofs.wipe.Reads as wipe-reads
-use Rattle.survey.proofs.less_one.Reads as less-one-reads
+use Rattle.survey.proofs.level_by.Reads as level-by-reads
 
 ruleset all = (needs, collect-laws)
 
@@ -26,4 +26,4 @@ clear-block-spec =
     (λ c. search all)
     (λ c. search all)
     (λ c. search all)
-    (λ c. clear-done _ _ _ _ _ _ _ _ _ _ _ _ _ _ _ (c .before .before .before .before .before .before .before .before .before .before .before .before .before .before .before .before .before .before .begin .ensures .0) (c .before .before .before .before .before .before .before .before .before .before .before .before .before .sweep .ensures) (c .before .before .before .before .before .before .before .before .before .before .before .before .before .before .before .before .before .less-one .ensures) (c .before .before .before .before .before .before .before .before .before .before .before .before .before .before .before .before .before .before .before .before .before .before .pre .1) _ _ (c .before .before .wipe .ensures) (c .before .before .before .before .if1 .left)))
+    (λ c. clear-done _ _ _ _ _ _ _ _ _ _ _ _ _ _ _ (c .before .before .before .before .before .before .before .before .before .before .before .before .before .before .before .before .before .before .begin .ensures .0) (c .before .before .before .before .before .before .before .before .before .before .before .before .before .sweep .ensures) (c .before .before .before .before .before .before .before .before .before .before .before .before .before .before .before .before .before .level-by .ensures) (c .before .before .before .before .before .before .before .before .before .before .before .before .before .before .before .before .before .before .before .before .before .before .pre .1) _ _ (c .before .before .wipe .ensures) (c .before .before .before .before .if1 .left)))

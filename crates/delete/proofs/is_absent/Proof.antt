@@ -5,7 +5,7 @@ use Rattle.delete.proofs.is_absent.Tie as tie
 use Rattle.delete.proofs.is_absent.Reads as reads
 use Rattle.delete.proofs.is_absent.Lts as lts
 use Rattle.descent.proofs.find_key.Reads as find-key-reads
-use Rattle.survey.proofs.less_one.Reads as less-one-reads
+use Rattle.survey.proofs.level_by.Reads as level-by-reads
 
 ruleset all = (needs, delete-laws)
 

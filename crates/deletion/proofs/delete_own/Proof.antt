@@ -5,9 +5,9 @@ use Rattle.deletion.proofs.delete_own.Statement.{statement}
 use Rattle.deletion.proofs.delete_own.Tie as tie
 use Rattle.deletion.proofs.delete_own.Reads as reads
 use Rattle.deletion.proofs.delete_own.Lts as lts
-use Rattle.deletion.proofs.below.Reads as below-reads
 use Rattle.deletion.proofs.delete_job.Reads as delete-job-reads
 use Rattle.deletion.proofs.delete_with.Reads as delete-with-reads
+use Rattle.survey.proofs.level_by.Reads as level-by-reads
 
 ruleset all = (needs, deletion-laws, tie-laws)
 

@@ -7,7 +7,7 @@ use Rattle.insert.proofs.insert_by.Lts as lts
 use Rattle.account.proofs.refuse.Reads as refuse-reads
 use Rattle.insert.proofs.insert_planned.Reads as insert-planned-reads
 use Rattle.plan.proofs.make_plan.Reads as make-plan-reads
-use Rattle.survey.proofs.less_one.Reads as less-one-reads
+use Rattle.survey.proofs.level_by.Reads as level-by-reads
 
 ruleset all = (needs, with-laws)
 
@@ -24,8 +24,8 @@ insert-by-spec =
     (λ c κs. search all)
     (λ c. search all)
     (λ c. search all)
-    (λ c. by-high _ _ _ _ _ _ _ _ _ _ _ (c .before .before .before .before .before .before .make-plan .ensures) (c .before .before .before .before .before .before .before .before .less-one .ensures) (c .before .before .before .before .before .before .before .before .before .if1 .left) (c .before .before .refuse2 .ensures) (c .before .before .before .before .before .if2 .taken))
+    (λ c. by-high _ _ _ _ _ _ _ _ _ _ _ (c .before .before .before .before .before .before .make-plan .ensures) (c .before .before .before .before .before .before .before .before .level-by .ensures) (c .before .before .before .before .before .before .before .before .before .if1 .left) (c .before .before .refuse2 .ensures) (c .before .before .before .before .before .if2 .taken))
     (λ c κs. search all)
     (λ c. search all)
     (λ c. search all)
-    (λ c. by-planned _ _ _ _ _ _ _ _ _ _ _ (c .before .before .before .before .before .before .before .before .make-plan .ensures) (c .before .before .before .before .before .before .before .before .before .before .less-one .ensures) (c .before .before .before .before .before .before .before .before .before .before .before .if1 .left) (c .before .before .before .before .insert-planned .ensures) (c .before .before .before .before .before .before .before .if2 .left)))
+    (λ c. by-planned _ _ _ _ _ _ _ _ _ _ _ (c .before .before .before .before .before .before .before .before .make-plan .ensures) (c .before .before .before .before .before .before .before .before .before .before .level-by .ensures) (c .before .before .before .before .before .before .before .before .before .before .before .if1 .left) (c .before .before .before .before .insert-planned .ensures) (c .before .before .before .before .before .before .before .if2 .left)))

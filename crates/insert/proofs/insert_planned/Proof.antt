@@ -4,9 +4,9 @@ use Rattle.insert.proofs.insert_planned.Statement.{statement}
 use Rattle.insert.proofs.insert_planned.Tie as tie
 use Rattle.insert.proofs.insert_planned.Reads as reads
 use Rattle.insert.proofs.insert_planned.Lts as lts
-use Rattle.account.proofs.needed.Reads as needed-reads
 use Rattle.insert.proofs.insert_direct.Reads as insert-direct-reads
 use Rattle.insert.proofs.insert_told.Reads as insert-told-reads
+use Rattle.insert.proofs.plenty.Reads as plenty-reads
 
 ruleset all = (needs, with-laws)
 
@@ -18,7 +18,7 @@ insert-planned-spec =
     (λ c κs. search all)
     (λ c. search all)
     (λ c. search all)
-    (λ c. planned-direct _ _ _ _ _ _ _ _ _ _ _ (c .before .before .before .before .insert-direct .ensures) (c .before .before .before .before .before .before .before .before .before .needed .ensures) (c .before .before .before .before .before .before .before .if1 .taken))
+    (λ c. planned-direct _ _ _ _ _ _ _ _ _ _ _ (c .before .before .before .before .insert-direct .ensures) (c .before .before .before .before .before .before .before .before .before .plenty .ensures) (c .before .before .before .before .before .before .before .if1 .taken))
     (λ c κs. search all)
     (λ c. search all)
     (λ c. search all)

@@ -8,7 +8,7 @@ use Rattle.insert.proofs.insert_rest.Lts as lts
 use Rattle.account.proofs.is_roomless.Reads as is-roomless-reads
 use Rattle.insert.proofs.insert_made.Reads as insert-made-reads
 use Rattle.plan.proofs.make_plan.Reads as make-plan-reads
-use Rattle.survey.proofs.less_one.Reads as less-one-reads
+use Rattle.survey.proofs.level_by.Reads as level-by-reads
 
 ruleset all = (needs, insert-laws)
 
@@ -20,13 +20,13 @@ insert-rest-spec =
     (λ c κs. search all)
     (λ c κs. search all)
     (λ c. search all)
-    (λ c. rest-high _ _ _ _ _ _ _ _ _ _ _ (c .before .make-plan .ensures) (c .before .before .before .less-one .ensures) (c .before .before .before .before .if1 .left) (c .if2 .taken))
-    (λ c κs. omega (arith, plan-few _ _ _ _ _ _ _ (c .before .before .make-plan .ensures) (c .before .before .before .before .less-one .ensures) (c .before .before .before .before .before .before .before .before .before .before .before .pre .1)))
+    (λ c. rest-high _ _ _ _ _ _ _ _ _ _ _ (c .before .make-plan .ensures) (c .before .before .before .level-by .ensures) (c .before .before .before .before .if1 .left) (c .if2 .taken))
+    (λ c κs. omega (arith, plan-few _ _ _ _ _ _ _ (c .before .before .make-plan .ensures) (c .before .before .before .before .level-by .ensures) (c .before .before .before .before .before .before .before .before .before .before .before .pre .1)))
     (λ c. search all)
     (λ c. search all)
-    (λ c. rest-room _ _ _ _ _ _ _ _ _ _ _ (c .before .before .before .before .make-plan .ensures) (c .before .before .before .before .before .before .less-one .ensures) (c .before .before .before .before .before .before .before .if1 .left) (c .before .before .before .if2 .left) _ (c .before .is-roomless .ensures) (c .if3 .taken))
-    (λ c κs. (c .before .before .before .before .before .before .before .before .before .before .before .before .before .before .before .before .pre .0, c .before .before .before .before .before .before .before .make-plan .ensures .some, plan-few _ _ _ _ _ _ _ (c .before .before .before .before .before .before .before .make-plan .ensures) (c .before .before .before .before .before .before .before .before .before .less-one .ensures) (c .before .before .before .before .before .before .before .before .before .before .before .before .before .before .before .before .pre .1), c .before .before .before .before .before .before .before .before .before .before .before .before .before .before .before .before .pre .1))
+    (λ c. rest-room _ _ _ _ _ _ _ _ _ _ _ (c .before .before .before .before .make-plan .ensures) (c .before .before .before .before .before .before .level-by .ensures) (c .before .before .before .before .before .before .before .if1 .left) (c .before .before .before .if2 .left) _ (c .before .is-roomless .ensures) (c .if3 .taken))
+    (λ c κs. (c .before .before .before .before .before .before .before .before .before .before .before .before .before .before .before .before .pre .0, c .before .before .before .before .before .before .before .make-plan .ensures .some, plan-few _ _ _ _ _ _ _ (c .before .before .before .before .before .before .before .make-plan .ensures) (c .before .before .before .before .before .before .before .before .before .level-by .ensures) (c .before .before .before .before .before .before .before .before .before .before .before .before .before .before .before .before .pre .1), c .before .before .before .before .before .before .before .before .before .before .before .before .before .before .before .before .pre .1))
     (λ c. search all)
     (λ c. search all)
     (λ c. search all)
-    (λ c. rest-made _ _ _ _ _ _ _ _ _ _ _ (c .before .before .before .before .before .before .before .before .before .before .before .before .before .before .make-plan .ensures) (c .before .before .before .before .before .before .before .before .before .before .before .before .before .before .before .before .less-one .ensures) (c .before .before .before .before .before .before .before .before .before .before .before .before .before .before .before .before .before .if1 .left) (c .before .before .before .before .before .before .before .before .before .before .before .before .before .if2 .left) _ (c .before .before .before .before .before .before .before .before .before .before .before .is-roomless .ensures) _ (c .before .before .before .before .before .before .insert-made .ensures) (c .before .before .before .before .before .before .before .before .before .before .if3 .left)))
+    (λ c. rest-made _ _ _ _ _ _ _ _ _ _ _ (c .before .before .before .before .before .before .before .before .before .before .before .before .before .before .make-plan .ensures) (c .before .before .before .before .before .before .before .before .before .before .before .before .before .before .before .before .level-by .ensures) (c .before .before .before .before .before .before .before .before .before .before .before .before .before .before .before .before .before .if1 .left) (c .before .before .before .before .before .before .before .before .before .before .before .before .before .if2 .left) _ (c .before .before .before .before .before .before .before .before .before .before .before .is-roomless .ensures) _ (c .before .before .before .before .before .before .insert-made .ensures) (c .before .before .before .before .before .before .before .before .before .before .if3 .left)))

@@ -5,10 +5,10 @@ use Rattle.insertion.proofs.insert_own.Statement.{statement}
 use Rattle.insertion.proofs.insert_own.Tie as tie
 use Rattle.insertion.proofs.insert_own.Reads as reads
 use Rattle.insertion.proofs.insert_own.Lts as lts
-use Rattle.insertion.proofs.below.Reads as below-reads
 use Rattle.insertion.proofs.insert_job.Reads as insert-job-reads
 use Rattle.insertion.proofs.insert_with.Reads as insert-with-reads
 use Rattle.insertion.proofs.number.Reads as number-reads
+use Rattle.survey.proofs.level_by.Reads as level-by-reads
 
 ruleset all = (needs, insertion-laws, tie-laws)
 

@@ -4,15 +4,17 @@ use Prim.Native.Nat.{ℕ, _-_, _<_, _≤_}
 use mathlib.Core.Path.{_≡_}
 use lib.ListN.{length}
 use Rattle.walk.specs.Stops.{Going}
+use Rattle.telling.specs.Counts.{count-read}
 use Rattle.telling.specs.Telling.{markAll}
 use borrow.Fn.Kinds.{In}
 use borrow.Fn.PlainCycle.{Measures, is, falls, and}
 use Rattle.telling.proofs.mark_nodes.Reads as mark-nodes
 use Rattle.telling.proofs.mark_nodes.Kinds as mark-nodes-kinds
 use Rattle.telling.proofs.+mark_nodes.Lts-mark_nodes as mark-nodes-lts
-use Rattle.chip.proofs.node_count.Reads as node-count-reads
 use Rattle.chip.proofs.node_place.Reads as node-place-reads
-use Rattle.chip.proofs.read_u32.Reads as read-u32-reads
+use Rattle.telling.proofs.below_at.Reads as below-at-reads
+use Rattle.telling.proofs.counts_below.Reads as counts-below-reads
+use Rattle.telling.proofs.mark_leaves.Reads as mark-leaves-reads
 use Rattle.telling.proofs.mark_page.Reads as mark-page-reads
 use Rattle.telling.proofs.+mark_nodes.{statement}
 use Rattle.telling.proofs.+mark_nodes.Tie.{close}
@@ -31,22 +33,24 @@ mark-nodes-below t =
     and 2 mark-nodes-kinds.ps (falls 2 mark-nodes-kinds.ps _<_ μ-mark-nodes t) mark-nodes.Pre
 
 abbrev mark-nodes-Inv-loop : mark-nodes-lts.InvT-loop
-mark-nodes-Inv-loop g img lent₀ m level page left at n more₀ i₀ lent more i =
-    (i ≤ n) × (length lent ≡ length lent₀) × Going (markAll m) g img level at n more₀ lent₀ i more lent
+mark-nodes-Inv-loop g img lent₀ m level page left n at counts more₀ i₀ lent more i =
+    (i ≤ n) × (n < 256) × (length lent ≡ length lent₀) × Going (markAll m) g img level at n more₀ lent₀ i more lent
 
 abbrev mark-nodes-μ-loop : mark-nodes-lts.MeasureT-loop
-mark-nodes-μ-loop g img lent₀ m level page left at n more₀ i₀ lent more i = n - i
+mark-nodes-μ-loop g img lent₀ m level page left n at counts more₀ i₀ lent more i = n - i
 
 pub +mark-nodes-spec : {M : Type 1} → statement M
 +mark-nodes-spec = close μ-mark-nodes λ t. mark-nodes-lts.spec (
+  mark-leaves-reads.Asked,
+  mark-leaves-reads.Learnt,
   mark-page-reads.Asked,
   mark-page-reads.Learnt,
   node-place-reads.Asked,
   node-place-reads.Learnt,
-  node-count-reads.Asked,
-  node-count-reads.Learnt,
-  read-u32-reads.Asked,
-  read-u32-reads.Learnt,
+  counts-below-reads.Asked,
+  counts-below-reads.Learnt,
+  below-at-reads.Asked,
+  below-at-reads.Learnt,
   mark-nodes-below t,
   mark-nodes.Post,
 )
@@ -59,11 +63,7 @@ pub +mark-nodes-spec : {M : Type 1} → statement M
     (λ c κs. search all)
     (λ c. search all)
     (λ c. search all)
-    (λ c. search all)
     (λ c κs. search all)
-    (λ c κs. search all)
-    (λ c. search all)
-    (λ c. search all)
     (λ c. search all)
     (λ c. search all)
     (λ c. search all)
@@ -73,5 +73,11 @@ pub +mark-nodes-spec : {M : Type 1} → statement M
     (λ c. search all)
     (λ c. search all)
     (λ c. search all)
+    (λ c κs. search all)
+    (λ c. search all)
+    (λ c κs. (search all, (search all, search all, search all, search all)))
+    (λ c. search all)
+    (λ c. search all)
+    (λ c. (search all, search all, search all, search all))
     (λ c. search all)
     (λ c. search all)

@@ -1,19 +1,20 @@
 use borrow.Author.Needs.{needs}
 use Rattle.telling.specs.Laws.{telling-laws}
-use Prim.Native.Nat.{_-_, _≤_}
+use Prim.Native.Nat.{_≤_, _-_}
 use mathlib.Core.Path.{_≡_}
+use lib.ListN.{length}
 use Rattle.live.specs.Words.{filled}
 use Rattle.telling.specs.Telling.{nowhere}
 use Rattle.telling.proofs.clear.Statement.{statement}
 use Rattle.telling.proofs.clear.Tie as tie
 use Rattle.telling.proofs.clear.Reads as reads
 use Rattle.telling.proofs.clear.Lts as lts
-use Rattle.words.proofs.put_word.Reads as put-word-reads
 
 ruleset all = (needs, telling-laws)
 
 abbrev Inv-loop : tie.InvT-loop
-Inv-loop lent₀ m i₀ lent i = (i ≤ m) × (lent ≡ filled nowhere i lent₀)
+Inv-loop lent₀ m i₀ lent i =
+    (i ≤ m) × (length lent ≡ length lent₀) × (lent ≡ filled nowhere i lent₀)
 
 abbrev μ-loop : tie.MeasureT-loop
 μ-loop lent₀ m i₀ lent i = m - i
@@ -25,7 +26,8 @@ clear-spec =
     Inv-loop
     μ-loop
     (λ c. search all)
-    (λ c κs. search all)
+    (λ c. search all)
+    (λ c. search all)
     (λ c. search all)
     (λ c. search all)
     (λ c. search all)

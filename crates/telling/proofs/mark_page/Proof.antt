@@ -17,7 +17,6 @@ mark-page-spec =
     (λ c. search all)
     (λ c. search all)
     (λ c. search all)
-    (λ c. search all)
     (λ c κs. search all)
     (λ c. search all)
     (λ c. search all)

@@ -12,4 +12,12 @@ ruleset all = (needs, victim-laws)
 pub better-spec : {M : Type 1} → statement M
 better-spec =
     tie.close
-    (tie.spec (λ c κs. search all) (λ c. search all) (λ c κs. search all) (λ c. search all) (λ c. search all) (λ c. search all))
+    (tie.spec
+    (λ c κs. search all)
+    (λ c κs. search all)
+    (λ c. search all)
+    (λ c. search all)
+    (λ c. search all)
+    (λ c κs. search all)
+    (λ c. search all)
+    (λ c. search all))

@@ -14,6 +14,7 @@ use Rattle.chip.proofs.node_count.Reads as node-count-reads
 use Rattle.chip.proofs.node_place.Reads as node-place-reads
 use Rattle.chip.proofs.read_u32.Reads as read-u32-reads
 use Rattle.walk.proofs.note.Reads as note-reads
+use Rattle.walk.proofs.note_leaves.Reads as note-leaves-reads
 use Rattle.walk.proofs.+note_nodes.{statement}
 use Rattle.walk.proofs.+note_nodes.Tie.{close}
 
@@ -39,6 +40,8 @@ note-nodes-μ-loop g img table₀ level page left at n more₀ i₀ table more i
 
 pub +note-nodes-spec : {M : Type 1} → statement M
 +note-nodes-spec = close μ-note-nodes λ t. note-nodes-lts.spec (
+  note-leaves-reads.Asked,
+  note-leaves-reads.Learnt,
   note-reads.Asked,
   note-reads.Learnt,
   node-place-reads.Asked,
@@ -54,6 +57,9 @@ pub +note-nodes-spec : {M : Type 1} → statement M
     note-nodes.Post
     note-nodes-Inv-loop
     note-nodes-μ-loop
+    (λ c. search all)
+    (λ c. search all)
+    (λ c κs. search all)
     (λ c. search all)
     (λ c. search all)
     (λ c κs. search all)

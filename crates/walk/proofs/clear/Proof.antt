@@ -12,11 +12,11 @@ use Rattle.walk.proofs.clear.Lts as lts
 ruleset all = (needs, walk-laws)
 
 abbrev Inv-loop : tie.InvT-loop
-Inv-loop table₀ i₀ table i =
-    (i ≤ length table₀) × (length table ≡ length table₀) × Zeros table i
+Inv-loop table₀ n i₀ table i =
+    (i ≤ n) × (n ≡ length table₀) × (length table ≡ length table₀) × Zeros table i
 
 abbrev μ-loop : tie.MeasureT-loop
-μ-loop table₀ i₀ table i = length table₀ - i
+μ-loop table₀ n i₀ table i = n - i
 
 pub clear-spec : {M : Type 1} → statement M
 clear-spec =
