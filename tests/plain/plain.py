@@ -31,6 +31,7 @@ KINDS += ["%s, short result" % name for name in CALLS]
 KINDS += ["%s of %d pages" % (name, n) for name in MOST for n in range(1, MOST[name] + 1)]
 KINDS += ["%s of %d pages, as many are erased" % (name, n) for name in MOST for n in range(1, MOST[name] + 1)]
 KINDS += ["%s of %d pages, one fewer is erased" % (name, n) for name in MOST for n in range(1, MOST[name] + 1)]
+KINDS += ["%s, no page is erased" % refused for refused in ("insert WORN", "delete WORN", "delete ABSENT", "insert HEIGHT")]
 KINDS += ["grows to height %d" % h for h in range(2, images.TOP + 1)]
 KINDS += ["shrinks by %d" % n for n in range(1, images.TOP)]
 KINDS += ["empties %d levels, stays" % n for n in range(1, images.TOP)]
@@ -125,6 +126,8 @@ def update(driver, m, rng, img, call):
         driver.hold(result(answer, 0, img, img, buf, *where), call[0], img, buf, allowance=rng.choice([0, 1, 9, LARGEST]), **args)
         if answer == 6 and m.F(img) == plan["k"] - 1:
             driver.meet("%s of %d pages, one fewer is erased" % (call[0], plan["k"]))
+        if answer in (3, 4, 5) and m.F(img) == 0:
+            driver.meet("%s %s, no page is erased" % (call[0], ANSWERS[answer]))
         return img
     stores, now, all_of_them = plan["stores"], img, [img]
     for made in range(len(stores) + 2):
@@ -188,12 +191,17 @@ def full_paths(driver, m, fuzz, rng):
 
 
 def highest(driver, m, fuzz, rng):
-    """Height 5 and 64 entries on the whole path: a new key is HEIGHT, a present one is not; one key less, and that key again."""
+    """Height 5 and 64 entries on the whole path: a new key is HEIGHT, with no erased page too, a present one is not; one key less, and that key
+    again."""
     tree = images.splitting(rng, fuzz, images.TOP, images.TOP)
     edges(driver, m, rng, fuzz, tree, 0)
     img, key = tree.image(m, 20), rng.choice(tree.leaf_keys(True))
     img = update(driver, m, rng, img, ("delete", key))
     update(driver, m, rng, img, ("insert", key, 5))
+    img = tree.image(m, 0)
+    new = images.absent(rng, dict(m.map_of(img)), tree.leaf_keys(True))
+    for call in (("insert", new, 5), ("delete", new), ("insert", key, 5), ("delete", key)):
+        update(driver, m, rng, img, call)
 
 
 def shrinking(driver, m, fuzz, rng):
@@ -280,11 +288,12 @@ def no_images(driver, m, fuzz, rng):
 
 
 def worn(driver, m, fuzz, rng):
-    """The largest sequence number at the limit, where an update of nine pages is made, and above it, where none is."""
+    """The largest sequence number at the limit, where an update of five or nine pages is made, and above it, where none is, with no erased page
+    either."""
     height = rng.choice([2, 4])
     tree = images.splitting(rng, fuzz, height, height)
-    for number in (m.G.worn_limit, m.G.worn_limit + 1, LARGEST):
-        img = bytearray(tree.image(m, rng.choice([9, 30])))
+    for number, free in ((m.G.worn_limit, 9), (m.G.worn_limit + 1, 30), (m.G.worn_limit + 1, 0), (LARGEST, 0)):
+        img = bytearray(tree.image(m, free))
         page = m.page_of_largest_seq(bytes(img))
         img[page * m.G.page_size + m.G.main:page * m.G.page_size + m.G.main + 4] = number.to_bytes(4, "little")
         for call in calls_of(m, rng, fuzz, bytes(img), tree):
