@@ -83,17 +83,13 @@ $(TOOL): $(LIBRARY) $(TOOL_SOURCES) $(TOOL_HEADERS)
 	@sh scripts/needs "$(COMPILER)" > /dev/null
 	$(COMPILER) $(STRICT) $(CFLAGS) $(TOOL_SOURCES) $(LIBRARY) -o $@
 
-# Request 3's program.
+# Request 3's program, and request 12's.
 replay: $(REPLAY)
 
-$(REPLAY): target/proved scripts/program scripts/kit scripts/arm
-	sh scripts/program $(TARGET) $@ "$(COMPILER)"
-
-# Request 12's program.
 compare: $(COMPARE)
 
-$(COMPARE): target/proved scripts/program scripts/kit scripts/arm
-	sh scripts/program $(TARGET) $@ "$(COMPILER)" compare
+$(REPLAY) $(COMPARE): target/proved scripts/program scripts/kit scripts/arm
+	sh scripts/program $(TARGET) $@ "$(COMPILER)" $(notdir $@)
 
 # The one place from which the tests of the compiled code have their compiler: lines for sh to read.
 settings:

@@ -1,94 +1,106 @@
-"""The program compare against the reference model: the same random logs through both of the model's trees, whole and broken ones.
+"""The program compare against the reference model: the same random logs on both trees, whole and broken ones.
 
 usage: compare.py PROGRAM [LINES] [SEED]
 """
-import math
 import os
 import random
 import subprocess
 import sys
 
-HERE = os.path.dirname(os.path.abspath(__file__))
-sys.path[:0] = [HERE, os.path.dirname(HERE), os.path.join(os.path.dirname(HERE), "replay")]
+TESTS = os.path.dirname(os.path.dirname(os.path.abspath(__file__)))
+sys.path[:0] = [TESTS, os.path.join(TESTS, "replay")]
 import logs
 import reference
 
-STOPS = 5, 6, 7
-BROKEN = [b"\n", b"F\r\n", b"F\t\n", b"X\n", b"I\t1\n", b"I\t01\t2\n", b"D\t4294967296\n", b"L\t1\t\n", b"A" * 100000 + b"\n", b"D\t1", b"F", b"\0\n"]
+LARGEST = 2 ** 32 - 1
+# last pieces that have no form
+BROKEN = [b"\n", b"F\r\n", b"f\n", b"X\n", b"I\t1\n", b"I\t01\t2\n", b"D\t4294967296\n", b"L\t1\t\n", b"S\t1\t2\n", b"A" * 200000 + b"\n", b"A" * 200000, b"D\t1", b"F", b"\0\n"]
+# a log that is not over counts one update more after these lines
+ONE_MORE = b"F\nI\t1\t1\n"
 
 
-def expected(model, mu, plain, text):
-    """What the program writes, and why: E, the end of the log, or the answers at which it stopped."""
-    a, b = mu.blank(3), plain.blank(3)
-    updates = mu_pages = plain_pages = 0
-    why = "end"
+def wanted(model, mu, plain, text):
+    """What the request and docs/DECISIONS.md ask for, and whether the run stopped: the model's report, or E and the number of the first
+    line without a form, if the run goes on until there. The model itself is silent on such a line."""
+    whole, broken = b"", None
     for number, (line, ended) in enumerate(model.lines_of(text), 1):
-        order = model.parse_line(line) if ended else None
-        if order is None:
-            return b"E\t%d\n" % number, "E"
-        x, y = model.step(mu, a, *order), model.step(plain, b, *order)
-        if x.answer in STOPS or y.answer in STOPS:
-            why = "stopped by %d and %d" % (x.answer, y.answer)
+        if not ended or model.parse_line(line) is None:
+            broken = number
             break
-        a, b = x.img, y.img
-        if order[0] in "IDS" and x.answer == 0 and y.answer == 0:
-            updates, mu_pages, plain_pages = updates + 1, mu_pages + x.programmed, plain_pages + y.programmed
-    part = math.gcd(mu_pages, plain_pages) if plain_pages else 1
-    ratio = (mu_pages // part, plain_pages // part) if plain_pages else (0, 0)
-    return b"%d\t%d\t%d\t%d\t%d\n" % (updates, mu_pages, plain_pages, *ratio), why
+        whole += line + b"\n"
+    numbers = model.compare(mu, plain, whole)
+    stopped = model.compare(mu, plain, whole + ONE_MORE)[0] == numbers[0]
+    if broken is None or stopped:
+        return b"\t".join(b"%d" % n for n in numbers) + b"\n", stopped
+    return b"E\t%d\n" % broken, stopped
 
 
-def same(program, model, trees, text):
-    ours = subprocess.run([program], input=text, stdout=subprocess.PIPE, check=True).stdout
-    theirs, why = expected(model, *trees, text)
-    if ours != theirs:
-        with open("differs.log", "wb") as f:
-            f.write(text)
-        sys.exit("compare: the program wrote %r, the reference %r; the log is in differs.log" % (ours[:200], theirs))
-    return why
+def key_maker(rng):
+    """Keys that rise, that fall, or at random from a wide or a narrow range."""
+    kind, at = rng.randrange(4), rng.randrange(1000, 10 ** 6)
+    if kind < 2:
+        steps = iter(range(10 ** 9))
+        return lambda: at + next(steps) if kind == 0 else at - next(steps)
+    return lambda: rng.choice([0, LARGEST, rng.randrange(2 ** 32)]) if rng.random() < .03 else rng.randrange(30 if kind == 2 else 4000)
 
 
 def log(rng, lines):
-    """A log with a format now and then, so that both trees go on: keys rising, by chance or of a narrow range; few allowances are small."""
-    kind, apart, known, out = rng.choice(["rising", "random", "narrow"]), rng.choice([45, 74, 78, 300]), [], []
-    for i in range(lines):
-        key = i if kind == "rising" else rng.randrange(40 if kind == "narrow" else 2 ** 32)
-        u = rng.random()
-        if i == 2 or (i > 2 and i % apart == 0):
-            out.append("F")
-        elif u < (.95 if apart > 45 else .6) or not known:
+    """Lines before any F, then rounds that begin with F; the longest ones fill the plain tree's image."""
+    most = rng.choice([8, 30, 70, 90])
+    careful = rng.random() < .5
+    out = [logs.line(rng, 60, []) for _ in range(rng.choice([0, 0, 3]))]
+    while len(out) < lines:
+        new, known = key_maker(rng), []
+        out.append("F")
+        for _ in range(rng.randint(1, most)):
+            u = rng.random()
+            key = new() if u < .6 or not known else rng.choice(known)
             known.append(key)
-            out.append("I\t%d\t%d" % (key, rng.randrange(2 ** 32)))
-        elif u < .97:
-            out.append("D\t%d" % rng.choice(known))
-        elif u < .98:
-            out.append("L\t%d" % rng.choice(known))
-        else:
-            out.append("S\t%d\t%d\t%d" % (rng.choice(known), i, rng.choice([9] * 20 + [logs.LARGEST, 1])))
+            address = rng.choice([0, LARGEST, rng.randrange(1000)])
+            if u < .8:
+                out.append("I\t%d\t%d" % (key, address))
+            elif u < .86:
+                allowance = LARGEST if careful else rng.choice([0, 1, 1, 2, 2, 3, 40, LARGEST])
+                out.append("S\t%d\t%d\t%d" % (key, address, allowance))
+            else:
+                out.append("%s\t%d" % ("D" if u < .93 else "L", key))
     return "".join(l + "\n" for l in out).encode()
 
 
 def compare(program, lines, seed):
     fuzz = reference.need("compare")
     model = sys.modules["mutree_model"]
-    trees = reference.mu(fuzz, fuzz.SMALL), model.Plain(fuzz.SMALL, reference.rules(fuzz))
-    rng = random.Random(seed)
-    met, runs, done = {}, 0, 0
-    texts = [before + last for last in BROKEN for before in (b"", b"F\nI\t1\t1\n")]
-    texts += [b"", b"F\n" + b"".join(b"I\t%d\t1\n" % k for k in range(1, 130)), b"F\n" + b"I\t5\t1\n" * 96, logs.log(200, seed)]
-    while done < lines or texts:
-        text = texts.pop() if texts else log(rng, rng.choice([3, 30, 120, 300])) + (rng.choice(BROKEN) if rng.random() < .1 else b"")
-        done += text.count(b"\n")
-        why = same(program, model, trees, text)
-        met[why] = met.get(why, 0) + 1
-        runs += 1
-    for why in "E", "end", "stopped by 0 and 6":
-        if why not in met:
-            sys.exit("compare: no log ended so: %s" % why)
-    print("compare: %d logs, %d lines, the program and the reference agree" % (runs, done))
-    print("ends met: " + ", ".join("%s %d times" % (k, met[k]) for k in sorted(met)))
+    mu, plain = reference.mu(fuzz, fuzz.SMALL), model.Plain(fuzz.SMALL, reference.rules(fuzz))
+    rng, met, runs, done, updates = random.Random(seed), {}, 0, 0, 0
+
+    def same(text):
+        nonlocal runs, done, updates
+        ours = subprocess.run([program], input=text, stdout=subprocess.PIPE, check=True).stdout
+        theirs, stopped = wanted(model, mu, plain, text)
+        if ours != theirs:
+            with open("differs.log", "wb") as f:
+                f.write(text)
+            sys.exit("a log of %d lines: the program writes %r, the reference says %r; the log is in differs.log" % (text.count(b"\n"), ours, theirs))
+        runs, done = runs + 1, done + text.count(b"\n")
+        what = "E"
+        if ours[:1] != b"E":
+            numbers = [int(n) for n in ours.split()]
+            updates += numbers[0]
+            what = "0 and 0" if numbers[2] == 0 else "a ratio as it stood" if numbers[1] == numbers[3] else "a ratio in lower terms"
+            what += ", stopped" if stopped else ""
+        met[what] = met.get(what, 0) + 1
+
+    for text in (b"", b"F\n", b"F\n" + b"L\t1\n" * 50, b"I\t1\t1\nD\t1\n", logs.rising(300)):
+        same(text)
+    for last in BROKEN:
+        same(last)
+        same(log(rng, 10) + last)
+    while done < lines:
+        same(log(rng, rng.choice([1, 20, 100, 300])) + (rng.choice(BROKEN) if rng.random() < .2 else b""))
+    print("compare: %d logs, %d lines, %d updates counted, the program and the reference agree" % (runs, done, updates))
+    print("reports met: " + "; ".join("%s: %d times" % (k, met[k]) for k in sorted(met)))
 
 
 if __name__ == "__main__":
     words = sys.argv[1:]
-    compare(os.path.abspath(words[0]), int(words[1]) if len(words) > 1 else 3000, int(words[2]) if len(words) > 2 else 1)
+    compare(os.path.abspath(words[0]), int(words[1]) if len(words) > 1 else 5000, int(words[2]) if len(words) > 2 else 1)
