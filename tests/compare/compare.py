@@ -12,9 +12,6 @@ sys.path[:0] = [TESTS, os.path.join(TESTS, "replay")]
 import logs
 import reference
 
-LARGEST = 2 ** 32 - 1
-# last pieces that have no form
-BROKEN = [b"\n", b"F\r\n", b"f\n", b"X\n", b"I\t1\n", b"I\t01\t2\n", b"D\t4294967296\n", b"L\t1\t\n", b"S\t1\t2\n", b"A" * 200000 + b"\n", b"A" * 200000, b"D\t1", b"F", b"\0\n"]
 # a log that is not over counts one update more after these lines
 ONE_MORE = b"F\nI\t1\t1\n"
 
@@ -41,7 +38,7 @@ def key_maker(rng):
     if kind < 2:
         steps = iter(range(10 ** 9))
         return lambda: at + next(steps) if kind == 0 else at - next(steps)
-    return lambda: rng.choice([0, LARGEST, rng.randrange(2 ** 32)]) if rng.random() < .03 else rng.randrange(30 if kind == 2 else 4000)
+    return lambda: rng.choice([0, logs.LARGEST, rng.randrange(2 ** 32)]) if rng.random() < .03 else rng.randrange(30 if kind == 2 else 4000)
 
 
 def log(rng, lines):
@@ -56,11 +53,11 @@ def log(rng, lines):
             u = rng.random()
             key = new() if u < .6 or not known else rng.choice(known)
             known.append(key)
-            address = rng.choice([0, LARGEST, rng.randrange(1000)])
+            address = rng.choice([0, logs.LARGEST, rng.randrange(1000)])
             if u < .8:
                 out.append("I\t%d\t%d" % (key, address))
             elif u < .86:
-                allowance = LARGEST if careful else rng.choice([0, 1, 1, 2, 2, 3, 40, LARGEST])
+                allowance = logs.LARGEST if careful else rng.choice([0, 1, 1, 2, 2, 3, 40, logs.LARGEST])
                 out.append("S\t%d\t%d\t%d" % (key, address, allowance))
             else:
                 out.append("%s\t%d" % ("D" if u < .93 else "L", key))
@@ -92,11 +89,11 @@ def compare(program, lines, seed):
 
     for text in (b"", b"F\n", b"F\n" + b"L\t1\n" * 50, b"I\t1\t1\nD\t1\n", logs.rising(300)):
         same(text)
-    for last in BROKEN:
+    for last in logs.BROKEN:
         same(last)
         same(log(rng, 10) + last)
     while done < lines:
-        same(log(rng, rng.choice([1, 20, 100, 300])) + (rng.choice(BROKEN) if rng.random() < .2 else b""))
+        same(log(rng, rng.choice([1, 20, 100, 300])) + (rng.choice(logs.BROKEN) if rng.random() < .2 else b""))
     print("compare: %d logs, %d lines, %d updates counted, the program and the reference agree" % (runs, done, updates))
     print("reports met: " + "; ".join("%s: %d times" % (k, met[k]) for k in sorted(met)))
 

@@ -39,10 +39,9 @@ want "rising keys until the plain tree has no room" "$(rising 90)" '79\t81\t95\t
 want "a page of the allowance too few for the plain tree alone" "$(rising 65)S\t66\t66\t1\nI\t1\t1\n" '65\t67\t67\t1\t1\n'
 
 # each is line 2: one too large, leading zeros, no number, a field too few and too many, other letters, CR, an empty line, blanks
-for line in 'L\t4294967296' 'L\t99999999999' 'L\t01' 'L\t00' 'L\t' 'L\t-1' 'L\t1a' 'L' 'L\t1\t2' 'I\t1' 'I\t1\t2\t3' 'S\t1\t2' 'S\t1\t2\t3\t4' 'F\t' 'F\t1' 'FF' 'f' 'X\t1' \
-    'F\r' 'L\t1\r' '' ' ' ' F' '\tF' 'L 1' 'S\t4294967295\t4294967295\t42949672950' 'L\t00000000000000000000000000000000000000001'; do
+while IFS= read -r line; do
     want "a line '$line'" "F\n$line\nF\n" 'E\t2\n'
-done
+done < tests/replay/broken
 want "a last piece without byte 10" 'F\nF' 'E\t2\n'
 want "one byte" 'F' 'E\t1\n'
 
