@@ -2,10 +2,13 @@
 # make build      the same without the day
 # make library    prove all crates and build the library alone; needs no C compiler
 # make replay     build the program that replays a day's log (request 3): build/replay, or build/TARGET/replay for the other processor
+# make compare    build the program that plays a log on both trees (request 12): build/compare, or build/TARGET/compare
 # make check      pass all tests: the gate and what runs beside it
 # make search     time the search in one node (bench/search.c)
 # make wear       play a year of a camera's life and draw how often each block is erased (bench/wear.c, docs/WEAR.md)
 # make bound      insert keys in several orders and print how many pages go beyond one a key (bench/bound.c, docs/BENCHMARKS.md)
+# make pages      play three logs on both trees and draw how many pages an update programs (bench/pages.c, docs/BENCHMARKS.md)
+# make plain      prove all crates and build the archive of request 12's plain tree, which tests and measurements alone use
 # make cost       count what a list costs after the image is judged (bench/cost.c, docs/BENCHMARKS.md)
 # make cuts       lose power 10,000,000 times between the stores of long logs on a simulated chip (tests/nand/many.sh); an hour or two
 # make install    header, library, pkg-config file and tool, under PREFIX; make uninstall takes them away
@@ -31,25 +34,28 @@ RUN =
 LINK =
 TOOL = build/mutree
 REPLAY = build/replay
+COMPARE = build/compare
 else
 COMPILER = $(CC_$(TARGET))
 RUN = $(RUN_$(TARGET))
 LINK = -static
 TOOL = build/$(TARGET)/mutree
 REPLAY = build/$(TARGET)/replay
+COMPARE = build/$(TARGET)/compare
 endif
 ifeq ($(filter x86_64 aarch64,$(TARGET)),)
 $(error TARGET is x86_64 or aarch64, not $(TARGET))
 endif
 
 LIBRARY = build/$(TARGET)/libmutree.a
+PLAIN = build/$(TARGET)/libplain.a
 TOOL_SOURCES = $(wildcard c/*.c)
 TOOL_HEADERS = $(wildcard c/*.h)
 PROOFS = crates.txt $(shell find crates -type f)
 # What is asked for before ten minutes of proving, and not after: the archive alone needs no compiler.
-NEEDS = rt $(if $(filter library,$(MAKECMDGOALS)),,"$(COMPILER)")
+NEEDS = rt $(if $(filter library plain,$(MAKECMDGOALS)),,"$(COMPILER)")
 
-.PHONY: day build library replay check search wear bound cost cuts install uninstall clean settings
+.PHONY: day build library replay compare check search plain wear bound pages cost cuts install uninstall clean settings
 .DELETE_ON_ERROR:
 
 ifeq ($(TARGET),$(HOST))
@@ -77,15 +83,17 @@ $(TOOL): $(LIBRARY) $(TOOL_SOURCES) $(TOOL_HEADERS)
 	@sh scripts/needs "$(COMPILER)" > /dev/null
 	$(COMPILER) $(STRICT) $(CFLAGS) $(TOOL_SOURCES) $(LIBRARY) -o $@
 
-# Request 3's program.
+# Request 3's program, and request 12's.
 replay: $(REPLAY)
 
-$(REPLAY): target/proved scripts/program scripts/kit scripts/arm
-	sh scripts/program $(TARGET) $@ "$(COMPILER)"
+compare: $(COMPARE)
+
+$(REPLAY) $(COMPARE): target/proved scripts/program scripts/kit scripts/arm
+	sh scripts/program $(TARGET) $@ "$(COMPILER)" $(notdir $@)
 
 # The one place from which the tests of the compiled code have their compiler: lines for sh to read.
 settings:
-	@printf "HOST='%s'\nCC='%s'\nRUN='%s'\nLINK='%s'\nLIBRARY='%s'\nTOOL='%s'\nREPLAY='%s'\n" '$(HOST)' '$(COMPILER)' '$(RUN)' '$(LINK)' '$(LIBRARY)' '$(TOOL)' '$(REPLAY)'
+	@printf "HOST='%s'\nCC='%s'\nRUN='%s'\nLINK='%s'\nLIBRARY='%s'\nPLAIN='%s'\nTOOL='%s'\nREPLAY='%s'\nCOMPARE='%s'\n" '$(HOST)' '$(COMPILER)' '$(RUN)' '$(LINK)' '$(LIBRARY)' '$(PLAIN)' '$(TOOL)' '$(REPLAY)' '$(COMPARE)'
 
 check:
 	sh tests/run
@@ -100,8 +108,8 @@ build/$(TARGET)/search: bench/search.c build/$(TARGET)/libsearch.a
 search: build/$(TARGET)/search
 	$(RUN) $<
 
-build/$(TARGET)/wear: bench/wear.c c/mutree.h $(LIBRARY)
-	$(COMPILER) $(STRICT) $(CFLAGS) $(LINK) bench/wear.c $(LIBRARY) -o $@
+build/$(TARGET)/wear: bench/wear.c bench/life.c bench/life.h c/mutree.h $(LIBRARY)
+	$(COMPILER) $(STRICT) $(CFLAGS) $(LINK) bench/wear.c bench/life.c $(LIBRARY) -o $@
 
 wear: build/$(TARGET)/wear
 	$(RUN) $< --svg docs/wear.svg docs/wear-before.txt > docs/wear-after.txt
@@ -112,6 +120,19 @@ build/$(TARGET)/bound: bench/bound.c tests/independent/judge.c tests/independent
 
 bound: build/$(TARGET)/bound
 	$(RUN) $<
+
+# Request 12: the crate plain_camera has the plain tree's calls.
+plain: $(PLAIN)
+
+$(PLAIN): target/proved scripts/archive scripts/kit scripts/arm
+	sh scripts/archive $(TARGET) $@ plain_camera
+
+PAGES_SOURCES = bench/pages.c bench/life.c tests/plain/seen.c
+build/$(TARGET)/pages: $(PAGES_SOURCES) bench/life.h tests/plain/plain.h tests/plain/seen.h c/mutree.h $(PLAIN) $(LIBRARY)
+	$(COMPILER) $(STRICT) $(CFLAGS) $(LINK) $(PAGES_SOURCES) $(PLAIN) $(LIBRARY) -o $@
+
+pages: build/$(TARGET)/pages
+	$(RUN) $< --svg docs/pages.svg docs/pages-small.svg > docs/pages.txt
 
 build/$(TARGET)/cost: bench/cost.c c/mutree.h $(LIBRARY)
 	$(COMPILER) $(STRICT) $(CFLAGS) $(LINK) bench/cost.c $(LIBRARY) -o $@

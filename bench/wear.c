@@ -5,16 +5,17 @@
  *   OUT takes a picture of two tables, bar beside bar: the one in the file BEFORE and the one of this run.
  *
  * A call tells how many blocks it erased, not which. So an update that erased is made again on a copy of the image before
- * it, with an allowance of 1, 2, 3 and so on: neighbours then differ by one store. The random numbers are the program's
- * own, so two runs with the same library print the same table.
+ * it, with an allowance of 1, 2, 3 and so on: neighbours then differ by one store. The random numbers are the life's
+ * own (life.h), so two runs with the same library print the same table.
  */
 #include "../c/mutree.h"
+#include "life.h"
 
 #include <stdio.h>
 #include <stdlib.h>
 #include <string.h>
 
-enum { BLOCKS = 16, DAYS = 365, PATIENTS = 24, MOST_FRAMES = DAYS * 8 * 8, LIVES = 2 };
+enum { BLOCKS = 16, LIVES = 2 };
 
 #define LENGTH ((size_t)BLOCKS * MUTREE_SMALL_BLOCK_BYTES)
 
@@ -27,13 +28,6 @@ static void need(int ok, const char *what)
 }
 
 /* ---- the chip: every update, and the blocks that it erases */
-enum kind { INSERT, DELETE };
-
-struct update {
-    enum kind kind;
-    uint32_t key, address;
-};
-
 struct chip {
     uint8_t *image, *before, *last, *now;   /* the chip, and room for an update made again */
     unsigned long updates, programmed, erased;
@@ -101,8 +95,9 @@ static void make_again(struct chip *c, struct update u, struct mutree_result mad
     need(erased == made.erased && memcmp(c->last, c->image, LENGTH) == 0, "an update made again differs");
 }
 
-static void make(struct chip *c, struct update u)
+static void make(void *chip, struct update u)
 {
+    struct chip *c = chip;
     struct mutree_result made;
     memcpy(c->before, c->image, LENGTH);
     made = call(c->image, u, UINT32_MAX);
@@ -114,132 +109,46 @@ static void make(struct chip *c, struct update u)
         make_again(c, u, made);
 }
 
-/* ---- the camera: patients under care come for visits of a few frames, whose keys are neighbours */
-struct patient {
-    uint32_t number;      /* the upper half of a key */
-    unsigned frames;      /* so far */
-};
-
-struct frame {
-    uint32_t key;
-    int there, of_first_visit;
-};
-
-struct camera {
+/* ---- the lives */
+struct life {
     struct chip chip;
-    uint64_t seed;
-    unsigned stay;                    /* how many days a frame stays */
-    int first_stays;                  /* whether the frames of a patient's first visit stay all year */
-    struct patient patients[PATIENTS];
-    unsigned patients_met;
-    struct frame frames[MOST_FRAMES]; /* all that were taken, in order */
-    unsigned taken;
-    unsigned first_of_day[DAYS + 1];
+    struct camera camera;
 };
-
-static uint32_t some(struct camera *c, uint32_t below)
-{
-    c->seed = c->seed * 6364136223846793005u + 1442695040888963407u;
-    return (uint32_t)((c->seed >> 33) % below);
-}
-
-/* Numbers are all over the range and no two are alike. */
-static void meet_patient(struct camera *c, unsigned place)
-{
-    c->patients[place].number = ++c->patients_met * 40503u % 65536u;
-    c->patients[place].frames = 0;
-}
-
-static void store_frame(struct camera *c, struct frame *frame)
-{
-    struct update u = { INSERT, 0, 0 };
-    u.key = frame->key;
-    u.address = some(c, UINT32_MAX);
-    make(&c->chip, u);
-    frame->there = 1;
-}
-
-static void delete_frame(struct camera *c, struct frame *frame)
-{
-    struct update u = { DELETE, 0, 0 };
-    u.key = frame->key;
-    make(&c->chip, u);
-    frame->there = 0;
-}
-
-/* 3 to 8 frames. One of eight is taken again, so its address is replaced; one of sixteen is thrown away. */
-static void play_visit(struct camera *c, struct patient *patient)
-{
-    unsigned frames = 3 + some(c, 6);
-    int first = patient->frames == 0;
-    while (frames-- > 0) {
-        struct frame *frame = &c->frames[c->taken++];
-        frame->key = patient->number * 65536u + patient->frames++;
-        frame->of_first_visit = first;
-        store_frame(c, frame);
-        if (some(c, 8) == 0)
-            store_frame(c, frame);
-        if (some(c, 16) == 0)
-            delete_frame(c, frame);
-    }
-}
-
-/* The frames of a day are deleted, but for those that stay all year. */
-static void clear_day(struct camera *c, unsigned day)
-{
-    unsigned at;
-    for (at = c->first_of_day[day]; at < c->first_of_day[day + 1]; at++)
-        if (c->frames[at].there && !(c->first_stays && c->frames[at].of_first_visit))
-            delete_frame(c, &c->frames[at]);
-}
-
-/* 4 to 8 visits. Every second day the care of one patient ends and that of another begins. */
-static void play_day(struct camera *c, unsigned day)
-{
-    unsigned visits = 4 + some(c, 5);
-    c->first_of_day[day] = c->taken;
-    if (day >= c->stay)
-        clear_day(c, day - c->stay);
-    if (day % 2 == 0)
-        meet_patient(c, day / 2 % PATIENTS);
-    while (visits-- > 0)
-        play_visit(c, &c->patients[some(c, PATIENTS)]);
-    c->first_of_day[day + 1] = c->taken;
-}
 
 /* The frames that are left, each of which must be found. */
-static unsigned long frames_left(const struct camera *c)
+static unsigned long frames_left(const struct life *l)
 {
+    const struct camera *c = &l->camera;
     uint8_t result[MUTREE_RESULT_BYTES];
     unsigned long left = 0;
     unsigned at;
     for (at = 0; at < c->taken; at++)
         if (c->frames[at].there) {
-            uint32_t answer = mutree_lookup(MUTREE_SMALL, c->chip.image, LENGTH, c->frames[at].key, result, sizeof result);
+            uint32_t answer = mutree_lookup(MUTREE_SMALL, l->chip.image, LENGTH, c->frames[at].key, result, sizeof result);
             need(answer == MUTREE_DONE, "a frame is lost");
             left++;
         }
     return left;
 }
 
-static void play_year(struct camera *c)
+static void play_year(struct life *l)
 {
     uint8_t result[MUTREE_RESULT_BYTES];
-    unsigned place, day;
-    c->seed = 1;
-    c->chip.image = room();
-    c->chip.before = room();
-    c->chip.last = room();
-    c->chip.now = room();
-    need(mutree_format(MUTREE_SMALL, c->chip.image, LENGTH, result, sizeof result) == MUTREE_DONE, "format was refused");
-    for (place = 0; place < PATIENTS; place++)
-        meet_patient(c, place);
+    unsigned day;
+    l->chip.image = room();
+    l->chip.before = room();
+    l->chip.last = room();
+    l->chip.now = room();
+    need(mutree_format(MUTREE_SMALL, l->chip.image, LENGTH, result, sizeof result) == MUTREE_DONE, "format was refused");
+    l->camera.make = make;
+    l->camera.owner = &l->chip;
+    begin_life(&l->camera);
     for (day = 0; day < DAYS; day++)
-        play_day(c, day);
+        play_day(&l->camera, day);
 }
 
 /* ---- tables: a column for each life */
-static const char *const lives[LIVES] = { "", ", those of a patient's first visit all year" };
+static const char *const words_of[LIVES] = { "", ", those of a patient's first visit all year" };
 
 struct summary {
     unsigned long least, most, sum;
@@ -259,25 +168,26 @@ static struct summary summary_of(const unsigned long *erases)
     return s;
 }
 
-static void print_life(const struct camera *c, int life)
+static void print_life(const struct life *l, int life)
 {
-    struct summary s = summary_of(c->chip.erases);
-    printf("# life %d: a frame stays %u days%s\n", life + 1, c->stay, lives[life]);
-    printf("#   %lu updates, %lu pages programmed, %lu blocks erased (%lu without a live page), %lu frames left\n", c->chip.updates,
-           c->chip.programmed, c->chip.erased, c->chip.bare, frames_left(c));
+    const struct chip *c = &l->chip;
+    struct summary s = summary_of(c->erases);
+    printf("# life %d: a frame stays %u days%s\n", life + 1, l->camera.stay, words_of[life]);
+    printf("#   %lu updates, %lu pages programmed, %lu blocks erased (%lu without a live page), %lu frames left\n", c->updates,
+           c->programmed, c->erased, c->bare, frames_left(l));
     printf("#   erases of a block: least %lu, most %lu, mean %.1f\n", s.least, s.most, (double)s.sum / BLOCKS);
 }
 
-static void print_table(const struct camera *cameras)
+static void print_table(const struct life *lives)
 {
     unsigned block;
     int life;
     printf("# %d blocks, %d days\n", BLOCKS, DAYS);
     for (life = 0; life < LIVES; life++)
-        print_life(&cameras[life], life);
+        print_life(&lives[life], life);
     printf("block erases-in-life-1 erases-in-life-2\n");
     for (block = 0; block < BLOCKS; block++)
-        printf("%u %lu %lu\n", block, cameras[0].chip.erases[block], cameras[1].chip.erases[block]);
+        printf("%u %lu %lu\n", block, lives[0].chip.erases[block], lives[1].chip.erases[block]);
 }
 
 /* Lines that are not three numbers are passed over. */
@@ -365,16 +275,16 @@ static void draw_mean(FILE *f, const unsigned long *erases, unsigned long top)
     fprintf(f, "<text x='%d' y='%.1f' fill='#444444'>mean</text>\n", RIGHT + 4, y + 4);
 }
 
-static void draw_panel(FILE *f, const struct camera *c, int life, const unsigned long *before)
+static void draw_panel(FILE *f, const struct life *l, int life, const unsigned long *before)
 {
-    const unsigned long *after = c->chip.erases;
+    const unsigned long *after = l->chip.erases;
     unsigned long most = summary_of(before).most, step, top;
     if (summary_of(after).most > most)
         most = summary_of(after).most;
     step = step_of(most);
     top = (most / step + 1) * step;
     fprintf(f, "<g transform='translate(0 %d)'>\n<text x='%d' y='18' font-size='14'>%d. A frame stays %u days%s</text>\n", HEAD + PANEL * life, LEFT,
-            life + 1, c->stay, lives[life]);
+            life + 1, l->camera.stay, words_of[life]);
     draw_lines(f, step, top);
     draw_bars(f, before, 0, top);
     draw_bars(f, after, 1, top);
@@ -384,7 +294,7 @@ static void draw_panel(FILE *f, const struct camera *c, int life, const unsigned
     fputs("</g>\n", f);
 }
 
-static void draw(const char *path, const struct camera *cameras, unsigned long before[LIVES][BLOCKS])
+static void draw(const char *path, const struct life *lives, unsigned long before[LIVES][BLOCKS])
 {
     FILE *f = fopen(path, "w");
     int life, height = HEAD + PANEL * LIVES;
@@ -395,14 +305,14 @@ static void draw(const char *path, const struct camera *cameras, unsigned long b
     fprintf(f, "<text x='%d' y='50' fill='#444444'>Before: of the wholly erased blocks the lowest is taken. After: the first one met after the block "
                "written last, going round.</text>\n", LEFT);
     for (life = 0; life < LIVES; life++)
-        draw_panel(f, &cameras[life], life, before[life]);
+        draw_panel(f, &lives[life], life, before[life]);
     fputs("</svg>\n", f);
     need(fclose(f) == 0, "cannot write the picture");
 }
 
 int main(int count, char **words)
 {
-    static struct camera cameras[LIVES];
+    static struct life lives[LIVES];
     unsigned long before[LIVES][BLOCKS], stay = 7;
     const char *picture = NULL;
     int at = 1, life;
@@ -417,12 +327,12 @@ int main(int count, char **words)
     }
     need(at == count && stay >= 1 && stay <= DAYS, "usage: wear [--stay DAYS] [--svg OUT BEFORE]");
     for (life = 0; life < LIVES; life++) {
-        cameras[life].stay = (unsigned)stay;
-        cameras[life].first_stays = life == 1;
-        play_year(&cameras[life]);
+        lives[life].camera.stay = (unsigned)stay;
+        lives[life].camera.first_stays = life == 1;
+        play_year(&lives[life]);
     }
-    print_table(cameras);
+    print_table(lives);
     if (picture != NULL)
-        draw(picture, cameras, before);
+        draw(picture, lives, before);
     return 0;
 }

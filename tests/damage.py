@@ -126,18 +126,22 @@ class Bench:
         return self.put(img, self.m.root_page(img), self.g.main + 4 + self.m.height(img), b"\x01" if self.m.height(img) > 1 else b"\xff")
 
 
-def images(rng, fuzz, m, each=3):
-    """Some images for each clause, and with rules broken two at a time; R6 to R8 as chance gives them."""
-    b, out = Bench(rng, fuzz, m), []
-    makers = [b.rule_1, b.erased_before, b.second_mixed, b.rule_3, b.rule_4, b.rule_5]
+def edited(b, each=3):
+    """Some images for each clause of R1 to R5, and with these rules broken two at a time."""
+    makers, out = [b.rule_1, b.erased_before, b.second_mixed, b.rule_3, b.rule_4, b.rule_5], []
     for make in makers:
-        out += [make(b.sound(rng.choice([3, 4]))) for _ in range(each)]
+        out += [make(b.sound(b.rng.choice([3, 4]))) for _ in range(each)]
     for first in makers:
         for second in makers[makers.index(first) + 1:]:
             out.append(first(second(b.sound(3))))
     for level in (1, 2, 3):
         out += [b.rule_5(b.high(level + 1), level) for _ in range(each)]
-    out += [b.root(b.high(2)) for _ in range(each)]
+    return out + [b.root(b.high(2)) for _ in range(each)]
+
+
+def images(rng, fuzz, m, each=3):
+    """The same, and some for R6 to R8, as chance gives them."""
+    out = edited(Bench(rng, fuzz, m), each)
     for rule in (6, 7, 8):
         found = 0
         while found < each:

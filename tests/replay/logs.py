@@ -6,6 +6,10 @@ import random
 import sys
 
 LARGEST = 2 ** 32 - 1
+# last pieces that have no form: each is answered by E
+BROKEN = [b"\n", b"F\r\n", b"F\t\n", b"f\n", b"X\n", b"FF\n", b" F\n", b"\tF\n", b"I\t1\n", b"I\t1\t2\t3\n", b"I\t01\t2\n", b"I\t1\t00\n", b"I\t\t2\n", b"I\t-1\t2\n",
+          b"I\t+1\t2\n", b"I 1 2\n", b"D\t4294967296\n", b"D\t10000000000\n", b"D\t99999999999999999999999\n", b"L\t1 \n", b"L\t1\t\n", b"L\n", b"S\t1\t2\n",
+          b"S\t1\t2\t3\t4\n", b"S\t4294967295\t4294967295\t4294967296\n", b"D\t" + b"0" * 40 + b"\n", b"A" * 200000 + b"\n", b"A" * 200000, b"D\t1", b"D\t1\r", b"F", b"\0\n", b"D\t\xb1\n"]
 
 
 def line(rng, keys, known):

@@ -28,10 +28,9 @@ want "no input" '' 'T\t0\t0\t0\n'
 want "before any F" 'L\t1\nI\t1\t2\nD\t1\nS\t1\t2\t3\n' 'L\t2\t0\t0\t0\nI\t2\t0\t0\t0\nD\t2\t0\t0\t0\nS\t2\t0\t0\t0\nT\t4\t0\t0\n'
 want "the largest numbers" 'F\nI\t4294967295\t4294967295\nL\t4294967295\nS\t0\t0\t0\n' 'F\t0\t0\t1\t3\nI\t0\t0\t1\t0\nL\t0\t4294967295\t0\t0\nS\t7\t0\t0\t0\nT\t4\t2\t3\n'
 # each is line 2: one too large, leading zeros, no number, a field too few and too many, other letters, CR, an empty line, blanks
-for line in 'L\t4294967296' 'L\t99999999999' 'L\t01' 'L\t00' 'L\t' 'L\t-1' 'L\t1a' 'L' 'L\t1\t2' 'I\t1' 'I\t1\t2\t3' 'S\t1\t2' 'S\t1\t2\t3\t4' 'F\t' 'F\t1' 'FF' 'f' 'X\t1' \
-    'F\r' 'L\t1\r' '' ' ' ' F' '\tF' 'L 1' 'S\t4294967295\t4294967295\t42949672950' 'L\t00000000000000000000000000000000000000001'; do
+while IFS= read -r line; do
     want "a line '$line'" "F\n$line\nF\n" 'F\t0\t0\t1\t3\nE\t2\n'
-done
+done < tests/replay/broken
 want "a last piece without byte 10" 'F\nF' 'F\t0\t0\t1\t3\nE\t2\n'
 want "one byte" 'F' 'E\t1\n'
 

@@ -40,7 +40,7 @@ fn report_row(result: &mut [u8], w: Row) -> u32
 }
 
 // An answer's row in the result buffer. Gives the answer number.
-fn report(result: &mut [u8], a: Answer) -> u32
+pub fn report(result: &mut [u8], a: Answer) -> u32
     ensures number { λ r. ⌜ r ≡ rowOf a .answer ⌝ }
     ensures bytes { λ _. ⌜ now (result .exit) ≡ reportOf a (now (result .entry)) ⌝ }
 {

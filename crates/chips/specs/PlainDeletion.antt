@@ -5,9 +5,11 @@ use mathlib.Core.Bool.{Bool, true, false}
 use Prim.Native.Nat.{ℕ, zero, suc, _+_, _-_, _*_, _<_, _≤_}
 use native.Mathlib.Omega.{arith}
 use lib.ListN.{length, length-append, List·getD-append}
-use borrow.Author.Tests.{eq-eqb, ne-eqb}
+use lib.Dec.{eqb, leb}
+use borrow.Author.Tests.{eq-eqb, ne-eqb, le-leb, lt-leb}
 use Rattle.geometry.specs.declared.Geometry.{Geometry}
 use Rattle.geometry.specs.declared.Entry.{Entry}
+use Rattle.geometry.specs.Tests.{pick, and-true, and-false, and-none}
 use Rattle.geometry.specs.Geometry.{half, rootMost}
 use Rattle.geometry.specs.Shape.{Core}
 use Rattle.model.specs.Count.{count}
@@ -16,7 +18,7 @@ use Rattle.model.specs.Tree.{under, mapOf, next, chosen, sought}
 use Rattle.model.specs.Next.{ahead, nth, taken}
 use Rattle.model.specs.Edit.{remove, removeIn, Top, collapse}
 use Rattle.model.specs.Update.{isNone, rootNode, deleteList}
-use Rattle.model.specs.Plain.{keptOn, Plan, noneLeft, emptied, keptPage, plainLess, plainTop, keptPlans, deletePlans}
+use Rattle.model.specs.Plain.{keptOn, Plan, noneLeft, emptied, keptPage, plainLess, plainTop, keptPlans, deletePlans, plainShrinks, plainLeaves}
 use Rattle.counts.specs.Tally.{count-most, count-same}
 use Rattle.trees.specs.Tests.{by-le, by-test, true-false}
 use Rattle.trees.specs.Lists.{split}
@@ -91,7 +93,7 @@ module _ (g : Geometry) (core : Core g) (n k : ℕ) (k-low : k < 4294967296) (c 
   emptied-is = count-same (λ j. noneLeft (deleteList c k 0 (suc j))) (λ j. noneLeft (lists (suc j))) (c .level)
       (λ i _. none-same (deleteList c k 0 (suc i)) (lists (suc i)) (path-length r k (λ _. 0) P (c .level) (theRoot c) (suc i)))
 
-  emptied-low : emptied c k ≤ c .level
+  pub emptied-low : emptied c k ≤ c .level
   emptied-low = let w = count-most (λ j. noneLeft (lists (suc j))) (c .level) in omega (arith, w, emptied-is)
 
   -- a node that is left is above them
@@ -103,7 +105,7 @@ module _ (g : Geometry) (core : Core g) (n k : ℕ) (k-low : k < 4294967296) (c 
       omega (arith, w, emptied-is, b)
 
   -- one entry is left of a root above level 1: all below are emptied
-  all-emptied : 1 ≤ c .level → length (lists (suc (c .level))) ≡ 1 → emptied c k ≡ c .level
+  pub all-emptied : 1 ≤ c .level → length (lists (suc (c .level))) ≡ 1 → emptied c k ≡ c .level
   unfolding plainLess
   all-emptied i one = emptied-is
       ∙ count-same (λ j. noneLeft (lists (suc j))) (λ _. true) (c .level) (λ j b. by-test (noneLeft (lists (suc j))) (λ z. z)
@@ -238,24 +240,24 @@ module _ (g : Geometry) (core : Core g) (n k : ℕ) (k-low : k < 4294967296) (c 
   abbrev Stays : Type 0
   Stays = 1 ≤ c .level → 2 ≤ length (lists (suc (c .level)))
 
-  top-stays : Stays → top ≡ record { level = c .level; list = lists (suc (c .level)) }
+  pub top-stays : Stays → top ≡ record { level = c .level; list = lists (suc (c .level)) }
   unfolding plainTop
   top-stays h = collapse-stays r (c .level) (lists (suc (c .level))) h
 
-  top-falls : 1 ≤ c .level → length (lists (suc (c .level))) ≡ 1 → top .level < c .level
+  pub top-falls : 1 ≤ c .level → length (lists (suc (c .level))) ≡ 1 → top .level < c .level
   unfolding plainTop
   top-falls i one = collapse-falls r (c .level) (lists (suc (c .level))) i one
 
-  stay-plans : Stays → plans ≡ keptPlans lists (c .level) ++ (rootPlan top ∷ [])
+  pub stay-plans : Stays → plans ≡ keptPlans lists (c .level) ++ (rootPlan top ∷ [])
   unfolding deletePlans
   stay-plans h = rw (eq-eqb (top .level) (c .level) (ap (λ (x : Top). x .level) (top-stays h))) refl
 
-  fall-plans : 1 ≤ c .level → length (lists (suc (c .level))) ≡ 1 → plans ≡ rootPlan top ∷ []
+  pub fall-plans : 1 ≤ c .level → length (lists (suc (c .level))) ≡ 1 → plans ≡ rootPlan top ∷ []
   unfolding deletePlans
   fall-plans i one = rw (ne-eqb (top .level) (c .level) (λ z. let w = top-falls i one in omega (arith, z, w))) refl
 
   -- the emptied levels are the lowest
-  empties : (j : ℕ) → 1 ≤ j → j ≤ c .level → Empty lists (emptied c k) j
+  pub empties : (j : ℕ) → 1 ≤ j → j ≤ c .level → Empty lists (emptied c k) j
   unfolding plainLess
   empties j b d = (
     (λ t. let w = count-head j (c .level) (λ i. noneLeft (lists (suc i))) d (λ i x. by-test (noneLeft (lists (suc i))) (λ z. z)
@@ -265,10 +267,10 @@ module _ (g : Geometry) (core : Core g) (n k : ℕ) (k-low : k < 4294967296) (c 
     (λ h. by-test (noneLeft (lists j)) (λ z. z) (λ z. absurd (let w = left-high j b d (left-some (lists j) z) in omega (arith, w, h)))),
   )
 
-  kept-count : length (keptPlans lists (c .level)) ≡ c .level - emptied c k
+  pub kept-count : length (keptPlans lists (c .level)) ≡ c .level - emptied c k
   kept-count = kept-length lists (emptied c k) (c .level) empties
 
-  stay-count : Stays → length plans ≡ suc (c .level) - emptied c k
+  pub stay-count : Stays → length plans ≡ suc (c .level) - emptied c k
   stay-count h = let e = ap length (stay-plans h) in let w = length-append (keptPlans lists (c .level)) (rootPlan top ∷ []) in
       omega (arith, e, w, kept-count, emptied-low)
 
@@ -282,6 +284,65 @@ module _ (g : Geometry) (core : Core g) (n k : ℕ) (k-low : k < 4294967296) (c 
       let b = h .rooted .least (omega arith) in
       let w = splice-length (Ok fit roomAt r (suc l)) (deletedOn r k P (suc l)) k 4294967296 ls (omega (arith, b)) k-low (h .rooted .rises) in
       omega (arith, w, b)
+
+  -- the root stays, or one entry is left of it
+  pub by-root : {C : Type 0} → (Stays → C) → (1 ≤ c .level → length (lists (suc (c .level))) ≡ 1 → C) → C
+  by-root f h = by-le 1 (c .level)
+      (λ i. by-le 2 (length (lists (suc (c .level)))) (λ q. f (λ _. q))
+      (λ q. h i (let z = root-left (c .level) (good .sound) i in let w = ap length root-list in omega (arith, z, w, q))))
+      (λ i. f (λ z. absurd (omega (arith, i, z))))
+
+  -- as many as the pages that the deletion leaves
+  root-size : length (deleteList c k 0 (suc (c .level))) ≡ length (lists (suc (c .level)))
+  unfolding deleteList plainLess
+  root-size = path-length r k (λ _. 0) P (c .level) (theRoot c) (suc (c .level))
+
+  pub plans-count : length plans ≡ plainLeaves c k
+  unfolding plainLeaves plainShrinks
+  plans-count = by-root
+      (λ h. stay-count h ∙ let e : plainShrinks c k ≡ false = not-shrinks h in let w = emptied-low in rw e (omega (arith, w)))
+      (λ i one. let x = ap length (fall-plans i one) in rw (le-leb 1 (c .level) i, eq-eqb (length (deleteList c k 0 (suc (c .level)))) 1 (root-size ∙ one), and-true true) x)
+    where
+      not-shrinks : Stays → plainShrinks c k ≡ false
+      not-shrinks h = by-le 1 (c .level)
+          (λ i. rw (ne-eqb (length (deleteList c k 0 (suc (c .level)))) 1 (λ z. let w = h i in let y = root-size in omega (arith, z, w, y))) (and-none (leb 1 (c .level))))
+          (λ i. rw (lt-leb 1 (c .level) i) (and-false (eqb (length (deleteList c k 0 (suc (c .level)))) 1)))
+
+  -- the new root that was a node below is within the table: by the nodes that are the old ones but for its page
+  pub fall-most : 1 ≤ count (g .pages * n) (c .er) → 1 ≤ c .level → length (lists (suc (c .level))) ≡ 1
+      → length (top .list) ≤ rootMost g (suc (top .level))
+  fall-most free i one =
+      let q = P (suc (top .level)) in
+      let s : Nodes = λ p j. pick (eqb p q) (top .list) (r p j) in
+      let here : (j : ℕ) → s q j ≡ top .list = λ j. rw (eq-eqb q q refl) refl in
+      let stays : (p l : ℕ) → fit (suc l) p → s p (suc l) ≡ r p (suc l) = λ p l h. rw (ne-eqb p q (λ z. new-side g core n c (good .r2) 1 free 1 l
+      (omega arith) (omega arith) (subst (fit (suc l)) (z ∙ first-page i one) h))) refl in
+      let w = fall 1 free s (c .seq) stays (omega arith) i one (here (suc (top .level))) .0 .sound .rooted .atmost in
+      subst (λ (x : List Entry). length x ≤ rootMost g (suc (top .level))) (here (suc (top .level))) w
+
+  -- the last plan is the root's
+  last-plan : (i : ℕ) → length plans ≡ suc i → planAt plans i ≡ rootPlan top
+  last-plan i e = by-root
+      (λ h.
+      let z = stay-count h in
+      let at : c .level - emptied c k + 0 ≡ i = omega (arith, z, e, emptied-low) in
+      ap (planAt plans) (sym at) ∙ ap (λ ps. planAt ps (c .level - emptied c k + 0)) (stay-plans h)
+      ∙ at-right (keptPlans lists (c .level)) (rootPlan top ∷ []) (c .level - emptied c k) 0 kept-count)
+      (λ l one.
+      let x = ap length (fall-plans l one) in
+      let at : 0 ≡ i = omega (arith, x, e) in
+      ap (planAt plans) (sym at) ∙ ap (λ ps. planAt ps 0) (fall-plans l one))
+
+  last-page : (i : ℕ) → length plans ≡ suc i → P (suc (top .level)) ≡ nth (g .pages) n (ahead g n c) i
+  unfolding keptPage
+  last-page i e = by-root
+      (λ h.
+      let z = stay-count h in
+      let y = ap (λ (x : Top). x .level) (top-stays h) in
+      ap (nth (g .pages) n (ahead g n c)) (let w : suc (top .level) - 1 - emptied c k ≡ i = omega (arith, z, y, e, emptied-low) in w))
+      (λ l one.
+      let x = ap length (fall-plans l one) in
+      first-page l one ∙ ap (nth (g .pages) n (ahead g n c)) (let w : 0 ≡ i = omega (arith, x, e) in w))
 
   -- the i-th plan's node stands on the i-th page to come
   module _ (free : length plans ≤ count (g .pages * n) (c .er)) (s : Nodes)
@@ -328,11 +389,19 @@ module _ (g : Geometry) (core : Core g) (n k : ℕ) (k-low : k < 4294967296) (c 
         fall (length plans) free s numbers stays (omega (arith, x)) i one
         (at-plan (P (suc (top .level))) 0 (rootPlan top) (omega (arith, x)) (first-page i one) (ap (λ ps. planAt ps 0) e))
 
-    pub planned : Deleted (top .level) (P (suc (top .level)))
-    planned = by-le 1 (c .level)
-        (λ i. by-le 2 (length (lists (suc (c .level)))) (λ q. kept-level (λ _. q))
-        (λ q. planned-fall i (let z = root-left (c .level) (good .sound) i in let w = ap length root-list in omega (arith, z, w, q))))
-        (λ i. kept-level (λ z. absurd (omega (arith, i, z))))
-      where
-        kept-level : Stays → Deleted (top .level) (P (suc (top .level)))
-        kept-level h = subst (λ l. Deleted l (P (suc l))) (sym (ap (λ (x : Top). x .level) (top-stays h))) (planned-less h)
+    planned : Deleted (top .level) (P (suc (top .level)))
+    planned = by-root (λ h. subst (λ l. Deleted l (P (suc l))) (sym (ap (λ (x : Top). x .level) (top-stays h))) (planned-less h)) planned-fall
+
+    -- the root stands on the last page, i
+    module _ (i : ℕ) (last : length plans ≡ suc i) where
+      abbrev Final : ℕ → ℕ → ℕ → Type 0
+      Final j l p = Whole g n (record { er = taken (g .pages) n (ahead g n c) j .er; seq = numbers; nodes = s; level = l; root = p }) ×
+          (under s (suc l) (the p) ≡ remove k (mapOf c))
+
+      pub planned-last : Final (suc i) (planAt plans i .level - 1) (nth (g .pages) n (ahead g n c) i)
+      planned-last =
+          let x = ap (λ (p : Plan). p .level) (last-plan i last) in
+          let z : top .level ≡ planAt plans i .level - 1 = omega (arith, x) in
+          subst (λ j. Final j (planAt plans i .level - 1) (nth (g .pages) n (ahead g n c) i)) last
+          (subst (λ q. Final (length plans) (planAt plans i .level - 1) q) (last-page i last)
+          (subst (λ j. Final (length plans) j (P (suc (top .level)))) z planned))

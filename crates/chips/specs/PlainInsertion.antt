@@ -96,14 +96,14 @@ module _ (g : Geometry) (core : Core g) (n k a : ℕ) (k-low : k < 4294967296) (
       (good .sound .rooted .rises) absent-is
 
   -- the root splits exactly if it would hold one entry too many
-  grow-long : grows ≡ true → length rootList ≡ suc (roomAt (suc (c .level)))
+  pub grow-long : grows ≡ true → length rootList ≡ suc (roomAt (suc (c .level)))
   unfolding plainGrows gains
   grow-long e =
       let x = eqb-true (length es) (roomAt (suc (c .level))) (and-left _ _ e) in
       let y = ap bit (and-right _ _ e) in
       omega (arith, root-length, x, y)
 
-  stay-short : grows ≡ false → length rootList ≤ roomAt (suc (c .level))
+  pub stay-short : grows ≡ false → length rootList ≤ roomAt (suc (c .level))
   unfolding plainGrows gains
   stay-short e = by-test gained
       (λ z. by-eq (length es) (roomAt (suc (c .level)))
@@ -120,7 +120,7 @@ module _ (g : Geometry) (core : Core g) (n k a : ℕ) (k-low : k < 4294967296) (
   grow-cuts e = all-below k (half g) r absent (suc (c .level)) (theRoot c) e
 
   -- the levels that split are 1 to cuts
-  cut-levels : (j : ℕ) → 1 ≤ j → j ≤ suc (c .level) → Cut g lists cuts j
+  pub cut-levels : (j : ℕ) → 1 ≤ j → j ≤ suc (c .level) → Cut g lists cuts j
   unfolding plainList plainCuts plainGrows splits gains
   cut-levels j b d = by-le j (c .level)
       (λ q. let w = splits-are k a L (λ l _. L l) (λ l _. R l) (half g) r fit absent (c .level) 4294967296 (theRoot c) k-low some-root
@@ -173,7 +173,7 @@ module _ (g : Geometry) (core : Core g) (n k a : ℕ) (k-low : k < 4294967296) (
       where
         low : l - 1 + min (l - 1) cuts < suc (c .level) + cuts + bit grows
         low = by-test grows (λ t. let w = grow-cuts t in omega (arith, b, d, w, ap bit t)) (λ t. omega (arith, b, d, ap bit t))
-    place l q (b, d, inr e) = (l + min (l - 1) cuts, e .1, omega (arith, b, e .0, cuts-low), omega arith, omega arith, λ z. e .0)
+    place l q (b, d, inr e) = (l - 1 + min l cuts, e .1, omega (arith, b, e .0, cuts-low), omega (arith, b, e .0), omega (arith, b, e .0), λ z. e .0)
 
     apart : (i j : ℕ) → i < m → j < m → nth (g .pages) n (ahead g n c) i ≡ nth (g .pages) n (ahead g n c) j → i ≡ j
     apart i j x y e = let w = side-inj g core n c (good .r2) m free (suc i) (suc j) (omega arith) (omega (arith, x)) (omega arith) (omega (arith, y)) e in
@@ -267,7 +267,7 @@ module _ (g : Geometry) (core : Core g) (n k a : ℕ) (k-low : k < 4294967296) (
   crown-one t = let x = grow-long t in
       rw (lt-leb (length (lists (suc (c .level)))) (roomAt (suc (c .level))) (let w = ap length root-list in omega (arith, x, w))) refl
 
-  crown-none : grows ≡ false → rootPlans ≡ []
+  pub crown-none : grows ≡ false → rootPlans ≡ []
   unfolding crownPlans
   crown-none t = let x = stay-short t in
       rw (le-leb (length (lists (suc (c .level)))) (roomAt (suc (c .level))) (let w = ap length root-list in omega (arith, x, w))) refl
@@ -284,6 +284,54 @@ module _ (g : Geometry) (core : Core g) (n k a : ℕ) (k-low : k < 4294967296) (
       (λ t. let x = ap length (crown-one t) in let y = grow-cuts t in let z = ap bit t in omega (arith, plans-below, w, x, y, z))
       (λ t. let x = ap length (crown-none t) in let z = ap bit t in omega (arith, plans-below, w, x, z, cuts-low))
 
+  inside : (l i : ℕ) → l ≤ c .level → i < length (levelPlans g (suc l) (lists (suc l)))
+      → l + min l cuts + i < suc (c .level) + min (suc (c .level)) cuts
+  inside l i b d = let v = level-length g lists cuts l (cut-levels (suc l) (omega arith) (omega (arith, b))) in omega (arith, v, d, b)
+
+  level-at : (l i : ℕ) → l ≤ c .level → i < length (levelPlans g (suc l) (lists (suc l)))
+      → planAt plans (l + min l cuts + i) ≡ planAt (levelPlans g (suc l) (lists (suc l))) i
+  unfolding insertPlans
+  level-at l i b d =
+      List·getD-append (plansTo g lists (suc (c .level))) rootPlans noPlan (l + min l cuts + i) (let w = inside l i b d in omega (arith, w, plans-below))
+      ∙ plans-at g lists cuts (suc (c .level)) l i cut-levels (omega (arith, b)) d
+
+  crown-place : grows ≡ true → planAt plans (suc (c .level) + min (suc (c .level)) cuts + 0) ≡ newRoot
+  unfolding insertPlans
+  crown-place t = at-right (plansTo g lists (suc (c .level))) rootPlans (suc (c .level) + min (suc (c .level)) cuts) 0 plans-below
+      ∙ ap (λ ps. planAt ps 0) (crown-one t)
+
+  stay-cuts : grows ≡ false → cuts ≤ c .level
+  stay-cuts t = by-le cuts (c .level) (λ z. z) (λ z. absurd (
+      let x = cut-levels (suc (c .level)) (omega arith) (omega arith) .1 (omega (arith, z, cuts-low)) in
+      let y = stay-short t in
+      let w = ap length root-list in
+      omega (arith, x, y, w)))
+
+  -- the last plan is the root's
+  stay-last : (i : ℕ) → m ≡ suc i → grows ≡ false → (planAt plans i .level ≡ suc (c .level)) × (L (suc (c .level)) ≡ nth (g .pages) n (ahead g n c) i)
+  unfolding leftPage
+  stay-last i e t =
+      let l = c .level in
+      let b = ap bit t in
+      let short : length (lists (suc l)) ≤ roomAt (suc l) = let x = stay-short t in let w = ap length root-list in omega (arith, x, w) in
+      let wp = whole-plan g lists cuts (suc l) short in
+      let at : l + min l cuts + 0 ≡ i = let x = stay-cuts t in omega (arith, x, e, b) in (
+        ap (λ j. planAt plans j .level) (sym at) ∙ ap (λ (p : Plan). p .level) (level-at l 0 (omega arith) (let x = ap length wp in omega (arith, x))
+            ∙ ap (λ ps. planAt ps 0) wp),
+        ap (nth (g .pages) n (ahead g n c)) (let w : suc l - 1 + min (suc l - 1) cuts ≡ i = omega (arith, at) in w),
+      )
+
+  grow-last : (i : ℕ) → m ≡ suc i → grows ≡ true
+      → (planAt plans i .level ≡ suc (suc (c .level))) × (L (suc (suc (c .level))) ≡ nth (g .pages) n (ahead g n c) i)
+  unfolding leftPage
+  grow-last i e t =
+      let l = suc (c .level) in
+      let b = ap bit t in
+      let at : l + min l cuts + 0 ≡ i = let x = grow-cuts t in omega (arith, x, e, b) in (
+        ap (λ j. planAt plans j .level) (sym at) ∙ ap (λ (p : Plan). p .level) (crown-place t),
+        ap (nth (g .pages) n (ahead g n c)) (let w : suc l - 1 + min (suc l - 1) cuts ≡ i = omega (arith, at) in w),
+      )
+
   -- the i-th plan's node stands on the i-th page to come
   module _ (free : m ≤ count (g .pages * n) (c .er)) (s : Nodes)
       (placed : (i : ℕ) → i < m → s (nth (g .pages) n (ahead g n c) i) (planAt plans i .level) ≡ planAt plans i .list)
@@ -291,17 +339,6 @@ module _ (g : Geometry) (core : Core g) (n k a : ℕ) (k-low : k < 4294967296) (
     at-plan : (q i : ℕ) (p : Plan) → i < m → q ≡ nth (g .pages) n (ahead g n c) i → planAt plans i ≡ p → s q (p .level) ≡ p .list
     at-plan q i p b z e = subst (λ (x : Plan). s q (x .level) ≡ x .list) e
         (subst (λ y. s y (planAt plans i .level) ≡ planAt plans i .list) (sym z) (placed i b))
-
-    inside : (l i : ℕ) → l ≤ c .level → i < length (levelPlans g (suc l) (lists (suc l)))
-        → l + min l cuts + i < suc (c .level) + min (suc (c .level)) cuts
-    inside l i b d = let v = level-length g lists cuts l (cut-levels (suc l) (omega arith) (omega (arith, b))) in omega (arith, v, d, b)
-
-    level-at : (l i : ℕ) → l ≤ c .level → i < length (levelPlans g (suc l) (lists (suc l)))
-        → planAt plans (l + min l cuts + i) ≡ planAt (levelPlans g (suc l) (lists (suc l))) i
-    unfolding insertPlans
-    level-at l i b d =
-        List·getD-append (plansTo g lists (suc (c .level))) rootPlans noPlan (l + min l cuts + i) (let w = inside l i b d in omega (arith, w, plans-below))
-        ∙ plans-at g lists cuts (suc (c .level)) l i cut-levels (omega (arith, b)) d
 
     on-level : (q l i : ℕ) (p : Plan) → l ≤ c .level → i < length (levelPlans g (suc l) (lists (suc l)))
         → q ≡ nth (g .pages) n (ahead g n c) (l + min l cuts + i) → planAt (levelPlans g (suc l) (lists (suc l))) i ≡ p → s q (p .level) ≡ p .list
@@ -322,24 +359,25 @@ module _ (g : Geometry) (core : Core g) (n k a : ℕ) (k-low : k < 4294967296) (
     halves-at zero b d h = absurd (omega (arith, b))
     halves-at (suc l) b d h =
         let e = half-plans g lists cuts (suc l) h in
+        let y = cut-levels (suc l) b d .0 h in
         let x = ap length e in (
           on-level (L (suc l)) l 0 (record { level = suc l; list = take (half g (suc l)) (lists (suc l)) }) (omega (arith, d)) (omega (arith, x))
               (ap (nth (g .pages) n (ahead g n c)) (let w : suc l - 1 + min (suc l - 1) cuts ≡ l + min l cuts + 0 = omega arith in w))
               (ap (λ ps. planAt ps 0) e),
           on-level (R (suc l)) l 1 (record { level = suc l; list = drop (half g (suc l)) (lists (suc l)) }) (omega (arith, d)) (omega (arith, x))
-              (ap (nth (g .pages) n (ahead g n c)) (let w : suc l + min (suc l - 1) cuts ≡ l + min l cuts + 1 = omega arith in w))
+              (ap (nth (g .pages) n (ahead g n c)) (let w : suc l - 1 + min (suc l) cuts ≡ l + min l cuts + 1 = omega (arith, y) in w))
               (ap (λ ps. planAt ps 1) e),
         )
 
     crown-at : grows ≡ true → s (L (suc (suc (c .level)))) (suc (suc (c .level))) ≡ newRoot .list
-    unfolding leftPage insertPlans
+    unfolding leftPage
     crown-at t =
         let l = suc (c .level) in
         let y = grow-cuts t in
         let z = ap bit t in
         at-plan (L (suc l)) (l + min l cuts + 0) newRoot (omega (arith, y, z))
         (ap (nth (g .pages) n (ahead g n c)) (let w : suc l - 1 + min (suc l - 1) cuts ≡ l + min l cuts + 0 = omega arith in w))
-        (at-right (plansTo g lists l) rootPlans (l + min l cuts) 0 plans-below ∙ ap (λ ps. planAt ps 0) (crown-one t))
+        (crown-place t)
 
     abbrev Inserted : ℕ → ℕ → Type 0
     Inserted l p = Whole g n (record { er = taken (g .pages) n (ahead g n c) m .er; seq = numbers; nodes = s; level = l; root = p }) ×
@@ -350,3 +388,20 @@ module _ (g : Geometry) (core : Core g) (n k a : ℕ) (k-low : k < 4294967296) (
 
     pub planned-grow : grows ≡ true → Inserted (suc (c .level)) (L (suc (suc (c .level))))
     planned-grow = grow free s whole-at halves-at crown-at stays numbers
+
+    -- the root stands on the last page, i
+    module _ (i : ℕ) (last : m ≡ suc i) where
+      abbrev Final : ℕ → ℕ → ℕ → Type 0
+      Final j l p = Whole g n (record { er = taken (g .pages) n (ahead g n c) j .er; seq = numbers; nodes = s; level = l; root = p }) ×
+          (under s (suc l) (the p) ≡ put k a (mapOf c))
+
+      final : (l p : ℕ) → (planAt plans i .level ≡ suc l) × (p ≡ nth (g .pages) n (ahead g n c) i) → Final m l p
+          → Final (suc i) (planAt plans i .level - 1) (nth (g .pages) n (ahead g n c) i)
+      final l p e h =
+          let z : l ≡ planAt plans i .level - 1 = let x = e .0 in omega (arith, x) in
+          subst (λ j. Final j (planAt plans i .level - 1) (nth (g .pages) n (ahead g n c) i)) last
+          (subst (λ q. Final m (planAt plans i .level - 1) q) (e .1) (subst (λ j. Final m j p) z h))
+
+      pub planned : Final (suc i) (planAt plans i .level - 1) (nth (g .pages) n (ahead g n c) i)
+      planned = by-test grows (λ t. final (suc (c .level)) (L (suc (suc (c .level)))) (grow-last i last t) (planned-grow t))
+          (λ t. final (c .level) (L (suc (c .level))) (stay-last i last t) (planned-stay t))

@@ -60,7 +60,7 @@ fn two(x: Entry, y: Entry) -> Node
 }
 
 // The node of a carry's entries.
-fn node_of(c: Carry) -> Node
+pub fn node_of(c: Carry) -> Node
     ensures { λ r. ⌜ (entries r ≡ carried c) × (r .count ≤ 2) ⌝ }
 {
     match c {

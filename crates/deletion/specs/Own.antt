@@ -1,38 +1,25 @@
 -- Delete's own store by its job. Definitions alone; assumes nothing.
-use Prim.Native.Nat.{ℕ, suc, _<_, _≤_}
+use Prim.Native.Nat.{ℕ, suc, _<_}
 use mathlib.Core.Path.{_≡_}
-use mathlib.Core.List.{List, [], _∷_}
+use mathlib.Core.List.{List}
 use lib.Dec.{eqb}
 use Rattle.geometry.specs.declared.Geometry.{Geometry}
 use Rattle.geometry.specs.declared.Entry.{Entry}
 use Rattle.geometry.specs.Tests.{pick}
 use Rattle.model.specs.Bytes.{nodeAt}
 use Rattle.model.specs.Edit.{collapse}
-use Rattle.model.specs.Image.{Nodes}
 use Rattle.model.specs.Page.{built, only}
 use Rattle.model.specs.Stores.{Store, program}
-use Rattle.node.specs.Node.{entries}
 use Rattle.page.specs.Page.{blanks, laid}
 use Rattle.step.specs.declared.Change.the-variants.{Remove}
 use Rattle.step.specs.declared.Job.{Job}
 use Rattle.edit.specs.Edit.{changed, partsOf}
 use Rattle.crown.specs.Crown.{pathStore}
 use Rattle.beside.specs.Update.{Crest}
-use Rattle.deletion.specs.declared.Top.{Top}
 
 -- the entry that names the root
 abbrev pub rootAt : ℕ → Entry
 rootAt p = record { key = 0; addr = p }
-
-unfoldable pub firstOf : List Entry → Entry
-firstOf [] = record { key = 0; addr = 0 }
-firstOf (e ∷ es) = e
-
-pub record Collapses (r : Nodes) (l : ℕ) (c : List Entry) (t : Top) : Type 0 where
-  pub level : t .level ≡ collapse r l c .level
-  pub list : entries (t .node) ≡ collapse r l c .list
-  pub few : t .node .count ≤ 256
-  pub low : t .level ≤ l
 
 -- page N where the new root stands alone
 unfoldable pub topStore : Geometry → ℕ → ℕ → ℕ → List Entry → Store

@@ -3,58 +3,23 @@ ghost use mathlib.Core.Path.{_≡_};
 ghost use mathlib.Core.List.{[], _∷_};
 ghost use Prim.Native.Nat.{_+_, _≤_, _<_};
 ghost use Rattle.geometry.specs.Geometry.{pageBytes};
-ghost use Rattle.model.specs.Bytes.{nodeAt};
 ghost use Rattle.node.specs.Node.{entries};
 ghost use Rattle.stores.specs.Run.{Ran};
 ghost use Rattle.crown.specs.Owns.{Owns};
 ghost use Rattle.opened.specs.Opened.{chipBy};
 ghost use Rattle.beside.specs.Beside.{nextBy, pageBy};
 ghost use Rattle.beside.specs.Update.{deleteStoreAt, deleteCrest};
-ghost use Rattle.deletion.specs.Own.{firstOf, Collapses, Removes, topStore, rootStore, leftAt, storeBy, topBy, rootAt};
+ghost use Rattle.deletion.specs.Own.{Removes, topStore, rootStore, leftAt, storeBy, topBy, rootAt};
 ghost use Rattle.step.specs.declared.Change.{Change};
 use crown::Own;
 use edit::Changed;
 use geometry::Entry;
 use geometry::Geometry;
-use node::Node;
+use load::Top;
 use opened::Opened;
 use step::Change;
 use step::Job;
 use stores::Budget;
-
-// The root that is left, and the levels below it.
-pub struct Top {
-    pub level: u32,
-    pub node: Node,
-}
-
-fn first_entry(c: Node) -> Entry
-    ensures { λ r. ⌜ r ≡ firstOf (entries c) ⌝ }
-{
-    if c.count == 0 {
-        return Entry { key: 0, addr: 0 };
-    }
-    c.e[0]
-}
-
-// While a root above level 1 has one entry, the node it names becomes the root.
-fn collapse(g: Geometry, img: &[u8], level: u32, c: Node) -> Top
-    requires { ⌜ c .count ≤ 256 ⌝ }
-    ensures { λ r. ⌜ Collapses (nodeAt g (now (img .entry))) level (entries c) r ⌝ }
-{
-    if level == 0 {
-        return Top { level: 0, node: c };
-    }
-    if node::size(c) != 1 {
-        return Top {
-            level: level,
-            node: c,
-        };
-    }
-    let x = first_entry(c);
-    let d = load::load_node(g, img, x.addr, level);
-    collapse(g, img, level - 1, d)
-}
 
 // Page N where the tree shrinks: the new root alone.
 fn store_top(g: Geometry, img: &mut [u8], b: Budget, at: u32, seq: u64, t: Top) -> Budget
@@ -76,7 +41,7 @@ fn store_root(g: Geometry, img: &mut [u8], page: &mut [u8], job: Job, level: u32
 {
     let c = u.node;
     let left = u.budget;
-    let t = collapse(g, &*img, level, c);
+    let t = load::collapse(g, &*img, level, c);
     if t.level == level {
         let made = crown::store_path(
             g,

@@ -33,13 +33,13 @@ module _ (g : Geometry) (shape : Shape g) (img : List ℕ) (ready : Ready g img)
   blocks = good-blocks g img (ready .length-good)
 
   pub few : pagesOf g n + g .pages < 4294967296
-  few = few-pages g shape n (blocks .most)
+  few = few-pages g (shape-core g shape) n (blocks .most)
 
   pub some-pages : 1 ≤ pagesOf g n
   some-pages = let w = block-in (g .pages) 2 n (blocks .least) in let z = some-page g (shape-core g shape) in omega (arith, w, z)
 
   pub ready-keeps : Keeps g n (mapAt g img) img
-  ready-keeps = let z = sound-held g (shape-core g shape) n img (let w = blocks .least in omega (arith, w)) (blocks .image) (ready .bytes) (ready .is-sound) in
+  ready-keeps = let z = sound-held g shape n img (let w = blocks .least in omega (arith, w)) (blocks .image) (ready .bytes) (ready .is-sound) in
       record { held = z .0; r7 = z .1; r8 = z .2; map-is = refl }
 
   -- the map's keys rise
@@ -53,13 +53,13 @@ module _ (g : Geometry) (shape : Shape g) (img : List ℕ) (ready : Ready g img)
       record {
         ready = record {
           length-good = length-same g img x e ∙ ready .length-good;
-          is-sound = ap (λ m. verdict g m x) b ∙ held-sound g (shape-core g shape) n x (h .held) (h .r7) (h .r8);
+          is-sound = ap (λ m. verdict g m x) b ∙ held-sound g shape n x (h .held) (h .r7) (h .r8);
           bytes = h .held .bytes;
         };
         map-is = ap (λ m. mapOf (chipOf g m x)) b ∙ h .map-is;
       }
 
-along-lawful : (g : Geometry) (n : ℕ) (P : List ℕ → Type 0) (img : List ℕ) (ss : List Store) (s : Store) → Along g n P img ss
+pub along-lawful : (g : Geometry) (n : ℕ) (P : List ℕ → Type 0) (img : List ℕ) (ss : List Store) (s : Store) → Along g n P img ss
     → Legal g n (applyAll g ss img) s → Lawful g n img (ss ++ (s ∷ []))
 unfolding Along Lawful applyAll
 along-lawful g n P img [] s h l = (l, tt)

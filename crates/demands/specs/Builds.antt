@@ -11,7 +11,7 @@ use lib.Dec.{eqb, ltb}
 use borrow.Author.Tests.{lt-ltb, le-ltb, le-leb, ne-eqb}
 use Rattle.geometry.specs.declared.Geometry.{Geometry}
 use Rattle.geometry.specs.declared.Entry.{Entry}
-use Rattle.geometry.specs.Tests.{pick, _&_, bit, and-true, and-false}
+use Rattle.geometry.specs.Tests.{_&_, bit, and-true, and-false}
 use Rattle.geometry.specs.Geometry.{half, rootSlots}
 use Rattle.geometry.specs.Shape.{Shape, shape-core}
 use Rattle.model.specs.Bytes.{byteAt}
@@ -21,7 +21,7 @@ use Rattle.model.specs.Rules.{verdict}
 use Rattle.model.specs.Stores.{Store, program, erase, applyAll, programs, erases}
 use Rattle.model.specs.Edit.{put}
 use Rattle.model.specs.Update.{isNone, rootNode, rootGains, fills, needs, tooHigh, insertStores, deleteStores, formatStores}
-use Rattle.model.specs.Calls.{Outcome, gives, refused, made, answered, lookup, worn, roomless, freePages, insert, delete, format}
+use Rattle.model.specs.Calls.{Outcome, refused, made, answered, lookup, worn, roomless, freePages, insert, delete, format}
 use Rattle.counts.specs.Tally.{bit-most}
 use Rattle.trees.specs.Splits.{splits-le}
 use Rattle.chips.specs.Next.{block-in}
@@ -31,6 +31,7 @@ use Rattle.updates.specs.Along.{Keeps}
 use Rattle.updates.specs.Format.{formatted-keeps, formatted-max, formatted-level, formatted-root, formatted-lives}
 use Rattle.demands.specs.Words.{Ready, mapAt, Holds, programmedMost, erasedMost, Began}
 use Rattle.demands.specs.Maps.{find-put}
+use Rattle.demands.specs.Refusals.{format-image}
 use Rattle.demands.specs.Calls.{insert-is, delete-is, made-began}
 use Rattle.demands.specs.Proofs.{found, insert-kept, delete-kept}
 use Rattle.demands.specs.Demands.{lookup-answers, insert-done}
@@ -90,8 +91,7 @@ module _ (g : Geometry) (shape : Shape g) (some-worn : 1 ≤ g .worn) (img : Lis
   good = good-blocks g img length-good
 
   pub new-is : format g img .image ≡ applyAll g (formatStores g b) img
-  unfolding format
-  new-is = ap (λ t. pick t (gives 0 0 1 (blocksOf g img) (applyAll g (formatStores g (blocksOf g img)) img)) (refused 1 img) .image) length-good
+  new-is = format-image g img length-good
 
   new-length : length new ≡ length img
   new-length = ap length new-is ∙ length-all g (formatStores g b) img
@@ -100,12 +100,12 @@ module _ (g : Geometry) (shape : Shape g) (some-worn : 1 ≤ g .worn) (img : Lis
   new-blocks = blocks-same g img new new-length
 
   keeps-new : Keeps g b [] new
-  keeps-new = subst (Keeps g b []) (sym new-is) (formatted-keeps g shape b (good .least) img (good .image) bytes)
+  keeps-new = subst (Keeps g b []) (sym new-is) (formatted-keeps g (shape-core g shape) b (good .least) img (good .image) bytes)
 
   new-ready : Ready g new
   new-ready = record {
     length-good = length-same g img new new-length ∙ length-good;
-    is-sound = ap (λ m. verdict g m new) new-blocks ∙ held-sound g (shape-core g shape) b new (keeps-new .held) (keeps-new .r7) (keeps-new .r8);
+    is-sound = ap (λ m. verdict g m new) new-blocks ∙ held-sound g shape b new (keeps-new .held) (keeps-new .r7) (keeps-new .r8);
     bytes = keeps-new .held .bytes;
   }
 
@@ -123,18 +123,18 @@ module _ (g : Geometry) (shape : Shape g) (some-worn : 1 ≤ g .worn) (img : Lis
     fresh = chipOf g b new
 
     level-is : fresh .level ≡ 0
-    level-is = ap (λ (x : List ℕ). chipOf g b x .level) new-is ∙ formatted-level g shape b (good .least) img (good .image) bytes
+    level-is = ap (λ (x : List ℕ). chipOf g b x .level) new-is ∙ formatted-level g (shape-core g shape) b (good .least) img (good .image) bytes
 
     root-is : rootNode fresh ≡ []
-    root-is = ap (λ (x : List ℕ). rootNode (chipOf g b x)) new-is ∙ formatted-root g shape b (good .least) img (good .image) bytes
+    root-is = ap (λ (x : List ℕ). rootNode (chipOf g b x)) new-is ∙ formatted-root g (shape-core g shape) b (good .least) img (good .image) bytes
 
     lives-are : livePages (pagesOf g b) fresh ≤ 1
-    lives-are = let e = ap (λ (x : List ℕ). livePages (pagesOf g b) (chipOf g b x)) new-is in let z = formatted-lives g shape b (good .least) img
+    lives-are = let e = ap (λ (x : List ℕ). livePages (pagesOf g b) (chipOf g b x)) new-is in let z = formatted-lives g (shape-core g shape) b (good .least) img
         (good .image) bytes in omega (arith, e, z)
 
     not-worn-new : worn g b new ≡ false
     unfolding worn
-    not-worn-new = let e = ap (maxSeq g b) new-is in let z = formatted-max g shape b (good .least) img (good .image) bytes in le-ltb (g .worn)
+    not-worn-new = let e = ap (maxSeq g b) new-is in let z = formatted-max g (shape-core g shape) b (good .least) img (good .image) bytes in le-ltb (g .worn)
         (maxSeq g b new) (omega (arith, e, z, some-worn))
 
     not-high-new : tooHigh g fresh k ≡ false

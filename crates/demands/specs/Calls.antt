@@ -27,7 +27,7 @@ pub judged-ready : (g : Geometry) (img : List ℕ) (rest : Outcome) → Ready g 
 unfolding judged byVerdict
 judged-ready g img rest r = rw (r .length-good, r .is-sound) refl
 
-judged-untouched : (g : Geometry) (img : List ℕ) (rest : Outcome) → Untouched img rest → Untouched img (judgedCall g img rest)
+pub judged-untouched : (g : Geometry) (img : List ℕ) (rest : Outcome) → Untouched img rest → Untouched img (judgedCall g img rest)
 unfolding judged byVerdict
 judged-untouched g img rest h = go (goodLength g img) (verdict g (blocksOf g img) img)
   where
@@ -36,7 +36,7 @@ judged-untouched g img rest h = go (goodLength g img) (verdict g (blocksOf g img
     go true (Broken rule page) = λ p q. refl
     go false v = λ p q. refl
 
-made-untouched : (g : Geometry) (ss : List Store) (al : ℕ) (img : List ℕ) → Untouched img (made g ss al img)
+pub made-untouched : (g : Geometry) (ss : List Store) (al : ℕ) (img : List ℕ) → Untouched img (made g ss al img)
 unfolding made
 made-untouched g ss al img = go (leb (length ss) al)
   where

@@ -104,7 +104,7 @@ module _ (g : Geometry) (shape : Shape g) where
       let b = good-blocks g img good in
       let nb = new-blocks g shape some img good bytes in
       let low : chipAt g new .level ≡ 0 = ap (λ m. chipOf g m new .level) nb ∙ ap (λ (x : List ℕ). chipOf g (blocksOf g img) x .level)
-      (new-is g shape some img good bytes) ∙ formatted-level g shape (blocksOf g img) (b .least) img (b .image) bytes in
+      (new-is g shape some img good bytes) ∙ formatted-level g (shape-core g shape) (blocksOf g img) (b .least) img (b .image) bytes in
       record {
         ready = holds .ready;
         pairs = ap length (holds .map-is);

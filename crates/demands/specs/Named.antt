@@ -12,12 +12,12 @@ use Rattle.geometry.specs.declared.Geometry.{Geometry}
 use Rattle.geometry.specs.declared.Finding.{Finding}
 use Rattle.geometry.specs.declared.Finding.the-variants.{Good, Bad}
 use Rattle.geometry.specs.declared.Verdict.the-variants.{Broken}
-use Rattle.geometry.specs.Tests.{_&_, and-left, and-right, and-both}
+use Rattle.geometry.specs.Tests.{pick, _&_, and-left, and-right, and-both}
 use Rattle.model.specs.Bytes.{erased, seqAt}
 use Rattle.model.specs.Count.{least}
 use Rattle.model.specs.Image.{Chip, chipOf, pagesOf}
 use Rattle.model.specs.Tree.{Place, placesOf}
-use Rattle.model.specs.Rules.{wellFormed, r1, r2, repeated, r3, r4, own, ownRoot, judgeNode, r5, loose, lowestPage, r6, r7, r8, verdict}
+use Rattle.model.specs.Rules.{wellFormed, r1, r2, repeated, r3, r4, own, ownRoot, judgeNode, r5, loose, lowestPage, r6, r7, r8, asked, verdict}
 use Rattle.counts.specs.Least.{Least, least-is}
 use Rattle.counts.specs.Lowest.{bad-good}
 use Rattle.trees.specs.Tests.{by-le, true-false}
@@ -36,8 +36,8 @@ module _ (g : Geometry) (n : ℕ) (img : List ℕ) where
   -- what each rule finds
   abbrev pub findings : List Finding
   findings =
-      r1 g n img ∷ r2 (g .pages) n (erased g img) ∷ r3 g n img ∷ r4 g n img ∷ r5 g t c ∷ r6 t c ∷ r7 (g .pages) n c
-      ∷ r8 (g .pages) n c ∷ []
+      r1 g n img ∷ r2 (g .pages) n (erased g img) ∷ r3 g n img ∷ r4 g n img ∷ r5 g t c ∷ r6 t c ∷ asked g (r7 (g .pages) n c)
+      ∷ asked g (r8 (g .pages) n c) ∷ []
 
   abbrev pub finding : ℕ → Finding
   finding rule = getD findings (rule - 1) Good
@@ -107,13 +107,22 @@ module _ (g : Geometry) (n : ℕ) (img : List ℕ) where
   unfolding r4
   page-of-4 p e = zero-page _ _ e
 
-  pub page-of-7 : (p : ℕ) → r7 (g .pages) n c ≡ Bad p → p ≡ 0
-  unfolding r7
-  page-of-7 p e = zero-page _ _ e
+  -- R7 and R8, where they are asked
+  asked-bad : (f : Finding) (p : ℕ) → asked g f ≡ Bad p → f ≡ Bad p
+  unfolding asked
+  asked-bad f p e = go (eqb (g .table) 2) e
+    where
+      go : (b : Bool) → pick b Good f ≡ Bad p → f ≡ Bad p
+      go true d = absurd (bad-good p (sym d))
+      go false d = d
 
-  pub page-of-8 : (p : ℕ) → r8 (g .pages) n c ≡ Bad p → p ≡ 0
+  pub page-of-7 : (p : ℕ) → asked g (r7 (g .pages) n c) ≡ Bad p → p ≡ 0
+  unfolding r7
+  page-of-7 p e = zero-page _ _ (asked-bad _ p e)
+
+  pub page-of-8 : (p : ℕ) → asked g (r8 (g .pages) n c) ≡ Bad p → p ≡ 0
   unfolding r8
-  page-of-8 p e = zero-page _ _ e
+  page-of-8 p e = zero-page _ _ (asked-bad _ p e)
 
   -- ---- R5: "the page of the first node, each before its subtrees and those left to right, whose own counts, keys or page numbers
   -- break it". First the root

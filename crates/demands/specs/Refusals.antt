@@ -1,6 +1,6 @@
 -- Demand 1's words: bad lengths and damaged trees are refused by number, and nothing else is, for every image, key, address and
 -- allowance; a refusal leaves the image, and that of a damaged tree has the verdict's rule and page. Assumes nothing.
-use mathlib.Core.Path.{_≡_}
+use mathlib.Core.Path.{_≡_, refl}
 use mathlib.Core.List.{List}
 use mathlib.Core.Bool.{true, false}
 use mathlib.Core.Option.{Option, none, some}
@@ -12,7 +12,8 @@ use Rattle.model.specs.Image.{blocksOf, goodLength, chipOf}
 use Rattle.model.specs.Tree.{sought}
 use Rattle.model.specs.Rules.{verdict}
 use Rattle.model.specs.Calls.{Outcome, refused, damaged, byVerdict, judged, judgedCall, answered, lookup, insertRest, insert, deleteRest, delete, format}
-use Rattle.model.specs.Update.{insertStores, deleteStores}
+use Rattle.model.specs.Stores.{applyAll}
+use Rattle.model.specs.Update.{insertStores, deleteStores, formatStores}
 use Rattle.demands.specs.Tests.{tested-later}
 use Rattle.demands.specs.Calls.{insertTests, deleteTests, insert-rest, delete-rest, made-began}
 
@@ -22,7 +23,8 @@ pub record Refuses (g : Geometry) (img : List ℕ) (o : Outcome) : Type 0 where
   pub not-sound : (rule page : ℕ) → goodLength g img ≡ true → verdict g (blocksOf g img) img ≡ Broken rule page → o ≡ damaged img rule page
   pub neither : goodLength g img ≡ true → verdict g (blocksOf g img) img ≡ Sound → 1 ≤ o .answer → 3 ≤ o .answer
 
-judged-refuses : (g : Geometry) (img : List ℕ) (rest : Outcome) → (1 ≤ rest .answer → 3 ≤ rest .answer) → Refuses g img (judgedCall g img rest)
+-- a call of any kind that is judged first
+pub judged-refuses : (g : Geometry) (img : List ℕ) (rest : Outcome) → (1 ≤ rest .answer → 3 ≤ rest .answer) → Refuses g img (judgedCall g img rest)
 unfolding judged byVerdict
 judged-refuses g img rest h = record {
   bad-length = λ e. rw e;
@@ -58,3 +60,7 @@ format-refuses g img e = rw e
 pub format-answers : (g : Geometry) (img : List ℕ) → goodLength g img ≡ true → format g img .answer ≡ 0
 unfolding format
 format-answers g img e = rw e
+
+pub format-image : (g : Geometry) (img : List ℕ) → goodLength g img ≡ true → format g img .image ≡ applyAll g (formatStores g (blocksOf g img)) img
+unfolding format
+format-image g img e = rw e refl

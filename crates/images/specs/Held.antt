@@ -14,13 +14,13 @@ use Rattle.geometry.specs.declared.Verdict.{Verdict}
 use Rattle.geometry.specs.declared.Verdict.the-variants.{Sound}
 use Rattle.geometry.specs.Tests.{pick, _&_, and-true, and-false, and-left, and-right, and-both}
 use Rattle.geometry.specs.Geometry.{pageBytes, halves, codePlace, pageBase, half, rootMost}
-use Rattle.geometry.specs.Shape.{Core}
+use Rattle.geometry.specs.Shape.{Shape, Core, shape-core, halved}
 use Rattle.model.specs.Bytes.{byteAt, u32At, blank, erased, seqAt, heightAt, tailAt}
 use Rattle.model.specs.Codes.{codesFit}
 use Rattle.model.specs.Count.{any}
 use Rattle.model.specs.Image.{pagesOf, seqOf, heightOf, rootScore, rootOf, chipOf}
 use Rattle.model.specs.Tree.{placesOf}
-use Rattle.model.specs.Rules.{lowest, wellFormed, r1, r2, repeated, r3, r4, r5, r6, orElse, verdict}
+use Rattle.model.specs.Rules.{lowest, wellFormed, r1, r2, repeated, r3, r4, r5, r6, r7, r8, asked, orElse, verdict}
 use Rattle.counts.specs.Least.{least-none, any-clear}
 use Rattle.counts.specs.Peak.{arg-less}
 use Rattle.counts.specs.Lowest.{lowest-good, good-lowest, good-unless, or-sound}
@@ -154,6 +154,10 @@ sound-or : (r : ℕ) (f : Finding) (w : Verdict) → f ≡ Good → w ≡ Sound 
 unfolding orElse
 sound-or r f w h i = rw (h, i) refl
 
+not-asked : (g : Geometry) → g .table ≡ 2 → (f : Finding) → asked g f ≡ Good
+unfolding asked
+not-asked g e f = rw (eq-eqb (g .table) 2 e) refl
+
 -- R1 to R6 find nothing
 pub record Ruled (g : Geometry) (n : ℕ) (img : List ℕ) : Type 0 where
   pub first : r1 g n img ≡ Good
@@ -198,10 +202,11 @@ module _ (g : Geometry) (core : Core g) (n : ℕ) (img : List ℕ) where
         sixth = tied-r6 t (chipOf g n img) (h .whole .sound .tied);
       }
 
-  -- a sound image is held, and R7 and R8 hold
-  pub sound-held : 1 ≤ n → Image g n img → Small img → verdict g n img ≡ Sound → Held g n img × R7 g n (chipOf g n img) × R8 g n (chipOf g n img)
+  -- a sound image is held, and R7 and R8 hold where they are asked
+  sound-asked : 1 ≤ n → Image g n img → Small img → verdict g n img ≡ Sound
+      → Held g n img × (asked g (r7 (g .pages) n (chipOf g n img)) ≡ Good) × (asked g (r8 (g .pages) n (chipOf g n img)) ≡ Good)
   unfolding verdict
-  sound-held pos image bytes h =
+  sound-asked pos image bytes h =
       let a = or-sound _ _ _ h in
       let b = or-sound _ _ _ (a .1) in
       let c = or-sound _ _ _ (b .1) in
@@ -211,17 +216,24 @@ module _ (g : Geometry) (core : Core g) (n : ℕ) (img : List ℕ) where
       let k = or-sound _ _ _ (f .1) in
       let m = or-sound _ _ _ (k .1) in (
         ruled-held pos image bytes (record { first = a .0; second = b .0; third = c .0; fourth = d .0; fifth = e .0; sixth = f .0 }),
-        r7-holds g n (chipOf g n img) (k .0),
-        r8-holds g (some-page g core) n (chipOf g n img) (m .0),
+        k .0,
+        m .0,
       )
 
-  pub held-sound : Held g n img → R7 g n (chipOf g n img) → R8 g n (chipOf g n img) → verdict g n img ≡ Sound
+  asked-sound : Held g n img → asked g (r7 (g .pages) n (chipOf g n img)) ≡ Good → asked g (r8 (g .pages) n (chipOf g n img)) ≡ Good
+      → verdict g n img ≡ Sound
   unfolding verdict
-  held-sound h s u =
+  asked-sound h s u =
       let w = held-ruled h in
       sound-or _ _ _ (w .first) (sound-or _ _ _ (w .second) (sound-or _ _ _ (w .third) (sound-or _ _ _ (w .fourth) (sound-or _ _ _ (w .fifth)
-      (sound-or _ _ _ (w .sixth) (sound-or _ _ _ (holds-r7 g n (chipOf g n img) s)
-      (sound-or _ _ _ (holds-r8 g (some-page g core) n (chipOf g n img) u) refl)))))))
+      (sound-or _ _ _ (w .sixth) (sound-or _ _ _ s (sound-or _ _ _ u refl)))))))
+
+  -- of the plain tree's images they are not asked
+  pub plain-held : 1 ≤ n → Image g n img → Small img → verdict g n img ≡ Sound → Held g n img
+  plain-held pos image bytes h = sound-asked pos image bytes h .0
+
+  pub held-plain : g .table ≡ 2 → Held g n img → verdict g n img ≡ Sound
+  held-plain e h = asked-sound h (not-asked g e _) (not-asked g e _)
 
   pub height-most : 1 ≤ pagesOf g n → Held g n img → suc (chipOf g n img .level) ≤ g .top
   height-most i h =
@@ -229,3 +241,23 @@ module _ (g : Geometry) (core : Core g) (n : ℕ) (img : List ℕ) where
       let b = h .r4 in
       let e = root-height g n img in
       omega (arith, a, b, e)
+
+-- of a μ-Tree's images they are
+module _ (g : Geometry) (shape : Shape g) (n : ℕ) (img : List ℕ) where
+  abbrev core : Core g
+  core = shape-core g shape
+
+  is-asked : (f : Finding) → asked g f ≡ f
+  unfolding asked
+  is-asked f = rw (halved g shape) refl
+
+  pub sound-held : 1 ≤ n → Image g n img → Small img → verdict g n img ≡ Sound → Held g n img × R7 g n (chipOf g n img) × R8 g n (chipOf g n img)
+  sound-held pos image bytes h = let z = sound-asked g core n img pos image bytes h in (
+    z .0,
+    r7-holds g n (chipOf g n img) (sym (is-asked _) ∙ z .1),
+    r8-holds g (some-page g core) n (chipOf g n img) (sym (is-asked _) ∙ z .2),
+  )
+
+  pub held-sound : Held g n img → R7 g n (chipOf g n img) → R8 g n (chipOf g n img) → verdict g n img ≡ Sound
+  held-sound h s u = asked-sound g core n img h (is-asked _ ∙ holds-r7 g n (chipOf g n img) s)
+      (is-asked _ ∙ holds-r8 g (some-page g core) n (chipOf g n img) u)

@@ -11,7 +11,7 @@ use borrow.Author.Tests.{leb-true, eqb-true}
 use Rattle.geometry.specs.declared.Geometry.{Geometry}
 use Rattle.geometry.specs.Tests.{_&_, and-left, and-right}
 use Rattle.geometry.specs.Geometry.{pageBytes, pageBase}
-use Rattle.geometry.specs.Shape.{Shape}
+use Rattle.geometry.specs.Shape.{Core}
 use Rattle.model.specs.Image.{blockBytes, blocksOf, goodLength, pagesOf}
 use Rattle.model.specs.Stores.{Store, applyStore, applyAll}
 use Rattle.images.specs.Stores.{Image, length-store, base-add}
@@ -57,5 +57,5 @@ length-all g [] img = refl
 length-all g (s ∷ ss) img = length-all g ss (applyStore g s img) ∙ length-store g s img
 
 -- the pages of 1,024 blocks have numbers of 32 bits
-pub few-pages : (g : Geometry) → Shape g → (n : ℕ) → n ≤ 1024 → pagesOf g n + g .pages < 4294967296
-few-pages g shape n h = let a = mul-le-mul-left (g .pages) h in let p = shape .pages-high in omega (arith, a, p)
+pub few-pages : (g : Geometry) → Core g → (n : ℕ) → n ≤ 1024 → pagesOf g n + g .pages < 4294967296
+few-pages g core n h = let a = mul-le-mul-left (g .pages) h in let p = core .pages-high in omega (arith, a, p)

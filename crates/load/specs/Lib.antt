@@ -2,3 +2,5 @@
 pub mod Load
 pub mod Places
 pub mod Laws
+pub mod Collapse
+pub mod Falls

@@ -1,10 +1,12 @@
-// Nodes of an image, by value: as they stand, with a key put in or taken out, and with the place that descent takes.
+// Nodes of an image, by value: as they stand, with a key put in or taken out, and with the place that descent takes; and the
+// root that is left.
 ghost use mathlib.Core.Path.{_≡_};
 ghost use Prim.Native.Nat.{ℕ, _+_, _*_, _-_, _≤_, _<_};
 ghost use Rattle.model.specs.Bytes.{entriesAt, nodeAt};
 ghost use Rattle.model.specs.Edit.{putIn, removeIn};
 ghost use Rattle.node.specs.Node.{entries};
 ghost use Rattle.load.specs.Load.{Takes};
+ghost use Rattle.load.specs.Collapse.{firstOf, Collapses};
 use geometry::Entry;
 use geometry::Geometry;
 use node::Node;
@@ -14,6 +16,12 @@ pub struct Taken {
     pub node: Node,
     pub at: usize,
     pub entry: Entry,
+}
+
+// The root that is left, and the levels below it.
+pub struct Top {
+    pub level: u32,
+    pub node: Node,
 }
 
 // The n entries from byte `at`.
@@ -109,4 +117,32 @@ pub fn remove_leaf(g: Geometry, img: &[u8], page: u32, key: u32) -> Node
     let at = chip::node_place(g, page, 1);
     let n = chip::node_count(g, img, page, 1);
     remove_entry(img, at, n, key)
+}
+
+fn first_entry(c: Node) -> Entry
+    ensures { λ r. ⌜ r ≡ firstOf (entries c) ⌝ }
+{
+    if c.count == 0 {
+        return Entry { key: 0, addr: 0 };
+    }
+    c.e[0]
+}
+
+// While a root above level 1 has one entry, the node it names becomes the root.
+pub fn collapse(g: Geometry, img: &[u8], level: u32, c: Node) -> Top
+    requires { ⌜ c .count ≤ 256 ⌝ }
+    ensures { λ r. ⌜ Collapses (nodeAt g (now (img .entry))) level (entries c) r ⌝ }
+{
+    if level == 0 {
+        return Top { level: 0, node: c };
+    }
+    if node::size(c) != 1 {
+        return Top {
+            level: level,
+            node: c,
+        };
+    }
+    let x = first_entry(c);
+    let d = load_node(g, img, x.addr, level);
+    collapse(g, img, level - 1, d)
 }

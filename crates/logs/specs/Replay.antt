@@ -40,6 +40,11 @@ tabbed (n ∷ ns) = (9 ∷ decimal n) ++ tabbed ns
 unfoldable pub lineText : ℕ → List ℕ → List ℕ
 lineText letter ns = (letter ∷ tabbed ns) ++ (10 ∷ [])
 
+-- numbers alone, parted by tabs (request 12)
+unfoldable pub numbersText : List ℕ → List ℕ
+numbersText [] = 10 ∷ []
+numbersText (n ∷ ns) = decimal n ++ (tabbed ns ++ (10 ∷ []))
+
 abbrev pub letterOf : Order → ℕ
 letterOf Format = 70
 letterOf (Insert k a) = 73
@@ -52,8 +57,11 @@ abbrev pub answerLine : Order → Outcome → List ℕ
 answerLine order o = lineText (letterOf order) (o .answer ∷ o .address ∷ o .programmed ∷ o .erased ∷ [])
 
 -- "E and its line number": the line after those that are counted
+abbrev pub errorAfter : ℕ → List ℕ
+errorAfter count = lineText 69 ((count + 1) ∷ [])
+
 abbrev pub errorLine : Tally → List ℕ
-errorLine t = lineText 69 ((t .lines + 1) ∷ [])
+errorLine t = errorAfter (t .lines)
 
 -- "at the end T, line count, and both sums"
 abbrev pub lastLine : Tally → List ℕ
@@ -79,8 +87,11 @@ reply g t img next (Of order) =
 abbrev pub mostLines : ℕ
 mostLines = 1000000
 
-unfoldable pub formAt : Tally → List ℕ → Line
-formAt t line = pick (ltb (t .lines) mostLines) (parsed line) Other
+unfoldable pub formAfter : ℕ → List ℕ → Line
+formAfter count line = pick (ltb count mostLines) (parsed line) Other
+
+abbrev pub formAt : Tally → List ℕ → Line
+formAt t line = formAfter (t .lines) line
 
 unfoldable pub answers : Geometry → Tally → List ℕ → List (List ℕ) → List ℕ → List ℕ
 answers g t img [] rest = ending t rest

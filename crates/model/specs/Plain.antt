@@ -3,20 +3,21 @@
 use Prim.Native.Nat.{ℕ, zero, suc, _+_, _-_, _*_, min}
 use mathlib.Core.Bool.{Bool, true, false}
 use mathlib.Core.List.{List, [], _∷_, _++_}
-use lib.Dec.{eqb, leb}
+use lib.Dec.{eqb, leb, ltb}
 use lib.ListN.{length, take, drop}
 use Rattle.geometry.specs.declared.Geometry.{Geometry}
 use Rattle.geometry.specs.declared.Entry.{Entry}
 use Rattle.geometry.specs.Geometry.{half}
-use Rattle.geometry.specs.Tests.{pick, _&_}
+use Rattle.geometry.specs.Tests.{pick, bit, _&_}
 use Rattle.model.specs.Count.{count}
-use Rattle.model.specs.Image.{Chip, chipOf, theRoot, maxSeq}
-use Rattle.model.specs.Tree.{next, sought}
+use Rattle.model.specs.Image.{Chip, chipOf, pagesOf, blocksOf, theRoot, maxSeq}
+use Rattle.model.specs.Tree.{next, sought, erasedPages}
 use Rattle.model.specs.Next.{ahead, nth}
 use Rattle.model.specs.Page.{built, only}
 use Rattle.model.specs.Stores.{Store, program}
 use Rattle.model.specs.Edit.{onPath, putIn, gains, splits, removeIn, kept, Top, collapse}
 use Rattle.model.specs.Update.{isNone, deleteList}
+use Rattle.model.specs.Calls.{Outcome, refused, made, judgedCall, worn}
 
 -- ---- what stands above a changed node
 -- two entries over the halves of c: z is the key kept, left and right are the pages
@@ -59,12 +60,13 @@ plainCuts g c k = splits (c .nodes) k (half g) (isNone (sought c k)) (suc (c .le
 unfoldable pub plainHigh : Geometry → Chip → ℕ → Bool
 plainHigh g c k = eqb (suc (c .level)) (g .top) & plainGrows g c k
 
--- "lower level first, left half before right": below level l stand l - 1 pages and one more for each level that splits
+-- "lower level first, left half before right": below level l stand l - 1 pages and one more for each level that splits; the right half's page
+-- comes after the left one's, where level l splits
 unfoldable pub leftPage : Geometry → ℕ → Chip → ℕ → ℕ → ℕ
 leftPage g n c cuts l = nth (g .pages) n (ahead g n c) (l - 1 + min (l - 1) cuts)
 
 unfoldable pub rightPage : Geometry → ℕ → Chip → ℕ → ℕ → ℕ
-rightPage g n c cuts l = nth (g .pages) n (ahead g n c) (l + min (l - 1) cuts)
+rightPage g n c cuts l = nth (g .pages) n (ahead g n c) (l - 1 + min l cuts)
 
 -- the path's changed node at level j, the root's too
 unfoldable pub plainList : Geometry → ℕ → Chip → ℕ → ℕ → ℕ → List Entry
@@ -121,3 +123,40 @@ deletePlans g n c k = pick (eqb (plainTop g n c k .level) (c .level)) (keptPlans
 
 unfoldable pub plainDeleteStores : Geometry → ℕ → List ℕ → ℕ → List Store
 plainDeleteStores g n img k = laid g n (chipOf g n img) (maxSeq g n img) 0 (deletePlans g n (chipOf g n img) k)
+
+-- ---- the calls: "It refuses, in the order of document 01"
+-- the pages that an insert needs: one a level, one more for each level that splits, and the new root
+unfoldable pub plainNeeds : Geometry → Chip → ℕ → ℕ
+plainNeeds g c k = suc (c .level) + plainCuts g c k + bit (plainGrows g c k)
+
+-- the tree shrinks: its root, above level 1, is left with one entry (which does not hang on page numbers either)
+unfoldable pub plainShrinks : Chip → ℕ → Bool
+plainShrinks c k = leb 1 (c .level) & eqb (length (deleteList c k 0 (suc (c .level)))) 1
+
+-- those of a delete: the levels below the root that are left, and the root; where the tree shrinks one
+unfoldable pub plainLeaves : Chip → ℕ → ℕ
+plainLeaves c k = suc (pick (plainShrinks c k) 0 (c .level - emptied c k))
+
+-- ROOM: "when fewer erased pages are left than the update needs"
+abbrev pub plainRoomless : Geometry → ℕ → Chip → ℕ → Bool
+plainRoomless g n c needs = ltb (erasedPages (pagesOf g n) c) needs
+
+unfoldable pub plainInsertRest : Geometry → ℕ → List ℕ → ℕ → ℕ → ℕ → Outcome
+plainInsertRest g n img k a allowance =
+    pick (worn g n img) (refused 3 img) (
+    pick (plainHigh g (chipOf g n img) k) (refused 5 img) (
+    pick (plainRoomless g n (chipOf g n img) (plainNeeds g (chipOf g n img) k)) (refused 6 img)
+    (made g (plainInsertStores g n img k a) allowance img)))
+
+unfoldable pub plainInsert : Geometry → List ℕ → ℕ → ℕ → ℕ → Outcome
+plainInsert g img k a allowance = judgedCall g img (plainInsertRest g (blocksOf g img) img k a allowance)
+
+unfoldable pub plainDeleteRest : Geometry → ℕ → List ℕ → ℕ → ℕ → Outcome
+plainDeleteRest g n img k allowance =
+    pick (worn g n img) (refused 3 img) (
+    pick (isNone (sought (chipOf g n img) k)) (refused 4 img) (
+    pick (plainRoomless g n (chipOf g n img) (plainLeaves (chipOf g n img) k)) (refused 6 img)
+    (made g (plainDeleteStores g n img k) allowance img)))
+
+unfoldable pub plainDelete : Geometry → List ℕ → ℕ → ℕ → Outcome
+plainDelete g img k allowance = judgedCall g img (plainDeleteRest g (blocksOf g img) img k allowance)

@@ -141,12 +141,16 @@ unfoldable pub orElse : ℕ → Finding → Verdict → Verdict
 orElse rule Good v = v
 orElse rule (Bad p) v = Broken rule p
 
+-- R7 and R8 are asked of a μ-Tree: by request 12 the sound images of the plain tree, table 2, "keep R1 to R6"
+unfoldable pub asked : Geometry → Finding → Finding
+asked g f = pick (eqb (g .table) 2) Good f
+
 -- R1 to R8 in their order
 unfoldable pub verdict : Geometry → ℕ → List ℕ → Verdict
 verdict g n img =
     orElse 1 (r1 g n img) (orElse 2 (r2 (g .pages) n (erased g img)) (orElse 3 (r3 g n img) (orElse 4 (r4 g n img)
     (orElse 5 (r5 g (pagesOf g n) (chipOf g n img)) (orElse 6 (r6 (pagesOf g n) (chipOf g n img))
-    (orElse 7 (r7 (g .pages) n (chipOf g n img)) (orElse 8 (r8 (g .pages) n (chipOf g n img)) Sound)))))))
+    (orElse 7 (asked g (r7 (g .pages) n (chipOf g n img))) (orElse 8 (asked g (r8 (g .pages) n (chipOf g n img))) Sound)))))))
 
 abbrev pub isSound : Verdict → Bool
 isSound Sound = true

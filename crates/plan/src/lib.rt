@@ -49,7 +49,7 @@ fn is_full(g: Geometry, img: &[u8], page: u32, level: u32) -> bool
 }
 
 // The splits of the path from the entry e down, `below` levels.
-fn count_splits(g: Geometry, img: &[u8], key: u32, absent: bool, below: u32, e: Entry) -> Run
+pub fn count_splits(g: Geometry, img: &[u8], key: u32, absent: bool, below: u32, e: Entry) -> Run
     requires { ⌜ below < 256 ⌝ }
     ensures { λ r. ⌜ Counts g (now (img .entry)) key absent below e r ⌝ }
 {
@@ -99,7 +99,8 @@ fn one_more(n: usize, more: bool) -> usize
     n
 }
 
-fn count_pages(splits: u32, grows: bool) -> u32
+// One page, one for each split, and one more where the root grows.
+pub fn count_pages(splits: u32, grows: bool) -> u32
     requires { ⌜ splits < 65536 ⌝ }
     ensures { λ r. ⌜ (r ≡ suc (splits + bit grows)) × (r ≤ splits + 2) ⌝ }
 {
@@ -123,7 +124,8 @@ fn too_high(g: Geometry, level: u32, m: usize, gains: bool) -> bool
     gains
 }
 
-fn is_absent(g: Geometry, img: &[u8], key: u32, below: u32, e: Entry) -> bool
+// Whether nothing stands under a key, from the entry e with `below` levels under its node.
+pub fn is_absent(g: Geometry, img: &[u8], key: u32, below: u32, e: Entry) -> bool
     requires { ⌜ below < 256 ⌝ }
     ensures { λ r. ⌜ r ≡ isNone (findIn key (leaf (nodeAt g (now (img .entry))) key below e)) ⌝ }
 {

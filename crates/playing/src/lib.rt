@@ -9,7 +9,8 @@ use logs::Order;
 
 const SMALL: u32 = 0;
 
-const LARGEST_ALLOWANCE: u32 = 4294967295;
+// "I and D have the largest allowance"
+pub const LARGEST_ALLOWANCE: u32 = 4294967295;
 
 // Insert, with words of live pages of its own.
 fn put(img: &mut [u8], key: u32, address: u32, allowance: u32) -> Answer

@@ -23,8 +23,8 @@ use Rattle.tally.specs.Counted.{counted, Within, within-more}
 use Rattle.logs.specs.declared.Order.{Order}
 use Rattle.logs.specs.declared.Line.{Line}
 use Rattle.logs.specs.declared.Line.the-variants.{Of, Other}
-use Rattle.logs.specs.Forms.{parsed}
 use Rattle.logs.specs.Replay.{obeyed, lineText, letterOf, answerLine, errorLine, lastLine, ending, formAt}
+use Rattle.logs.specs.Bytewise.{part-length, form-late, form-as}
 use Rattle.replaying.specs.declared.Run.{Run}
 use Rattle.replaying.specs.Machine.{State, Fed, close, longer, feed, finish}
 use Rattle.replaying.specs.Run.{stateOf, runOf, refusedRun, longerFrom, Steady}
@@ -57,16 +57,8 @@ answer-within t u p e q w h i j =
     let z : e ≤ 4294967295 = omega (arith, j .fits) in
     subst Within (sym q) (within-more t p e w h y z)
 
--- ---- a line that is whole: its form, and what follows from it
+-- ---- a line that is whole: what follows from its form
 module _ (t : Tally) (line : List ℕ) where
-  pub form-late : 1000000 ≤ t .lines → formAt t line ≡ Other
-  unfolding formAt
-  form-late h = rw (le-ltb (t .lines) 1000000 h) refl
-
-  pub form-as : (form x : Line) → t .lines < 1000000 → form ≡ parsed line → form ≡ x → formAt t line ≡ x
-  unfolding formAt
-  form-as form x h e f = rw (lt-ltb (t .lines) 1000000 h) (sym e ∙ f)
-
   module _ (img : List ℕ) (r : Run) (buf out : List ℕ) (wrote : ℕ) where
     pub refused-run : formAt t line ≡ Other → r ≡ refusedRun t wrote → r ≡ runOf (close small t img (formAt t line)) wrote
     unfolding close
@@ -134,9 +126,6 @@ module _ (t : Tally) (line : List ℕ) (filled b : ℕ) (room : length line ≡ 
     stops-out buf out wrote f = f ∙ sym (rw stops refl)
 
 -- ---- a byte of the input, by what the code has tested
-pub part-length : (line : List ℕ) (n : ℕ) → n ≤ 34 → length line ≡ 34 → length (take n line) ≡ n
-part-length line n h e = length-take-le n line (omega arith)
-
 module _ (s : State) (b : ℕ) where
   feed-over : s .over ≡ true → feed small s b ≡ record { state = s; out = [] }
   unfolding feed

@@ -10,13 +10,14 @@ use lib.ListN.{length, length-append}
 use borrow.Author.Tests.{ltb-true, ltb-false, eqb-true}
 use Rattle.geometry.specs.declared.Geometry.{Geometry}
 use Rattle.geometry.specs.Tests.{pick}
-use Rattle.texts.specs.Lines.{Pieces, before, pieces, lines}
+use Rattle.texts.specs.Lines.{Pieces, lines}
 use Rattle.tally.specs.declared.Tally.{Tally}
 use Rattle.tally.specs.Counted.{none-yet}
 use Rattle.logs.specs.declared.Line.{Line}
 use Rattle.logs.specs.declared.Line.the-variants.{Of, Other}
-use Rattle.logs.specs.Replay.{obeyed, blankImage, answerLine, errorLine, tallyAfter, ending, reply, mostLines, formAt, answers, replayed}
-use Rattle.replaying.specs.Short.{longest, long-other}
+use Rattle.logs.specs.Replay.{obeyed, blankImage, answerLine, errorLine, tallyAfter, ending, reply, mostLines, formAfter, formAt, answers, replayed}
+use Rattle.logs.specs.Short.{longest}
+use Rattle.logs.specs.Bytewise.{Whole, whole-more, lines-rest, lines-line, Foreign, long-foreign}
 
 -- the line that has begun, the tally, the image, and whether the run has ended with E
 pub record State : Type 0 where
@@ -60,25 +61,7 @@ unfoldable pub ran : Geometry → State → List ℕ → List ℕ
 ran g s [] = finish s
 ran g s (b ∷ bs) = feed g s b .out ++ ran g (feed g s b .state) bs
 
--- ---- lines without byte 10
-abbrev Whole : List ℕ → Type 0
-Whole [] = Unit {0}
-Whole (b ∷ bs) = (eqb b 10 ≡ false) × Whole bs
-
-whole-more : (p : List ℕ) (b : ℕ) → Whole p → eqb b 10 ≡ false → Whole (p ++ (b ∷ []))
-whole-more [] b h e = (e, tt)
-whole-more (c ∷ p) b h e = (h .0, whole-more p b (h .1) e)
-
-lines-rest : (p : List ℕ) → Whole p → lines p ≡ record { ended = []; rest = p }
-unfolding pieces
-lines-rest [] h = refl
-lines-rest (b ∷ p) h = rw (h .0) (ap (λ (x : Pieces). before b (x .ended) (x .rest)) (lines-rest p (h .1)))
-
-lines-line : (p bs : List ℕ) → Whole p → lines (p ++ (10 ∷ bs)) ≡ record { ended = p ∷ lines bs .ended; rest = lines bs .rest }
-unfolding pieces
-lines-line [] bs h = refl
-lines-line (b ∷ p) bs h = rw (h .0) (ap (λ (x : Pieces). before b (x .ended) (x .rest)) (lines-line p bs (h .1)))
-
+-- ---- from the middle of a line
 module _ (g : Geometry) where
   -- the answers to a text from a tally and an image on
   abbrev answered : Tally → List ℕ → List ℕ → List ℕ
@@ -94,22 +77,18 @@ module _ (g : Geometry) where
   at-line p bs t img h = ap (λ (x : Pieces). answers g t img (x .ended) (x .rest)) (lines-line p bs h)
 
   -- a line that is longer than any form, whatever follows
-  too-long : (bs p : List ℕ) (t : Tally) (img : List ℕ) → Whole p → longest < length p → answered t img (p ++ bs) ≡ errorLine t
-  unfolding ending reply formAt
-  too-long [] p t img h q = ap (answered t img) (append-nil p) ∙ at-end p t img h ∙ go p q
+  foreign : (t : Tally) (img : List ℕ) (ls : List (List ℕ)) (rest : List ℕ) → Foreign ls rest → answers g t img ls rest ≡ errorLine t
+  unfolding answers ending reply formAfter
+  foreign t img [] [] f = absurd f
+  foreign t img [] (b ∷ bs) f = refl
+  foreign t img (l ∷ ls) rest f = rw f (go (ltb (t .lines) mostLines))
     where
-      go : (p : List ℕ) → longest < length p → ending t p ≡ errorLine t
-      go [] q = absurd (omega arith)
-      go (b ∷ p) q = refl
-  too-long (b ∷ bs) p t img h q = go (eqb b 10) refl (λ p h q. too-long bs p t img h q)
-    where
-      none : (u : Bool) → reply g t img (λ u x. answered u x bs) (pick u Other Other) ≡ errorLine t
-      none true = refl
-      none false = refl
+      go : (u : Bool) → reply g t img (λ u x. answers g u x ls rest) (pick u Other Other) ≡ errorLine t
+      go true = refl
+      go false = refl
 
-      go : (e : Bool) → eqb b 10 ≡ e → ((p : List ℕ) → Whole p → longest < length p → answered t img (p ++ bs) ≡ errorLine t) → answered t img (p ++ (b ∷ bs)) ≡ errorLine t
-      go true e ih = rw (eqb-true b 10 e) (at-line p bs t img h ∙ rw (long-other p q) (none (ltb (t .lines) mostLines)))
-      go false e ih = ap (answered t img) (sym (append-assoc p (b ∷ []) bs)) ∙ ih (p ++ (b ∷ [])) (whole-more p b h e) (let n = length-append p (b ∷ []) in omega (arith, n))
+  too-long : (bs p : List ℕ) (t : Tally) (img : List ℕ) → Whole p → longest < length p → answered t img (p ++ bs) ≡ errorLine t
+  too-long bs p t img h q = foreign t img (lines (p ++ bs) .ended) (lines (p ++ bs) .rest) (long-foreign bs p h q)
 
   -- ---- the machine is the definition
   ran-over : (t : Tally) (img bs : List ℕ) → ran g (record { line = []; tally = t; image = img; over = true }) bs ≡ []

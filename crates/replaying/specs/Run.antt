@@ -2,10 +2,9 @@
 use mathlib.Core.Path.{_≡_}
 use mathlib.Core.Bool.{true, false}
 use mathlib.Core.List.{List, []}
-use Prim.Native.Nat.{ℕ, _+_, _-_, _*_, _≤_}
+use Prim.Native.Nat.{ℕ, _+_, _≤_}
 use lib.ListN.{length, take}
 use Rattle.geometry.specs.Geometry.{small}
-use Rattle.geometry.specs.Tests.{pick}
 use Rattle.tally.specs.declared.Tally.{Tally}
 use Rattle.tally.specs.Counted.{none-yet, Within}
 use Rattle.logs.specs.Replay.{errorLine}
@@ -38,7 +37,3 @@ pub record Steady (r : Run) (line : List ℕ) : Type 0 where
   pub filled : r .filled ≤ 34
   pub room : length line ≡ 34
   pub within : Within (r .tally)
-
--- how many bytes may still come before the run is over
-abbrev pub left : Run → ℕ
-left r = pick (r .over) 0 (1 + 35 * (1000000 - r .tally .lines) + (34 - r .filled))

@@ -13,7 +13,7 @@ use Rattle.tally.specs.Counted.{none-yet}
 use Rattle.logs.specs.declared.Order.{Order}
 use Rattle.logs.specs.declared.Line.the-variants.{Of}
 use Rattle.logs.specs.Forms.{parsed}
-use Rattle.logs.specs.Replay.{obeyed, blankImage, answerLine, lastLine, tallyAfter, ending, reply, mostLines, formAt, answers, replayed}
+use Rattle.logs.specs.Replay.{obeyed, blankImage, answerLine, lastLine, tallyAfter, ending, reply, mostLines, formAfter, answers, replayed}
 
 -- the answers to a log's orders, one after the other
 unfoldable pub outcomes : Geometry → List ℕ → List Order → List Outcome
@@ -72,7 +72,7 @@ Formed (l ∷ ls) (c ∷ cs) = (parsed l ≡ Of c) × Formed ls cs
 
 log-from : (g : Geometry) (t : Tally) (img : List ℕ) (ls : List (List ℕ)) (cs : List Order) → Formed ls cs → t .lines + length ls ≤ mostLines
     → answers g t img ls [] ≡ answerLines cs (outcomes g img cs) ++ lastLine (tallied t (outcomes g img cs))
-unfolding answers reply ending formAt answerLines tallied outcomes
+unfolding answers reply ending formAfter answerLines tallied outcomes
 log-from g t img [] [] p q = refl
 log-from g t img [] (c ∷ cs) p q = absurd p
 log-from g t img (l ∷ ls) [] p q = absurd p

@@ -2,14 +2,16 @@
 use mathlib.Core.Path.{_≡_, refl, sym, _∙_}
 use mathlib.Core.List.{List, [], _∷_, _++_, append-assoc, append-nil}
 use Prim.Native.Nat.{ℕ, _+_, _*_, _<_, _≤_}
+use mir.Syntax.{w64}
+use mir.Val.{Fits}
 use native.Mathlib.Numerals.{add-one}
 use native.Mathlib.Omega.{arith}
 use lib.ListN.{length, take, getD, set, length-append}
-use lib.Seq.{sets, take-suc}
+use lib.Seq.{sets, take-suc, take-all}
 use Rattle.texts.specs.Laws.{sets-append, sets-snoc}
 use Rattle.decimals.specs.Decimals.{decimal}
 use Rattle.decimals.specs.Writing.{decimal-long}
-use Rattle.logs.specs.Replay.{tabbed, lineText}
+use Rattle.logs.specs.Replay.{tabbed, lineText, numbersText}
 
 -- ---- a line that is written
 module _ (buf mid out : List ℕ) (at n r : ℕ) where
@@ -81,3 +83,33 @@ module _ (l : ℕ) (ns : List ℕ) (at end : ℕ) (e : end ≡ at + 1 + length (
       h ∙ rw (g, f, q, add-one) (sets-snoc buf at (l ∷ tabbed ns) 10)
 
 pub ruleset line-laws = (line-place, line-most, line-bytes)
+
+-- five numbers parted by tabs, and byte 10
+module _ (n : ℕ) (ns : List ℕ) (at next : ℕ) (e : next ≡ at + length (decimal n)) where
+  pub numbers-next : n < 18446744073709551616 → at ≤ 8000000000000000000 → next ≤ 8500000000000000000
+  numbers-next h k = let d = decimal-long n h in omega (arith, d, e)
+
+  module _ (end : ℕ) (f : end ≡ next + length (tabbed (take 4 ns))) where
+    pub numbers-fit : n < 18446744073709551616 → at ≤ 8000000000000000000 → end ≤ next + 84 → Fits w64 (end + 1)
+    numbers-fit h k m = let d = decimal-long n h in record { fits = omega (arith, d, e) }
+
+    pub numbers-place : length ns ≡ 4 → end + 1 ≡ at + length (numbersText (n ∷ ns))
+    unfolding numbersText
+    numbers-place l =
+        let k = length-append (decimal n) (tabbed ns ++ (10 ∷ [])) in
+        let m = length-append (tabbed ns) (10 ∷ []) in
+        let q : end ≡ next + length (tabbed ns) = f ∙ rw (take-all 4 ns (omega arith)) refl in
+        omega (arith, k, m, q, e)
+
+    pub numbers-most : n < 18446744073709551616 → end ≤ next + 84 → end + 1 ≤ at + 105
+    numbers-most h k = let d = decimal-long n h in omega (arith, d, e)
+
+    pub numbers-bytes : (buf one mid out : List ℕ) → length ns ≡ 4 → one ≡ sets buf at (decimal n) → mid ≡ sets one next (tabbed (take 4 ns)) → out ≡ set mid end 10
+        → out ≡ sets buf at (numbersText (n ∷ ns))
+    unfolding numbersText
+    numbers-bytes buf one mid out l g h k =
+        let q : end ≡ next + length (tabbed ns) = f ∙ rw (take-all 4 ns (omega arith)) refl in
+        k ∙ rw (h, g, take-all 4 ns (omega arith), q, e)
+        (sets-snoc (sets buf at (decimal n)) (at + length (decimal n)) (tabbed ns) 10 ∙ sym (sets-append buf at (decimal n) (tabbed ns ++ (10 ∷ []))))
+
+pub ruleset numbers-laws = (numbers-next, numbers-fit, numbers-place, numbers-most, numbers-bytes)

@@ -5,7 +5,7 @@ ghost use Prim.Native.Nat.{_+_, _≤_};
 ghost use lib.ListN.{length, take};
 ghost use lib.Seq.{sets};
 ghost use Rattle.decimals.specs.Decimals.{decimal};
-ghost use Rattle.logs.specs.Replay.{tabbed, lineText};
+ghost use Rattle.logs.specs.Replay.{tabbed, lineText, numbersText};
 
 // A tab and a number.
 fn put_field(out: &mut [u8], at: usize, n: u64) -> usize
@@ -43,6 +43,19 @@ pub fn put_line(out: &mut [u8], at: usize, letter: u8, numbers: [u64; 4], n: usi
 {
     texts::put_byte(&mut *out, at, letter);
     let end = put_fields(&mut *out, at + 1, numbers, n);
+    texts::put_byte(&mut *out, end, 10);
+    end + 1
+}
+
+// Five numbers parted by tabs, and byte 10.
+pub fn put_numbers(out: &mut [u8], at: usize, first: u64, numbers: [u64; 4]) -> usize
+    requires { ⌜ at ≤ 8000000000000000000 ⌝ }
+    ensures place { λ r. ⌜ r ≡ at + length (numbersText (first ∷ numbers)) ⌝ }
+    ensures most { λ r. ⌜ r ≤ at + 105 ⌝ }
+    ensures bytes { λ _. ⌜ now (out .exit) ≡ sets (now (out .entry)) at (numbersText (first ∷ numbers)) ⌝ }
+{
+    let next = decimals::put_number(&mut *out, at, first);
+    let end = put_fields(&mut *out, next, numbers, 4);
     texts::put_byte(&mut *out, end, 10);
     end + 1
 }

@@ -15,7 +15,7 @@ use Rattle.geometry.specs.declared.Verdict.the-variants.{Sound, Broken}
 use Rattle.geometry.specs.Tests.{pick}
 use lib.ListN.{length, take}
 use Rattle.geometry.specs.Geometry.{chosenOf}
-use Rattle.geometry.specs.Shape.{Known, is-small, is-large, Shape, shape, chosen-known}
+use Rattle.geometry.specs.Shape.{Known, is-small, is-large, Shape, shape, shape-core, chosen-known}
 use Rattle.model.specs.Image.{blocksOf, pagesOf, goodLength}
 use Rattle.model.specs.Tree.{find}
 use Rattle.model.specs.Rules.{verdict}
@@ -151,7 +151,7 @@ module _ (kind : ℕ) (g : Geometry) (is : chosenOf kind ≡ Of g) (image result
   page-in = page-inside g formed-by image good rule page broken
 
   page-low : page < 4294967296
-  page-low = omega (arith, few-pages g formed-by (blocksOf g image) (good-blocks g image good .most), page-in)
+  page-low = omega (arith, few-pages g (shape-core g formed-by) (blocksOf g image) (good-blocks g image good .most), page-in)
 
   pub damaged-call : (enough : Geometry → Type 0) → enough g → (l : Left) → Refused kind image result enough l
       → (l .answer ≡ 2) × (l .image ≡ image) × (answerIn (l .result) ≡ 2) × (ruleIn (l .result) ≡ rule) × (pageIn (l .result) ≡ page)

@@ -57,7 +57,7 @@ pub fn side_of(job: Job, level: u32) -> u32
     0
 }
 
-fn least(a: u32, b: u32) -> u32
+pub fn least(a: u32, b: u32) -> u32
     ensures { λ r. ⌜ r ≡ min a b ⌝ }
 {
     if a < b {

@@ -30,7 +30,7 @@ use Rattle.images.specs.Page.{Parts}
 use Rattle.updates.specs.Table.{parts-most}
 
 -- ---- numbers of 32 bits
-next-fits : (es : List Entry) → All Fits es → next es 0 < 4294967296
+pub next-fits : (es : List Entry) → All Fits es → next es 0 < 4294967296
 next-fits [] h = omega arith
 next-fits (e ∷ es) h = h .0 .0
 
@@ -64,7 +64,7 @@ module _ (k a : ℕ) (k-fits : k < 4294967296) (a-fits : a < 4294967296) where
       go false true = ((k-fits, a-fits), tt)
       go false false = ((k-fits, a-fits), (h, tt))
 
-  put-fits : (es : List Entry) → All Fits es → All Fits (putIn k a es)
+  pub put-fits : (es : List Entry) → All Fits es → All Fits (putIn k a es)
   unfolding putIn
   put-fits [] h = ((k-fits, a-fits), tt)
   put-fits (e ∷ es) h = splice-all Fits (λ x. put k a (x ∷ [])) k (e ∷ es) one-fits h
@@ -77,7 +77,7 @@ module _ (k a : ℕ) (k-fits : k < 4294967296) (a-fits : a < 4294967296) where
       go false true = omega arith
       go false false = omega arith
 
-  put-most : (es : List Entry) → length (putIn k a es) ≤ length es + 1
+  pub put-most : (es : List Entry) → length (putIn k a es) ≤ length es + 1
   unfolding putIn
   put-most [] = omega arith
   put-most (e ∷ es) = splice-most (λ x. put k a (x ∷ [])) k 1 (e ∷ es) one-most

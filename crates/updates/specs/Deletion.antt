@@ -39,7 +39,7 @@ use Rattle.updates.specs.Table.{parts-most}
 use Rattle.updates.specs.Topped.{topped}
 use Rattle.updates.specs.Updated.{Stands, Updated, updated}
 
-remove-fits : (k : ℕ) (es : List Entry) → All Fits es → All Fits (removeIn k es)
+pub remove-fits : (k : ℕ) (es : List Entry) → All Fits es → All Fits (removeIn k es)
 unfolding removeIn
 remove-fits k es h = splice-all Fits (λ x. remove k (x ∷ [])) k es one h
   where
@@ -50,7 +50,7 @@ remove-fits k es h = splice-all Fits (λ x. remove k (x ∷ [])) k es one h
         go true = tt
         go false = (f, tt)
 
-remove-most : (k : ℕ) (es : List Entry) → length (removeIn k es) ≤ length es + 0
+pub remove-most : (k : ℕ) (es : List Entry) → length (removeIn k es) ≤ length es + 0
 unfolding removeIn
 remove-most k es = splice-most (λ x. remove k (x ∷ [])) k 0 es one
   where
@@ -61,16 +61,16 @@ remove-most k es = splice-most (λ x. remove k (x ∷ [])) k 0 es one
         go true = omega arith
         go false = omega arith
 
-kept-fits : (n : ℕ) → n < 4294967296 → (l : ℕ) (e : Entry) (c : List Entry) → Fits e → All Fits c → All Fits (kept n l e c)
+pub kept-fits : (n : ℕ) → n < 4294967296 → (l : ℕ) (e : Entry) (c : List Entry) → Fits e → All Fits c → All Fits (kept n l e c)
 kept-fits n q l e [] f h = tt
 kept-fits n q l e (x ∷ c) f h = ((f .0, q), tt)
 
-kept-most : (n l : ℕ) (e : Entry) (c : List Entry) → length (kept n l e c) ≤ 1
+pub kept-most : (n l : ℕ) (e : Entry) (c : List Entry) → length (kept n l e c) ≤ 1
 kept-most n l e [] = omega arith
 kept-most n l e (x ∷ c) = omega arith
 
 -- the collapsed root is a node or the list itself
-collapse-all : (P : Entry → Type 0) (r : Nodes) → ((q l : ℕ) → All P (r q l)) → (l : ℕ) (c : List Entry) → All P c → All P (collapse r l c .list)
+pub collapse-all : (P : Entry → Type 0) (r : Nodes) → ((q l : ℕ) → All P (r q l)) → (l : ℕ) (c : List Entry) → All P c → All P (collapse r l c .list)
 unfolding collapse
 collapse-all P r all zero c h = h
 collapse-all P r all (suc l) [] h = h

@@ -13,7 +13,7 @@ use Rattle.geometry.specs.declared.Geometry.{Geometry}
 use Rattle.geometry.specs.declared.Entry.{Entry}
 use Rattle.geometry.specs.Tests.{pick}
 use Rattle.geometry.specs.Geometry.{half, rootMost, inTable}
-use Rattle.geometry.specs.Shape.{Shape, shape-core}
+use Rattle.geometry.specs.Shape.{Core}
 use Rattle.model.specs.Count.{count}
 use Rattle.model.specs.Image.{pagesOf, maxSeq, Nodes, Chip, chipOf}
 use Rattle.model.specs.Tree.{gather, under, mapOf, Place, places, placesOf, live, livePages}
@@ -32,7 +32,7 @@ use Rattle.chips.specs.Next.{block-in, page-inj, in-range, R2}
 use Rattle.chips.specs.Whole.{some-page, Whole}
 use Rattle.chips.specs.Erase.{inB}
 use Rattle.images.specs.Views.{View, noView, Views, topOf, rooted, peak-least}
-use Rattle.images.specs.Page.{views, view-max, Parts, parts-table, builtView}
+use Rattle.images.specs.Page.{views, view-max, Parts, builtView}
 use Rattle.images.specs.Stores.{Image, length-store, within, views-erase, block-room, program-root, program-r1, program-r3, program-r4, program-max}
 use Rattle.images.specs.Small.{Small, built-small, store-small}
 use Rattle.images.specs.Held.{Held, er-at}
@@ -83,7 +83,7 @@ count-one (suc s) = by-eq 0 s (λ e. let z : count s (λ q. pick (eqb 0 q) true 
     subst (λ m. count m (λ q. pick (eqb 0 q) true false) ≡ 0) e refl in let b = bit-most (pick (eqb 0 s) true false) in omega (arith, z, b))
     (λ e. rw (ne-eqb 0 s e) (omega (arith, count-one s)))
 
-module _ (g : Geometry) (shape : Shape g) (n : ℕ) (three : 3 ≤ n) (img : List ℕ) (image : Image g n img) (bytes : Small img) where
+module _ (g : Geometry) (core : Core g) (n : ℕ) (three : 3 ≤ n) (img : List ℕ) (image : Image g n img) (bytes : Small img) where
   abbrev t : ℕ
   t = pagesOf g n
 
@@ -91,7 +91,7 @@ module _ (g : Geometry) (shape : Shape g) (n : ℕ) (three : 3 ≤ n) (img : Lis
   big = let w = block-in (g .pages) 2 n three in omega (arith, w)
 
   pos : 1 ≤ t
-  pos = let z = some-page g (shape-core g shape) in omega (arith, big, z)
+  pos = let z = some-page g core in omega (arith, big, z)
 
   abbrev wiped : ℕ → List ℕ
   wiped m = applyAll g (erasures m) img
@@ -112,7 +112,7 @@ module _ (g : Geometry) (shape : Shape g) (n : ℕ) (three : 3 ≤ n) (img : Lis
   wiped-none zero h q i = absurd (omega (arith, i, mul-zero (g .pages)))
   wiped-none (suc m) h q i =
       ap (λ (x : List ℕ). views g x q) (wiped-more m) ∙ ap (λ (v : Views). v q)
-      (views-erase g (shape-core g shape) (wiped m) m (block-room g (shape-core g shape) (wiped m) n (wiped-image m) m h)) ∙ go (inB (g .pages) m q) refl
+      (views-erase g core (wiped m) m (block-room g core (wiped m) n (wiped-image m) m h)) ∙ go (inB (g .pages) m q) refl
       (wiped-none m (omega arith) q)
     where
       before : inB (g .pages) m q ≡ false → q < g .pages * m
@@ -136,8 +136,12 @@ module _ (g : Geometry) (shape : Shape g) (n : ℕ) (three : 3 ≤ n) (img : Lis
       omega (arith, w)
 
   parts : Parts g nothing
-  parts = parts-table g shape 0 nothing (λ l _ _. tt) (λ l a b. omega arith) (λ h. let w = shape .room 0 h in omega (arith, w)) (λ l a. refl)
-      (λ l _ _. omega arith)
+  parts = record {
+    fits = λ l _ _. tt;
+    inside = λ l _ b. let z = core .room l b in omega (arith, z);
+    bytes = λ l _ _. omega arith;
+    apart = λ l m _ _ _. inl refl;
+  }
 
   abbrev w : View
   w = builtView g 1 1 nothing
@@ -168,13 +172,13 @@ module _ (g : Geometry) (shape : Shape g) (n : ℕ) (three : 3 ≤ n) (img : Lis
   seq-is = ap suc (sym max-none)
 
   pub formatted-chip : chipOf g n formatted ≡ d
-  formatted-chip = ap (chipOf g n) formatted-is ∙ program-root g (shape-core g shape) bare n (wiped-image n) 0 pos 1 1 nothing parts (omega arith) (omega arith)
+  formatted-chip = ap (chipOf g n) formatted-is ∙ program-root g core bare n (wiped-image n) 0 pos 1 1 nothing parts (omega arith) (omega arith)
       (omega arith) seq-is
 
   whole : Whole g n d
   unfolding rooted
   whole = record {
-    r2 = fresh-r2 (g .pages) n (d .er) (some-page g (shape-core g shape)) er-is;
+    r2 = fresh-r2 (g .pages) n (d .er) (some-page g core) er-is;
     sound = fresh-sound t (d .er) (λ l. 2 * half g l)
         (rootMost g) 4294967296 (d .nodes) pos (er-is 0 pos) nodes-none;
   }
@@ -183,12 +187,12 @@ module _ (g : Geometry) (shape : Shape g) (n : ℕ) (three : 3 ≤ n) (img : Lis
   formatted-held = subst (Held g n) (sym formatted-is) (record {
     image = length-store g (program 0 (built g 1 1 nothing)) bare ∙ wiped-image n;
     bytes = store-small g (program 0 (built g 1 1 nothing)) bare (built-small g 1 1 nothing) (wiped-small n);
-    r1 = program-r1 g (shape-core g shape) bare n (wiped-image n) 0 pos 1 1 nothing parts (omega arith) (omega arith) (let z = shape .top-low in omega (arith, z))
+    r1 = program-r1 g core bare n (wiped-image n) 0 pos 1 1 nothing parts (omega arith) (omega arith) (let z = core .top-low in omega (arith, z))
         (omega arith) (λ q h. rw (none-at q h) (record { high = omega arith; rest = refl; some = λ e. absurd (true-false true refl e) }));
-    r3 = program-r3 g (shape-core g shape) bare n (wiped-image n) 0 pos 1 1 nothing parts (omega arith) (omega arith) seq-is
+    r3 = program-r3 g core bare n (wiped-image n) 0 pos 1 1 nothing parts (omega arith) (omega arith) seq-is
         (record { differ = λ p q hp hq ep eq e. absurd (true-false true refl (sym (ap (λ (x : View). x .er) (none-at p hp)) ∙ ep)) });
-    r4 = program-r4 g (shape-core g shape) bare n (wiped-image n) 0 pos 1 1 nothing parts (omega arith) (omega arith) (omega arith) seq-is;
-    whole = subst (Whole g n) (sym (program-root g (shape-core g shape) bare n (wiped-image n) 0 pos 1 1 nothing parts (omega arith) (omega arith)
+    r4 = program-r4 g core bare n (wiped-image n) 0 pos 1 1 nothing parts (omega arith) (omega arith) (omega arith) seq-is;
+    whole = subst (Whole g n) (sym (program-root g core bare n (wiped-image n) 0 pos 1 1 nothing parts (omega arith) (omega arith)
         (omega arith) seq-is)) whole;
   })
 
@@ -217,15 +221,15 @@ module _ (g : Geometry) (shape : Shape g) (n : ℕ) (three : 3 ≤ n) (img : Lis
   pub formatted-keeps : Keeps g n [] formatted
   formatted-keeps = record {
     held = formatted-held;
-    r7 = inl (let z = some-page g (shape-core g shape) in omega (arith, formatted-frees, big, z));
-    r8 = (let z = some-page g (shape-core g shape) in omega (arith, formatted-lives, big, z));
+    r7 = inl (let z = some-page g core in omega (arith, formatted-frees, big, z));
+    r8 = (let z = some-page g core in omega (arith, formatted-lives, big, z));
     map-is =
         ap mapOf formatted-chip ∙ map-none;
   }
 
   pub formatted-max : maxSeq g n formatted ≤ 1
   formatted-max =
-      let a = program-max g (shape-core g shape) bare n (wiped-image n) 0 pos 1 1 nothing parts (omega arith) (omega arith) seq-is in
+      let a = program-max g core bare n (wiped-image n) 0 pos 1 1 nothing parts (omega arith) (omega arith) seq-is in
       let b = view-max g n formatted in
       let e = ap (λ (x : List ℕ). topOf t (views g x)) formatted-is in
       omega (arith, a, b, e, max-none)

@@ -20,7 +20,7 @@ use Rattle.updates.specs.Along.{Along, along-take, Keeps}
 use Rattle.updates.specs.Updated.{Updated}
 
 -- a run and one store more
-along-cautious : (g : Geometry) (n : ℕ) (P : List ℕ → Type 0) (img : List ℕ) (ss : List Store) (s : Store) → Along g n P img ss
+pub along-cautious : (g : Geometry) (n : ℕ) (P : List ℕ → Type 0) (img : List ℕ) (ss : List Store) (s : Store) → Along g n P img ss
     → Legal g n (applyAll g ss img) s → Cautious g (ss ++ (s ∷ [])) img
 unfolding Along Legal Cautious applyAll
 along-cautious g n P img [] (program p bs) h l = (l .2, tt)

@@ -3,11 +3,11 @@ use Prim.Native.Nat.{ℕ, zero, suc, _+_, _-_, _*_, _/_, _%_, _<_, _≤_}
 use mathlib.Core.Bool.{Bool, true, false, not, false≢true}
 use mathlib.Core.Path.{_≡_, refl, sym, ap, subst, _∙_}
 use mathlib.Core.List.{List}
-use lib.Dec.{leb, ltb}
+use lib.Dec.{eqb, leb, ltb}
 use lib.ListN.{length}
 use native.Mathlib.Omega.{arith}
 use native.Mathlib.Nat.{mul-suc, mul-le-mul, mul-le-mul-left, mod-lt, div-add-mod, zero-mul}
-use borrow.Author.Tests.{le-leb, lt-leb, not-true, not-false}
+use borrow.Author.Tests.{eq-eqb, ne-eqb, le-leb, lt-leb, not-true, not-false}
 use Rattle.geometry.specs.declared.Geometry.{Geometry}
 use Rattle.geometry.specs.declared.Finding.{Finding}
 use Rattle.geometry.specs.declared.Finding.the-variants.{Good, Bad}
@@ -19,7 +19,7 @@ use Rattle.model.specs.Count.{count, least, any, arg}
 use Rattle.model.specs.Image.{Chip, chipOf, pagesOf, heightOf, rootOf, rootScore}
 use Rattle.model.specs.Next.{full, inBlock}
 use Rattle.model.specs.Tree.{placesOf, live}
-use Rattle.model.specs.Rules.{unless, r1, r2, r3, r4, r5, r6, r7, spareRoom, ample, r8, orElse, verdict}
+use Rattle.model.specs.Rules.{unless, r1, r2, r3, r4, r5, r6, r7, spareRoom, ample, r8, asked, orElse, verdict}
 use Rattle.chip.specs.Chip.{chipWith}
 use Rattle.counts.specs.Least.{by-lt, least-zero, least-go, any-none, any-hit, any-same}
 use Rattle.counts.specs.Lowest.{unless-true, unless-false, broken-sound}
@@ -121,6 +121,20 @@ or-good : (k : ℕ) (v : Finding) (w : Verdict) → v ≡ Good → w ≡ orElse 
 unfolding orElse
 or-good k v w e = sym (rw e refl)
 
+-- two rules that are asked, or not, by one test
+both-asked : (g : Geometry) (j k : ℕ) (v w : Finding)
+    → pick (eqb (g .table) 2) Sound (orElse j v (orElse k w Sound)) ≡ orElse j (asked g v) (orElse k (asked g w) Sound)
+unfolding asked orElse
+both-asked g j k v w = go (eqb (g .table) 2)
+  where
+    go : (t : Bool) → pick t Sound (orElse j v (orElse k w Sound)) ≡ orElse j (pick t Good v) (orElse k (pick t Good w) Sound)
+    go true = refl
+    go false = refl
+
+pub plain-7 : (g : Geometry) (n : ℕ) (img : List ℕ) → g .table ≡ 2 → Sound ≡ from7 g n img
+unfolding from7
+plain-7 g n img e = sym (rw (eq-eqb (g .table) 2 e) refl)
+
 module _ (g : Geometry) (n : ℕ) (img : List ℕ) (v : Finding) where
   pub bad-8 : (q : ℕ) → v ≡ r8 (g .pages) n (chipOf g n img) → v ≡ Bad q → Broken 8 q ≡ from8 g n img
   unfolding from8
@@ -130,13 +144,13 @@ module _ (g : Geometry) (n : ℕ) (img : List ℕ) (v : Finding) where
   unfolding from8
   good-8 e f = or-good 8 _ _ (sym e ∙ f)
 
-  pub bad-7 : (q : ℕ) → v ≡ r7 (g .pages) n (chipOf g n img) → v ≡ Bad q → Broken 7 q ≡ from7 g n img
+  pub bad-7 : (q : ℕ) → (g .table ≡ 2 → ⊥) → v ≡ r7 (g .pages) n (chipOf g n img) → v ≡ Bad q → Broken 7 q ≡ from7 g n img
   unfolding from7
-  bad-7 q e f = or-bad 7 q _ _ (sym e ∙ f)
+  bad-7 q d e f = or-bad 7 q _ (from8 g n img) (sym e ∙ f) ∙ sym (rw (ne-eqb (g .table) 2 d) refl)
 
-  pub good-7 : (w : Verdict) → v ≡ r7 (g .pages) n (chipOf g n img) → v ≡ Good → w ≡ from8 g n img → w ≡ from7 g n img
+  pub good-7 : (w : Verdict) → (g .table ≡ 2 → ⊥) → v ≡ r7 (g .pages) n (chipOf g n img) → v ≡ Good → w ≡ from8 g n img → w ≡ from7 g n img
   unfolding from7
-  good-7 w e f ew = ew ∙ or-good 7 _ _ (sym e ∙ f)
+  good-7 w d e f ew = ew ∙ (or-good 7 _ (from8 g n img) (sym e ∙ f) ∙ sym (rw (ne-eqb (g .table) 2 d) refl))
 
   module _ (s : Survey) (es : s ≡ surveyOf g n img) (t : ℕ) (et : t ≡ g .pages * n) where
     pub bad-6 : (q : ℕ) → v ≡ r6 t (chipWith g img (s .level) (s .root)) → v ≡ Bad q → Broken 6 q ≡ from6 g n img
@@ -185,7 +199,10 @@ module _ (g : Geometry) (n : ℕ) (img : List ℕ) (v : Finding) where
 
   pub good-1 : (w : Verdict) → v ≡ r1 g n img → v ≡ Good → w ≡ from2 g n img → w ≡ verdict g n img
   unfolding verdict from2 from3 from4 from5 from6 from7 from8
-  good-1 w e f ew = ew ∙ or-good 1 _ _ (sym e ∙ f)
+  good-1 w e f ew =
+      ew ∙ ap (λ y. orElse 2 (r2 (g .pages) n (erased g img)) (orElse 3 (r3 g n img) (orElse 4 (r4 g n img)
+      (orElse 5 (r5 g (pagesOf g n) (chipOf g n img)) (orElse 6 (r6 (pagesOf g n) (chipOf g n img)) y)))))
+      (both-asked g 7 8 (r7 (g .pages) n (chipOf g n img)) (r8 (g .pages) n (chipOf g n img))) ∙ or-good 1 _ _ (sym e ∙ f)
 
 -- the table
 pub tells-broken : (c : Chip) (tbl : List ℕ) (k q : ℕ) → Tells c tbl (Broken k q)
@@ -291,4 +308,4 @@ module _ (g : Geometry) (n : ℕ) (img : List ℕ) (t f : Bool) (s : Survey) (pr
     sight-judged w u v ev y e =
         judged-is g n img w u v s (good-1 g n img Good v (sym (c .formed)) refl (good-2 g n img Good v (sym (c .ordered)) refl ev)) (c .survey) (c .level) y e
 
-pub ruleset verdict-laws = (clear-no, clear-is, clear-start, clear-go, clear-hit, clear-end, room-many, room-some, room-none, ample-yes, ample-no, bad-8, good-8, bad-7, good-7, bad-6, good-6, bad-5, good-5, bad-4, good-4, bad-3, good-3, bad-2, good-2, bad-1, good-1, tells-broken, ready-is, ready-same, marked-rule, marked-with, inside-with, inside-good, tells-rule, never-broken, order-breaks, passed-1, judged-never, sight-broken, sight-ready, sight-counted, sight-ranges, sight-judged, programmed-is)
+pub ruleset verdict-laws = (clear-no, clear-is, clear-start, clear-go, clear-hit, clear-end, room-many, room-some, room-none, ample-yes, ample-no, bad-8, good-8, plain-7, bad-7, good-7, bad-6, good-6, bad-5, good-5, bad-4, good-4, bad-3, good-3, bad-2, good-2, bad-1, good-1, tells-broken, ready-is, ready-same, marked-rule, marked-with, inside-with, inside-good, tells-rule, never-broken, order-breaks, passed-1, judged-never, sight-broken, sight-ready, sight-counted, sight-ranges, sight-judged, programmed-is)

@@ -3,12 +3,12 @@ use Prim.Native.Nat.{ℕ, _*_, _<_, _≤_}
 use mathlib.Core.Bool.{Bool}
 use mathlib.Core.Path.{_≡_}
 use mathlib.Core.List.{List}
-use lib.Dec.{leb}
+use lib.Dec.{eqb, leb}
 use lib.ListN.{length}
 use Rattle.geometry.specs.declared.Geometry.{Geometry}
 use Rattle.geometry.specs.declared.Verdict.{Verdict}
 use Rattle.geometry.specs.declared.Verdict.the-variants.{Sound, Broken}
-use Rattle.geometry.specs.Tests.{_&_}
+use Rattle.geometry.specs.Tests.{pick, _&_}
 use Rattle.model.specs.Bytes.{erased}
 use Rattle.model.specs.Image.{Chip, chipOf, pagesOf}
 use Rattle.model.specs.Next.{full, inBlock}
@@ -26,7 +26,7 @@ unfoldable pub from8 : Geometry → ℕ → List ℕ → Verdict
 from8 g n img = orElse 8 (r8 (g .pages) n (chipOf g n img)) Sound
 
 unfoldable pub from7 : Geometry → ℕ → List ℕ → Verdict
-from7 g n img = orElse 7 (r7 (g .pages) n (chipOf g n img)) (from8 g n img)
+from7 g n img = pick (eqb (g .table) 2) Sound (orElse 7 (r7 (g .pages) n (chipOf g n img)) (from8 g n img))
 
 unfoldable pub from6 : Geometry → ℕ → List ℕ → Verdict
 from6 g n img = orElse 6 (r6 (pagesOf g n) (chipOf g n img)) (from7 g n img)

@@ -90,11 +90,15 @@ fn from_rule_8(g: Geometry, img: &[u8], table: &[u8], n: u16, survey: Survey) ->
     }
 }
 
+// R7 and R8 are not asked of the plain tree.
 fn from_rule_7(g: Geometry, img: &[u8], table: &[u8], n: u16, survey: Survey) -> Verdict
     requires { ⌜ Ready g n (now img) survey (length (now table)) ⌝ }
     requires { ⌜ Marked (chipOf g n (now img)) (now table) ⌝ }
     ensures { λ r. ⌜ r ≡ from7 g n (now (img .entry)) ⌝ }
 {
+    if g.table == Geometry::PLAIN_TABLE {
+        return Verdict::Sound;
+    }
     match rule_7(g, img, table, n, survey) {
         Finding::Bad(page) => Verdict::Broken(7, page),
         Finding::Good => from_rule_8(g, img, table, n, survey),

@@ -6,7 +6,7 @@ use Rattle.deletion.proofs.store_root.Tie as tie
 use Rattle.deletion.proofs.store_root.Reads as reads
 use Rattle.deletion.proofs.store_root.Lts as lts
 use Rattle.crown.proofs.store_path.Reads as store-path-reads
-use Rattle.deletion.proofs.collapse.Reads as collapse-reads
+use Rattle.load.proofs.collapse.Reads as collapse-reads
 use Rattle.deletion.proofs.store_top.Reads as store-top-reads
 
 ruleset all = (needs, deletion-laws, tie-laws)

@@ -12,4 +12,4 @@ ruleset all = (needs, verdict-laws)
 pub from-rule-7-spec : {M : Type 1} → statement M
 from-rule-7-spec =
     tie.close
-    (tie.spec (λ c κs. search all) (λ c. search all) (λ c. search all) (λ c κs. search all) (λ c. search all) (λ c. search all))
+    (tie.spec (λ c. search all) (λ c κs. search all) (λ c. search all) (λ c. search all) (λ c κs. search all) (λ c. search all) (λ c. search all))

@@ -1,0 +1,1 @@
+// Theorems about both trees on one log (request 12): definitions and proofs alone.
