@@ -18,12 +18,12 @@ FILES = [("texts", "Lines"), ("decimals", "Decimals"), ("tally", "Counted"), ("l
 
 
 def definitions():
-    d = Definitions(reference.ROOT)
+    d, own = Definitions(reference.ROOT), {}
     for name, arity in (("Format", 0), ("Insert", 2), ("Delete", 1), ("Lookup", 1), ("Limited", 3), ("Other", 0)):
         CONSTRUCTORS[name] = arity
         d.names[name] = Function(arity, lambda *a, name=name: (name,) + a) if arity else (name,)
     for crate, name in FILES:
-        d.read("%s/crates/%s/specs/%s.antt" % (reference.ROOT, crate, name))
+        own = d.read("%s/crates/%s/specs/%s.antt" % (reference.ROOT, crate, name), own)
     return d
 
 
