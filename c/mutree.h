@@ -83,7 +83,8 @@
  *                     x86-64, small  112,032     384    1,584  144,600  141,008   144,600
  *                     x86-64, large  112,392     384    1,584  169,328  167,184   159,512
  *                     ARM64, small   112,016     368    1,536  144,640  141,104         -
- *               ARM64 was measured with version 0.8.0 (large) and 0.9.0 before heights were cut (small).
+ *               ARM64 was measured with version 0.8.0; the small chip's insert and delete and its calls with a record with 0.9.0,
+ *               before heights were cut.
  *               An import takes what its inserts do and 32,768 for its pairs. 224 KiB serve every call, 192 KiB on the small chip;
  *               without import 192 and 160 KiB.
  *               Large frames are touched page by page as they are made, so a guard page below the stack catches a stack that is
