@@ -81,7 +81,7 @@
  *               The calls with a record; the last column is an insert or a delete with another record than opening gives:
  *                                      open   lookup     list   insert   delete   another record
  *                     x86-64, small  112,032     384    1,584  144,600  141,008   144,600
- *                     x86-64, large  112,392     384    1,584  169,328  167,184   159,512
+ *                     x86-64, large  112,392     384    2,032  169,328  167,184   159,512
  *                     ARM64, small   112,016     368    1,536  144,640  141,104         -
  *               ARM64 was measured with version 0.8.0; the small chip's insert and delete and its calls with a record with 0.9.0,
  *               before heights were cut.
