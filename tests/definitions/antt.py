@@ -1,4 +1,4 @@
-"""Runs the definitions of crates/geometry/specs and crates/model/specs as they stand, and those of texts (crates/texts, decimals, carrying).
+"""Runs the definitions of crates/geometry/specs and crates/model/specs as they stand, and those of texts (crates/text_lines, decimals, carrying).
 
 A small translator for the part of antt that these files use: clauses by patterns, records, data, `pick`, `let`, `λ`.
 Arguments are worked out only where they are needed, as in mathematics. `blank`, `written`, `least`, `arg` and `freshCode`,

@@ -1,4 +1,4 @@
-"""The definitions of request 8 (crates/opened, stores, beside), run as they stand, against the reference model: opening, and lookup, list, insert
+"""The definitions of request 8 (crates/open_record, stores, beside), run as they stand, against the reference model: opening, and lookup, list, insert
 and delete with a record. Records are right, stale or outdated; of the last it is looked at what the request says of them.
 
 usage: opened.py [seconds] [seed] [small|large]

@@ -1,4 +1,4 @@
-"""The definitions of request 3 (crates/texts, decimals, tally and logs), run as they stand, against the reference model:
+"""The definitions of request 3 (crates/text_lines, decimals, tally and logs), run as they stand, against the reference model:
 forms of lines, decimals, whole logs. The first log is the request's, and its answers are printed.
 
 usage: replay.py [seed]

@@ -5,7 +5,7 @@
 ghost use mathlib.Core.Path.{_≡_};
 ghost use Prim.Native.Nat.{_≤_};
 ghost use lib.ListN.{length};
-use answers::Answer;
+use call_answers::Answer;
 
 fn number(n: u32) {
     io::write_all(1, b" ");
@@ -23,7 +23,7 @@ fn numbers(buffer: &[u32]) {
 }
 
 fn tell(a: Answer) {
-    let w = answers::row_of(a);
+    let w = call_answers::row_of(a);
     number(w.answer);
     number(w.address);
     number(w.programmed);

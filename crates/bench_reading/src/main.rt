@@ -7,7 +7,7 @@ fn number(n: u32) {
 
 // One image: lookup with key 20.
 fn case(img: &[u8]) {
-    let w = answers::row_of(index::lookup(0, img, 20));
+    let w = call_answers::row_of(index::lookup(0, img, 20));
     number(w.answer);
     number(w.rule);
     number(w.page);

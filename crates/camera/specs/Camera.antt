@@ -9,14 +9,14 @@ use Rattle.model.specs.Page.{putU32}
 use Rattle.model.specs.Bytes.{u32At}
 use Rattle.model.specs.Calls.{Outcome, refused}
 use Rattle.model.specs.Listing.{asOutcome}
-use Rattle.answers.specs.declared.Answer.{Answer}
-use Rattle.answers.specs.declared.Row.{Row}
-use Rattle.answers.specs.Answers.{rowOf, toldBy}
-use Rattle.live.specs.Live.{Reply}
-use Rattle.opened.specs.declared.Opened.{Opened}
-use Rattle.opened.specs.Opened.{openedOf, openingOf, lookupWithOf, listWithOf}
-use Rattle.beside.specs.Update.{Returned}
-use Rattle.beside.specs.Calls.{insertWithOf, deleteWithOf}
+use Rattle.call_answers.specs.declared.Answer.{Answer}
+use Rattle.call_answers.specs.declared.Row.{Row}
+use Rattle.call_answers.specs.Answers.{rowOf, toldBy}
+use Rattle.live_words.specs.Live.{Reply}
+use Rattle.open_record.specs.declared.Opened.{Opened}
+use Rattle.open_record.specs.Opened.{openedOf, openingOf, lookupWithOf, listWithOf}
+use Rattle.live_beside.specs.Update.{Returned}
+use Rattle.live_beside.specs.Calls.{insertWithOf, deleteWithOf}
 
 pub record Left : Type 0 where
   pub answer : ℕ

@@ -7,16 +7,16 @@ use borrow.Author.Tests.{lt-ltb, le-ltb}
 use Rattle.model.specs.Bytes.{u32At}
 use Rattle.model.specs.Calls.{Outcome, refused}
 use Rattle.model.specs.Listing.{asOutcome}
-use Rattle.answers.specs.declared.Answer.{Answer}
-use Rattle.answers.specs.declared.Answer.the-variants.{Length}
-use Rattle.answers.specs.Answers.{rowOf, told}
-use Rattle.opened.specs.declared.Opened.{Opened}
-use Rattle.opened.specs.Opened.{openedOf, openingOf, lookupWithOf, listWithOf}
-use Rattle.beside.specs.Update.{Returned, returned}
-use Rattle.beside.specs.Calls.{insertWithOf, deleteWithOf}
+use Rattle.call_answers.specs.declared.Answer.{Answer}
+use Rattle.call_answers.specs.declared.Answer.the-variants.{Length}
+use Rattle.call_answers.specs.Answers.{rowOf, told}
+use Rattle.open_record.specs.declared.Opened.{Opened}
+use Rattle.open_record.specs.Opened.{openedOf, openingOf, lookupWithOf, listWithOf}
+use Rattle.live_beside.specs.Update.{Returned, returned}
+use Rattle.live_beside.specs.Calls.{insertWithOf, deleteWithOf}
 use Rattle.camera.specs.Camera.{putNumbers, recordIn, recordNumbers, putRecord, withRecord, openBytes, openRecord, lookupBytes, listBytes, Reopened, reopened, packed, insertBytes, deleteBytes, kept}
 use Rattle.camera.specs.Camera as camera
-use Rattle.camera.specs.Laws.{made-answer, made-image, made-result, camera-laws}
+use Rattle.camera.specs.Results.{made-answer, made-image, made-result, camera-laws}
 
 -- ---- the record
 pub record-is : (bytes : List ℕ) (a b c d e f : ℕ) → a ≡ u32At bytes 0 → b ≡ u32At bytes 4 → c ≡ u32At bytes 8 → d ≡ u32At bytes 12 → e ≡ u32At bytes 16

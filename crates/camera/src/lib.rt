@@ -2,13 +2,13 @@
 ghost use mathlib.Core.Path.{_≡_};
 ghost use Rattle.model.specs.Calls.{formatOf, lookupOf, patrolOf};
 ghost use Rattle.model.specs.Listing.{listOf, asOutcome};
-ghost use Rattle.answers.specs.Answers.{rowOf, told};
-ghost use Rattle.live.specs.Live.{insertLiveOf, deleteLiveOf};
-ghost use Rattle.carrying.specs.Carrying.{exportOf, importOf};
+ghost use Rattle.call_answers.specs.Answers.{rowOf, told};
+ghost use Rattle.live_words.specs.Live.{insertLiveOf, deleteLiveOf};
+ghost use Rattle.text_carrying.specs.Carrying.{exportOf, importOf};
 ghost use Rattle.camera.specs.Camera.{putNumbers, reportRow, reportOf, returned, wordsLeft, recordIn, putRecord, openBytes, openRecord, lookupBytes, listBytes, reopened, insertBytes, deleteBytes, kept};
-use answers::Answer;
-use answers::Row;
-use opened::Opened;
+use call_answers::Answer;
+use call_answers::Row;
+use open_record::Opened;
 
 fn long(v: u32) -> u64
     ensures { λ r. ⌜ r ≡ v ⌝ }
@@ -22,7 +22,7 @@ fn put_numbers(buf: &mut [u8], numbers: [u32; 6])
 {
     let mut i: usize = 0;
     while i < 6 {
-        page::put_u32(&mut *buf, 4 * i, long(numbers[i]));
+        chip_page::put_u32(&mut *buf, 4 * i, long(numbers[i]));
         i += 1;
     }
 }
@@ -44,7 +44,7 @@ pub fn report(result: &mut [u8], a: Answer) -> u32
     ensures number { λ r. ⌜ r ≡ rowOf a .answer ⌝ }
     ensures bytes { λ _. ⌜ now (result .exit) ≡ reportOf a (now (result .entry)) ⌝ }
 {
-    report_row(&mut *result, answers::row_of(a))
+    report_row(&mut *result, call_answers::row_of(a))
 }
 
 #[no_mangle]
@@ -185,12 +185,12 @@ pub extern "C" fn mutree_import(kind: u32, image: &mut [u8], text: &[u8], result
 fn record_in(bytes: &[u8]) -> Opened
     ensures { λ r. ⌜ r ≡ recordIn (now (bytes .entry)) ⌝ }
 {
-    let root = chip::read_u32(bytes, 0);
-    let number = chip::read_u32(bytes, 4);
-    let most = chip::read_u32(bytes, 8);
-    let height = chip::read_u32(bytes, 12);
-    let next = chip::read_u32(bytes, 16);
-    let erased = chip::read_u32(bytes, 20);
+    let root = chip_read::read_u32(bytes, 0);
+    let number = chip_read::read_u32(bytes, 4);
+    let most = chip_read::read_u32(bytes, 8);
+    let height = chip_read::read_u32(bytes, 12);
+    let next = chip_read::read_u32(bytes, 16);
+    let erased = chip_read::read_u32(bytes, 20);
     Opened {
         root: root,
         number: number,

@@ -3,4 +3,4 @@ pub mod Tests
 pub mod Table
 pub mod Geometry
 pub mod Shape
-pub mod Laws
+pub mod Answering

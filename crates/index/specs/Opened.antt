@@ -8,14 +8,14 @@ use Rattle.geometry.specs.declared.Chosen.the-variants.{Of, Unknown}
 use Rattle.geometry.specs.Geometry.{chosenOf}
 use Rattle.model.specs.Calls.{Outcome, refused, chosenCall}
 use Rattle.model.specs.Listing.{listsNone, asOutcome}
-use Rattle.answers.specs.declared.Answer.{Answer}
-use Rattle.answers.specs.declared.Answer.the-variants.{Length}
-use Rattle.answers.specs.Answers.{told}
-use Rattle.opened.specs.declared.Opened.{Opened}
-use Rattle.opened.specs.Opened.{noRecord, opened, opening, lookupWith, listWith, openedOf, openingOf, lookupWithOf, listWithOf}
-use Rattle.beside.specs.Update.{Returned, returned}
-use Rattle.beside.specs.Calls.{insertWith, deleteWith, insertWithOf, deleteWithOf}
-use Rattle.index.specs.Laws.{called, unknown, of-known, of-pages}
+use Rattle.call_answers.specs.declared.Answer.{Answer}
+use Rattle.call_answers.specs.declared.Answer.the-variants.{Length}
+use Rattle.call_answers.specs.Answers.{told}
+use Rattle.open_record.specs.declared.Opened.{Opened}
+use Rattle.open_record.specs.Opened.{noRecord, opened, opening, lookupWith, listWith, openedOf, openingOf, lookupWithOf, listWithOf}
+use Rattle.live_beside.specs.Update.{Returned, returned}
+use Rattle.live_beside.specs.Calls.{insertWith, deleteWith, insertWithOf, deleteWithOf}
+use Rattle.index.specs.ByNumber.{called, unknown, of-known, of-pages}
 
 module _ (kind : ℕ) (c : Chosen) (ec : c ≡ chosenOf kind) (g : Geometry) (e : c ≡ Of g) where
   pub of-opening : (img : List ℕ) (o : Outcome) → o ≡ opening g img → o ≡ openingOf kind img

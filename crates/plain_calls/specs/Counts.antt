@@ -12,7 +12,7 @@ use Rattle.model.specs.Tree.{leaf, findIn, sought}
 use Rattle.model.specs.Edit.{removeIn, kept, edited, onPath}
 use Rattle.model.specs.Update.{isNone, deleteList}
 use Rattle.model.specs.Plain.{plainCuts, plainGrows, noneLeft, emptied}
-use Rattle.plan.specs.declared.Run.{Run}
+use Rattle.tree_plan.specs.declared.Run.{Run}
 use Rattle.plain_calls.specs.declared.Loss.{Loss}
 
 -- the levels that an insert splits, and whether the root is one

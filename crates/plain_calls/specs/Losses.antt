@@ -19,13 +19,13 @@ use Rattle.model.specs.Edit.{swap, splice, edited, onPath, remove, removeIn, ke
 use Rattle.model.specs.Halving.{place-is}
 use Rattle.model.specs.Update.{deleteList}
 use Rattle.model.specs.Plain.{noneLeft, emptied}
-use Rattle.counts.specs.Tally.{count-same}
-use Rattle.chip.specs.Chip.{chipWith}
-use Rattle.chip.specs.Node.{node-length}
-use Rattle.search.specs.declared.Found.{Found}
-use Rattle.search.specs.declared.Found.the-variants.{At, Nothing}
-use Rattle.search.specs.Search.{found}
-use Rattle.edit.specs.Paths.{path-top, path-below}
+use Rattle.theory_counts.specs.Tally.{count-same}
+use Rattle.chip_read.specs.Chip.{chipWith}
+use Rattle.chip_read.specs.Node.{node-length}
+use Rattle.tree_search.specs.declared.Found.{Found}
+use Rattle.tree_search.specs.declared.Found.the-variants.{At, Nothing}
+use Rattle.tree_search.specs.Search.{found}
+use Rattle.tree_path.specs.Paths.{path-top, path-below}
 use Rattle.plain_calls.specs.declared.Loss.{Loss}
 use Rattle.plain_calls.specs.Counts.{lessOf, emptiedBelow, Loses, Sheds}
 

@@ -9,18 +9,18 @@ ghost use Rattle.geometry.specs.Tests.{pick, bit, _&_};
 ghost use Rattle.model.specs.Image.{chipOf, maxSeq};
 ghost use Rattle.model.specs.Calls.{format, lookup};
 ghost use Rattle.model.specs.Plain.{plainInsert, plainDelete};
-ghost use Rattle.answers.specs.Answers.{told};
-ghost use Rattle.chip.specs.Chip.{chipWith, goodBlocks};
-ghost use Rattle.survey.specs.Survey.{surveyOf};
+ghost use Rattle.call_answers.specs.Answers.{told};
+ghost use Rattle.chip_read.specs.Chip.{chipWith, goodBlocks};
+ghost use Rattle.chip_survey.specs.Survey.{surveyOf};
 ghost use Rattle.plain_levels.specs.Levels.{insertStoresAt, deleteStoresAt, pagesBy, madeWith, plainInsertBy, plainDeleteBy};
 ghost use Rattle.plain_calls.specs.Counts.{Cuts, Loses, Sheds};
-use answers::Answer;
+use call_answers::Answer;
+use chip_survey::Survey;
 use geometry::Entry;
 use geometry::Geometry;
 use geometry::Verdict;
-use plan::Run;
-use search::Found;
-use survey::Survey;
+use tree_plan::Run;
+use tree_search::Found;
 
 // What a delete does to the node that an entry names: whether its key is absent, how many levels below are emptied, the entries left.
 pub struct Loss {
@@ -32,13 +32,13 @@ pub struct Loss {
 pub fn format(img: &mut [u8]) -> Answer
     ensures { λ r. ⌜ told r (now (img .exit)) ≡ format plain (now (img .entry)) ⌝ }
 {
-    format::format(Geometry::plain(), &mut *img)
+    call_format::format(Geometry::plain(), &mut *img)
 }
 
 pub fn lookup(img: &[u8], key: u32) -> Answer
     ensures { λ r. ⌜ told r (now (img .entry)) ≡ lookup plain (now (img .entry)) key ⌝ }
 {
-    lookup::lookup_on(Geometry::plain(), img, key)
+    call_lookup::lookup_on(Geometry::plain(), img, key)
 }
 
 // ---- insert
@@ -47,8 +47,8 @@ fn count_cuts(g: Geometry, img: &[u8], level: u32, root: u32, key: u32) -> Run
     requires { ⌜ level < 255 ⌝ }
     ensures { λ r. ⌜ Cuts g (chipWith g (now (img .entry)) level root) key r ⌝ }
 {
-    let absent = plan::is_absent(g, img, key, level, Entry { key: 0, addr: root });
-    plan::count_splits(g, img, key, absent, level + 1, Entry { key: 0, addr: root })
+    let absent = tree_plan::is_absent(g, img, key, level, Entry { key: 0, addr: root });
+    tree_plan::count_splits(g, img, key, absent, level + 1, Entry { key: 0, addr: root })
 }
 
 // HEIGHT: the root splits at the greatest height.
@@ -66,7 +66,7 @@ fn insert_roomless(s: Survey, run: Run) -> bool
     requires { ⌜ (s .level ≤ 100) × (run .splits ≤ 101) ⌝ }
     ensures { λ r. ⌜ r ≡ ltb (s .erased) (suc (s .level + run .splits + bit (run .gains))) ⌝ }
 {
-    s.erased < plan::count_pages(s.level + run.splits, run.gains)
+    s.erased < tree_plan::count_pages(s.level + run.splits, run.gains)
 }
 
 // The stores of an insert that splits so many levels, on an image of n blocks with its survey.
@@ -86,10 +86,10 @@ fn insert_made(
         ≡ madeWith g (insertStoresAt g (chipOf g n (now (img .entry))) key addr (pagesBy g n (now (img .entry))) (maxSeq g n (now (img .entry))) cuts)
         allowance (now (img .entry)) ⌝ }
 {
-    let o = recording::record_of(g, &*img, n, s);
-    let b = account::fresh(allowance);
+    let o = open_renew::record_of(g, &*img, n, s);
+    let b = call_account::fresh(allowance);
     let r = plain_levels::insert_pages(g, &mut *img, n, b, o, s.level, cuts, key, addr);
-    account::answer_of(r)
+    call_account::answer_of(r)
 }
 
 // The rest of an insert on a judged image of n blocks, by its survey.
@@ -131,7 +131,7 @@ fn insert_blocks(
     requires { ⌜ (g ≡ plain) × (n ≡ goodBlocks g (now img)) × (n ≤ 1024) × (n ≡ 0 → ⊥) × (65536 ≤ length (now table)) ⌝ }
     ensures { λ r. ⌜ told r (now (img .exit)) ≡ plainInsert plain (now (img .entry)) key addr allowance ⌝ }
 {
-    let judgement = verdict::judge_image(g, &*img, &mut *table, n);
+    let judgement = sound_verdict::judge_image(g, &*img, &mut *table, n);
     let verdict = judgement.verdict;
     let survey = judgement.survey;
     match verdict {
@@ -144,7 +144,7 @@ pub fn insert(img: &mut [u8], key: u32, addr: u32, allowance: u32) -> Answer
     ensures { λ r. ⌜ told r (now (img .exit)) ≡ plainInsert plain (now (img .entry)) key addr allowance ⌝ }
 {
     let g = Geometry::plain();
-    let n = chip::good_blocks(g, &*img);
+    let n = chip_read::good_blocks(g, &*img);
     if n == 0 {
         return Answer::Length;
     }
@@ -166,8 +166,8 @@ fn one_less(n: usize) -> usize
 fn leaf_loss(g: Geometry, img: &[u8], key: u32, e: Entry) -> Loss
     ensures { λ r. ⌜ Loses g (now (img .entry)) key 0 e r ⌝ }
 {
-    let n = chip::node_count(g, img, e.addr, 1);
-    match search::find_key(g, img, e.addr, 1, key) {
+    let n = chip_read::node_count(g, img, e.addr, 1);
+    match tree_search::find_key(g, img, e.addr, 1, key) {
         Found::At(_) => Loss {
             absent: false,
             emptied: 0,
@@ -189,8 +189,8 @@ fn count_loss(g: Geometry, img: &[u8], key: u32, below: u32, e: Entry) -> Loss
     if below == 0 {
         return leaf_loss(g, img, key, e);
     }
-    let n = chip::node_count(g, img, e.addr, below + 1);
-    let x = search::chosen_entry(g, img, e.addr, below + 1, key);
+    let n = chip_read::node_count(g, img, e.addr, below + 1);
+    let x = tree_search::chosen_entry(g, img, e.addr, below + 1, key);
     let r = count_loss(g, img, key, below - 1, x);
     if r.left != 0 {
         return Loss {
@@ -252,10 +252,10 @@ fn delete_made(
         ≡ madeWith g (deleteStoresAt g (chipOf g n (now (img .entry))) key (pagesBy g n (now (img .entry))) (maxSeq g n (now (img .entry))) emptied)
         allowance (now (img .entry)) ⌝ }
 {
-    let o = recording::record_of(g, &*img, n, s);
-    let b = account::fresh(allowance);
+    let o = open_renew::record_of(g, &*img, n, s);
+    let b = call_account::fresh(allowance);
     let r = plain_levels::delete_pages(g, &mut *img, n, b, o, s.level, emptied, key);
-    account::answer_of(r)
+    call_account::answer_of(r)
 }
 
 // The rest of a delete on a judged image of n blocks, by its survey.
@@ -288,7 +288,7 @@ fn delete_blocks(
     requires { ⌜ (g ≡ plain) × (n ≡ goodBlocks g (now img)) × (n ≤ 1024) × (n ≡ 0 → ⊥) × (65536 ≤ length (now table)) ⌝ }
     ensures { λ r. ⌜ told r (now (img .exit)) ≡ plainDelete plain (now (img .entry)) key allowance ⌝ }
 {
-    let judgement = verdict::judge_image(g, &*img, &mut *table, n);
+    let judgement = sound_verdict::judge_image(g, &*img, &mut *table, n);
     let verdict = judgement.verdict;
     let survey = judgement.survey;
     match verdict {
@@ -301,7 +301,7 @@ pub fn delete(img: &mut [u8], key: u32, allowance: u32) -> Answer
     ensures { λ r. ⌜ told r (now (img .exit)) ≡ plainDelete plain (now (img .entry)) key allowance ⌝ }
 {
     let g = Geometry::plain();
-    let n = chip::good_blocks(g, &*img);
+    let n = chip_read::good_blocks(g, &*img);
     if n == 0 {
         return Answer::Length;
     }

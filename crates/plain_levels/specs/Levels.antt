@@ -16,9 +16,9 @@ use Rattle.model.specs.Edit.{onPath, putIn, removeIn, Top, collapse}
 use Rattle.model.specs.Update.{isNone}
 use Rattle.model.specs.Calls.{Outcome, gives, refused, worn}
 use Rattle.model.specs.Plain.{both, renewed, keptOn, noneLeft, plainCuts, plainHigh, plainNeeds, plainLeaves, plainRoomless, emptied}
-use Rattle.stores.specs.Careful.{madeOf}
-use Rattle.opened.specs.Opened.{openedIn}
-use Rattle.beside.specs.Beside.{pageBy}
+use Rattle.chip_store.specs.Careful.{madeOf}
+use Rattle.open_record.specs.Opened.{openedIn}
+use Rattle.live_beside.specs.Beside.{pageBy}
 
 -- a node alone on the i-th page to come
 abbrev pub nodeStore : Geometry → (ℕ → ℕ) → ℕ → ℕ → ℕ → ℕ → List Entry → Store

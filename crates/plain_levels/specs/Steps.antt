@@ -13,12 +13,12 @@ use Rattle.model.specs.Tree.{next}
 use Rattle.model.specs.Stores.{Store}
 use Rattle.model.specs.Edit.{edited, onPath, putIn, removeIn, collapse}
 use Rattle.model.specs.Plain.{keptOn, noneLeft}
-use Rattle.node.specs.Node.{entries, carried, replaceBy}
-use Rattle.stores.specs.Run.{Ran}
-use Rattle.stores.specs.declared.Budget.{Budget}
-use Rattle.load.specs.declared.Taken.{Taken}
-use Rattle.step.specs.declared.Climbed.{Climbed}
-use Rattle.edit.specs.declared.Changed.{Changed}
+use Rattle.tree_node.specs.Node.{entries, carried, replaceBy}
+use Rattle.chip_store.specs.Run.{Ran}
+use Rattle.chip_store.specs.declared.Budget.{Budget}
+use Rattle.tree_load.specs.declared.Taken.{Taken}
+use Rattle.tree_split.specs.declared.Climbed.{Climbed}
+use Rattle.tree_path.specs.declared.Changed.{Changed}
 use Rattle.plain_levels.specs.declared.Change.{Change}
 use Rattle.plain_levels.specs.declared.Change.the-variants.{Put, Remove}
 use Rattle.plain_levels.specs.declared.Job.{Job}

@@ -10,12 +10,12 @@ use Rattle.geometry.specs.Tests.{pick}
 use Rattle.model.specs.Bytes.{nodeAt}
 use Rattle.model.specs.Edit.{onPath, putIn, removeIn, Top, collapse}
 use Rattle.model.specs.Plain.{keptOn, noneLeft}
-use Rattle.chip.specs.Chip.{chipWith}
-use Rattle.stores.specs.declared.Budget.{Budget}
-use Rattle.stores.specs.Run.{Ran}
-use Rattle.edit.specs.Paths.{path-top, path-agree}
-use Rattle.opened.specs.declared.Opened.{Opened}
-use Rattle.beside.specs.Beside.{pageBy}
+use Rattle.chip_read.specs.Chip.{chipWith}
+use Rattle.chip_store.specs.declared.Budget.{Budget}
+use Rattle.chip_store.specs.Run.{Ran}
+use Rattle.tree_path.specs.Paths.{path-top, path-agree}
+use Rattle.open_record.specs.declared.Opened.{Opened}
+use Rattle.live_beside.specs.Beside.{pageBy}
 use Rattle.plain_levels.specs.declared.Change.{Change}
 use Rattle.plain_levels.specs.declared.Change.the-variants.{Put, Remove}
 use Rattle.plain_levels.specs.declared.Job.{Job}

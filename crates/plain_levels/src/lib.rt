@@ -5,23 +5,23 @@ ghost use mathlib.Core.List.{[], _∷_};
 ghost use Prim.Native.Nat.{suc, _+_, _*_, _-_, _≤_, _<_};
 ghost use Rattle.geometry.specs.Geometry.{pageBytes};
 ghost use Rattle.model.specs.Bytes.{nodeAt};
-ghost use Rattle.chip.specs.Chip.{chipWith};
-ghost use Rattle.node.specs.Node.{entries, carried};
-ghost use Rattle.stores.specs.Run.{Ran};
-ghost use Rattle.beside.specs.Beside.{pageBy};
+ghost use Rattle.chip_read.specs.Chip.{chipWith};
+ghost use Rattle.tree_node.specs.Node.{entries, carried};
+ghost use Rattle.chip_store.specs.Run.{Ran};
+ghost use Rattle.live_beside.specs.Beside.{pageBy};
 ghost use Rattle.plain_levels.specs.declared.Change.{Change};
 ghost use Rattle.plain_levels.specs.Levels.{leftPlace, rightPlace, insertStoresAt, deleteStoresAt};
 ghost use Rattle.plain_levels.specs.Steps.{rootAt, pageAt, aloneStore, leafBy, pairOf, Halved, Parted, Settled};
 ghost use Rattle.plain_levels.specs.Steps.{changed, Rejoined, Changes, grownStores, topStores, putStores, stayStores, removeStores, Given};
-use edit::Changed;
+use chip_store::Budget;
 use geometry::Entry;
 use geometry::Geometry;
-use load::Taken;
-use node::Carry;
-use node::Node;
-use opened::Opened;
-use step::Climbed;
-use stores::Budget;
+use open_record::Opened;
+use tree_load::Taken;
+use tree_node::Carry;
+use tree_node::Node;
+use tree_path::Changed;
+use tree_split::Climbed;
 
 // What an update does: put the key at an address, or remove it.
 pub enum Change {
@@ -62,7 +62,7 @@ fn left_place(cuts: u32, level: u32) -> u32
     ensures { λ r. ⌜ r ≡ leftPlace cuts level ⌝ }
 {
     let below = level - 1;
-    below + step::least(below, cuts)
+    below + tree_split::least(below, cuts)
 }
 
 // The place of a level's right half.
@@ -71,7 +71,7 @@ fn right_place(cuts: u32, level: u32) -> u32
     ensures { λ r. ⌜ r ≡ rightPlace cuts level ⌝ }
 {
     let below = level - 1;
-    below + step::least(level, cuts)
+    below + tree_split::least(level, cuts)
 }
 
 // The place of a level's node where the levels up to `emptied` have none.
@@ -108,8 +108,8 @@ fn store_node(
     requires { ⌜ (n .count ≤ 256) × (pageBytes g ≤ 2112) × (job .seq < 8589934592) × (b .left + b .programmed + b .erased < 4294967296) ⌝ }
     ensures { λ r. ⌜ Ran g (aloneStore g job place height level (entries n) ∷ []) b r (now (img .entry)) (now (img .exit)) ⌝ }
 {
-    let bytes = page::only_bytes(g, number(job.seq, place), height, level, n);
-    stores::put_page(g, &mut *img, b, page_at(job, place), &bytes)
+    let bytes = chip_page::only_bytes(g, number(job.seq, place), height, level, n);
+    chip_store::put_page(g, &mut *img, b, page_at(job, place), &bytes)
 }
 
 // What stands above two halves, by their keys there.
@@ -137,9 +137,9 @@ fn halve(g: Geometry, job: Job, level: u32, low: u32, c: Node) -> Halves
     ensures { λ r. ⌜ Halved g job level low (entries c) r ⌝ }
 {
     let h = geometry::half(g, level);
-    let left = node::left_half(c, h);
-    let right = node::right_half(c, h);
-    let carry = pair(job, level, low, node::first_key(right));
+    let left = tree_node::left_half(c, h);
+    let right = tree_node::right_half(c, h);
+    let carry = pair(job, level, low, tree_node::first_key(right));
     Halves {
         left: left,
         right: right,
@@ -180,8 +180,8 @@ fn settle_put(
     requires { ⌜ (c .count ≤ 256) × (1 ≤ level) × (level ≤ 102) × (pageBytes g ≤ 2112) × (job .seq < 8589934592) × (b .left + b .programmed + b .erased < 4294967296) ⌝ }
     ensures { λ r. ⌜ Settled g job (Change.Put addr) level e (entries c) b r (now (img .entry)) (now (img .exit)) ⌝ }
 {
-    let low = step::least(e.key, job.key);
-    let n = node::size(c);
+    let low = tree_split::least(e.key, job.key);
+    let n = tree_node::size(c);
     let h = geometry::half(g, level);
     if 2 * h < n {
         return part(g, &mut *img, b, job, level, low, c);
@@ -211,7 +211,7 @@ fn settle_remove(
     requires { ⌜ (c .count ≤ 256) × (1 ≤ level) × (pageBytes g ≤ 2112) × (job .seq < 8589934592) × (b .left + b .programmed + b .erased < 4294967296) ⌝ }
     ensures { λ r. ⌜ Settled g job Change.Remove level e (entries c) b r (now (img .entry)) (now (img .exit)) ⌝ }
 {
-    if node::size(c) == 0 {
+    if tree_node::size(c) == 0 {
         return Climbed {
             carry: Carry::Nothing,
             budget: b,
@@ -254,8 +254,8 @@ fn leaf(g: Geometry, img: &[u8], job: Job, page: u32) -> Node
 {
     let change = job.change;
     match change {
-        Change::Put(addr) => load::put_leaf(g, img, page, job.key, addr),
-        Change::Remove => load::remove_leaf(g, img, page, job.key),
+        Change::Put(addr) => tree_load::put_leaf(g, img, page, job.key, addr),
+        Change::Remove => tree_load::remove_leaf(g, img, page, job.key),
     }
 }
 
@@ -271,7 +271,7 @@ fn rejoin(g: Geometry, img: &mut [u8], job: Job, below: u32, t: Taken, u: Change
     let m = t.node;
     let carry = f.carry;
     let rest = f.budget;
-    let n = node::splice(m, t.at, carry);
+    let n = tree_node::splice(m, t.at, carry);
     Changed {
         node: n,
         budget: rest,
@@ -287,7 +287,7 @@ fn climb(g: Geometry, img: &mut [u8], b: Budget, job: Job, below: u32, e: Entry)
         let c = leaf(g, &*img, job, e.addr);
         return Changed { node: c, budget: b };
     }
-    let t = load::take_node(g, &*img, e.addr, below + 1, job.key);
+    let t = tree_load::take_node(g, &*img, e.addr, below + 1, job.key);
     let x = t.entry;
     let u = climb(g, &mut *img, b, job, below - 1, x);
     rejoin(g, &mut *img, job, below, t, u)
@@ -298,11 +298,11 @@ fn grow(g: Geometry, img: &mut [u8], b: Budget, job: Job, level: u32, c: Node) -
     requires { ⌜ (c .count ≤ 256) × (1 ≤ level) × (level ≤ 101) × (pageBytes g ≤ 2112) × (job .seq < 8589934592) × (b .left + b .programmed + b .erased < 4294967296) ⌝ }
     ensures { λ r. ⌜ Ran g (grownStores g job level (entries c)) b r (now (img .entry)) (now (img .exit)) ⌝ }
 {
-    let low = node::first_key(c);
+    let low = tree_node::first_key(c);
     let u = part(g, &mut *img, b, job, level, low, c);
     let carry = u.carry;
     let left = u.budget;
-    let above = crown::node_of(carry);
+    let above = tree_root::node_of(carry);
     let at = left_place(job.levels, level + 1);
     store_node(g, &mut *img, left, job, at, level + 1, level + 1, above)
 }
@@ -312,7 +312,7 @@ fn store_root(g: Geometry, img: &mut [u8], b: Budget, job: Job, level: u32, c: N
     requires { ⌜ (c .count ≤ 256) × (1 ≤ level) × (level ≤ 101) × (pageBytes g ≤ 2112) × (job .seq < 8589934592) × (b .left + b .programmed + b .erased < 4294967296) ⌝ }
     ensures { λ r. ⌜ Ran g (topStores g job level (entries c)) b r (now (img .entry)) (now (img .exit)) ⌝ }
 {
-    let n = node::size(c);
+    let n = tree_node::size(c);
     let h = geometry::half(g, level);
     if 2 * h < n {
         return grow(g, &mut *img, b, job, level, c);
@@ -365,7 +365,7 @@ fn delete_with(g: Geometry, img: &mut [u8], b: Budget, job: Job, level: u32, roo
     ensures { λ r. ⌜ Ran g (removeStores g job level (rootAt root) (now (img .entry))) b r (now (img .entry)) (now (img .exit)) ⌝ }
 {
     let c = look(g, &mut *img, job, level, root);
-    let t = load::collapse(g, &*img, level, c);
+    let t = tree_load::collapse(g, &*img, level, c);
     if t.level == level {
         return store_path(g, &mut *img, b, job, level, root);
     }
@@ -394,8 +394,8 @@ fn job_of(
     requires { ⌜ count ≤ 256 ⌝ }
     ensures { λ r. ⌜ Given (pageBy g n (now (img .entry)) o) (o .most) levels key count change r ⌝ }
 {
-    let next = next::next_by(g, n, o.next);
-    let pages = next::coming_from(g, img, n, next, geometry::index(count));
+    let next = chip_next::next_by(g, n, o.next);
+    let pages = chip_next::coming_from(g, img, n, next, geometry::index(count));
     let seq = long(o.most);
     Job {
         key: key,

@@ -15,14 +15,14 @@ use Rattle.model.specs.Update.{isNone}
 use Rattle.model.specs.Calls.{Outcome, refused, made, worn}
 use Rattle.model.specs.Plain.{plainHigh, plainInsertStores, plainNeeds, plainInsertRest, plainInsert}
 use Rattle.model.specs.Plain.{plainRoomless, plainDeleteStores, plainLeaves, plainDeleteRest, plainDelete}
-use Rattle.trees.specs.Tests.{true-false}
-use Rattle.chips.specs.Whole.{map-rises}
-use Rattle.chips.specs.PlainPresent.{present-pages}
-use Rattle.demands.specs.Words.{Ready, mapAt, Rising, OneOf}
-use Rattle.demands.specs.Maps.{rising}
-use Rattle.demands.specs.Tests.{Met, tested-one, tested-met, tested-later}
-use Rattle.demands.specs.Calls.{made-began}
-use Rattle.demands.specs.Refusals.{Refuses, judged-refuses}
+use Rattle.theory_trees.specs.Tests.{true-false}
+use Rattle.theory_chips.specs.Whole.{map-rises}
+use Rattle.theory_chips.specs.PlainPresent.{present-pages}
+use Rattle.theory_demands.specs.Words.{Ready, mapAt, Rising, OneOf}
+use Rattle.theory_demands.specs.Maps.{rising}
+use Rattle.theory_demands.specs.Tests.{Met, tested-one, tested-met, tested-later}
+use Rattle.theory_demands.specs.Calls.{made-began}
+use Rattle.theory_demands.specs.Refusals.{Refuses, judged-refuses}
 use Rattle.plain_updates.specs.Words.{plainInsertTests, plainDeleteTests, plain-insert-rest, plain-delete-rest}
 use Rattle.plain_updates.specs.Words.{plain-insert-is, plain-delete-is, ready-held, plain-found}
 

@@ -18,11 +18,11 @@ use Rattle.model.specs.Edit.{put, remove}
 use Rattle.model.specs.Update.{isNone}
 use Rattle.model.specs.Calls.{Outcome, made, refused, worn}
 use Rattle.model.specs.Plain.{plainCuts, plainHigh, plainNeeds, plainInsertStores, plainInsertRest, plainLeaves, emptied, plainDeleteStores, plainDeleteRest, plainRoomless}
-use Rattle.counts.specs.Tally.{count-most}
-use Rattle.stores.specs.Careful.{Cautious}
-use Rattle.images.specs.Held.{Held, height-most}
-use Rattle.updates.specs.Made.{along-cautious, made-is, all-made}
-use Rattle.updates.specs.Pages.{pages-right}
+use Rattle.theory_counts.specs.Tally.{count-most}
+use Rattle.chip_store.specs.Careful.{Cautious}
+use Rattle.theory_images.specs.Held.{Held, height-most}
+use Rattle.theory_updates.specs.Made.{along-cautious, made-is, all-made}
+use Rattle.theory_updates.specs.Pages.{pages-right}
 use Rattle.plain_levels.specs.Levels.{insertStoresAt, deleteStoresAt, pagesBy, madeWith, plainInsertBy, plainDeleteBy}
 use Rattle.plain_updates.specs.Single.{plain-single}
 use Rattle.plain_updates.specs.Laid.{PlainKeeps, PlainUpdated}

@@ -17,8 +17,8 @@ use Rattle.model.specs.Stores.{Store}
 use Rattle.model.specs.Edit.{removeIn, Top, collapse}
 use Rattle.model.specs.Update.{isNone}
 use Rattle.model.specs.Plain.{Plan, laid, emptied, keptPage, plainLess, plainTop, keptPlans, deletePlans, plainLeaves}
-use Rattle.chips.specs.Whole.{Whole}
-use Rattle.chips.specs.PlainDeletion.{emptied-low, all-emptied, top-stays, top-falls, stay-plans, fall-plans, empties, kept-count, stay-count, by-root, plans-count}
+use Rattle.theory_chips.specs.Whole.{Whole}
+use Rattle.theory_chips.specs.PlainDeletion.{emptied-low, all-emptied, top-stays, top-falls, stay-plans, fall-plans, empties, kept-count, stay-count, by-root, plans-count}
 use Rattle.plain_levels.specs.Levels.{nodeStore, keptStores, lessAt, topAt, deleteStoresAt}
 use Rattle.plain_updates.specs.Levels.{coming, below, rootStore, node-same, below-same, laid-last, kept-to}
 use Rattle.plain_updates.specs.Pages.{kept-same}

@@ -20,20 +20,20 @@ use Rattle.model.specs.Update.{isNone}
 use Rattle.model.specs.Plain.{keptOn, Plan, noneLeft, emptied, keptPage, plainLess, plainTop, plainShrinks, plainLeaves}
 use Rattle.model.specs.Plain.{keptPlans, deletePlans, plainDeleteStores}
 use Rattle.model.specs.Calls.{worn}
-use Rattle.trees.specs.Lists.{All, all-append}
-use Rattle.trees.specs.Nodes.{fitOf}
-use Rattle.trees.specs.Lengths.{path-all, path-top, path-most}
-use Rattle.chips.specs.Whole.{Whole}
-use Rattle.chips.specs.Pages.{side-most}
-use Rattle.chips.specs.Deletion.{collapse-low}
-use Rattle.chips.specs.PlainDeletion.{top-stays, by-root, plans-count, fall-most, planned-last}
-use Rattle.chips.specs.PlainPresent.{laid-programs}
-use Rattle.images.specs.Bytes.{Fits}
-use Rattle.images.specs.Small.{node-fits}
-use Rattle.images.specs.Held.{Held, height-most}
-use Rattle.images.specs.Lengths.{few-pages}
-use Rattle.updates.specs.Deletion.{remove-fits, remove-most, kept-fits, kept-most, collapse-all}
-use Rattle.updates.specs.Lists.{not-worn}
+use Rattle.theory_trees.specs.Lists.{All, all-append}
+use Rattle.theory_trees.specs.Nodes.{fitOf}
+use Rattle.theory_trees.specs.Lengths.{path-all, path-top, path-most}
+use Rattle.theory_chips.specs.Whole.{Whole}
+use Rattle.theory_chips.specs.Pages.{side-most}
+use Rattle.theory_chips.specs.Deletion.{collapse-low}
+use Rattle.theory_chips.specs.PlainDeletion.{top-stays, by-root, plans-count, fall-most, planned-last}
+use Rattle.theory_chips.specs.PlainPresent.{laid-programs}
+use Rattle.theory_images.specs.Bytes.{Fits}
+use Rattle.theory_images.specs.Small.{node-fits}
+use Rattle.theory_images.specs.Held.{Held, height-most}
+use Rattle.theory_images.specs.Lengths.{few-pages}
+use Rattle.theory_updates.specs.Deletion.{remove-fits, remove-most, kept-fits, kept-most, collapse-all}
+use Rattle.theory_updates.specs.Lists.{not-worn}
 use Rattle.plain_updates.specs.Single.{Single, plain-single, plain-pages, Buildable, buildable, all-at}
 use Rattle.plain_updates.specs.Laid.{PlainUpdated, Finishes, laid-updated, none-placed, laid-length, laid-erases}
 

@@ -16,10 +16,10 @@ use Rattle.model.specs.Tree.{next}
 use Rattle.model.specs.Stores.{Store}
 use Rattle.model.specs.Edit.{putIn}
 use Rattle.model.specs.Plain.{both, Plan, laid, plainCuts, plainGrows, plainNeeds, leftPage, rightPage, plainList, plansTo, crownPlans, insertPlans}
-use Rattle.trees.specs.Tests.{by-test}
-use Rattle.chips.specs.Whole.{Whole}
-use Rattle.chips.specs.PlainPlans.{Cut, plans-length, whole-plan}
-use Rattle.chips.specs.PlainInsertion.{root-list, grow-long, stay-short, cut-levels}
+use Rattle.theory_trees.specs.Tests.{by-test}
+use Rattle.theory_chips.specs.Whole.{Whole}
+use Rattle.theory_chips.specs.PlainPlans.{Cut, plans-length, whole-plan}
+use Rattle.theory_chips.specs.PlainInsertion.{root-list, grow-long, stay-short, cut-levels}
 use Rattle.plain_levels.specs.Levels.{nodeStore, leftPlace, rightPlace, levelStores, storesTo, crownList, rootStores, listAt, insertStoresAt}
 use Rattle.plain_updates.specs.Levels.{coming, below, rootStore, node-same, below-same, laid-last, stores-to}
 use Rattle.plain_updates.specs.Pages.{renewed-same}

@@ -23,21 +23,21 @@ use Rattle.model.specs.Update.{isNone, rootNode}
 use Rattle.model.specs.Plain.{both, renewed, Plan, plainGrows, plainCuts, plainHigh, leftPage, rightPage, plainList, plainNeeds}
 use Rattle.model.specs.Plain.{levelPlans, plansTo, crownPlans, insertPlans, plainInsertStores}
 use Rattle.model.specs.Calls.{worn}
-use Rattle.trees.specs.Tests.{by-eq, by-le, by-test, true-false}
-use Rattle.trees.specs.Lists.{All, all-append}
-use Rattle.trees.specs.Nodes.{fitOf}
-use Rattle.trees.specs.Cuts.{splits-le}
-use Rattle.trees.specs.Lengths.{all-take, all-drop, path-all, path-top, path-most}
-use Rattle.chips.specs.Whole.{Whole}
-use Rattle.chips.specs.Pages.{side-most}
-use Rattle.chips.specs.PlainInsertion.{crown-none, plans-count, planned}
-use Rattle.chips.specs.PlainPresent.{present-pages, laid-programs}
-use Rattle.images.specs.Bytes.{Fits}
-use Rattle.images.specs.Small.{node-fits}
-use Rattle.images.specs.Held.{Held, height-most}
-use Rattle.images.specs.Lengths.{few-pages}
-use Rattle.updates.specs.Contents.{next-fits, put-fits, put-most}
-use Rattle.updates.specs.Lists.{not-worn}
+use Rattle.theory_trees.specs.Tests.{by-eq, by-le, by-test, true-false}
+use Rattle.theory_trees.specs.Lists.{All, all-append}
+use Rattle.theory_trees.specs.Nodes.{fitOf}
+use Rattle.theory_trees.specs.Cuts.{splits-le}
+use Rattle.theory_trees.specs.Lengths.{all-take, all-drop, path-all, path-top, path-most}
+use Rattle.theory_chips.specs.Whole.{Whole}
+use Rattle.theory_chips.specs.Pages.{side-most}
+use Rattle.theory_chips.specs.PlainInsertion.{crown-none, plans-count, planned}
+use Rattle.theory_chips.specs.PlainPresent.{present-pages, laid-programs}
+use Rattle.theory_images.specs.Bytes.{Fits}
+use Rattle.theory_images.specs.Small.{node-fits}
+use Rattle.theory_images.specs.Held.{Held, height-most}
+use Rattle.theory_images.specs.Lengths.{few-pages}
+use Rattle.theory_updates.specs.Contents.{next-fits, put-fits, put-most}
+use Rattle.theory_updates.specs.Lists.{not-worn}
 use Rattle.plain_updates.specs.Single.{Single, plain-single, plain-pages, Buildable, buildable, all-at}
 use Rattle.plain_updates.specs.Laid.{PlainUpdated, Finishes, laid-updated, none-placed, laid-length, laid-erases}
 

@@ -19,17 +19,17 @@ use Rattle.model.specs.Page.{built, only}
 use Rattle.model.specs.Stores.{Store, program, applyStore, applyAll, erases}
 use Rattle.model.specs.Legal.{Legal}
 use Rattle.model.specs.Plain.{Plan, laid}
-use Rattle.trees.specs.Tests.{by-eq}
-use Rattle.trees.specs.Nodes.{fitOf}
-use Rattle.chips.specs.Next.{R2, step, nth-erased}
-use Rattle.chips.specs.Whole.{some-page, Whole}
-use Rattle.chips.specs.Pages.{side-inj, new-side}
-use Rattle.chips.specs.PlainPlans.{planAt}
-use Rattle.images.specs.Views.{rooted, beside}
-use Rattle.images.specs.Page.{in-table, Parts, builtView}
-use Rattle.images.specs.Held.{Held}
-use Rattle.images.specs.Writes.{nextStore, ahead-beside, put-legal, put-max, root-chip, root-held, side-chip, side-held, side-map}
-use Rattle.updates.specs.Along.{Along}
+use Rattle.theory_trees.specs.Tests.{by-eq}
+use Rattle.theory_trees.specs.Nodes.{fitOf}
+use Rattle.theory_chips.specs.Next.{R2, step, nth-erased}
+use Rattle.theory_chips.specs.Whole.{some-page, Whole}
+use Rattle.theory_chips.specs.Pages.{side-inj, new-side}
+use Rattle.theory_chips.specs.PlainPlans.{planAt}
+use Rattle.theory_images.specs.Views.{rooted, beside}
+use Rattle.theory_images.specs.Page.{in-table, Parts, builtView}
+use Rattle.theory_images.specs.Held.{Held}
+use Rattle.theory_images.specs.Writes.{nextStore, ahead-beside, put-legal, put-max, root-chip, root-held, side-chip, side-held, side-map}
+use Rattle.theory_updates.specs.Along.{Along}
 use Rattle.plain_updates.specs.Single.{Buildable}
 
 -- what holds of every image on the way, the map being base

@@ -12,12 +12,12 @@ use Rattle.geometry.specs.Shape.{Core, plain-core, plain-most}
 use Rattle.model.specs.Image.{pagesOf}
 use Rattle.model.specs.Page.{only}
 use Rattle.model.specs.Plain.{Plan}
-use Rattle.trees.specs.Lists.{All}
-use Rattle.chips.specs.Next.{block-in}
-use Rattle.chips.specs.Whole.{some-page}
-use Rattle.chips.specs.PlainPlans.{planAt}
-use Rattle.images.specs.Bytes.{Fits}
-use Rattle.images.specs.Page.{Parts, parts-only}
+use Rattle.theory_trees.specs.Lists.{All}
+use Rattle.theory_chips.specs.Next.{block-in}
+use Rattle.theory_chips.specs.Whole.{some-page}
+use Rattle.theory_chips.specs.PlainPlans.{planAt}
+use Rattle.theory_images.specs.Bytes.{Fits}
+use Rattle.theory_images.specs.Page.{Parts, parts-only}
 
 pub record Single (g : Geometry) : Type 0 where
   pub narrow : (l : ℕ) → 1 ≤ l → l ≤ g .top → rootMost g l ≡ 2 * half g l

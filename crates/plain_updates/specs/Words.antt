@@ -23,17 +23,17 @@ use Rattle.model.specs.Update.{isNone, formatStores}
 use Rattle.model.specs.Calls.{Outcome, made, answered, lookup, worn, format}
 use Rattle.model.specs.Plain.{plainHigh, plainInsertStores, plainNeeds, plainRoomless, plainInsertRest, plainInsert}
 use Rattle.model.specs.Plain.{plainDeleteStores, plainLeaves, plainDeleteRest, plainDelete}
-use Rattle.trees.specs.Lists.{All}
-use Rattle.chips.specs.Whole.{sought-map}
-use Rattle.images.specs.Held.{Held, plain-held, held-plain}
-use Rattle.images.specs.Lengths.{Blocks, good-blocks, blocks-same, length-same, length-all}
-use Rattle.updates.specs.Along.{along-take}
-use Rattle.updates.specs.Format.{formatted-keeps}
-use Rattle.demands.specs.Words.{Ready, mapAt, Holds, Lawful, programmedMost, erasedMost, Kept, Began}
-use Rattle.demands.specs.Bridges.{along-lawful}
-use Rattle.demands.specs.Tests.{Test, tested, Untouched, Unmet, tested-untouched, tested-passed}
-use Rattle.demands.specs.Calls.{judged-ready, judged-untouched, made-untouched, made-all, made-done, made-counts, made-stopped, made-image}
-use Rattle.demands.specs.Refusals.{format-image}
+use Rattle.theory_trees.specs.Lists.{All}
+use Rattle.theory_chips.specs.Whole.{sought-map}
+use Rattle.theory_images.specs.Held.{Held, plain-held, held-plain}
+use Rattle.theory_images.specs.Lengths.{Blocks, good-blocks, blocks-same, length-same, length-all}
+use Rattle.theory_updates.specs.Along.{along-take}
+use Rattle.theory_updates.specs.Format.{formatted-keeps}
+use Rattle.theory_demands.specs.Words.{Ready, mapAt, Holds, Lawful, programmedMost, erasedMost, Kept, Began}
+use Rattle.theory_demands.specs.Bridges.{along-lawful}
+use Rattle.theory_demands.specs.Tests.{Test, tested, Untouched, Unmet, tested-untouched, tested-passed}
+use Rattle.theory_demands.specs.Calls.{judged-ready, judged-untouched, made-untouched, made-all, made-done, made-counts, made-stopped, made-image}
+use Rattle.theory_demands.specs.Refusals.{format-image}
 use Rattle.plain_updates.specs.Laid.{PlainKeeps, PlainUpdated}
 use Rattle.plain_updates.specs.Insertion.{plain-inserted, plain-insert-programs, plain-insert-erases, plain-insert-most, plain-present-programs}
 use Rattle.plain_updates.specs.Deletion.{plain-deleted, plain-delete-programs, plain-delete-erases, plain-delete-most}

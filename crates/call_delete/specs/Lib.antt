@@ -1,0 +1,4 @@
+-- Delete, and its laws.
+pub mod Delete
+pub mod Deletes
+pub mod With

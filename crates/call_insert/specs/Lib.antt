@@ -1,0 +1,4 @@
+-- Insert, and its laws.
+pub mod Insert
+pub mod Inserts
+pub mod With

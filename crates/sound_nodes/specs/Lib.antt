@@ -1,0 +1,6 @@
+-- R5, in the form in which the code has the premises.
+pub mod Programmed
+pub mod Noted
+pub mod RuleFive
+pub mod Levels
+pub mod All

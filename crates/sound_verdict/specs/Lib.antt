@@ -1,0 +1,3 @@
+-- The verdict rule by rule.
+pub mod Verdict
+pub mod InOrder
