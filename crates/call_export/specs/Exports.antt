@@ -12,6 +12,7 @@ use Rattle.geometry.specs.declared.Geometry.{Geometry}
 use Rattle.geometry.specs.declared.Entry.{Entry}
 use Rattle.geometry.specs.declared.Verdict.the-variants.{Sound, Broken}
 use Rattle.geometry.specs.Shape.{Known, shape}
+use Rattle.geometry.specs.Bounds.{fourBytes}
 use Rattle.model.specs.Bytes.{nodePlace, nodeCount, nodeAt}
 use Rattle.model.specs.Image.{Nodes, Chip}
 use Rattle.model.specs.Tree.{gather, under, mapOf}
@@ -39,7 +40,7 @@ module _ (n k at r : ℕ) (ek : k ≡ n) where
   pub value-place : r ≡ at + length (decimal k) → r ≡ at + length (decimal n)
   value-place e = e ∙ rw ek refl
 
-  pub value-short : r ≡ at + length (decimal k) → k < 4294967296 → r ≤ at + 10
+  pub value-short : r ≡ at + length (decimal k) → k < fourBytes → r ≤ at + 10
   value-short e h = let x = decimal-short 9 k (omega (arith, h)) in omega (arith, x, e)
 
   pub value-bytes : (b c : List ℕ) → c ≡ sets b at (decimal k) → c ≡ sets b at (decimal n)
@@ -123,7 +124,7 @@ module _ (g : Geometry) (img : List ℕ) (l : ℕ) (e : Entry) (w : Written) (z 
   unfolding under
   level-is = rw z refl
 
-  pub level-few : w .records + length (under (nodeAt g img) l e) < 4294967296 → w .records < 4294967296
+  pub level-few : w .records + length (under (nodeAt g img) l e) < fourBytes → w .records < fourBytes
   level-few h = omega arith
 
   pub level-count : (r : Written) → r ≡ after w (e ∷ []) → r ≡ after w (under (nodeAt g img) l e)
@@ -138,8 +139,8 @@ module _ (g : Geometry) (img : List ℕ) (l at n i : ℕ) (e : Entry) (eb : e �
   turn-long = ap length (rest-turn g img l at n i e eb h) ∙ length-append (under (nodeAt g img) (l - 1) e) (rest g img l at n (i + 1))
 
   -- fewer than 2^32 records with those below an entry
-  pub turn-few : (w v : Written) → w .records + length (rest g img l at n 0) < 4294967296 → after w (rest g img l at n 0) ≡ after v (rest g img l at n i)
-      → v .records + length (under (nodeAt g img) (l - 1) e) < 4294967296
+  pub turn-few : (w v : Written) → w .records + length (rest g img l at n 0) < fourBytes → after w (rest g img l at n 0) ≡ after v (rest g img l at n i)
+      → v .records + length (under (nodeAt g img) (l - 1) e) < fourBytes
   turn-few w v few inv = let q = turn-long in let p = ap (λ (y : Written). y .records) inv in omega (arith, q, p, few)
 
   pub turn-count : (x v v′ : Written) → x ≡ after v (rest g img l at n i) → v′ ≡ after v (under (nodeAt g img) (l - 1) e) → x ≡ after v′ (rest g img l at n (i + 1))
@@ -156,8 +157,8 @@ module _ (g : Geometry) (img : List ℕ) (l at n : ℕ) (e : Entry) (w : Written
   all-is : under (nodeAt g img) l e ≡ rest g img l at n 0
   all-is = rest-start g img l at n e ea en some
 
-  pub start-few : w .records + length (under (nodeAt g img) l e) < 4294967296 → w .records + length (rest g img l at n 0) < 4294967296
-  start-few few = subst (λ (es : List Entry). w .records + length es < 4294967296) all-is few
+  pub start-few : w .records + length (under (nodeAt g img) l e) < fourBytes → w .records + length (rest g img l at n 0) < fourBytes
+  start-few few = subst (λ (es : List Entry). w .records + length es < fourBytes) all-is few
 
   pub end-count : (i : ℕ) (v : Written) → after w (rest g img l at n 0) ≡ after v (rest g img l at n i) → n ≤ i → v ≡ after w (under (nodeAt g img) l e)
   unfolding textOf
@@ -184,7 +185,7 @@ module _ (g : Geometry) (img : List ℕ) (l p : ℕ) where
   tree-is : under (nodeAt g img) (l + 1) (named p) ≡ all
   tree-is = ap (λ (m : ℕ). under (nodeAt g img) m (named p)) (add-one l)
 
-  pub tree-few : length all < 4294967296 → 0 + length (under (nodeAt g img) (l + 1) (named p)) < 4294967296
+  pub tree-few : length all < fourBytes → 0 + length (under (nodeAt g img) (l + 1) (named p)) < fourBytes
   tree-few h = let q = ap length tree-is in omega (arith, q, h)
 
   -- what the first walk counts
@@ -195,7 +196,7 @@ module _ (g : Geometry) (img : List ℕ) (l p : ℕ) where
     size-is : m .at ≡ length (textOf all)
     size-is = ap (λ (w : Written). w .at) em ∙ zero-add _ ∙ ap (λ (es : List Entry). length (textOf es)) tree-is
 
-    module _ (n s : ℕ) (en : n ≡ word (m .records)) (es : s ≡ word (m .at)) (few : length all < 4294967296) where
+    module _ (n s : ℕ) (en : n ≡ word (m .records)) (es : s ≡ word (m .at)) (few : length all < fourBytes) where
       n-is : n ≡ length all
       n-is = let q = count-is in omega (arith, en, q, few)
 
@@ -220,7 +221,7 @@ module _ (g : Geometry) (img : List ℕ) (l p : ℕ) where
 
 -- ---- a judged image
 module _ (g : Geometry) (n : ℕ) (img : List ℕ) (j : Judgement) (t u : List ℕ) (x : Judged g n img j t u) where
-  pub sound-few : Known g → j .verdict ≡ Sound → length (mapOf (chipWith g img (j .survey .level) (j .survey .root))) < 4294967296
+  pub sound-few : Known g → j .verdict ≡ Sound → length (mapOf (chipWith g img (j .survey .level) (j .survey .root))) < fourBytes
   sound-few known e = rw (chip-is g n img (j .survey) (x .survey)) (few-map g n img known (sym (x .verdict) ∙ e))
 
   pub exported-broken : (r p : ℕ) (b : List ℕ) (w : Row) → j .verdict ≡ Broken r p → w ≡ rowOf (Damaged r p) → toldBy w b ≡ exportedIn g n img b

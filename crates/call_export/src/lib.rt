@@ -5,6 +5,7 @@ ghost use Prim.Native.Nat.{_+_, _*_, _≤_, _<_};
 ghost use lib.ListN.{length};
 ghost use lib.Seq.{sets};
 ghost use Rattle.geometry.specs.Shape.{Known};
+ghost use Rattle.geometry.specs.Bounds.{fourBytes};
 ghost use Rattle.model.specs.Bytes.{nodeAt};
 ghost use Rattle.model.specs.Tree.{under, mapOf};
 ghost use Rattle.call_answers.specs.Answers.{plain, toldBy};
@@ -25,7 +26,7 @@ pub struct Written {
 }
 
 fn wide(x: u32) -> u64
-    ensures { λ r. ⌜ (r ≡ x) × (r < 4294967296) ⌝ }
+    ensures { λ r. ⌜ (r ≡ x) × (r < fourBytes) ⌝ }
 {
     x as u64
 }
@@ -54,7 +55,7 @@ fn put_record(text: &mut [u8], at: usize, entry: Entry) -> usize
 
 // One record more.
 fn write_record(text: &mut [u8], w: Written, entry: Entry) -> Written
-    requires { ⌜ (w .at ≤ 22 * w .records) × (w .records < 4294967296) ⌝ }
+    requires { ⌜ (w .at ≤ 22 * w .records) × (w .records < fourBytes) ⌝ }
     ensures count { λ r. ⌜ (r ≡ after w (entry ∷ [])) × (r .at ≤ 22 * r .records) ⌝ }
     ensures bytes { λ _. ⌜ now (text .exit) ≡ sets (now (text .entry)) (w .at) (textOf (entry ∷ [])) ⌝ }
 {
@@ -74,7 +75,7 @@ fn write_under(
     level: u32,
     entry: Entry,
 ) -> Written
-    requires { ⌜ (w .at ≤ 22 * w .records) × (w .records + length (under (nodeAt g (now img)) level entry) < 4294967296) ⌝ }
+    requires { ⌜ (w .at ≤ 22 * w .records) × (w .records + length (under (nodeAt g (now img)) level entry) < fourBytes) ⌝ }
     ensures count { λ r. ⌜ (r ≡ after w (under (nodeAt g (now (img .entry))) level entry)) × (r .at ≤ 22 * r .records) ⌝ }
     ensures bytes { λ _. ⌜ now (text .exit) ≡ sets (now (text .entry)) (w .at) (textOf (under (nodeAt g (now (img .entry))) level entry)) ⌝ }
 {
@@ -108,7 +109,7 @@ fn done(records: u32, size: u32, written: u32) -> Row
 
 // The text of a tree, from its root: all of it, or none if the lent text is too short.
 fn write_tree(g: Geometry, img: &[u8], text: &mut [u8], level: u32, root: u32) -> Row
-    requires { ⌜ (level < 255) × (length (mapOf (chipWith g (now img) level root)) < 4294967296) ⌝ }
+    requires { ⌜ (level < 255) × (length (mapOf (chipWith g (now img) level root)) < fourBytes) ⌝ }
     ensures { λ r. ⌜ toldBy r (now (text .exit)) ≡ exports (mapOf (chipWith g (now (img .entry)) level root)) (now (text .entry)) ⌝ }
 {
     let top = Entry { key: 0, addr: root };

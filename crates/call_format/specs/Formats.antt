@@ -10,6 +10,7 @@ use borrow.Author.Tests.{leb-true}
 use Rattle.geometry.specs.declared.Geometry.{Geometry}
 use Rattle.geometry.specs.Geometry.{pageBytes, pageBase}
 use Rattle.geometry.specs.Tests.{pick, and-left, and-right}
+use Rattle.geometry.specs.Bounds.{longestPage}
 use Rattle.model.specs.Bytes.{byteAt}
 use Rattle.model.specs.Image.{blocksOf, goodLength}
 use Rattle.model.specs.Page.{built, sealed}
@@ -51,7 +52,7 @@ pub erased-same : (g : Geometry) (img d : List ℕ) (b : ℕ) → d ≡ applyAll
 erased-same g img d b e = rw e (length-all g (erasures b) img)
 
 -- ---- the page
-pub empty-is : (g : Geometry) (b c : List ℕ) → c ≡ sealed g (bare g 0 (g .top - 0) b) 1 1 → b ≡ blanks 2112 → pageBytes g ≤ 2112
+pub empty-is : (g : Geometry) (b c : List ℕ) → c ≡ sealed g (bare g 0 (g .top - 0) b) 1 1 → b ≡ blanks longestPage → pageBytes g ≤ longestPage
     → take (pageBytes g) c ≡ built g 1 1 (λ j. [])
 empty-is g b c e f h = page-is g (λ j. []) 0 1 1 b c (e ∙ ap (λ x. sealed g (bare g 0 (g .top - 0) x) 1 1) (laid-none g (λ j. []) b)) f h (λ j i. refl)
 

@@ -4,6 +4,7 @@ ghost use mathlib.Core.List.{[]};
 ghost use Prim.Native.Nat.{_≤_};
 ghost use lib.ListN.{take};
 ghost use Rattle.geometry.specs.Geometry.{pageBytes};
+ghost use Rattle.geometry.specs.Bounds.{longestPage};
 ghost use Rattle.model.specs.Page.{built};
 ghost use Rattle.model.specs.Stores.{applyAll};
 ghost use Rattle.model.specs.Update.{erasures};
@@ -25,7 +26,7 @@ fn erase_all(g: Geometry, img: &mut [u8], n: u16)
 
 // The page of an empty level 1 root, height 1, sequence number 1.
 fn empty_root(g: Geometry) -> [u8; 2112]
-    requires { ⌜ pageBytes g ≤ 2112 ⌝ }
+    requires { ⌜ pageBytes g ≤ longestPage ⌝ }
     ensures { λ r. ⌜ take (pageBytes g) r ≡ built g 1 1 (λ j. []) ⌝ }
 {
     let mut buf = chip_page::blank();
@@ -34,7 +35,7 @@ fn empty_root(g: Geometry) -> [u8; 2112]
 }
 
 pub fn format(g: Geometry, img: &mut [u8]) -> Answer
-    requires { ⌜ pageBytes g ≤ 2112 ⌝ }
+    requires { ⌜ pageBytes g ≤ longestPage ⌝ }
     ensures { λ r. ⌜ told r (now (img .exit)) ≡ format g (now (img .entry)) ⌝ }
 {
     let n = chip_read::good_blocks(g, &*img);

@@ -6,6 +6,7 @@ ghost use lib.ListN.{length, take};
 ghost use Rattle.geometry.specs.Tests.{bit};
 ghost use Rattle.geometry.specs.Geometry.{pageBytes};
 ghost use Rattle.geometry.specs.Shape.{Known};
+ghost use Rattle.geometry.specs.Bounds.{longestPage};
 ghost use Rattle.call_answers.specs.Answers.{plain, toldBy};
 ghost use Rattle.text_carrying.specs.Carrying.{word, storeOne, storeAll, readText, importRead, importing};
 ghost use Rattle.call_import.specs.Importer.{countedRow, begun};
@@ -90,7 +91,7 @@ fn refuse_line(line: u32) -> Row
 
 // What the reader says of the text, whose length is `end`: refused with a line, or the image is formatted.
 pub fn begin(g: Geometry, img: &mut [u8], t: Spot, end: usize) -> Row
-    requires { ⌜ pageBytes g ≤ 2112 ⌝ }
+    requires { ⌜ pageBytes g ≤ longestPage ⌝ }
     ensures { λ r. ⌜ toldBy r (now (img .exit)) ≡ begun g (now (img .entry)) t end ⌝ }
 {
     if t.bad != 0 {

@@ -11,6 +11,7 @@ use Rattle.geometry.specs.declared.Finding.the-variants.{Good}
 use Rattle.geometry.specs.declared.Verdict.the-variants.{Sound}
 use Rattle.geometry.specs.Geometry.{small, large, firstSlot, slotsOf, half, rootSlots, rootMost}
 use Rattle.geometry.specs.Shape.{Known, is-small, is-large, shape, shape-core}
+use Rattle.geometry.specs.Bounds.{fourBytes}
 use Rattle.model.specs.Image.{pagesOf, chipOf}
 use Rattle.model.specs.Tree.{mapOf}
 use Rattle.model.specs.Rules.{r5, verdict}
@@ -76,10 +77,10 @@ most-map g n img known e =
     let t = pagesOf g n in
     let rules = sound-r5 g n img e in
     let up = r5-rises g (shape-core g (shape g known)) t c rules in
-    let b = root-most (fitOf t (c .er)) (λ j. 2 * half g j) (c .nodes) (c .level) 4294967296 (rootMost g (suc (c .level))) (c .root) up (r5-most g (shape-core g (shape g known)) t c rules) in
+    let b = root-most (fitOf t (c .er)) (λ j. 2 * half g j) (c .nodes) (c .level) fourBytes (rootMost g (suc (c .level))) (c .root) up (r5-most g (shape-core g (shape g known)) t c rules) in
     omega (arith, b, known-few g known (c .level))
 
-pub few-map : (g : Geometry) (n : ℕ) (img : List ℕ) → Known g → verdict g n img ≡ Sound → length (mapOf (chipOf g n img)) < 4294967296
+pub few-map : (g : Geometry) (n : ℕ) (img : List ℕ) → Known g → verdict g n img ≡ Sound → length (mapOf (chipOf g n img)) < fourBytes
 few-map g n img known e = omega (arith, most-map g n img known e)
 
 pub most-pairs : (g : Geometry) (n : ℕ) (img : List ℕ) (low high : ℕ) → Known g → verdict g n img ≡ Sound → length (rangedOf (chipOf g n img) low high) ≤ pairsMost
@@ -87,10 +88,10 @@ most-pairs g n img low high known e =
     let c = chipOf g n img in
     let t = pagesOf g n in
     let up = r5-rises g (shape-core g (shape g known)) t c (sound-r5 g n img e) in
-    let is = ap length (ranged-root (fitOf t (c .er)) (λ j. 2 * half g j) (c .nodes) low high (c .level) 4294967296 (c .root) up) in
+    let is = ap length (ranged-root (fitOf t (c .er)) (λ j. 2 * half g j) (c .nodes) low high (c .level) fourBytes (c .root) up) in
     let a = between-fewer low high (mapOf c) in
     let b = most-map g n img known e in
     omega (arith, is, a, b)
 
-pub few-pairs : (g : Geometry) (n : ℕ) (img : List ℕ) (low high : ℕ) → Known g → verdict g n img ≡ Sound → length (rangedOf (chipOf g n img) low high) < 4294967296
+pub few-pairs : (g : Geometry) (n : ℕ) (img : List ℕ) (low high : ℕ) → Known g → verdict g n img ≡ Sound → length (rangedOf (chipOf g n img) low high) < fourBytes
 few-pairs g n img low high known e = omega (arith, most-pairs g n img low high known e)

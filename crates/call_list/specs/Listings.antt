@@ -15,6 +15,7 @@ use Rattle.geometry.specs.declared.Entry.{Entry}
 use Rattle.geometry.specs.declared.Verdict.the-variants.{Sound, Broken}
 use Rattle.geometry.specs.Shape.{Known, shape}
 use Rattle.geometry.specs.Tests.{pick}
+use Rattle.geometry.specs.Bounds.{fourBytes}
 use Rattle.model.specs.Bytes.{entriesAt, nodePlace, nodeCount, nodeAt}
 use Rattle.model.specs.Image.{Nodes, Chip, chipOf}
 use Rattle.model.specs.Tree.{gather, place}
@@ -201,10 +202,10 @@ module _ (g : Geometry) (img : List ℕ) (l p low high x : ℕ) (b d : List ℕ)
   unfolding whole
   tree-most = rw tree-count (take-most pairsMost (rangedOf (chipWith g img l p) low high))
 
-  pub tree-exist : x < 4294967296
+  pub tree-exist : x < fourBytes
   tree-exist = lt-of-le-of-lt tree-most (lit< tt)
 
-  pub tree-written : (w : ℕ) → w ≤ x → w < 4294967296
+  pub tree-written : (w : ℕ) → w ≤ x → w < fourBytes
   tree-written w h = lt-of-le-of-lt h tree-exist
 
   pub tree-done : (w x′ w′ : ℕ) → w ≡ min x (length d / 2) → x′ ≡ x → w′ ≡ w

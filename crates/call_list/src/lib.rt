@@ -3,6 +3,7 @@ ghost use mathlib.Core.Path.{_≡_};
 ghost use Prim.Native.Nat.{_+_, _/_, min, _≤_, _<_};
 ghost use lib.ListN.{length, take};
 ghost use Rattle.geometry.specs.Shape.{Known};
+ghost use Rattle.geometry.specs.Bounds.{fourBytes};
 ghost use Rattle.model.specs.Listing.{rangedOf, lists, listing, asOutcome};
 ghost use Rattle.call_answers.specs.Answers.{told};
 ghost use Rattle.chip_read.specs.Chip.{chipWith};
@@ -15,7 +16,7 @@ use geometry::Verdict;
 
 // Pair i of the buffer, if it has room for both numbers.
 fn put_pair(pairs: &mut [u32], i: usize, entry: Entry)
-    requires { ⌜ i < 4294967296 ⌝ }
+    requires { ⌜ i < fourBytes ⌝ }
     ensures { λ _. ⌜ now (pairs .exit) ≡ putPair (now (pairs .entry)) i entry ⌝ }
 {
     if 2 * i + 1 < pairs.len() {
@@ -26,7 +27,7 @@ fn put_pair(pairs: &mut [u32], i: usize, entry: Entry)
 
 // A pair whose key is not below is one more. Gives how many there are then.
 fn list_pair(pairs: &mut [u32], exist: usize, entry: Entry, low: u32) -> usize
-    requires { ⌜ exist < 4294967296 ⌝ }
+    requires { ⌜ exist < fourBytes ⌝ }
     ensures count { λ r. ⌜ r ≡ exist + length (notBelow low entry) ⌝ }
     ensures buffer { λ _. ⌜ now (pairs .exit) ≡ putPairs (now (pairs .entry)) exist (notBelow low entry) ⌝ }
 {
@@ -83,7 +84,7 @@ fn written_of(exist: usize, numbers: usize) -> usize
 }
 
 fn narrow(x: usize) -> u32
-    requires { ⌜ x < 4294967296 ⌝ }
+    requires { ⌜ x < fourBytes ⌝ }
     ensures { λ r. ⌜ r ≡ x ⌝ }
 {
     x as u32

@@ -9,6 +9,7 @@ use mir.Syntax.{w8}
 use mir.Val.{Fits}
 use lib.Bits.{bitXor}
 use Rattle.geometry.specs.Tests.{pick}
+use Rattle.geometry.specs.Bounds.{fourBytes}
 use Rattle.model.specs.Bytes.{byteAt}
 use Rattle.model.specs.Codes.{_⊕_, xorBelow, numberE, numberG, freshCode}
 use Rattle.theory_codes.specs.Xor.{xor-is, none-right, none-left, below}
@@ -32,7 +33,7 @@ sealed rows all = 16777215 - (numberOf rows all + 2048 * restOf (numberOf rows a
 
 pub eight-is : (img : List ℕ) (at b₀ b₁ b₂ b₃ b₄ b₅ b₆ b₇ : ℕ) → b₀ ≡ byteAt img at → b₁ ≡ byteAt img (at + 1) → b₂ ≡ byteAt img (at + 2)
     → b₃ ≡ byteAt img (at + 3) → b₄ ≡ byteAt img (at + 4) → b₅ ≡ byteAt img (at + 5) → b₆ ≡ byteAt img (at + 6) → b₇ ≡ byteAt img (at + 7)
-    → b₀ + 256 * b₁ + 65536 * b₂ + 16777216 * b₃ + 4294967296 * b₄ + 1099511627776 * b₅ + 281474976710656 * b₆ + 72057594037927936 * b₇ ≡ wordAt img at 8
+    → b₀ + 256 * b₁ + 65536 * b₂ + 16777216 * b₃ + fourBytes * b₄ + 1099511627776 * b₅ + 281474976710656 * b₆ + 72057594037927936 * b₇ ≡ wordAt img at 8
 unfolding wordAt
 eight-is img at b₀ b₁ b₂ b₃ b₄ b₅ b₆ b₇ e₀ e₁ e₂ e₃ e₄ e₅ e₆ e₇ =
     let p₂ : at + 1 + 1 ≡ at + 2 = omega arith in
@@ -44,7 +45,7 @@ eight-is img at b₀ b₁ b₂ b₃ b₄ b₅ b₆ b₇ e₀ e₁ e₂ e₃ e₄
     rw (p₂, p₃, p₄, p₅, p₆, p₇, ← e₀, ← e₁, ← e₂, ← e₃, ← e₄, ← e₅, ← e₆, ← e₇) (sums b₀ b₁ b₂ b₃ b₄ b₅ b₆ b₇)
   where
     sums : (b₀ b₁ b₂ b₃ b₄ b₅ b₆ b₇ : ℕ)
-        → b₀ + 256 * b₁ + 65536 * b₂ + 16777216 * b₃ + 4294967296 * b₄ + 1099511627776 * b₅ + 281474976710656 * b₆ + 72057594037927936 * b₇
+        → b₀ + 256 * b₁ + 65536 * b₂ + 16777216 * b₃ + fourBytes * b₄ + 1099511627776 * b₅ + 281474976710656 * b₆ + 72057594037927936 * b₇
         ≡ b₀ + 256 * (b₁ + 256 * (b₂ + 256 * (b₃ + 256 * (b₄ + 256 * (b₅ + 256 * (b₆ + 256 * (b₇ + 256 * 0)))))))
     sums b₀ b₁ b₂ b₃ b₄ b₅ b₆ b₇ = omega arith
 
@@ -90,7 +91,7 @@ in-16-is = in-more 3
 pub in-32-is : (w r q : ℕ) → r ≡ pick (oddOnes (w / 65536 % 65536)) 16 0 → q ≡ inWord 16 (bitXor (w / 65536) w) → bitXor r q ≡ inWord 32 w
 in-32-is = in-more 4
 
-pub in-64-is : (w r q : ℕ) → r ≡ pick (oddOnes (w / 4294967296 % 4294967296)) 32 0 → q ≡ inWord 32 (bitXor (w / 4294967296) w) → bitXor r q ≡ inWord 64 w
+pub in-64-is : (w r q : ℕ) → r ≡ pick (oddOnes (w / fourBytes % fourBytes)) 32 0 → q ≡ inWord 32 (bitXor (w / fourBytes) w) → bitXor r q ≡ inWord 64 w
 in-64-is = in-more 5
 
 -- ---- E, G and the code

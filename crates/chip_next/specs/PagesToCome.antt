@@ -13,6 +13,7 @@ use native.Mathlib.Nat.{div-zero, div-le-self, mod-zero, mul-le-mul-left}
 use native.Mathlib.Numerals.{sub-one, add-one}
 use borrow.Author.Tests.{eq-eqb, ne-eqb, lt-ltb, le-ltb, le-leb, lt-leb}
 use Rattle.geometry.specs.Tests.{_&_, and-true, and-false}
+use Rattle.geometry.specs.Bounds.{fourBytes}
 use Rattle.model.specs.Count.{least}
 use Rattle.model.specs.Next.{mixed, firstIn, round, nextBlock, nextPage, after}
 use Rattle.live_beside.specs.Beside.{nextAfter, pageFrom}
@@ -44,7 +45,7 @@ module _ (er : ℕ → Bool) (ps : List ℕ) (q : ℕ) where
 pub quotient : (a b x y : ℕ) → x ≡ a → y ≡ b → x / y ≡ a / b
 quotient a b x y e f = rw (e, f)
 
-pub quotient-low : (x y : ℕ) → x < 4294967296 → x / y < 4294967296
+pub quotient-low : (x y : ℕ) → x < fourBytes → x / y < fourBytes
 quotient-low x y h = omega (arith, div-le-self x y, h)
 
 pub quotient-none : (a b y : ℕ) → y ≡ b → y ≡ 0 → 0 ≡ a / b

@@ -4,6 +4,7 @@ ghost use mathlib.Core.Path.{_≡_};
 ghost use Prim.Native.Nat.{suc, _+_, _/_, _%_, _≤_, _<_, max, min};
 ghost use lib.Dec.{eqb};
 ghost use lib.ListN.{length};
+ghost use Rattle.geometry.specs.Bounds.{fourBytes};
 ghost use Rattle.model.specs.Bytes.{erased};
 ghost use Rattle.model.specs.Count.{least};
 ghost use Rattle.model.specs.Image.{pagesOf};
@@ -68,7 +69,7 @@ fn first_mixed(g: Geometry, img: &[u8], n: u16) -> u16
 
 // The block that holds a page.
 fn block_of(g: Geometry, page: u32) -> usize
-    ensures { λ r. ⌜ (r ≡ page / g .pages) × (r < 4294967296) ⌝ }
+    ensures { λ r. ⌜ (r ≡ page / g .pages) × (r < fourBytes) ⌝ }
 {
     let pages = geometry::wide(g.pages);
     if pages == 0 {
@@ -105,7 +106,7 @@ fn first_whole(g: Geometry, img: &[u8], taken: &[u32; 256], i: usize, from: usiz
 
 // The first block met whose first page is free, from the one after block `from` on, round past the end to the start.
 fn round_block(g: Geometry, img: &[u8], taken: &[u32; 256], i: usize, n: u16, from: usize) -> u16
-    requires { ⌜ (i ≤ 256) × (from < 4294967296) ⌝ }
+    requires { ⌜ (i ≤ 256) × (from < fourBytes) ⌝ }
     ensures { λ r. ⌜ r ≡ wholeAfter (g .pages) n (free (erased g (now (img .entry))) (now (taken .entry)) i) from ⌝ }
 {
     let after = from + 1;

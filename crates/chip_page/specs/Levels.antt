@@ -12,6 +12,7 @@ use Rattle.geometry.specs.declared.Geometry.{Geometry}
 use Rattle.geometry.specs.declared.Entry.{Entry}
 use Rattle.geometry.specs.Geometry.{pageBytes}
 use Rattle.geometry.specs.Tests.{pick}
+use Rattle.geometry.specs.Bounds.{longestPage}
 use Rattle.model.specs.Page.{putLevel, putLevels, sealed, built, only}
 use Rattle.chip_page.specs.Page.{blanks, laidLevel, laid, bare}
 use Rattle.chip_page.specs.Building.{length-level, page-cut}
@@ -77,10 +78,10 @@ levels-same g parts n b d e = rw e (length-levels g parts n b)
 pub close-is : (g : Geometry) (b c d : List ℕ) (from n seq h : ℕ) → d ≡ sealed g c seq h → c ≡ bare g from n b → d ≡ sealed g (bare g from n b) seq h
 close-is g b c d from n seq h ed ec = ed ∙ rw ec
 
-pub only-is : (g : Geometry) (a b c : List ℕ) (seq h : ℕ) (parts : ℕ → List Entry) → c ≡ sealed g b seq h → b ≡ putLevels g parts (g .top) a → a ≡ blanks 2112 → pageBytes g ≤ 2112
+pub only-is : (g : Geometry) (a b c : List ℕ) (seq h : ℕ) (parts : ℕ → List Entry) → c ≡ sealed g b seq h → b ≡ putLevels g parts (g .top) a → a ≡ blanks longestPage → pageBytes g ≤ longestPage
     → take (pageBytes g) c ≡ built g seq h parts
 unfolding blanks
-only-is g a b c seq h parts ec eb ea le = rw (ec, eb, ea) (page-cut g 2112 seq h parts le)
+only-is g a b c seq h parts ec eb ea le = rw (ec, eb, ea) (page-cut g longestPage seq h parts le)
 
 -- ---- levels laid from below
 pub laid-none : (g : Geometry) (parts : ℕ → List Entry) (b : List ℕ) → b ≡ laid g parts 0 b
@@ -139,9 +140,9 @@ rest-is g parts from b e = go (leb from (g .top)) refl
         rw (q, r)
 
 -- a page laid level by level, closed, stands in the buffer's first bytes
-pub page-is : (g : Geometry) (parts : ℕ → List Entry) (from seq h : ℕ) (b c : List ℕ) → c ≡ sealed g (bare g from (g .top - from) (laid g parts from b)) seq h → b ≡ blanks 2112 → pageBytes g ≤ 2112
+pub page-is : (g : Geometry) (parts : ℕ → List Entry) (from seq h : ℕ) (b c : List ℕ) → c ≡ sealed g (bare g from (g .top - from) (laid g parts from b)) seq h → b ≡ blanks longestPage → pageBytes g ≤ longestPage
     → ((j : ℕ) → from < j → parts j ≡ []) → take (pageBytes g) c ≡ built g seq h parts
 unfolding blanks
-page-is g parts from seq h b c ec eb le e = rw (ec, rest-is g parts from b e, eb) (page-cut g 2112 seq h parts le)
+page-is g parts from seq h b c ec eb le e = rw (ec, rest-is g parts from b e, eb) (page-cut g longestPage seq h parts le)
 
 pub ruleset level-laws = (level-in, level-out, bare-start, bare-more, bare-done, bare-none, bare-same, only-start, only-here, only-there, only-done, levels-same, close-is, only-is)

@@ -1,9 +1,10 @@
 // A page as it is built, in a buffer of 2112 bytes whose first bytes are the page. A put outside the buffer changes nothing.
 ghost use mathlib.Core.Path.{_≡_};
 ghost use mathlib.Core.List.{[]};
-ghost use Prim.Native.Nat.{ℕ, _+_, _*_, _-_, _/_, _%_, _≤_, _<_};
-ghost use lib.ListN.{length, take, set};
+ghost use Prim.Native.Nat.{_+_, _*_, _-_, _/_, _%_, _≤_, _<_};
+ghost use lib.ListN.{take, set};
 ghost use Rattle.geometry.specs.Geometry.{pageBytes, halves};
+ghost use Rattle.geometry.specs.Bounds.{longestPage};
 ghost use Rattle.model.specs.Codes.{putCode};
 ghost use Rattle.model.specs.Page.{putU32, putEntry, putEntries, putLevel, putLevels, numbered, coded, sealed, built, only};
 ghost use Rattle.tree_node.specs.Node.{entries};
@@ -162,7 +163,7 @@ pub fn close(g: Geometry, buf: &mut [u8], from: u32, seq: u64, height: u32)
 }
 
 pub fn blank() -> [u8; 2112]
-    ensures { λ r. ⌜ r ≡ blanks 2112 ⌝ }
+    ensures { λ r. ⌜ r ≡ blanks longestPage ⌝ }
 {
     [255u8; 2112]
 }
@@ -186,7 +187,7 @@ fn lay_only(g: Geometry, buf: &mut [u8], level: u32, n: Node)
 
 // A page that holds one node alone.
 pub fn only_bytes(g: Geometry, seq: u64, height: u32, level: u32, n: Node) -> [u8; 2112]
-    requires { ⌜ (n .count ≤ 256) × (pageBytes g ≤ 2112) ⌝ }
+    requires { ⌜ (n .count ≤ 256) × (pageBytes g ≤ longestPage) ⌝ }
     ensures { λ r. ⌜ take (pageBytes g) r ≡ built g seq height (only level (entries n)) ⌝ }
 {
     let mut buf = blank();

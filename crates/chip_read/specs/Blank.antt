@@ -8,6 +8,7 @@ use lib.Dec.{eqb}
 use native.Mathlib.Omega.{arith}
 use borrow.Author.Tests.{eq-eqb, ne-eqb, eqb-true, eqb-false, not-true, not-false}
 use Rattle.geometry.specs.Tests.{_&_, and-true, and-false}
+use Rattle.geometry.specs.Bounds.{fourBytes}
 use Rattle.model.specs.Bytes.{byteAt, blank}
 
 and-last : (a : Bool) → (a & true) ≡ a
@@ -95,9 +96,9 @@ module _ (img : List ℕ) (at a b c d : ℕ) (ea : a ≡ byteAt img at) (eb : b 
       ∙ four-bytes
 
 pub eight-full : (img : List ℕ) (at a b x y : ℕ) → eqb a 4294967295 ≡ blank img at 4 → eqb b 4294967295 ≡ blank img (at + 4) 4 → x ≡ a → y ≡ b
-    → x < 4294967296 → y < 4294967296 → eqb (x + 4294967296 * y) 18446744073709551615 ≡ blank img at 8
+    → x < fourBytes → y < fourBytes → eqb (x + fourBytes * y) 18446744073709551615 ≡ blank img at 8
 eight-full img at a b x y ea eb ex ey hx hy =
-    both-tests (x + 4294967296 * y) 18446744073709551615 b 4294967295 a 4294967295
+    both-tests (x + fourBytes * y) 18446744073709551615 b 4294967295 a 4294967295
     (λ e. (omega arith, omega arith)) (λ e f. omega arith)
     ∙ rw (ea, eb) (sym (blank-parts img 4 4 at))
 

@@ -9,6 +9,7 @@ ghost use Rattle.model.specs.Codes.{codeAt};
 ghost use Rattle.model.specs.Image.{blockBytes, blocksOf, goodLength};
 ghost use Rattle.chip_read.specs.Chip.{entryAt, goodBlocks};
 ghost use Rattle.geometry.specs.Geometry.{pageBase};
+ghost use Rattle.geometry.specs.Bounds.{fourBytes};
 use geometry::Entry;
 use geometry::Geometry;
 
@@ -35,7 +36,7 @@ fn wide_at(img: &[u8], at: usize) -> u32
 }
 
 fn long(x: u32) -> u64
-    ensures { λ r. ⌜ (r ≡ x) × (r < 4294967296) ⌝ }
+    ensures { λ r. ⌜ (r ≡ x) × (r < fourBytes) ⌝ }
 {
     x as u64
 }

@@ -2,10 +2,11 @@
 use mathlib.Core.Path.{_≡_}
 use mathlib.Core.Bool.{true}
 use mathlib.Core.List.{List}
-use Prim.Native.Nat.{ℕ, _+_, _-_, _≤_}
+use Prim.Native.Nat.{ℕ, _+_, _-_, _<_, _≤_}
 use lib.Dec.{ltb}
 use lib.ListN.{length}
 use Rattle.geometry.specs.declared.Geometry.{Geometry}
+use Rattle.geometry.specs.Bounds.{fourBytes}
 use Rattle.geometry.specs.Tests.{pick}
 use Rattle.model.specs.Stores.{Store, applyAll, programs, erases}
 use Rattle.chip_store.specs.declared.Budget.{Budget}
@@ -14,6 +15,10 @@ use Rattle.chip_store.specs.Careful.{madeOf}
 -- the budget once a store is asked for that is not made: nothing more is made then
 abbrev pub halt : Budget → Budget
 halt b = record { left = 0; programmed = b .programmed; erased = b .erased; stopped = true }
+
+-- what is left to make and what was made are together a number of four bytes, so that no count overflows
+abbrev pub Countable : Budget → Type 0
+Countable b = b .left + b .programmed + b .erased < fourBytes
 
 -- What a call that has the stores ss to make leaves of the budget b and the image i: the image after the first stores, as many as b allows and as
 -- program erased pages only, the counts of those, and whether one more was asked for.

@@ -6,7 +6,7 @@ ghost use lib.ListN.{length, set, take};
 ghost use Rattle.geometry.specs.Geometry.{pageBytes, pageBase};
 ghost use Rattle.model.specs.Bytes.{byteAt};
 ghost use Rattle.model.specs.Stores.{Store, written, applyStore};
-ghost use Rattle.chip_store.specs.Run.{Ran, halt};
+ghost use Rattle.chip_store.specs.Run.{Ran, halt, Countable};
 use geometry::Geometry;
 
 fn byte_of(bytes: &[u8], at: usize) -> u8
@@ -161,7 +161,7 @@ fn halted(b: Budget) -> Budget
 
 // Programs a page with the first bytes of a buffer, if the allowance has a store left and the page is erased.
 pub fn put_page(g: Geometry, img: &mut [u8], b: Budget, page: u32, bytes: &[u8]) -> Budget
-    requires { ⌜ b .left + b .programmed + b .erased < 4294967296 ⌝ }
+    requires { ⌜ Countable b ⌝ }
     ensures { λ r. ⌜ Ran g (Store.program page (take (pageBytes g) (now (bytes .entry))) ∷ []) b r (now (img .entry)) (now (img .exit)) ⌝ }
 {
     if b.left == 0 {
@@ -182,7 +182,7 @@ pub fn put_page(g: Geometry, img: &mut [u8], b: Budget, page: u32, bytes: &[u8])
 
 // Erases a block, if the allowance has a store left.
 pub fn put_erase(g: Geometry, img: &mut [u8], b: Budget, block: u16) -> Budget
-    requires { ⌜ b .left + b .programmed + b .erased < 4294967296 ⌝ }
+    requires { ⌜ Countable b ⌝ }
     ensures { λ r. ⌜ Ran g (Store.erase block ∷ []) b r (now (img .entry)) (now (img .exit)) ⌝ }
 {
     if b.left == 0 {

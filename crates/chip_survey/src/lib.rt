@@ -1,6 +1,6 @@
 // One pass over the pages of an image: the root, the largest number, the erased pages. And R4.
 ghost use mathlib.Core.Path.{_≡_};
-ghost use Prim.Native.Nat.{ℕ, _+_, _*_, _-_, _≤_, _<_, max, min};
+ghost use Prim.Native.Nat.{_+_, _-_, _≤_, _<_, max, min};
 ghost use mathlib.Core.Bool.{false};
 ghost use lib.Dec.{ltb};
 ghost use Rattle.geometry.specs.Tests.{pick};

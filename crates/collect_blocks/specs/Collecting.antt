@@ -13,6 +13,7 @@ use native.Mathlib.Nat.{min-le-left, mul-le-mul-left}
 use native.Mathlib.Numerals.{add-one, sub-one}
 use borrow.Author.Tests.{not-true, not-false, eq-eqb, ne-eqb, lt-ltb, le-ltb}
 use Rattle.geometry.specs.declared.Geometry.{Geometry}
+use Rattle.geometry.specs.Bounds.{fourBytes}
 use Rattle.model.specs.Bytes.{erased, nodeAt}
 use Rattle.model.specs.Image.{pagesOf}
 use Rattle.model.specs.Stores.{erase, applyStore}
@@ -159,10 +160,10 @@ unfolding besideIn
 begins g n x y o ex ey = record { beside = λ t z. record { root = o .root; most = ey z; level = levelBy g o; next = ex z; table = t } }
 
 -- room to count the moves of a block
-pub most-room : (p y : ℕ) → y < 4294967296 → Fits w16 p → y + p < 8589934592
+pub most-room : (p y : ℕ) → y < fourBytes → Fits w16 p → y + p < 8589934592
 most-room p y h f = omega (arith, h, f .fits)
 
-pub next-room : (g : Geometry) (n x y : ℕ) → x ≡ min (pagesOf g n) y → Fits w16 (g .pages) → Fits w16 n → x + g .pages < 4294967296
+pub next-room : (g : Geometry) (n x y : ℕ) → x ≡ min (pagesOf g n) y → Fits w16 (g .pages) → Fits w16 n → x + g .pages < fourBytes
 next-room g n x y e f h =
     let a : g .pages ≤ 65535 = omega (arith, f .fits) in
     let b : n ≤ 65535 = omega (arith, h .fits) in

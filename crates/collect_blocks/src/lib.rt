@@ -7,6 +7,8 @@ ghost use mathlib.Core.Option.{some};
 ghost use Prim.Native.Nat.{_+_, _≤_, _<_, max};
 ghost use lib.ListN.{getD};
 ghost use Rattle.geometry.specs.Geometry.{pageBytes};
+ghost use Rattle.geometry.specs.Bounds.{fourBytes, longestPage};
+ghost use Rattle.chip_store.specs.Run.{Countable};
 ghost use Rattle.live_beside.specs.Table.{tableIn};
 ghost use Rattle.live_beside.specs.Beside.{holding};
 ghost use Rattle.live_beside.specs.Collect.{moveBy, pageBy, sweepBy, clearBy, victimBy};
@@ -94,7 +96,7 @@ fn move_live(
     low: u32,
     h: Kept,
 ) -> Carried
-    requires { ⌜ (level < 255) × (low < 256) × (pageBytes g ≤ 2112) × (h .most < 8589934592) × (h .next < 4294967295) × (b .left + b .programmed + b .erased < 4294967296) × (b .stopped ≡ false) ⌝ }
+    requires { ⌜ (level < 255) × (low < 256) × (pageBytes g ≤ longestPage) × (h .most < 8589934592) × (h .next < 4294967295) × (Countable b) × (b .stopped ≡ false) ⌝ }
     requires { ⌜ low ≡ getD (now table) page 0 ⌝ }
     ensures { λ r. ⌜ Sweeps g n level (moveBy g n page (besideIn h level (tableIn (now (table .entry)) (now (words .entry)))) (now (img .entry))) b (r .budget) (now (img .entry)) (now (img .exit)) (r .kept) (now (table .entry)) (now (table .exit)) (now (words .entry)) (now (words .exit)) ⌝ }
     ensures { λ r. ⌜ (r .kept .most ≤ h .most + 1) × (r .kept .next ≤ max (h .next + 1) 4294836225) ⌝ }
@@ -120,7 +122,7 @@ fn sweep_page(
     page: u32,
     h: Kept,
 ) -> Carried
-    requires { ⌜ (level < 255) × (pageBytes g ≤ 2112) × (h .most < 8589934592) × (h .next < 4294967295) × (b .left + b .programmed + b .erased < 4294967296) × (b .stopped ≡ false) ⌝ }
+    requires { ⌜ (level < 255) × (pageBytes g ≤ longestPage) × (h .most < 8589934592) × (h .next < 4294967295) × (Countable b) × (b .stopped ≡ false) ⌝ }
     ensures { λ r. ⌜ Sweeps g n level (pageBy g n page (besideIn h level (tableIn (now (table .entry)) (now (words .entry)))) (now (img .entry))) b (r .budget) (now (img .entry)) (now (img .exit)) (r .kept) (now (table .entry)) (now (table .exit)) (now (words .entry)) (now (words .exit)) ⌝ }
     ensures { λ r. ⌜ (r .kept .most ≤ h .most + 1) × (r .kept .next ≤ max (h .next + 1) 4294836225) ⌝ }
 {
@@ -155,7 +157,7 @@ fn sweep(
     left: u16,
     h: Kept,
 ) -> Carried
-    requires { ⌜ (left ≤ g .pages) × (level < 255) × (pageBytes g ≤ 2112) × (h .most + left < 8589934592) × (h .next + left < 4294967296) × (b .left + b .programmed + b .erased < 4294967296) × (b .stopped ≡ false) ⌝ }
+    requires { ⌜ (left ≤ g .pages) × (level < 255) × (pageBytes g ≤ longestPage) × (h .most + left < 8589934592) × (h .next + left < fourBytes) × (Countable b) × (b .stopped ≡ false) ⌝ }
     ensures { λ r. ⌜ Sweeps g n level (sweepBy g n v left (besideIn h level (tableIn (now (table .entry)) (now (words .entry)))) (now (img .entry))) b (r .budget) (now (img .entry)) (now (img .exit)) (r .kept) (now (table .entry)) (now (table .exit)) (now (words .entry)) (now (words .exit)) ⌝ }
 {
     if left == 0 {
@@ -183,7 +185,7 @@ fn sweep(
 }
 
 fn long(x: u32) -> u64
-    ensures { λ r. ⌜ (r ≡ x) × (r < 4294967296) ⌝ }
+    ensures { λ r. ⌜ (r ≡ x) × (r < fourBytes) ⌝ }
 {
     x as u64
 }
@@ -191,7 +193,7 @@ fn long(x: u32) -> u64
 // What is kept at the start of a sweep, by the record.
 fn begin(g: Geometry, n: u16, o: Opened) -> Kept
     ensures { λ r. ⌜ Begins g n o r ⌝ }
-    ensures { λ r. ⌜ (r .most + g .pages < 8589934592) × (r .next + g .pages < 4294967296) ⌝ }
+    ensures { λ r. ⌜ (r .most + g .pages < 8589934592) × (r .next + g .pages < fourBytes) ⌝ }
 {
     let next = chip_next::next_by(g, n, o.next);
     let most = long(o.most);
@@ -204,7 +206,7 @@ fn begin(g: Geometry, n: u16, o: Opened) -> Kept
 
 // Erases block v, and the record then; o the record before the sweep, k what it kept.
 fn wipe(g: Geometry, img: &mut [u8], n: u16, b: Budget, v: u16, o: Opened, k: Kept) -> Swept
-    requires { ⌜ (o .erased < 4294901760) × (o .height < 256) × (b .left + b .programmed + b .erased < 4294967296) ⌝ }
+    requires { ⌜ (o .erased < 4294901760) × (o .height < 256) × (Countable b) ⌝ }
     ensures { λ r. ⌜ Wipes g n v o k b r (now (img .entry)) (now (img .exit)) ⌝ }
 {
     let r = chip_store::put_erase(g, &mut *img, b, v);
@@ -226,7 +228,7 @@ fn clear_block(
     v: u16,
     o: Opened,
 ) -> Swept
-    requires { ⌜ (o .erased < 4294901760) × (o .height < 256) × (pageBytes g ≤ 2112) × (b .left + b .programmed + b .erased < 4294967296) × (b .stopped ≡ false) ⌝ }
+    requires { ⌜ (o .erased < 4294901760) × (o .height < 256) × (pageBytes g ≤ longestPage) × (Countable b) × (b .stopped ≡ false) ⌝ }
     ensures { λ r. ⌜ Clears g n (clearBy g n (some v) (holding o (tableIn (now (table .entry)) (now (words .entry)))) (now (img .entry))) b r (now (img .entry)) (now (img .exit)) (now (table .entry)) (now (table .exit)) (now (words .entry)) (now (words .exit)) ⌝ }
 {
     let h = begin(g, n, o);
@@ -264,7 +266,7 @@ fn clear(
     b: Budget,
     o: Opened,
 ) -> Swept
-    requires { ⌜ (o .erased < 4294901760) × (o .height < 256) × (pageBytes g ≤ 2112) × (b .left + b .programmed + b .erased < 4294967296) × (b .stopped ≡ false) ⌝ }
+    requires { ⌜ (o .erased < 4294901760) × (o .height < 256) × (pageBytes g ≤ longestPage) × (Countable b) × (b .stopped ≡ false) ⌝ }
     ensures { λ r. ⌜ Clears g n (clearBy g n (victimBy g n (tableIn (now (table .entry)) (now (words .entry))) (now (img .entry))) (holding o (tableIn (now (table .entry)) (now (words .entry)))) (now (img .entry))) b r (now (img .entry)) (now (img .exit)) (now (table .entry)) (now (table .exit)) (now (words .entry)) (now (words .exit)) ⌝ }
 {
     let v = collect_victim::find_victim(g, &*img, &*words, n);
@@ -298,7 +300,7 @@ pub fn collect(
     m: u32,
     o: Opened,
 ) -> Swept
-    requires { ⌜ (o .height < 256) × (k < 65536) × (pageBytes g ≤ 2112) × (b .left + b .programmed + b .erased < 4294967296) × (b .stopped ≡ false) ⌝ }
+    requires { ⌜ (o .height < 256) × (k < 65536) × (pageBytes g ≤ longestPage) × (Countable b) × (b .stopped ≡ false) ⌝ }
     ensures { λ r. ⌜ Collects g n k m b r o (now (img .entry)) (now (img .exit)) (now (table .entry)) (now (table .exit)) (now (words .entry)) (now (words .exit)) ⌝ }
 {
     if m == 0 {

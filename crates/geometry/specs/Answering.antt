@@ -15,12 +15,13 @@ use Rattle.geometry.specs.Table.{at, every}
 use Rattle.geometry.specs.declared.Geometry.{Geometry}
 use Rattle.geometry.specs.declared.Chosen.the-variants.{Of, Unknown}
 use Rattle.geometry.specs.Geometry.{small, large, chosenOf, slots, pageBytes, pageBase, smallFirst, smallSlots, largeFirst, largeSlots, plainSlots, byTable, firstSlot, slotsOf, half, rootSlots, rootMost, inTable}
+use Rattle.geometry.specs.Bounds.{fourBytes}
 
-pub base-below : (p b : ℕ) → p < 4294967296 → b < 131072 → p * b < 562949953421312
+pub base-below : (p b : ℕ) → p < fourBytes → b < 131072 → p * b < 562949953421312
 base-below p b hp hb = lt-of-le-of-lt (mul-le-mul-left p (le-of-lt hb)) (omega arith)
 
 -- the product as the code's multiplication asks for it
-pub base-fits : (r s : ℕ) → r < 4294967296 → s < 131072 → Fits w64 (r * s)
+pub base-fits : (r s : ℕ) → r < fourBytes → s < 131072 → Fits w64 (r * s)
 base-fits r s hr hs = record { fits = omega (arith, base-below r s hr hs) }
 
 pub base-is : (g : Geometry) (p r s : ℕ) → r ≡ p → s ≡ pageBytes g → r * s ≡ pageBase g p

@@ -15,6 +15,7 @@ use Rattle.geometry.specs.declared.Geometry.{Geometry}
 use Rattle.geometry.specs.declared.Chosen.{Chosen}
 use Rattle.geometry.specs.declared.Chosen.the-variants.{Of, Unknown}
 use Rattle.geometry.specs.Geometry.{small, large, plain, chosenOf, slots, pageBytes, halves, codePlace, pageBase, smallFirst, smallSlots, largeFirst, largeSlots, plainSlots, firstSlot, slotsOf, half, rootSlots, rootMost}
+use Rattle.geometry.specs.Bounds.{longestPage}
 
 -- "The first slot of level l is 64 − 64/2^(l−1)", with 256 for 64 on the large chip, over each table once
 rule : ℕ → ℕ → ℕ → Bool
@@ -309,7 +310,7 @@ halved g s = ne-eqb (g .table) 2 (λ e.
     omega (arith, c, r, z, d, w))
 
 -- the page of the large chip is the longest
-pub page-most : (g : Geometry) → Known g → pageBytes g ≤ 2112
+pub page-most : (g : Geometry) → Known g → pageBytes g ≤ longestPage
 page-most _ is-small = lit≤ tt
 page-most _ is-large = lit≤ tt
 

@@ -7,6 +7,7 @@ use Rattle.geometry.specs.declared.Chosen.{Chosen}
 use Rattle.geometry.specs.declared.Chosen.the-variants.{Of, Unknown}
 use Rattle.geometry.specs.Geometry.{chosenOf, pageBytes}
 use Rattle.geometry.specs.Shape.{Known, shape, page-most, chosen-known}
+use Rattle.geometry.specs.Bounds.{longestPage}
 use Rattle.model.specs.Calls.{Outcome, refused, chosenCall, format, lookup, patrol, formatOf, lookupOf, patrolOf}
 use Rattle.model.specs.Listing.{listsNone, listing, listOf, asOutcome}
 use Rattle.call_answers.specs.declared.Answer.the-variants.{Length}
@@ -22,7 +23,7 @@ module _ (kind : ℕ) (c : Chosen) (ec : c ≡ chosenOf kind) (g : Geometry) (e 
   pub of-pages : g .pages ≤ 64
   of-pages = shape g of-known .pages-high
 
-  pub of-page : pageBytes g ≤ 2112
+  pub of-page : pageBytes g ≤ longestPage
   of-page = page-most g of-known
 
   -- a call of any kind

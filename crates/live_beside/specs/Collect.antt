@@ -6,6 +6,7 @@ use mathlib.Core.Option.{Option, none, some}
 use lib.Dec.{eqb, ltb}
 use Rattle.geometry.specs.declared.Geometry.{Geometry}
 use Rattle.geometry.specs.Tests.{pick, _&_}
+use Rattle.geometry.specs.Bounds.{fourBytes}
 use Rattle.model.specs.Bytes.{erased}
 use Rattle.model.specs.Image.{pagesOf}
 use Rattle.model.specs.Next.{full, round}
@@ -61,8 +62,8 @@ nextErased p n er root x = pick (eqb (x % p) 0) (p * round n (root / p) (λ b. e
 unfoldable pub recordErased : Geometry → ℕ → Opened → Beside → List ℕ → Opened
 recordErased g n o h then = pick (eqb (h .most) (o .most) & not (eqb (o .number) (o .most))) (openedIn g n then) (record {
   root = h .root;
-  number = h .most % 4294967296;
-  most = h .most % 4294967296;
+  number = h .most % fourBytes;
+  most = h .most % fourBytes;
   height = o .height;
   next = min (pagesOf g n) (nextErased (g .pages) n (erased g then) (h .root) (h .next));
   erased = o .erased - (h .most - o .most) + g .pages;

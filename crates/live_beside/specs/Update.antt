@@ -7,6 +7,7 @@ use lib.Dec.{leb, ltb}
 use lib.ListN.{length, take}
 use Rattle.geometry.specs.declared.Geometry.{Geometry}
 use Rattle.geometry.specs.Tests.{pick, _&_}
+use Rattle.geometry.specs.Bounds.{fourBytes}
 use Rattle.model.specs.Bytes.{erased}
 use Rattle.model.specs.Image.{Chip, pagesOf}
 use Rattle.model.specs.Tree.{sought, Place, placesOf, live}
@@ -52,8 +53,8 @@ pub record Crest : Type 0 where
 unfoldable pub recordMade : Geometry → ℕ → Opened → ℕ → Crest → List ℕ → Opened
 recordMade g n o m t then = record {
   root = t .page;
-  number = (o .most + m) % 4294967296;
-  most = (o .most + m) % 4294967296;
+  number = (o .most + m) % fourBytes;
+  most = (o .most + m) % fourBytes;
   height = suc (t .level);
   next = min (pagesOf g n) (nextAfter (g .pages) n (erased g then) (t .page));
   erased = o .erased - m;

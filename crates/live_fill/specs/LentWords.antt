@@ -16,6 +16,7 @@ use native.Mathlib.Nat.{pow-suc, lt-of-lt-of-le, lt-of-le-of-lt, le-of-lt, mul-l
 use native.Mathlib.Numerals.{sub-one}
 use Rattle.geometry.specs.declared.Geometry.{Geometry}
 use Rattle.geometry.specs.Tests.{bit}
+use Rattle.geometry.specs.Bounds.{fourBytes}
 use Rattle.model.specs.Image.{pagesOf}
 use Rattle.theory_counts.specs.Tally.{bit-most}
 use Rattle.theory_lists.specs.Written.{written-none, filled-more}
@@ -41,7 +42,7 @@ pub ones-past : (words : List ℕ) (at : ℕ) → length words ≤ at → 0 ≡ 
 unfolding ones
 ones-past words at h = rw (List·getD-eq-default words 0 h)
 
-pub ones-few : (x : ℕ) → x < 4294967296 → ones x ≤ 32
+pub ones-few : (x : ℕ) → x < fourBytes → ones x ≤ 32
 ones-few x h = ones-le 32 x h
 
 pub ones-start : (words : List ℕ) (at q : ℕ) → Counted words at q 0 0

@@ -6,6 +6,7 @@ ghost use lib.Count.{ones};
 ghost use lib.Dec.{eqb};
 ghost use lib.ListN.{length, getD, set};
 ghost use Rattle.geometry.specs.Tests.{bit};
+ghost use Rattle.geometry.specs.Bounds.{fourBytes};
 ghost use Rattle.model.specs.Image.{pagesOf};
 ghost use Rattle.live_words.specs.Words.{wordOf, word, blockWords, wordsOf, filled, onesFrom, blockOnes, allOnes, Past};
 ghost use Rattle.live_walk.specs.Table.{liveIn};
@@ -114,7 +115,7 @@ fn inner_word(table: &[u8], at: usize) -> u32
 
 // The word of the 32 pages from `at` on; a page outside the table is dead.
 fn edge_word(table: &[u8], at: usize) -> u32
-    requires { ⌜ at < 4294967296 ⌝ }
+    requires { ⌜ at < fourBytes ⌝ }
     ensures { λ r. ⌜ r ≡ wordOf (liveIn (now (table .entry))) 32 at ⌝ }
 {
     let mut w: u32 = 0;

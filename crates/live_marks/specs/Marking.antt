@@ -9,6 +9,7 @@ use native.Mathlib.Omega.{arith}
 use native.Mathlib.Numerals.{sub-one, add-one}
 use Rattle.geometry.specs.declared.Geometry.{Geometry}
 use Rattle.geometry.specs.declared.Entry.{Entry}
+use Rattle.geometry.specs.Bounds.{fourBytes}
 use Rattle.model.specs.Bytes.{nodeAt}
 use Rattle.model.specs.Image.{Nodes}
 use Rattle.model.specs.Tree.{chosen}
@@ -45,7 +46,7 @@ mark-out m p a i q x y u ey ei eq h =
 pub mark-past : (m w n : ℕ) (u v : List ℕ) → v ≡ set u w n → w < m → Past m u v
 mark-past m w n u v e h = rw e (past-set m u w n h)
 
-pub word-low : (w : ℕ) → w < 4294967296 → w / 32 < 134217728
+pub word-low : (w : ℕ) → w < fourBytes → w / 32 < 134217728
 word-low w h = omega arith
 
 pub unmark-in : (m p a n : ℕ) (x y u v : List ℕ) → n ≡ getD x p 0 → n ≡ a → tableIn y v ≡ mark m p 0 (tableIn x u)

@@ -11,6 +11,7 @@ use native.Mathlib.Omega.{arith}
 use native.Mathlib.Nat.{mod-eq-of-lt, one-mul}
 use borrow.Author.Tests.{lt-ltb, le-ltb}
 use Rattle.geometry.specs.declared.Geometry.{Geometry}
+use Rattle.geometry.specs.Bounds.{fourBytes}
 use Rattle.model.specs.Bytes.{u32At, nodePlace, nodeAt}
 use Rattle.model.specs.Tree.{Place, places, placesOf, live}
 use Rattle.theory_counts.specs.Least.{by-lt}
@@ -23,7 +24,7 @@ use Rattle.live_tell.specs.Counts.{Counted, count-laws}
 use Rattle.live_tell.specs.Telling.{markOne, markAll, nowhere, marked-live}
 
 -- ---- one bit
-pub one-bit : (j : ℕ) → j < 32 → 1 * 2 ^ j % 4294967296 ≡ 2 ^ j
+pub one-bit : (j : ℕ) → j < 32 → 1 * 2 ^ j % fourBytes ≡ 2 ^ j
 one-bit j h = rw one-mul (mod-eq-of-lt (pow-lt h))
 
 pub bit-set : (w j r : ℕ) → r ≡ 2 ^ j → bitOr w r ≡ bitOr w (2 ^ j)

@@ -2,7 +2,6 @@
 ghost use mathlib.Core.Path.{_≡_};
 ghost use Prim.Native.Nat.{_-_, _≤_};
 ghost use lib.ListN.{length};
-ghost use Rattle.log_machine.specs.Run.{Steady};
 ghost use Rattle.log_feed.specs.Left.{left};
 ghost use Rattle.log_day.specs.Emptied.{emptied, Ready};
 use libc::STDIN_FILENO;

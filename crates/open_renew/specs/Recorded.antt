@@ -11,6 +11,7 @@ use native.Mathlib.Numerals.{add-one}
 use borrow.Author.Tests.{eq-eqb, ne-eqb, eqb-true, lt-ltb, le-ltb}
 use Rattle.geometry.specs.declared.Geometry.{Geometry}
 use Rattle.geometry.specs.Tests.{and-true, and-false, and-none, and-right}
+use Rattle.geometry.specs.Bounds.{fourBytes}
 use Rattle.model.specs.Bytes.{byteAt, erased, seqAt, heightAt}
 use Rattle.model.specs.Image.{pagesOf, seqOf, heightOf, rootOf}
 use Rattle.model.specs.Next.{nextPage}
@@ -56,7 +57,7 @@ height-low g n img s r er es h =
 
 -- ---- after an erase
 pub record-on : (g : Geometry) (n root most next a b c d : ℕ) (o : Opened) (img : List ℕ) → a ≡ o .erased - (most - o .most) + g .pages
-    → c ≡ min (pagesOf g n) b → b ≡ nextErased (g .pages) n (erased g img) root next → d ≡ most % 4294967296
+    → c ≡ min (pagesOf g n) b → b ≡ nextErased (g .pages) n (erased g img) root next → d ≡ most % fourBytes
     → record { root = root; number = d; most = d; height = o .height; next = c; erased = a } ≡ onwardSwept g n o root most next img
 unfolding onwardSwept
 record-on g n root most next a b c d o img ea ec eb ed = λ i. record {
@@ -92,7 +93,7 @@ unfolding recordSwept recordErased
 swept-is g n o h then = refl
 
 -- ---- after own pages
-pub made-is : (g : Geometry) (n m page level a b c d s u v : ℕ) (o : Opened) (img : List ℕ) → a ≡ (u + v) % 4294967296 → u ≡ o .most → v ≡ m
+pub made-is : (g : Geometry) (n m page level a b c d s u v : ℕ) (o : Opened) (img : List ℕ) → a ≡ (u + v) % fourBytes → u ≡ o .most → v ≡ m
     → c ≡ min (pagesOf g n) b → b ≡ nextAfter (g .pages) n (erased g img) page → d ≡ o .erased - s → s ≡ m
     → record { root = page; number = a; most = a; height = level + 1; next = c; erased = d } ≡ recordAt g n o m page level img
 unfolding recordAt recordMade
@@ -105,7 +106,7 @@ made-is g n m page level a b c d s u v o img ea eu ev ec eb ed es = λ i. record
   erased = (ed ∙ ap (λ (y : ℕ). o .erased - y) es) i;
 }
   where
-    number : a ≡ (o .most + m) % 4294967296
+    number : a ≡ (o .most + m) % fourBytes
     number = ea ∙ rw (eu, ev)
 
 pub made-at : (g : Geometry) (n : ℕ) (o : Opened) (m : ℕ) (t : Crest) (then : List ℕ) → recordAt g n o m (t .page) (t .level) then ≡ recordMade g n o m t then

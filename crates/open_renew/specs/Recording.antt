@@ -2,6 +2,7 @@
 use Prim.Native.Nat.{ℕ, _-_, _+_, _%_, min}
 use mathlib.Core.List.{List, []}
 use Rattle.geometry.specs.declared.Geometry.{Geometry}
+use Rattle.geometry.specs.Bounds.{fourBytes}
 use Rattle.model.specs.Bytes.{erased}
 use Rattle.model.specs.Image.{pagesOf}
 use Rattle.open_record.specs.declared.Opened.{Opened}
@@ -21,8 +22,8 @@ recordSwept g n o root most next then = recordErased g n o (sweptAt root most ne
 unfoldable pub onwardSwept : Geometry → ℕ → Opened → ℕ → ℕ → ℕ → List ℕ → Opened
 onwardSwept g n o root most next then = record {
   root = root;
-  number = most % 4294967296;
-  most = most % 4294967296;
+  number = most % fourBytes;
+  most = most % fourBytes;
   height = o .height;
   next = min (pagesOf g n) (nextErased (g .pages) n (erased g then) root next);
   erased = o .erased - (most - o .most) + g .pages;

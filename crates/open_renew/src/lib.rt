@@ -1,6 +1,7 @@
 // The record of request 8: taken from a survey, carried on by an update, and when it is STALE.
 ghost use mathlib.Core.Path.{_≡_};
 ghost use Prim.Native.Nat.{_+_, _-_, _%_, _≤_, _<_};
+ghost use Rattle.geometry.specs.Bounds.{fourBytes};
 ghost use Rattle.model.specs.Image.{seqOf};
 ghost use Rattle.chip_survey.specs.Survey.{surveyOf};
 ghost use Rattle.open_record.specs.Opened.{openedIn, standing};
@@ -45,13 +46,13 @@ pub fn record_anew(g: Geometry, img: &[u8], n: u16) -> Opened
 }
 
 fn long(x: u32) -> u64
-    ensures { λ r. ⌜ (r ≡ x) × (r < 4294967296) ⌝ }
+    ensures { λ r. ⌜ (r ≡ x) × (r < fourBytes) ⌝ }
 {
     x as u64
 }
 
 fn short(x: u64) -> u32
-    ensures { λ r. ⌜ r ≡ x % 4294967296 ⌝ }
+    ensures { λ r. ⌜ r ≡ x % fourBytes ⌝ }
 {
     (x % 4294967296) as u32
 }

@@ -14,6 +14,7 @@ use Rattle.geometry.specs.declared.Verdict.the-variants.{Sound, Broken}
 use Rattle.geometry.specs.Geometry.{plain, pageBytes}
 use Rattle.geometry.specs.Shape.{plain-core}
 use Rattle.geometry.specs.Tests.{pick, bit, _&_, and-true, and-false}
+use Rattle.geometry.specs.Bounds.{fourBytes, longestPage}
 use Rattle.model.specs.Bytes.{byteAt, nodeAt, erased}
 use Rattle.model.specs.Count.{count}
 use Rattle.model.specs.Image.{Chip, chipOf, pagesOf, maxSeq}
@@ -55,7 +56,7 @@ use Rattle.plain_calls.specs.Counts.{Cuts, Sheds}
 pub plain-block : (g : Geometry) → g ≡ plain → g .pages ≤ 64
 plain-block g e = rw e (omega arith)
 
-pub plain-page : (g : Geometry) → g ≡ plain → pageBytes g ≤ 2112
+pub plain-page : (g : Geometry) → g ≡ plain → pageBytes g ≤ longestPage
 plain-page g e = rw e (omega arith)
 
 pub plain-format : (g : Geometry) (r : Outcome) (img : List ℕ) → r ≡ format g img → g ≡ plain → r ≡ format plain img
@@ -262,8 +263,8 @@ module _ (img : List ℕ) (n : ℕ) (g : Geometry) (eg : g ≡ plain) (en : n �
           let l = ap (λ (y : Survey). y .level) (judgement .survey) in
           omega (arith, w, l)
 
-      module _ (few : n ≤ 1024) (k x : ℕ) (k-low : k < 4294967296) where
-        pub insert-sound : (a : ℕ) (w : Outcome) → a < 4294967296 → w ≡ plainInsertBy g n img k a x → w ≡ plainInsert plain img k a x
+      module _ (few : n ≤ 1024) (k x : ℕ) (k-low : k < fourBytes) where
+        pub insert-sound : (a : ℕ) (w : Outcome) → a < fourBytes → w ≡ plainInsertBy g n img k a x → w ≡ plainInsert plain img k a x
         unfolding plainInsert
         insert-sound a w a-low h = call-sound _ w (rw eg at h ∙ plain-insert-by n (omega arith) few img held k x k-low a a-low
             ∙ ap (λ m. plainInsertRest plain m img k a x) (some-blocks plain img n blocks some))

@@ -6,6 +6,7 @@ ghost use lib.Dec.{eqb, leb, ltb};
 ghost use lib.ListN.{length};
 ghost use Rattle.geometry.specs.Geometry.{plain, pageBytes};
 ghost use Rattle.geometry.specs.Tests.{pick, bit, _&_};
+ghost use Rattle.geometry.specs.Bounds.{longestPage};
 ghost use Rattle.model.specs.Image.{chipOf, maxSeq};
 ghost use Rattle.model.specs.Calls.{format, lookup};
 ghost use Rattle.model.specs.Plain.{plainInsert, plainDelete};
@@ -80,7 +81,7 @@ fn insert_made(
     addr: u32,
     allowance: u32,
 ) -> Answer
-    requires { ⌜ (s ≡ surveyOf g n (now img)) × (s .level ≤ 100) × (cuts ≤ 101) × (pageBytes g ≤ 2112) ⌝ }
+    requires { ⌜ (s ≡ surveyOf g n (now img)) × (s .level ≤ 100) × (cuts ≤ 101) × (pageBytes g ≤ longestPage) ⌝ }
     ensures { λ r.
         ⌜ told r (now (img .exit))
         ≡ madeWith g (insertStoresAt g (chipOf g n (now (img .entry))) key addr (pagesBy g n (now (img .entry))) (maxSeq g n (now (img .entry))) cuts)
@@ -102,7 +103,7 @@ fn insert_judged(
     addr: u32,
     allowance: u32,
 ) -> Answer
-    requires { ⌜ (s ≡ surveyOf g n (now img)) × (s .level ≤ 100) × (pageBytes g ≤ 2112) ⌝ }
+    requires { ⌜ (s ≡ surveyOf g n (now img)) × (s .level ≤ 100) × (pageBytes g ≤ longestPage) ⌝ }
     ensures { λ r. ⌜ told r (now (img .exit)) ≡ plainInsertBy g n (now (img .entry)) key addr allowance ⌝ }
 {
     if g.worn < s.most {
@@ -246,7 +247,7 @@ fn delete_made(
     key: u32,
     allowance: u32,
 ) -> Answer
-    requires { ⌜ (s ≡ surveyOf g n (now img)) × (s .level ≤ 100) × (pageBytes g ≤ 2112) ⌝ }
+    requires { ⌜ (s ≡ surveyOf g n (now img)) × (s .level ≤ 100) × (pageBytes g ≤ longestPage) ⌝ }
     ensures { λ r.
         ⌜ told r (now (img .exit))
         ≡ madeWith g (deleteStoresAt g (chipOf g n (now (img .entry))) key (pagesBy g n (now (img .entry))) (maxSeq g n (now (img .entry))) emptied)
@@ -260,7 +261,7 @@ fn delete_made(
 
 // The rest of a delete on a judged image of n blocks, by its survey.
 fn delete_judged(g: Geometry, img: &mut [u8], n: u16, s: Survey, key: u32, allowance: u32) -> Answer
-    requires { ⌜ (s ≡ surveyOf g n (now img)) × (s .level ≤ 100) × (pageBytes g ≤ 2112) ⌝ }
+    requires { ⌜ (s ≡ surveyOf g n (now img)) × (s .level ≤ 100) × (pageBytes g ≤ longestPage) ⌝ }
     ensures { λ r. ⌜ told r (now (img .exit)) ≡ plainDeleteBy g n (now (img .entry)) key allowance ⌝ }
 {
     if g.worn < s.most {

@@ -8,6 +8,7 @@ use Rattle.geometry.specs.declared.Geometry.{Geometry}
 use Rattle.geometry.specs.declared.Entry.{Entry}
 use Rattle.geometry.specs.Geometry.{half}
 use Rattle.geometry.specs.Tests.{pick}
+use Rattle.geometry.specs.Bounds.{fourBytes}
 use Rattle.model.specs.Bytes.{nodeAt}
 use Rattle.model.specs.Tree.{next}
 use Rattle.model.specs.Stores.{Store}
@@ -128,6 +129,6 @@ pub record Given (page : ℕ → ℕ) (seq v k m : ℕ) (w : Change) (j : Job) :
   pub key : j .key ≡ k
   pub change : j .change ≡ w
   pub number : j .seq ≡ seq
-  pub small : j .seq < 4294967296
+  pub small : j .seq < fourBytes
   pub levels : j .levels ≡ v
   pub pages : (i : ℕ) → i < m → pageAt j i ≡ page i

@@ -11,6 +11,7 @@ use borrow.Author.Tests.{le-leb, lt-leb, eq-eqb, ne-eqb}
 use Rattle.geometry.specs.declared.Geometry.{Geometry}
 use Rattle.geometry.specs.declared.Entry.{Entry}
 use Rattle.geometry.specs.Geometry.{half, pageBytes}
+use Rattle.geometry.specs.Bounds.{fourBytes}
 use Rattle.model.specs.Bytes.{erased, nodeAt}
 use Rattle.model.specs.Page.{built, only}
 use Rattle.model.specs.Tree.{next, chosen}
@@ -284,7 +285,7 @@ remove-fall g j l e b r c t i h o run cl ec eh q =
 
 -- ---- the job
 pub given : (g : Geometry) (n : ℕ) (i : List ℕ) (o : Opened) (v k m : ℕ) (w : Change) (ps : List ℕ) (x z c : ℕ) → Coming (g .pages) n (erased g i) x c ps
-    → x ≡ nextBy g n o → c ≡ m → z ≡ o .most → z < 4294967296
+    → x ≡ nextBy g n o → c ≡ m → z ≡ o .most → z < fourBytes
     → Given (pageBy g n i o) (o .most) v k m w (record { key = k; seq = z; pages = ps; levels = v; change = w })
 unfolding pageAt
 given g n i o v k m w ps x z c cm ex ec ez low = record {

@@ -4,10 +4,11 @@ ghost use mathlib.Core.Path.{_≡_};
 ghost use mathlib.Core.List.{[], _∷_};
 ghost use Prim.Native.Nat.{suc, _+_, _*_, _-_, _≤_, _<_};
 ghost use Rattle.geometry.specs.Geometry.{pageBytes};
+ghost use Rattle.geometry.specs.Bounds.{fourBytes, longestPage};
 ghost use Rattle.model.specs.Bytes.{nodeAt};
 ghost use Rattle.chip_read.specs.Chip.{chipWith};
 ghost use Rattle.tree_node.specs.Node.{entries, carried};
-ghost use Rattle.chip_store.specs.Run.{Ran};
+ghost use Rattle.chip_store.specs.Run.{Ran, Countable};
 ghost use Rattle.live_beside.specs.Beside.{pageBy};
 ghost use Rattle.plain_levels.specs.declared.Change.{Change};
 ghost use Rattle.plain_levels.specs.Levels.{leftPlace, rightPlace, insertStoresAt, deleteStoresAt};
@@ -105,7 +106,7 @@ fn store_node(
     level: u32,
     n: Node,
 ) -> Budget
-    requires { ⌜ (n .count ≤ 256) × (pageBytes g ≤ 2112) × (job .seq < 8589934592) × (b .left + b .programmed + b .erased < 4294967296) ⌝ }
+    requires { ⌜ (n .count ≤ 256) × (pageBytes g ≤ longestPage) × (job .seq < 8589934592) × (Countable b) ⌝ }
     ensures { λ r. ⌜ Ran g (aloneStore g job place height level (entries n) ∷ []) b r (now (img .entry)) (now (img .exit)) ⌝ }
 {
     let bytes = chip_page::only_bytes(g, number(job.seq, place), height, level, n);
@@ -149,7 +150,7 @@ fn halve(g: Geometry, job: Job, level: u32, low: u32, c: Node) -> Halves
 
 // Programs the halves of a node, the left one first.
 fn part(g: Geometry, img: &mut [u8], b: Budget, job: Job, level: u32, low: u32, c: Node) -> Climbed
-    requires { ⌜ (c .count ≤ 256) × (1 ≤ level) × (level ≤ 102) × (pageBytes g ≤ 2112) × (job .seq < 8589934592) × (b .left + b .programmed + b .erased < 4294967296) ⌝ }
+    requires { ⌜ (c .count ≤ 256) × (1 ≤ level) × (level ≤ 102) × (pageBytes g ≤ longestPage) × (job .seq < 8589934592) × (Countable b) ⌝ }
     ensures { λ r. ⌜ Parted g job level low (entries c) b r (now (img .entry)) (now (img .exit)) ⌝ }
 {
     let s = halve(g, job, level, low, c);
@@ -177,7 +178,7 @@ fn settle_put(
     e: Entry,
     c: Node,
 ) -> Climbed
-    requires { ⌜ (c .count ≤ 256) × (1 ≤ level) × (level ≤ 102) × (pageBytes g ≤ 2112) × (job .seq < 8589934592) × (b .left + b .programmed + b .erased < 4294967296) ⌝ }
+    requires { ⌜ (c .count ≤ 256) × (1 ≤ level) × (level ≤ 102) × (pageBytes g ≤ longestPage) × (job .seq < 8589934592) × (Countable b) ⌝ }
     ensures { λ r. ⌜ Settled g job (Change.Put addr) level e (entries c) b r (now (img .entry)) (now (img .exit)) ⌝ }
 {
     let low = tree_split::least(e.key, job.key);
@@ -208,7 +209,7 @@ fn settle_remove(
     e: Entry,
     c: Node,
 ) -> Climbed
-    requires { ⌜ (c .count ≤ 256) × (1 ≤ level) × (pageBytes g ≤ 2112) × (job .seq < 8589934592) × (b .left + b .programmed + b .erased < 4294967296) ⌝ }
+    requires { ⌜ (c .count ≤ 256) × (1 ≤ level) × (pageBytes g ≤ longestPage) × (job .seq < 8589934592) × (Countable b) ⌝ }
     ensures { λ r. ⌜ Settled g job Change.Remove level e (entries c) b r (now (img .entry)) (now (img .exit)) ⌝ }
 {
     if tree_node::size(c) == 0 {
@@ -239,7 +240,7 @@ fn settle(
     e: Entry,
     c: Node,
 ) -> Climbed
-    requires { ⌜ (c .count ≤ 256) × (1 ≤ level) × (level ≤ 102) × (pageBytes g ≤ 2112) × (job .seq < 8589934592) × (b .left + b .programmed + b .erased < 4294967296) ⌝ }
+    requires { ⌜ (c .count ≤ 256) × (1 ≤ level) × (level ≤ 102) × (pageBytes g ≤ longestPage) × (job .seq < 8589934592) × (Countable b) ⌝ }
     ensures { λ r. ⌜ Settled g job (job .change) level e (entries c) b r (now (img .entry)) (now (img .exit)) ⌝ }
 {
     let change = job.change;
@@ -261,7 +262,7 @@ fn leaf(g: Geometry, img: &[u8], job: Job, page: u32) -> Node
 
 // What came of the change below: settled at its level, then put in place of the entry taken.
 fn rejoin(g: Geometry, img: &mut [u8], job: Job, below: u32, t: Taken, u: Changed) -> Changed
-    requires { ⌜ (t .at ≤ t .node .count - 1) × (t .node .count < 256) × (u .node .count ≤ 256) × (1 ≤ below) × (below ≤ 102) × (pageBytes g ≤ 2112) × (job .seq < 8589934592) × (u .budget .left + u .budget .programmed + u .budget .erased < 4294967296) ⌝ }
+    requires { ⌜ (t .at ≤ t .node .count - 1) × (t .node .count < 256) × (u .node .count ≤ 256) × (1 ≤ below) × (below ≤ 102) × (pageBytes g ≤ longestPage) × (job .seq < 8589934592) × (Countable (u .budget)) ⌝ }
     ensures { λ r. ⌜ Rejoined g job below t (entries (u .node)) (u .budget) r (now (img .entry)) (now (img .exit)) ⌝ }
 {
     let c = u.node;
@@ -280,7 +281,7 @@ fn rejoin(g: Geometry, img: &mut [u8], job: Job, below: u32, t: Taken, u: Change
 
 // The changed node that entry e names, with `below` levels under it, all of them stored.
 fn climb(g: Geometry, img: &mut [u8], b: Budget, job: Job, below: u32, e: Entry) -> Changed
-    requires { ⌜ (below ≤ 100) × (pageBytes g ≤ 2112) × (job .seq < 8589934592) × (b .left + b .programmed + b .erased < 4294967296) ⌝ }
+    requires { ⌜ (below ≤ 100) × (pageBytes g ≤ longestPage) × (job .seq < 8589934592) × (Countable b) ⌝ }
     ensures { λ r. ⌜ Changes g job below e b r (now (img .entry)) (now (img .exit)) ⌝ }
 {
     if below == 0 {
@@ -295,7 +296,7 @@ fn climb(g: Geometry, img: &mut [u8], b: Budget, job: Job, below: u32, e: Entry)
 
 // The halves of a root under a new one.
 fn grow(g: Geometry, img: &mut [u8], b: Budget, job: Job, level: u32, c: Node) -> Budget
-    requires { ⌜ (c .count ≤ 256) × (1 ≤ level) × (level ≤ 101) × (pageBytes g ≤ 2112) × (job .seq < 8589934592) × (b .left + b .programmed + b .erased < 4294967296) ⌝ }
+    requires { ⌜ (c .count ≤ 256) × (1 ≤ level) × (level ≤ 101) × (pageBytes g ≤ longestPage) × (job .seq < 8589934592) × (Countable b) ⌝ }
     ensures { λ r. ⌜ Ran g (grownStores g job level (entries c)) b r (now (img .entry)) (now (img .exit)) ⌝ }
 {
     let low = tree_node::first_key(c);
@@ -309,7 +310,7 @@ fn grow(g: Geometry, img: &mut [u8], b: Budget, job: Job, level: u32, c: Node) -
 
 // The changed root of an insert: whole on its page, or its halves under a new one.
 fn store_root(g: Geometry, img: &mut [u8], b: Budget, job: Job, level: u32, c: Node) -> Budget
-    requires { ⌜ (c .count ≤ 256) × (1 ≤ level) × (level ≤ 101) × (pageBytes g ≤ 2112) × (job .seq < 8589934592) × (b .left + b .programmed + b .erased < 4294967296) ⌝ }
+    requires { ⌜ (c .count ≤ 256) × (1 ≤ level) × (level ≤ 101) × (pageBytes g ≤ longestPage) × (job .seq < 8589934592) × (Countable b) ⌝ }
     ensures { λ r. ⌜ Ran g (topStores g job level (entries c)) b r (now (img .entry)) (now (img .exit)) ⌝ }
 {
     let n = tree_node::size(c);
@@ -323,7 +324,7 @@ fn store_root(g: Geometry, img: &mut [u8], b: Budget, job: Job, level: u32, c: N
 
 // All stores of an insert's job.
 fn insert_with(g: Geometry, img: &mut [u8], b: Budget, job: Job, level: u32, root: u32) -> Budget
-    requires { ⌜ (level ≤ 100) × (pageBytes g ≤ 2112) × (job .seq < 4294967296) × (b .left + b .programmed + b .erased < 4294967296) ⌝ }
+    requires { ⌜ (level ≤ 100) × (pageBytes g ≤ longestPage) × (job .seq < fourBytes) × (Countable b) ⌝ }
     ensures { λ r. ⌜ Ran g (putStores g job level (rootAt root) (now (img .entry))) b r (now (img .entry)) (now (img .exit)) ⌝ }
 {
     let u = climb(g, &mut *img, b, job, level, Entry { key: 0, addr: root });
@@ -334,7 +335,7 @@ fn insert_with(g: Geometry, img: &mut [u8], b: Budget, job: Job, level: u32, roo
 
 // The changed root of a delete before anything is stored: no store is allowed.
 fn look(g: Geometry, img: &mut [u8], job: Job, level: u32, root: u32) -> Node
-    requires { ⌜ (level ≤ 100) × (pageBytes g ≤ 2112) × (job .seq < 4294967296) ⌝ }
+    requires { ⌜ (level ≤ 100) × (pageBytes g ≤ longestPage) × (job .seq < fourBytes) ⌝ }
     ensures { λ r. ⌜ (entries r ≡ changed g job (now (img .entry)) level (rootAt root)) × (r .count ≤ 256) × (now (img .exit) ≡ now (img .entry)) ⌝ }
 {
     let none = Budget {
@@ -349,7 +350,7 @@ fn look(g: Geometry, img: &mut [u8], job: Job, level: u32, root: u32) -> Node
 
 // The stores of a delete's job where the root stays.
 fn store_path(g: Geometry, img: &mut [u8], b: Budget, job: Job, level: u32, root: u32) -> Budget
-    requires { ⌜ (level ≤ 100) × (pageBytes g ≤ 2112) × (job .seq < 4294967296) × (b .left + b .programmed + b .erased < 4294967296) ⌝ }
+    requires { ⌜ (level ≤ 100) × (pageBytes g ≤ longestPage) × (job .seq < fourBytes) × (Countable b) ⌝ }
     ensures { λ r. ⌜ Ran g (stayStores g job level (rootAt root) (now (img .entry))) b r (now (img .entry)) (now (img .exit)) ⌝ }
 {
     let u = climb(g, &mut *img, b, job, level, Entry { key: 0, addr: root });
@@ -361,7 +362,7 @@ fn store_path(g: Geometry, img: &mut [u8], b: Budget, job: Job, level: u32, root
 
 // All stores of a delete's job: the path's, or where the tree shrinks the new root's alone.
 fn delete_with(g: Geometry, img: &mut [u8], b: Budget, job: Job, level: u32, root: u32) -> Budget
-    requires { ⌜ (level ≤ 100) × (pageBytes g ≤ 2112) × (job .seq < 4294967296) × (b .left + b .programmed + b .erased < 4294967296) ⌝ }
+    requires { ⌜ (level ≤ 100) × (pageBytes g ≤ longestPage) × (job .seq < fourBytes) × (Countable b) ⌝ }
     ensures { λ r. ⌜ Ran g (removeStores g job level (rootAt root) (now (img .entry))) b r (now (img .entry)) (now (img .exit)) ⌝ }
 {
     let c = look(g, &mut *img, job, level, root);
@@ -375,7 +376,7 @@ fn delete_with(g: Geometry, img: &mut [u8], b: Budget, job: Job, level: u32, roo
 }
 
 fn long(x: u32) -> u64
-    ensures { λ r. ⌜ (r ≡ x) × (r < 4294967296) ⌝ }
+    ensures { λ r. ⌜ (r ≡ x) × (r < fourBytes) ⌝ }
 {
     x as u64
 }
@@ -418,7 +419,7 @@ pub fn insert_pages(
     key: u32,
     addr: u32,
 ) -> Budget
-    requires { ⌜ (level ≤ 100) × (cuts ≤ 101) × (pageBytes g ≤ 2112) × (b .left + b .programmed + b .erased < 4294967296) ⌝ }
+    requires { ⌜ (level ≤ 100) × (cuts ≤ 101) × (pageBytes g ≤ longestPage) × (Countable b) ⌝ }
     ensures { λ r.
         ⌜ Ran g (insertStoresAt g (chipWith g (now (img .entry)) level (o .root)) key addr (pageBy g n (now (img .entry)) o) (o .most) cuts) b r (now (img .entry)) (now (img .exit)) ⌝ }
 {
@@ -446,7 +447,7 @@ pub fn delete_pages(
     emptied: u32,
     key: u32,
 ) -> Budget
-    requires { ⌜ (level ≤ 100) × (pageBytes g ≤ 2112) × (b .left + b .programmed + b .erased < 4294967296) ⌝ }
+    requires { ⌜ (level ≤ 100) × (pageBytes g ≤ longestPage) × (Countable b) ⌝ }
     ensures { λ r.
         ⌜ Ran g (deleteStoresAt g (chipWith g (now (img .entry)) level (o .root)) key (pageBy g n (now (img .entry)) o) (o .most) emptied) b r (now (img .entry)) (now (img .exit)) ⌝ }
 {

@@ -9,6 +9,7 @@ use Prim.Native.Nat.{ℕ, _<_, _≤_}
 use native.Mathlib.Omega.{arith}
 use Rattle.geometry.specs.Geometry.{plain}
 use Rattle.geometry.specs.Tests.{pick, bit, and-right}
+use Rattle.geometry.specs.Bounds.{fourBytes}
 use Rattle.model.specs.Image.{blocksOf, Chip, chipOf}
 use Rattle.model.specs.Tree.{find, sought}
 use Rattle.model.specs.Update.{isNone}
@@ -68,10 +69,10 @@ module _ (img : List ℕ) (k : ℕ) where
     delete-met al j p q h = tested-met img j (plainDeleteTests img k 0 al) _ (made-began plain (plainDeleteStores plain n img k) al img) p q
         (sym (ap (λ (o : Outcome). o .answer) (plain-delete-is img k 0 al ready)) ∙ h)
 
-    module _ (k-low : k < 4294967296) where
+    module _ (k-low : k < fourBytes) where
       -- the map's keys rise strictly and stay below 2^32
-      pub plain-map-sorted : Rising 4294967296 (mapAt plain img)
-      plain-map-sorted = rising 4294967296 (mapAt plain img) (map-rises plain n c (ready-held img ready .whole))
+      pub plain-map-sorted : Rising fourBytes (mapAt plain img)
+      plain-map-sorted = rising fourBytes (mapAt plain img) (map-rises plain n c (ready-held img ready .whole))
 
       -- what the map has, by what descent finds
       by-sought : (isNone (sought c k) ≡ false → ⊥) → find k (mapAt plain img) ≡ none

@@ -10,6 +10,7 @@ use Rattle.geometry.specs.declared.Entry.{Entry}
 use Rattle.geometry.specs.Geometry.{plain, half, rootMost}
 use Rattle.geometry.specs.Shape.{plain-core}
 use Rattle.geometry.specs.Tests.{pick}
+use Rattle.geometry.specs.Bounds.{fourBytes}
 use Rattle.model.specs.Count.{count}
 use Rattle.model.specs.Image.{Chip, chipOf, pagesOf, maxSeq}
 use Rattle.model.specs.Tree.{mapOf, sought, erasedPages}
@@ -36,7 +37,7 @@ unfolding plainNeeds
 some-needed c k = omega arith
 
 -- ---- the stores
-pub plain-insert-same : (n : ℕ) (img : List ℕ) (k a : ℕ) → Held plain n img → k < 4294967296
+pub plain-insert-same : (n : ℕ) (img : List ℕ) (k a : ℕ) → Held plain n img → k < fourBytes
     → plainNeeds plain (chipOf plain n img) k ≤ count (pagesOf plain n) (chipOf plain n img .er)
     → plainInsertStores plain n img k a
     ≡ insertStoresAt plain (chipOf plain n img) k a (pagesBy plain n img) (maxSeq plain n img) (plainCuts plain (chipOf plain n img) k)
@@ -55,7 +56,7 @@ plain-insert-same n img k a held k-low free =
     some-half : 1 ≤ half plain (suc (chipOf plain n img .level))
     some-half = let w = plain-single .two (suc (chipOf plain n img .level)) in omega (arith, w, narrow)
 
-pub plain-delete-same : (n : ℕ) (img : List ℕ) (k : ℕ) → Held plain n img → k < 4294967296 → isNone (sought (chipOf plain n img) k) ≡ false
+pub plain-delete-same : (n : ℕ) (img : List ℕ) (k : ℕ) → Held plain n img → k < fourBytes → isNone (sought (chipOf plain n img) k) ≡ false
     → plainLeaves (chipOf plain n img) k ≤ count (pagesOf plain n) (chipOf plain n img .er)
     → plainDeleteStores plain n img k
     ≡ deleteStoresAt plain (chipOf plain n img) k (pagesBy plain n img) (maxSeq plain n img) (emptied (chipOf plain n img) k)
@@ -82,14 +83,14 @@ tested false true z a b d e f h = refl
 tested false false true a b d e f h = refl
 tested false false false a b d e f h = h refl refl refl
 
-module _ (n : ℕ) (some : 1 ≤ n) (few : n ≤ 1024) (img : List ℕ) (held : Held plain n img) (k al : ℕ) (k-low : k < 4294967296) where
+module _ (n : ℕ) (some : 1 ≤ n) (few : n ≤ 1024) (img : List ℕ) (held : Held plain n img) (k al : ℕ) (k-low : k < fourBytes) where
   abbrev c : Chip
   c = chipOf plain n img
 
   abbrev free : ℕ
   free = erasedPages (pagesOf plain n) c
 
-  pub plain-insert-by : (a : ℕ) → a < 4294967296 → plainInsertBy plain n img k a al ≡ plainInsertRest plain n img k a al
+  pub plain-insert-by : (a : ℕ) → a < fourBytes → plainInsertBy plain n img k a al ≡ plainInsertRest plain n img k a al
   unfolding plainInsertBy plainInsertRest
   plain-insert-by a a-low = tested (worn plain n img) (plainHigh plain c k) (plainRoomless plain n c (plainNeeds plain c k)) (refused 3 img) (refused 5 img)
       (refused 6 img) _ _ (λ x y z.

@@ -11,6 +11,7 @@ use Rattle.geometry.specs.declared.Geometry.{Geometry}
 use Rattle.geometry.specs.declared.Entry.{Entry}
 use Rattle.geometry.specs.Shape.{Core}
 use Rattle.geometry.specs.Tests.{pick}
+use Rattle.geometry.specs.Bounds.{fourBytes}
 use Rattle.model.specs.Image.{Chip, theRoot}
 use Rattle.model.specs.Tree.{sought}
 use Rattle.model.specs.Stores.{Store}
@@ -23,7 +24,7 @@ use Rattle.plain_levels.specs.Levels.{nodeStore, keptStores, lessAt, topAt, del
 use Rattle.plain_updates.specs.Levels.{coming, below, rootStore, node-same, below-same, laid-last, kept-to}
 use Rattle.plain_updates.specs.Pages.{kept-same}
 
-module _ (g : Geometry) (core : Core g) (n k : ℕ) (k-low : k < 4294967296) (c : Chip) (good : Whole g n c)
+module _ (g : Geometry) (core : Core g) (n k : ℕ) (k-low : k < fourBytes) (c : Chip) (good : Whole g n c)
     (present : isNone (sought c k) ≡ false) (page : ℕ → ℕ) (seq : ℕ)
     (agree : (i : ℕ) → i < plainLeaves c k → page i ≡ coming g n c i) where
   abbrev v : ℕ

@@ -11,6 +11,7 @@ use Rattle.geometry.specs.declared.Entry.{Entry}
 use Rattle.geometry.specs.Tests.{pick}
 use Rattle.geometry.specs.Geometry.{half, rootMost, plain}
 use Rattle.geometry.specs.Shape.{Core, plain-core}
+use Rattle.geometry.specs.Bounds.{fourBytes}
 use Rattle.model.specs.Count.{count}
 use Rattle.model.specs.Image.{Chip, chipOf, pagesOf, theRoot, maxSeq}
 use Rattle.model.specs.Tree.{mapOf, sought}
@@ -37,8 +38,8 @@ use Rattle.theory_updates.specs.Lists.{not-worn}
 use Rattle.plain_updates.specs.Single.{Single, plain-single, plain-pages, Buildable, buildable, all-at}
 use Rattle.plain_updates.specs.Laid.{PlainUpdated, Finishes, laid-updated, none-placed, laid-length, laid-erases}
 
-module _ (g : Geometry) (core : Core g) (single : Single g) (n : ℕ) (few : pagesOf g n + g .pages < 4294967296) (some-pages : 1 ≤ pagesOf g n) (img : List ℕ)
-    (held : Held g n img) (k : ℕ) (k-low : k < 4294967296) (present : isNone (sought (chipOf g n img) k) ≡ false) where
+module _ (g : Geometry) (core : Core g) (single : Single g) (n : ℕ) (few : pagesOf g n + g .pages < fourBytes) (some-pages : 1 ≤ pagesOf g n) (img : List ℕ)
+    (held : Held g n img) (k : ℕ) (k-low : k < fourBytes) (present : isNone (sought (chipOf g n img) k) ≡ false) where
   abbrev c : Chip
   c = chipOf g n img
 
@@ -60,7 +61,7 @@ module _ (g : Geometry) (core : Core g) (single : Single g) (n : ℕ) (few : pag
   high : suc (c .level) ≤ g .top
   high = height-most g core n img some-pages held
 
-  page-low : (l : ℕ) → P l < 4294967296
+  page-low : (l : ℕ) → P l < fourBytes
   unfolding keptPage
   page-low l = let z = side-most g n c (suc (l - 1 - emptied c k)) in omega (arith, z, few)
 
@@ -76,7 +77,7 @@ module _ (g : Geometry) (core : Core g) (single : Single g) (n : ℕ) (few : pag
   unfolding plainLess
   lists-most j b d =
       let w = path-most (c .nodes) k (removeIn k) (keptOn P) 0 (remove-most k) (λ l. kept-most (P l) l) (fitOf (pagesOf g n) (c .er)) (λ l. 2 * half g l)
-      (c .level) 4294967296 (theRoot c) (λ i. let z = whole .sound .rooted .least i in omega (arith, z)) (whole .sound .rooted .rises) j b d in
+      (c .level) fourBytes (theRoot c) (λ i. let z = whole .sound .rooted .least i in omega (arith, z)) (whole .sound .rooted .rises) j b d in
       let e = single .narrow j b (omega (arith, d, high)) in
       omega (arith, w, e)
 
@@ -157,7 +158,7 @@ module _ (g : Geometry) (core : Core g) (single : Single g) (n : ℕ) (few : pag
   delete-length = laid-length g n c (maxSeq g n img) 0 plans ∙ count-is
 
 -- ---- the plain tree
-module _ (n : ℕ) (some : 1 ≤ n) (few : n ≤ 1024) (img : List ℕ) (held : Held plain n img) (k : ℕ) (k-low : k < 4294967296)
+module _ (n : ℕ) (some : 1 ≤ n) (few : n ≤ 1024) (img : List ℕ) (held : Held plain n img) (k : ℕ) (k-low : k < fourBytes)
     (present : isNone (sought (chipOf plain n img) k) ≡ false) where
   pub plain-deleted : worn plain n img ≡ false → plainLeaves (chipOf plain n img) k ≤ count (pagesOf plain n) (chipOf plain n img .er)
       → PlainUpdated plain n (mapOf (chipOf plain n img)) (remove k (mapOf (chipOf plain n img))) img (plainDeleteStores plain n img k)

@@ -11,6 +11,7 @@ use Rattle.geometry.specs.declared.Entry.{Entry}
 use Rattle.geometry.specs.Geometry.{half, rootMost}
 use Rattle.geometry.specs.Shape.{Core}
 use Rattle.geometry.specs.Tests.{bit}
+use Rattle.geometry.specs.Bounds.{fourBytes}
 use Rattle.model.specs.Image.{Chip, theRoot}
 use Rattle.model.specs.Tree.{next}
 use Rattle.model.specs.Stores.{Store}
@@ -24,7 +25,7 @@ use Rattle.plain_levels.specs.Levels.{nodeStore, leftPlace, rightPlace, levelSt
 use Rattle.plain_updates.specs.Levels.{coming, below, rootStore, node-same, below-same, laid-last, stores-to}
 use Rattle.plain_updates.specs.Pages.{renewed-same}
 
-module _ (g : Geometry) (core : Core g) (n k a : ℕ) (k-low : k < 4294967296) (c : Chip) (good : Whole g n c)
+module _ (g : Geometry) (core : Core g) (n k a : ℕ) (k-low : k < fourBytes) (c : Chip) (good : Whole g n c)
     (narrow : rootMost g (suc (c .level)) ≡ 2 * half g (suc (c .level))) (some-half : 1 ≤ half g (suc (c .level)))
     (two-most : 2 ≤ rootMost g (suc (suc (c .level)))) (page : ℕ → ℕ) (seq : ℕ)
     (agree : (i : ℕ) → i < plainNeeds g c k → page i ≡ coming g n c i) where

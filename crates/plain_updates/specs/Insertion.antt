@@ -13,6 +13,7 @@ use Rattle.geometry.specs.declared.Entry.{Entry}
 use Rattle.geometry.specs.Tests.{pick, bit, and-both}
 use Rattle.geometry.specs.Geometry.{half, rootMost, plain}
 use Rattle.geometry.specs.Shape.{Core, plain-core}
+use Rattle.geometry.specs.Bounds.{fourBytes}
 use Rattle.model.specs.Count.{count}
 use Rattle.model.specs.Image.{Chip, chipOf, pagesOf, theRoot, maxSeq}
 use Rattle.model.specs.Tree.{mapOf, next, chosen, sought}
@@ -42,16 +43,16 @@ use Rattle.plain_updates.specs.Single.{Single, plain-single, plain-pages
 use Rattle.plain_updates.specs.Laid.{PlainUpdated, Finishes, laid-updated, none-placed, laid-length, laid-erases}
 
 -- ---- numbers of 32 bits
-both-fits : (left right m z : ℕ) (c : List Entry) → left < 4294967296 → right < 4294967296 → z < 4294967296 → All Fits c
+both-fits : (left right m z : ℕ) (c : List Entry) → left < fourBytes → right < fourBytes → z < fourBytes → All Fits c
     → All Fits (both left right m z c)
 both-fits left right m z c x y f h = ((f, x), ((next-fits (drop m c) (all-drop Fits m c h), y), tt))
 
 module _ (k : ℕ) (left right half : ℕ → ℕ) where
-  renewed-fits : ((l : ℕ) → left l < 4294967296) → ((l : ℕ) → right l < 4294967296) → (l : ℕ) (e : Entry) (c : List Entry) → Fits e → All Fits c
+  renewed-fits : ((l : ℕ) → left l < fourBytes) → ((l : ℕ) → right l < fourBytes) → (l : ℕ) (e : Entry) (c : List Entry) → Fits e → All Fits c
       → All Fits (renewed k left right half l e c)
   renewed-fits x y l e c f h = go (leb (length c) (2 * half l))
     where
-      low : min (e .key) k < 4294967296
+      low : min (e .key) k < fourBytes
       low = let z = f .0 in omega (arith, z)
 
       go : (t : Bool) → All Fits (pick t (record { key = min (e .key) k; addr = left l } ∷ []) (both (left l) (right l) (half l) (min (e .key) k) c))
@@ -65,8 +66,8 @@ module _ (k : ℕ) (left right half : ℕ → ℕ) where
       go true = omega arith
       go false = omega arith
 
-module _ (g : Geometry) (core : Core g) (single : Single g) (n : ℕ) (few : pagesOf g n + g .pages < 4294967296) (some-pages : 1 ≤ pagesOf g n) (img : List ℕ)
-    (held : Held g n img) (k a : ℕ) (k-low : k < 4294967296) (a-low : a < 4294967296) where
+module _ (g : Geometry) (core : Core g) (single : Single g) (n : ℕ) (few : pagesOf g n + g .pages < fourBytes) (some-pages : 1 ≤ pagesOf g n) (img : List ℕ)
+    (held : Held g n img) (k a : ℕ) (k-low : k < fourBytes) (a-low : a < fourBytes) where
   abbrev c : Chip
   c = chipOf g n img
 
@@ -85,14 +86,14 @@ module _ (g : Geometry) (core : Core g) (single : Single g) (n : ℕ) (few : pag
   high : suc (c .level) ≤ g .top
   high = height-most g core n img some-pages held
 
-  page-low : (i : ℕ) → nth (g .pages) n (ahead g n c) i < 4294967296
+  page-low : (i : ℕ) → nth (g .pages) n (ahead g n c) i < fourBytes
   page-low i = let z = side-most g n c (suc i) in omega (arith, z, few)
 
-  left-low : (l : ℕ) → leftPage g n c cuts l < 4294967296
+  left-low : (l : ℕ) → leftPage g n c cuts l < fourBytes
   unfolding leftPage
   left-low l = page-low (l - 1 + min (l - 1) cuts)
 
-  right-low : (l : ℕ) → rightPage g n c cuts l < 4294967296
+  right-low : (l : ℕ) → rightPage g n c cuts l < fourBytes
   unfolding rightPage
   right-low l = page-low (l - 1 + min l cuts)
 
@@ -109,7 +110,7 @@ module _ (g : Geometry) (core : Core g) (single : Single g) (n : ℕ) (few : pag
   unfolding plainList
   lists-most j b d = by-le j (c .level)
       (λ q. path-most (c .nodes) k (putIn k a) (renewed k (leftPage g n c cuts) (rightPage g n c cuts) (half g)) 1 (put-most k a k-low a-low)
-      (renewed-most k (leftPage g n c cuts) (rightPage g n c cuts) (half g)) (fitOf (pagesOf g n) (c .er)) (λ l. 2 * half g l) (c .level) 4294967296
+      (renewed-most k (leftPage g n c cuts) (rightPage g n c cuts) (half g)) (fitOf (pagesOf g n) (c .er)) (λ l. 2 * half g l) (c .level) fourBytes
       (theRoot c) (λ i. let z = whole .sound .rooted .least i in omega (arith, z)) (whole .sound .rooted .rises) j b q)
       (λ q. subst (λ i. length (lists i) ≤ 2 * half g i + 1) (let e : suc (c .level) ≡ j = omega (arith, d, q) in e) top)
     where
@@ -218,7 +219,7 @@ module _ (g : Geometry) (core : Core g) (single : Single g) (n : ℕ) (few : pag
   insert-length = laid-length g n c (maxSeq g n img) 0 plans ∙ count-is
 
 -- ---- the plain tree
-module _ (n : ℕ) (some : 1 ≤ n) (few : n ≤ 1024) (img : List ℕ) (held : Held plain n img) (k a : ℕ) (k-low : k < 4294967296) (a-low : a < 4294967296) where
+module _ (n : ℕ) (some : 1 ≤ n) (few : n ≤ 1024) (img : List ℕ) (held : Held plain n img) (k a : ℕ) (k-low : k < fourBytes) (a-low : a < fourBytes) where
   pub plain-inserted : worn plain n img ≡ false → plainHigh plain (chipOf plain n img) k ≡ false
       → plainNeeds plain (chipOf plain n img) k ≤ count (pagesOf plain n) (chipOf plain n img .er)
       → PlainUpdated plain n (mapOf (chipOf plain n img)) (put k a (mapOf (chipOf plain n img))) img (plainInsertStores plain n img k a)

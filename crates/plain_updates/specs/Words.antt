@@ -13,6 +13,7 @@ use borrow.Author.Tests.{ltb-false}
 use Rattle.geometry.specs.declared.Entry.{Entry}
 use Rattle.geometry.specs.Geometry.{plain}
 use Rattle.geometry.specs.Shape.{plain-core}
+use Rattle.geometry.specs.Bounds.{fourBytes}
 use Rattle.model.specs.Bytes.{byteAt}
 use Rattle.model.specs.Image.{blocksOf, goodLength, pagesOf, Chip, chipOf}
 use Rattle.model.specs.Tree.{mapOf, find, sought, erasedPages}
@@ -164,7 +165,7 @@ module _ (img : List ℕ) (ready : Ready plain img) where
         wiped = none;
       }
 
-  module _ (k : ℕ) (k-low : k < 4294967296) where
+  module _ (k : ℕ) (k-low : k < fourBytes) where
     pub plain-found : sought d k ≡ find k (mapAt plain img)
     plain-found = sought-map plain m d (ready-held .whole) k k-low
 
@@ -174,7 +175,7 @@ module _ (img : List ℕ) (ready : Ready plain img) where
     plain-reads = judged-ready plain img (answered (sought d k) img) ready ∙ ap (λ (o : Option ℕ). answered o img) plain-found
 
     -- ---- insert
-    module _ (a al : ℕ) (a-low : a < 4294967296) where
+    module _ (a al : ℕ) (a-low : a < fourBytes) where
       abbrev ss : List Store
       ss = plainInsertStores plain m img k a
 

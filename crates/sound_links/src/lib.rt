@@ -1,7 +1,7 @@
 // R6: where a page has live nodes at several levels, each upper one names the page.
 ghost use mathlib.Core.Path.{_≡_};
-ghost use Prim.Native.Nat.{ℕ, _+_, _*_, _-_, _≤_, _<_};
-ghost use lib.ListN.{length, getD};
+ghost use Prim.Native.Nat.{_+_, _*_, _-_, _<_};
+ghost use lib.ListN.{length};
 ghost use Rattle.model.specs.Bytes.{entriesAt, nodeAt};
 ghost use Rattle.model.specs.Tree.{places};
 ghost use Rattle.model.specs.Rules.{namesPage, lowestPage, r6};

@@ -1,6 +1,6 @@
 // R1 and R2: what each page and each block must look like.
 ghost use mathlib.Core.Path.{_≡_};
-ghost use Prim.Native.Nat.{ℕ, _+_, _*_, _-_, _≤_, _<_};
+ghost use Prim.Native.Nat.{_+_, _*_, _-_, _≤_, _<_};
 ghost use mathlib.Core.Bool.{false};
 ghost use Rattle.geometry.specs.Geometry.{halves};
 ghost use Rattle.model.specs.Bytes.{erased, seqAt, heightAt};

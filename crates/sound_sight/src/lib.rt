@@ -1,7 +1,7 @@
 // One pass over the blocks of an image: the programmed pages, the numbers' range, the survey, R1 and R2 at once.
 ghost use mathlib.Core.Path.{_≡_};
-ghost use Prim.Native.Nat.{ℕ, _+_, _*_, _-_, _≤_, _<_};
-ghost use lib.ListN.{length, getD};
+ghost use Prim.Native.Nat.{_+_, _*_, _-_, _≤_, _<_};
+ghost use lib.ListN.{length};
 ghost use Rattle.geometry.specs.Tests.{_&_};
 ghost use Rattle.chip_survey.specs.Survey.{seenTo};
 ghost use Rattle.sound_sight.specs.Sight.{Told, Fronted, Back, Late, Spoilt, Strip, Strips, Flaw, parted, Parts, Single, Double, Clear};

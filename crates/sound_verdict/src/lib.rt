@@ -1,6 +1,6 @@
 // R7, R8, and the verdict: R1 to R8 in their order.
 ghost use mathlib.Core.Path.{_≡_};
-ghost use Prim.Native.Nat.{ℕ, _+_, _*_, _-_, _≤_, _<_};
+ghost use Prim.Native.Nat.{_+_, _*_, _-_, _≤_, _<_};
 ghost use lib.ListN.{length};
 ghost use Rattle.geometry.specs.declared.Finding.{Finding};
 ghost use Rattle.model.specs.Bytes.{erased, seqAt};

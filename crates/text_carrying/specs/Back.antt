@@ -12,6 +12,7 @@ use borrow.Author.Tests.{leb-true, ltb-true, ne-eqb}
 use Rattle.geometry.specs.declared.Geometry.{Geometry}
 use Rattle.geometry.specs.declared.Entry.{Entry}
 use Rattle.geometry.specs.Tests.{pick}
+use Rattle.geometry.specs.Bounds.{fourBytes}
 use Rattle.model.specs.Calls.{Outcome}
 use Rattle.text_lines.specs.Lines.{pieces, lines, fields}
 use Rattle.text_lines.specs.Pieces.{joined, pieces-join}
@@ -22,7 +23,7 @@ use Rattle.text_carrying.specs.Carrying.{recordText, textOf, pair, recor
 -- keys rise from low on, and all numbers have 32 bits
 abbrev pub Rises : ℕ → List Entry → Type 0
 Rises low [] = Unit {0}
-Rises low (e ∷ es) = (low ≤ e .key) × (e .key < 4294967296) × (e .addr < 4294967296) × Rises (suc (e .key)) es
+Rises low (e ∷ es) = (low ≤ e .key) × (e .key < fourBytes) × (e .addr < fourBytes) × Rises (suc (e .key)) es
 
 -- a line has at most 22 bytes
 pub text-short : (low : ℕ) (es : List Entry) → Rises low es → length (textOf es) ≤ 22 * length es
@@ -40,8 +41,8 @@ text-short low (e ∷ es) h =
 -- what a line is read as: its record's line is the line, and both numbers have 32 bits
 pub record Fits (l : List ℕ) (e : Entry) : Type 0 where
   pub same : recordText e ≡ l
-  pub key-low : e .key < 4294967296
-  pub addr-low : e .addr < 4294967296
+  pub key-low : e .key < fourBytes
+  pub addr-low : e .addr < fourBytes
 
 record-fits : (l : List ℕ) (e : Entry) → recordOf (fields l) ≡ some e → Fits l e
 unfolding recordOf pair joined

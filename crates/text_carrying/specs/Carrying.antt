@@ -10,6 +10,7 @@ use Rattle.geometry.specs.declared.Geometry.{Geometry}
 use Rattle.geometry.specs.declared.Entry.{Entry}
 use Rattle.geometry.specs.Geometry.{chosenOf}
 use Rattle.geometry.specs.Tests.{pick, bit}
+use Rattle.geometry.specs.Bounds.{fourBytes}
 use Rattle.model.specs.Image.{blocksOf, goodLength, chipOf}
 use Rattle.model.specs.Tree.{mapOf}
 use Rattle.model.specs.Calls.{Outcome, gives, refused, damaged, judged, chosenCall, format, insert}
@@ -70,7 +71,7 @@ readText text = readLines 0 0 (lines text .ended) (lines text .rest)
 -- ---- the calls. Their outcomes have other numbers where those of document 01 have the address and the counts
 -- "32 bits each": a count as the result buffer has it
 abbrev pub word : ℕ → ℕ
-word n = n % 4294967296
+word n = n % fourBytes
 
 -- export: records, bytes of the whole text, bytes written; the lent text where the others have the image. All of the text or none of it
 -- is written: a text of length 0 asks how long it is

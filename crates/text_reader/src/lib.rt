@@ -2,6 +2,7 @@
 ghost use mathlib.Core.Path.{_≡_};
 ghost use Prim.Native.Nat.{_+_, _≤_, _<_};
 ghost use lib.ListN.{length};
+ghost use Rattle.geometry.specs.Bounds.{fourBytes};
 ghost use Rattle.text_lines.specs.Lines.{fields};
 ghost use Rattle.text_carrying.specs.Carrying.{recordOf};
 ghost use Rattle.text_reader.specs.Reader.{pairIs, idle, refusal, taken, lineTurn, turnOf, filled};
@@ -57,7 +58,7 @@ pub fn read_record(line: &[u8]) -> Line
 }
 
 fn wide(x: u32) -> u64
-    ensures { λ r. ⌜ (r ≡ x) × (r < 4294967296) ⌝ }
+    ensures { λ r. ⌜ (r ≡ x) × (r < fourBytes) ⌝ }
 {
     x as u64
 }

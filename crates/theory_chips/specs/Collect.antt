@@ -11,6 +11,7 @@ use Rattle.geometry.specs.declared.Geometry.{Geometry}
 use Rattle.geometry.specs.Tests.{pick, bit}
 use Rattle.geometry.specs.Geometry.{half, rootMost}
 use Rattle.geometry.specs.Shape.{Shape, shape-core}
+use Rattle.geometry.specs.Bounds.{fourBytes}
 use Rattle.model.specs.Count.{count, least}
 use Rattle.model.specs.Image.{Chip}
 use Rattle.model.specs.Tree.{mapOf, placesOf, live}
@@ -70,7 +71,7 @@ module _ (g : Geometry) (shape : Shape g) (n k : ℕ) where
         (placesOf c)
         (λ x i z. true-false (c .er q) e (subst (λ m. c .er m ≡ false) z
         (fit-page (g .pages * n) (c .er) (x .level) (x .page) (i .0) (i .1) .1))) (root-fit (fitOf (g .pages * n) (c .er)) (λ l. 2 * half g l) (rootMost g) (c .nodes) (c .level)
-        (c .root) 4294967296 (h .sound .rooted)))
+        (c .root) fourBytes (h .sound .rooted)))
 
     deadPage : ℕ → Bool
     deadPage q = pick (c .er q) false (pick (live (placesOf c) q) false true)

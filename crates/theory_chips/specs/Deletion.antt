@@ -12,6 +12,7 @@ use Rattle.geometry.specs.declared.Entry.{Entry}
 use Rattle.geometry.specs.Tests.{pick, and-true}
 use Rattle.geometry.specs.Geometry.{half, rootMost}
 use Rattle.geometry.specs.Shape.{Shape, shape-core}
+use Rattle.geometry.specs.Bounds.{fourBytes}
 use Rattle.model.specs.Count.{count}
 use Rattle.model.specs.Image.{Nodes, Chip, theRoot}
 use Rattle.model.specs.Tree.{under, places, placesOf, live, mapOf, next, chosen, sought}
@@ -43,7 +44,7 @@ collapse-low r (suc l) (x ∷ y ∷ cs) = omega arith
 abbrev pub leftList : Geometry → ℕ → Chip → ℕ → ℕ → List Entry
 leftList g n c k j = deletePart c k (sidePage g n c 1) j
 
-module _ (g : Geometry) (shape : Shape g) (n k : ℕ) (k-low : k < 4294967296) (c : Chip) (good : Whole g n c)
+module _ (g : Geometry) (shape : Shape g) (n k : ℕ) (k-low : k < fourBytes) (c : Chip) (good : Whole g n c)
     (present : isNone (sought c k) ≡ false) where
   abbrev r : Nodes
   r = c .nodes
@@ -75,7 +76,7 @@ module _ (g : Geometry) (shape : Shape g) (n k : ℕ) (k-low : k < 4294967296) (
   root-list : lists (suc (c .level)) ≡ rootList
   unfolding deleteList
   root-list = onPath-top fit roomAt r k (removeIn k) (λ e. remove k (e ∷ [])) (kept N) (remove-as k) (c .level) (theRoot c)
-      ∙ root-is fit roomAt r k (removeIn k) (λ e. remove k (e ∷ [])) (kept N) (remove-as k) (c .level) 4294967296 (c .root) k-low (λ _. some-root)
+      ∙ root-is fit roomAt r k (removeIn k) (λ e. remove k (e ∷ [])) (kept N) (remove-as k) (c .level) fourBytes (c .root) k-low (λ _. some-root)
       (good .sound .rooted .rises)
 
   -- where the root's list is more than one entry, or the tree is a leaf, the root stays
@@ -119,7 +120,7 @@ module _ (g : Geometry) (shape : Shape g) (n k : ℕ) (k-low : k < 4294967296) (
     p = bottom r k (c .level) (the (c .root))
 
     p-in : p < g .pages * n
-    p-in = bottom-fit fit roomAt r k (rootMost g) 4294967296 (c .level) (c .root) k-low (good .sound .rooted) .0
+    p-in = bottom-fit fit roomAt r k (rootMost g) fourBytes (c .level) (c .root) k-low (good .sound .rooted) .0
 
     stay : Stays (c .level) (lists (suc (c .level))) → Done (c .level)
     unfolding deletePart deleteTop deleteList Stays
@@ -130,7 +131,7 @@ module _ (g : Geometry) (shape : Shape g) (n k : ℕ) (k-low : k < 4294967296) (
         let here : s N (suc (c .level)) ≡ rootList = at-N (suc (c .level)) (omega arith) high ∙ rw (lv, eq-eqb (suc (c .level)) (suc (c .level)) refl)
         (ls ∙ root-list) in
         let made : DeleteMade r s k N (c .level) (chosen k es) = made-from fit roomAt r k (removeIn k) (λ e. remove k (e ∷ [])) (kept N) (remove-as k)
-        (λ j d. 1 ≤ length d → s N j ≡ d) (c .level) 4294967296 (theRoot c) k-low (λ _. some-root) (good .sound .rooted .rises)
+        (λ j d. 1 ≤ length d → s N j ≡ d) (c .level) fourBytes (theRoot c) k-low (λ _. some-root) (good .sound .rooted .rises)
         (λ j b d _. at-N j b (omega (arith, d, high)) ∙ rw (
           lv,
           ne-eqb j (suc (c .level)) (λ z. omega (arith, z, d)),
@@ -139,10 +140,10 @@ module _ (g : Geometry) (shape : Shape g) (n k : ℕ) (k-low : k < 4294967296) (
           le-leb j (c .level) d,
           and-true true,
         ) refl) in
-        let w = delete-stay N 4294967296 (half g) (rootMost g) r s fit fit′ fit-N (keep g (shape-core g shape) n c (good .r2) 1 free) stays new-N k k-low (c .level)
+        let w = delete-stay N fourBytes (half g) (rootMost g) r s fit fit′ fit-N (keep g (shape-core g shape) n c (good .r2) 1 free) stays new-N k k-low (c .level)
         (c .root) (good .sound) some-root made here
         (λ i. rw (← root-list) (two (c .level) i h)) in
-        let z = less-shifted N 4294967296 (half g) (rootMost g) r s fit fit′ fit-N (keep g (shape-core g shape) n c (good .r2) 1 free) stays new-N k k-low (c .level)
+        let z = less-shifted N fourBytes (half g) (rootMost g) r s fit fit′ fit-N (keep g (shape-core g shape) n c (good .r2) 1 free) stays new-N k k-low (c .level)
         (c .root) (good .sound) made some-root here in (
           record { r2 = after-r2; sound = w .0 },
           w .1,
@@ -161,10 +162,10 @@ module _ (g : Geometry) (shape : Shape g) (n k : ℕ) (k-low : k < 4294967296) (
     wide j = let z = shape .fits j in let w = shape .even j in omega (arith, z, w)
 
     -- one entry is left of a root above level 1
-    drop : (lv : ℕ) (xs : List Entry) → Proper fit roomAt (rootMost g) 4294967296 r lv (c .root)
+    drop : (lv : ℕ) (xs : List Entry) → Proper fit roomAt (rootMost g) fourBytes r lv (c .root)
         → xs ≡ atRoot (removeIn k) (deleted r k N lv) k lv (r (c .root) (suc lv)) → 1 ≤ lv → length xs ≡ 1
         → s N (suc (collapse r lv xs .level)) ≡ collapse r lv xs .list
-        → Proper fit′ roomAt (rootMost g) 4294967296 s (collapse r lv xs .level) N ×
+        → Proper fit′ roomAt (rootMost g) fourBytes s (collapse r lv xs .level) N ×
         (under s (suc (collapse r lv xs .level)) (the N) ≡ remove k (under r (suc lv) (the (c .root)))) ×
         (count (g .pages * n) (live (places s (suc (collapse r lv xs .level)) (the N))) ≤ count (g .pages * n) (live (places r (suc lv) (the (c .root)))))
     unfolding atRoot
@@ -172,22 +173,22 @@ module _ (g : Geometry) (shape : Shape g) (n k : ℕ) (k-low : k < 4294967296) (
     drop (suc l) xs h e i one at =
         let ls = r (c .root) (suc (suc l)) in
         let b = h .rooted .least (omega arith) in
-        let sp = split (Ok fit roomAt r (suc l)) k 4294967296 ls (omega (arith, b)) k-low (h .rooted .rises) in
-        let w = splice-length (Ok fit roomAt r (suc l)) (deleted r k N (suc l)) k 4294967296 ls (omega (arith, b)) k-low (h .rooted .rises) in
+        let sp = split (Ok fit roomAt r (suc l)) k fourBytes ls (omega (arith, b)) k-low (h .rooted .rises) in
+        let w = splice-length (Ok fit roomAt r (suc l)) (deleted r k N (suc l)) k fourBytes ls (omega (arith, b)) k-low (h .rooted .rises) in
         let z = ap length e in
-        let made : DeleteMade r s k N (suc l) (chosen k ls) = none-made k N 4294967296 (half g) (rootMost g) r s fit fit′ fit-N
-        (keep g (shape-core g shape) n c (good .r2) 1 free) stays k-low (suc l) (next (sp .post) 4294967296) (chosen k ls) (sp .under) (sp .here)
+        let made : DeleteMade r s k N (suc l) (chosen k ls) = none-made k N fourBytes (half g) (rootMost g) r s fit fit′ fit-N
+        (keep g (shape-core g shape) n c (good .r2) 1 free) stays k-low (suc l) (next (sp .post) fourBytes) (chosen k ls) (sp .under) (sp .here)
         (none-left (deleted r k N (suc l) (chosen k ls)) (omega (arith, w, z, one, b))) in
         let one′ : length (atRoot (removeIn k) (deleted r k N (suc l)) k (suc l) ls) ≡ 1 = omega (arith, z, one) in
-        subst (λ (x : List Entry). s N (suc (collapse r (suc l) x .level)) ≡ collapse r (suc l) x .list → Proper fit′ roomAt (rootMost g) 4294967296 s
+        subst (λ (x : List Entry). s N (suc (collapse r (suc l) x .level)) ≡ collapse r (suc l) x .list → Proper fit′ roomAt (rootMost g) fourBytes s
         (collapse r (suc l) x .level) N × (under s (suc (collapse r (suc l) x .level)) (the N) ≡ remove k
         (under r (suc (suc l)) (the (c .root)))) × (count (g .pages * n) (live (places s (suc (collapse r (suc l) x .level)) (the N))) ≤
         count (g .pages * n) (live (places r (suc (suc l)) (the (c .root)))))) (sym e)
-        (λ at. let w = delete-collapse N 4294967296 (half g) (rootMost g) r s fit fit′ fit-N (keep g (shape-core g shape) n c (good .r2) 1 free) stays new-N k k-low wide l
+        (λ at. let w = delete-collapse N fourBytes (half g) (rootMost g) r s fit fit′ fit-N (keep g (shape-core g shape) n c (good .r2) 1 free) stays new-N k k-low wide l
         (c .root) h made one′ at in
-        let v = collapse-shifted N 4294967296 (half g) (rootMost g) r s fit fit′ fit-N (keep g (shape-core g shape) n c (good .r2) 1 free) stays new-N k k-low wide l
+        let v = collapse-shifted N fourBytes (half g) (rootMost g) r s fit fit′ fit-N (keep g (shape-core g shape) n c (good .r2) 1 free) stays new-N k k-low wide l
         (c .root) h made one′ at in
-        let q = bottom-fit fit roomAt r k (rootMost g) 4294967296 (suc l) (c .root) k-low (h .rooted) .0 in (
+        let q = bottom-fit fit roomAt r k (rootMost g) fourBytes (suc l) (c .root) k-low (h .rooted) .0 in (
           w .0,
           w .1,
           omega (
@@ -198,14 +199,14 @@ module _ (g : Geometry) (shape : Shape g) (n k : ℕ) (k-low : k < 4294967296) (
         )) at
 
     -- a root above level 1 keeps an entry
-    some-left : (lv : ℕ) → Proper fit roomAt (rootMost g) 4294967296 r lv (c .root) → 1 ≤ lv
+    some-left : (lv : ℕ) → Proper fit roomAt (rootMost g) fourBytes r lv (c .root) → 1 ≤ lv
         → 1 ≤ length (atRoot (removeIn k) (deleted r k N lv) k lv (r (c .root) (suc lv)))
     unfolding atRoot
     some-left zero h i = absurd (omega arith)
     some-left (suc l) h i =
         let ls = r (c .root) (suc (suc l)) in
         let b = h .rooted .least (omega arith) in
-        let w = splice-length (Ok fit roomAt r (suc l)) (deleted r k N (suc l)) k 4294967296 ls (omega (arith, b)) k-low (h .rooted .rises) in
+        let w = splice-length (Ok fit roomAt r (suc l)) (deleted r k N (suc l)) k fourBytes ls (omega (arith, b)) k-low (h .rooted .rises) in
         omega (arith, w, b)
 
     pub delete-done : Done (top .level)

@@ -12,6 +12,7 @@ use Rattle.geometry.specs.declared.Entry.{Entry}
 use Rattle.geometry.specs.Tests.{pick}
 use Rattle.geometry.specs.Geometry.{pageBytes, half, rootMost}
 use Rattle.geometry.specs.Shape.{Shape}
+use Rattle.geometry.specs.Bounds.{fourBytes}
 use Rattle.model.specs.Bytes.{nodeAt}
 use Rattle.model.specs.Count.{count}
 use Rattle.model.specs.Image.{Chip}
@@ -123,26 +124,26 @@ module _ (g : Geometry) (shape : Shape g) (n : ℕ) (v : ℕ) (v-in : v < n) (c 
       (sw .dead (x .page - g .pages * v) (omega (arith, w .0, w .1)))))
       (all-mem (placesOf c))
 
-  rooted : Rooted fitOutside (λ l. 2 * half g l) (rootMost g) 4294967296 (c .nodes) (c .level) (c .root)
-  rooted = rooted-with (fitOf (g .pages * n) (c .er)) (λ l. 2 * half g l) (rootMost g) 4294967296 (c .nodes)
+  rooted : Rooted fitOutside (λ l. 2 * half g l) (rootMost g) fourBytes (c .nodes) (c .level) (c .root)
+  rooted = rooted-with (fitOf (g .pages * n) (c .er)) (λ l. 2 * half g l) (rootMost g) fourBytes (c .nodes)
       (λ l q. 1 ≤ l → inB (g .pages) v q ≡ true → ⊥) (c .level) (c .root) (λ a z. absurd (omega arith)) outside (sw .good .sound .rooted)
 
   pub erased-good : Whole g n c′
   unfolding eraseBlock
   erased-good = record {
     r2 = r2′;
-    sound = sound-same 4294967296 (λ l. 2 * half g l) (rootMost g) (c .nodes) (c′ .nodes) fitOutside
+    sound = sound-same fourBytes (λ l. 2 * half g l) (rootMost g) (c .nodes) (c′ .nodes) fitOutside
         (fitOf (g .pages * n) (c′ .er)) keep same (c .level) (c .root) (record { rooted = rooted; tied = sw .good .sound .tied });
   }
 
   pub erased-pairs : mapOf c′ ≡ mapOf c
   unfolding eraseBlock
-  erased-pairs = pairs-same 4294967296 (λ l. 2 * half g l) (rootMost g) (c .nodes) (c′ .nodes) fitOutside (fitOf (g .pages * n) (c′ .er)) keep same
+  erased-pairs = pairs-same fourBytes (λ l. 2 * half g l) (rootMost g) (c .nodes) (c′ .nodes) fitOutside (fitOf (g .pages * n) (c′ .er)) keep same
       (c .level) (c .root) rooted
 
   pub erased-places : placesOf c′ ≡ placesOf c
   unfolding eraseBlock
-  erased-places = root-places-same 4294967296 (λ l. 2 * half g l) (rootMost g) (c .nodes) (c′ .nodes) fitOutside
+  erased-places = root-places-same fourBytes (λ l. 2 * half g l) (rootMost g) (c .nodes) (c′ .nodes) fitOutside
       (fitOf (g .pages * n) (c′ .er)) keep same
       (c .level) (c .root) rooted
 
@@ -150,7 +151,7 @@ module _ (g : Geometry) (shape : Shape g) (n : ℕ) (v : ℕ) (v-in : v < n) (c 
   unfolding eraseBlock
   erased-alike = same-like g (g .pages * n) (c .er) (c′ .er) (c .seq) (c′ .seq) (c .nodes) (c′ .nodes) (c .level) (c .root) (c .root) (sw .good .sound .rooted)
       (rw (same (c .root) (c .level) (rooted .fits)) (root-like-same 0 0 0 (λ l. 2 * half g l) (c .nodes) (c′ .nodes) fitOutside same
-      (c .level) 4294967296
+      (c .level) fourBytes
       (c .nodes (c .root) (suc (c .level))) (rooted .rises)))
       (λ k q. sought-map g n c′ erased-good k q ∙ ap (find k) erased-pairs ∙ sym (sought-map g n c (sw .good) k q))
 

@@ -12,6 +12,7 @@ use Rattle.geometry.specs.declared.Entry.{Entry}
 use Rattle.geometry.specs.Tests.{pick, bit, and-true, and-left, and-right, and-both}
 use Rattle.geometry.specs.Geometry.{half, rootSlots, rootMost}
 use Rattle.geometry.specs.Shape.{Shape, halved, shape-core}
+use Rattle.geometry.specs.Bounds.{fourBytes}
 use Rattle.model.specs.Count.{count}
 use Rattle.model.specs.Image.{Nodes, Chip, theRoot}
 use Rattle.model.specs.Tree.{gather, under, places, placesOf, live, mapOf, next, chosen, find, sought}
@@ -48,7 +49,7 @@ pub record Fuller (g : Geometry) (m : ℕ) (c e : Chip) : Type 0 where
   pub nodes-are : length (nodesBelow e) + c .level + 1 ≡ length (nodesBelow c) + e .level + m
   pub filled : HalfFull g c → HalfFull g e
 
-module _ (g : Geometry) (shape : Shape g) (n k a : ℕ) (k-low : k < 4294967296) (c : Chip) (good : Whole g n c) where
+module _ (g : Geometry) (shape : Shape g) (n k a : ℕ) (k-low : k < fourBytes) (c : Chip) (good : Whole g n c) where
   abbrev r : Nodes
   r = c .nodes
 
@@ -94,18 +95,18 @@ module _ (g : Geometry) (shape : Shape g) (n k a : ℕ) (k-low : k < 4294967296)
   root-list : lists (suc (c .level)) ≡ rootList
   unfolding insertList
   root-list = onPath-top fit roomAt r k (putIn k a) (λ e. put k a (e ∷ [])) (named k N side (half g)) (put-as k a) (c .level) (theRoot c)
-      ∙ root-is fit roomAt r k (putIn k a) (λ e. put k a (e ∷ [])) (named k N side (half g)) (put-as k a) (c .level) 4294967296 (c .root) k-low some-root
+      ∙ root-is fit roomAt r k (putIn k a) (λ e. put k a (e ∷ [])) (named k N side (half g)) (put-as k a) (c .level) fourBytes (c .root) k-low some-root
       (good .sound .rooted .rises)
 
   pub root-length : length (lists (suc (c .level))) ≡ length es + bit gained
   unfolding under
-  root-length = ap length root-list ∙ root-size k a N side (half g) r fit absent (c .level) 4294967296 es some-root k-low
+  root-length = ap length root-list ∙ root-size k a N side (half g) r fit absent (c .level) fourBytes es some-root k-low
       (good .sound .rooted .rises) absent-is
 
   -- the levels below the root that are too long are 1 to cuts
   pub cut-levels : (j : ℕ) → 1 ≤ j → j ≤ c .level → (roomAt j < length (lists j) → j ≤ cuts) × (j ≤ cuts → roomAt j < length (lists j))
   unfolding insertList
-  cut-levels j b d = splits-are k a N side (half g) r fit absent (c .level) 4294967296 (theRoot c) k-low some-root
+  cut-levels j b d = splits-are k a N side (half g) r fit absent (c .level) fourBytes (theRoot c) k-low some-root
       (good .sound .rooted .rises) absent-is j b d
 
   abbrev grows : Bool
@@ -188,7 +189,7 @@ module _ (g : Geometry) (shape : Shape g) (n k a : ℕ) (k-low : k < 4294967296)
     unfolding insertPart sideList insertList
     made = made-from fit roomAt r k (putIn k a) (λ e. put k a (e ∷ [])) (named k N side (half g)) (put-as k a)
         (λ j d. (s N j ≡ pathPart k (half g) j d) × (roomAt j < length d → (s (side j) j ≡ sideHalf k (half g j) d) × fit′ j (side j) × Cut j))
-        (c .level) 4294967296 (theRoot c) k-low some-root (good .sound .rooted .rises)
+        (c .level) fourBytes (theRoot c) k-low some-root (good .sound .rooted .rises)
         (λ j b d. at j b d _ refl)
       where
         at : (j : ℕ) → 1 ≤ j → j ≤ c .level → (d : List Entry) → lists j ≡ d
@@ -224,12 +225,12 @@ module _ (g : Geometry) (shape : Shape g) (n k a : ℕ) (k-low : k < 4294967296)
     -- the nodes below the root's changed list
     list-nodes : length (gather (places s (c .level)) rootList) ≡ length (nodesBelow c) + cuts
     unfolding under
-    list-nodes = root-nodes k a N 4294967296 side (half g) (rootMost g) r s fit fit′ Cut (λ l. fit-side g (shape-core g shape) n c (good .r2) m free m (suc l)
+    list-nodes = root-nodes k a N fourBytes side (half g) (rootMost g) r s fit fit′ Cut (λ l. fit-side g (shape-core g shape) n c (good .r2) m free m (suc l)
         some-m (omega arith)) tt (keep g (shape-core g shape) n c (good .r2) m free) stays k-low absent (c .level) es some-root (good .sound .rooted .rises)
         absent-is made
 
     list-filled : HalfFull g c → All (Filled (half g) s) (gather (places s (c .level)) rootList)
-    list-filled h = root-filled k a N 4294967296 side (half g) (rootMost g) r s fit fit′ Cut (λ l. fit-side g (shape-core g shape) n c (good .r2) m free m (suc l)
+    list-filled h = root-filled k a N fourBytes side (half g) (rootMost g) r s fit fit′ Cut (λ l. fit-side g (shape-core g shape) n c (good .r2) m free m (suc l)
         some-m (omega arith)) tt (keep g (shape-core g shape) n c (good .r2) m free) stays k-low (c .level) es some-root (good .sound .rooted .rises) h made
 
     -- the page of the leaf that K goes to
@@ -237,7 +238,7 @@ module _ (g : Geometry) (shape : Shape g) (n k a : ℕ) (k-low : k < 4294967296)
     p = bottom r k (c .level) (the (c .root))
 
     p-in : p < g .pages * n
-    p-in = bottom-fit fit roomAt r k (rootMost g) 4294967296 (c .level) (c .root) k-low (good .sound .rooted) .0
+    p-in = bottom-fit fit roomAt r k (rootMost g) fourBytes (c .level) (c .root) k-low (good .sound .rooted) .0
 
     cut-in : (j : ℕ) → Cut j → (1 ≤ j) × (j ≤ m - 1)
     cut-in j h = (h .0, omega (arith, h .1))
@@ -251,11 +252,11 @@ module _ (g : Geometry) (shape : Shape g) (n k a : ℕ) (k-low : k < 4294967296)
     stay small e =
         let here : s N (suc (c .level)) ≡ rootList = at-N (suc (c .level)) (omega arith) high
         ∙ rw (lt-leb (suc (c .level)) (c .level) (omega arith), e, eq-eqb (suc (c .level)) (suc (c .level)) refl) root-list in
-        let w = insert-stay N 4294967296 (half g) (rootMost g) r s fit fit′ (λ l. fit-side g (shape-core g shape) n c (good .r2) m free m (suc l) some-m
+        let w = insert-stay N fourBytes (half g) (rootMost g) r s fit fit′ (λ l. fit-side g (shape-core g shape) n c (good .r2) m free m (suc l) some-m
         (omega arith)) (keep g (shape-core g shape) n c (good .r2) m free) stays (λ l. new-side g (shape-core g shape) n c (good .r2) m free m l some-m (omega arith))
         k a side Cut tt k-low apart inj (λ l j h. new-side g (shape-core g shape) n c (good .r2) m free l j (h .0) (omega (arith, h .1)))
         (c .level) (c .root) (good .sound) made here (rw (← root-list) (stay-most high small e)) in
-        let z = stay-shifted N 4294967296 (half g) (rootMost g) r s fit fit′ (λ l. fit-side g (shape-core g shape) n c (good .r2) m free m (suc l) some-m
+        let z = stay-shifted N fourBytes (half g) (rootMost g) r s fit fit′ (λ l. fit-side g (shape-core g shape) n c (good .r2) m free m (suc l) some-m
         (omega arith)) (keep g (shape-core g shape) n c (good .r2) m free) stays (λ l. new-side g (shape-core g shape) n c (good .r2) m free m l some-m (omega arith))
         k k-low (c .level) (c .root) (good .sound) a (m - 1) side Cut cut-in tt
         (λ l j h. new-side g (shape-core g shape) n c (good .r2) m free l j (h .0) (omega (arith, h .1))) made here in (
@@ -291,12 +292,12 @@ module _ (g : Geometry) (shape : Shape g) (n k a : ℕ) (k-low : k < 4294967296)
         let crown : s N (suc (suc l)) ≡ two k N (side (suc l)) (2 * h) (next rootList 0) rootList =
         at-N (suc (suc l)) (omega arith) (omega (arith, u .0)) ∙ rw (small′, e, ne, eq-eqb (suc (suc l)) (suc (suc l)) refl)
         (ap (λ x. two k N (side (suc l)) (2 * h) (next x 0) x) root-list) in
-        let w = insert-grow N 4294967296 (half g) (rootMost g) r s fit fit′ (λ l. fit-side g (shape-core g shape) n c (good .r2) m free m (suc l) some-m
+        let w = insert-grow N fourBytes (half g) (rootMost g) r s fit fit′ (λ l. fit-side g (shape-core g shape) n c (good .r2) m free m (suc l) some-m
         (omega arith)) (keep g (shape-core g shape) n c (good .r2) m free) stays (λ l. new-side g (shape-core g shape) n c (good .r2) m free m l some-m (omega arith))
         k a side Cut tt k-low apart inj (λ l j h. new-side g (shape-core g shape) n c (good .r2) m free l j (h .0) (omega (arith, h .1)))
         l (c .root) (good .sound) made (path, other, fit-side g (shape-core g shape) n c (good .r2) m free (suc l) (suc l) (omega arith) (omega (arith, lt)))
         (omega arith, lt) crown (sym (ap length root-list) ∙ u .1) (two-root (u .0)) in
-        let z = grow-shifted N 4294967296 (half g) (rootMost g) r s fit fit′ (λ l. fit-side g (shape-core g shape) n c (good .r2) m free m (suc l) some-m
+        let z = grow-shifted N fourBytes (half g) (rootMost g) r s fit fit′ (λ l. fit-side g (shape-core g shape) n c (good .r2) m free m (suc l) some-m
         (omega arith)) (keep g (shape-core g shape) n c (good .r2) m free) stays (λ l. new-side g (shape-core g shape) n c (good .r2) m free m l some-m (omega arith))
         k k-low l (c .root) (good .sound) a (m - 1) side Cut cut-in tt
         (λ l j h. new-side g (shape-core g shape) n c (good .r2) m free l j (h .0) (omega (arith, h .1))) made
@@ -312,12 +313,12 @@ module _ (g : Geometry) (shape : Shape g) (n k a : ℕ) (k-low : k < 4294967296)
           ),
           record {
             nodes-are = (let x = ap (λ (d : List Entry). length (gather (places s (suc l)) d)) crown in
-                let y = two-nodes k a N 4294967296 side (half g) (rootMost g) r s fit fit′ Cut (λ l. fit-side g (shape-core g shape) n c (good .r2) m free m (suc l)
+                let y = two-nodes k a N fourBytes side (half g) (rootMost g) r s fit fit′ Cut (λ l. fit-side g (shape-core g shape) n c (good .r2) m free m (suc l)
                 some-m (omega arith)) tt (keep g (shape-core g shape) n c (good .r2) m free) stays k-low l (2 * h) (next rootList 0) rootList
                 (path, other, fit-side g (shape-core g shape) n c (good .r2) m free (suc l) (suc l) (omega arith) (omega (arith, lt))) in
                 omega (arith, x, y, list-nodes, needs-is, ap bit e));
             filled = λ f. subst (λ (d : List Entry). All (Filled (half g) s) (gather (places s (suc l)) d)) (sym crown)
-                (grown-filled k a N 4294967296 side (half g) (rootMost g) r s fit fit′ Cut (λ l. fit-side g (shape-core g shape) n c (good .r2) m free m (suc l)
+                (grown-filled k a N fourBytes side (half g) (rootMost g) r s fit fit′ Cut (λ l. fit-side g (shape-core g shape) n c (good .r2) m free m (suc l)
                 some-m (omega arith)) tt (keep g (shape-core g shape) n c (good .r2) m free) stays k-low l rootList
                 (path, other, fit-side g (shape-core g shape) n c (good .r2) m free (suc l) (suc l) (omega arith) (omega (arith, lt)))
                 (sym (ap length root-list) ∙ u .1) (next rootList 0) (list-filled f));

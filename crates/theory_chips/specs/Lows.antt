@@ -7,6 +7,7 @@ use mathlib.Core.Bool.{true}
 use Rattle.geometry.specs.declared.Geometry.{Geometry}
 use Rattle.geometry.specs.Geometry.{half, rootMost}
 use Rattle.geometry.specs.Shape.{Shape}
+use Rattle.geometry.specs.Bounds.{fourBytes}
 use Rattle.model.specs.Count.{count}
 use Rattle.model.specs.Image.{Chip, theRoot}
 use Rattle.model.specs.Tree.{Place, placesOf, live, lowLevel}
@@ -29,7 +30,7 @@ module _ (g : Geometry) (shape : Shape g) (n : ℕ) (c : Chip) (good : Whole g n
 
   pub low-moved : Lowered new (lowLevel (placesOf c) p) (placesOf c) (movePath c p) (placesOf (moveTo (g .pages * n) c p new))
   unfolding moveTo
-  low-moved = lowered p (lowLevel (placesOf c) p) new 4294967296 (half g) (rootMost g) (c .nodes) (moveTo (g .pages * n) c p new .nodes)
+  low-moved = lowered p (lowLevel (placesOf c) p) new fourBytes (half g) (rootMost g) (c .nodes) (moveTo (g .pages * n) c p new .nodes)
       (fitOf (g .pages * n) (c .er)) (fitOf (g .pages * n) (after new (c .er))) (fit-new g shape n c good p alive free)
       (keep g shape n c good p alive free) (stays g shape n c good p alive free) (λ l h. not-new g shape n c good p alive free new l h refl)
       (c .level) (c .root) (good .sound) (low g shape n c good p alive free .0) (low g shape n c good p alive free .1)

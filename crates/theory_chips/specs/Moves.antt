@@ -12,6 +12,7 @@ use Rattle.geometry.specs.declared.Entry.{Entry}
 use Rattle.geometry.specs.Tests.{pick, bit}
 use Rattle.geometry.specs.Geometry.{half, rootMost}
 use Rattle.geometry.specs.Shape.{Shape, shape-core}
+use Rattle.geometry.specs.Bounds.{fourBytes}
 use Rattle.model.specs.Count.{count, peak}
 use Rattle.model.specs.Image.{Chip, theRoot}
 use Rattle.model.specs.Tree.{mapOf, placesOf, live, lowLevel, next, chosen, find}
@@ -97,9 +98,9 @@ module _ (g : Geometry) (shape : Shape g) (n : ℕ) (c : Chip) (good : Whole g n
   abbrev fit : ℕ → ℕ → Type 0
   fit = fitOf (g .pages * n) (c .er)
 
-  pub k-low : k < 4294967296
-  k-low = all-get (λ x. next (c .nodes (x .page) (x .level)) 0 < 4294967296) (record { page = p; level = a }) (placesOf c)
-      (root-first fit (λ l. 2 * half g l) (rootMost g) (c .nodes) (c .level) (c .root) 4294967296 (omega arith) (good .sound .rooted)) (low .0)
+  pub k-low : k < fourBytes
+  k-low = all-get (λ x. next (c .nodes (x .page) (x .level)) 0 < fourBytes) (record { page = p; level = a }) (placesOf c)
+      (root-first fit (λ l. 2 * half g l) (rootMost g) (c .nodes) (c .level) (c .root) fourBytes (omega arith) (good .sound .rooted)) (low .0)
 
   some-root : 1 ≤ c .level → 0 < length es
   some-root i = let z = good .sound .rooted .least i in omega (arith, z)
@@ -107,7 +108,7 @@ module _ (g : Geometry) (shape : Shape g) (n : ℕ) (c : Chip) (good : Whole g n
   pub made : MoveMade (c .nodes) (c′ .nodes) k a new (c .level) (chosen k es)
   unfolding movePart
   made = made-from fit (λ l. 2 * half g l) (c .nodes) k same (λ e. e ∷ []) (renamed a new) (same-as k) (λ j d. a ≤ j → c′ .nodes new j ≡ d)
-      (c .level) 4294967296 (theRoot c) k-low some-root (good .sound .rooted .rises)
+      (c .level) fourBytes (theRoot c) k-low some-root (good .sound .rooted .rises)
       (λ j b d w. on-new j ∙ rw (le-leb a j w) refl)
 
   a-in : a ≤ suc (c .level)
@@ -118,16 +119,16 @@ module _ (g : Geometry) (shape : Shape g) (n : ℕ) (c : Chip) (good : Whole g n
   unfolding movePart
   at-root = on-new (suc (c .level)) ∙ rw (le-leb a (suc (c .level)) a-in)
       (onPath-top fit (λ l. 2 * half g l) (c .nodes) k same (λ e. e ∷ []) (renamed a new) (same-as k) (c .level) (theRoot c)
-      ∙ root-is fit (λ l. 2 * half g l) (c .nodes) k same (λ e. e ∷ []) (renamed a new) (same-as k) (c .level) 4294967296 (c .root) k-low some-root
+      ∙ root-is fit (λ l. 2 * half g l) (c .nodes) k same (λ e. e ∷ []) (renamed a new) (same-as k) (c .level) fourBytes (c .root) k-low some-root
       (good .sound .rooted .rises)
       ∙ same-root (c .nodes) k (renamed a new) (c .level) es)
 
   pub fit-new : (l : ℕ) → fitOf (g .pages * n) (after new (c .er)) (suc l) new
   fit-new l = (new-in, rw (eq-eqb new new refl) refl)
 
-  the-move : Moved p (lowLevel (placesOf c) p) new 4294967296 (half g) (rootMost g) (c .nodes) (c′ .nodes) (fitOf (g .pages * n) (c .er))
+  the-move : Moved p (lowLevel (placesOf c) p) new fourBytes (half g) (rootMost g) (c .nodes) (c′ .nodes) (fitOf (g .pages * n) (c .er))
       (fitOf (g .pages * n) (after new (c .er))) fit-new keep stays (λ l h. not-new new l h refl) (c .level) (c .root) (good .sound) (low .0) (low .1)
-  the-move = move-sound p (lowLevel (placesOf c) p) new 4294967296 (half g) (rootMost g) (c .nodes) (c′ .nodes) (fitOf (g .pages * n) (c .er))
+  the-move = move-sound p (lowLevel (placesOf c) p) new fourBytes (half g) (rootMost g) (c .nodes) (c′ .nodes) (fitOf (g .pages * n) (c .er))
       (fitOf (g .pages * n) (after new (c .er))) fit-new keep stays (λ l h. not-new new l h refl) (c .level) (c .root) (good .sound) (low .0)
       (low .1) made at-root
 
@@ -153,13 +154,13 @@ module _ (g : Geometry) (shape : Shape g) (n : ℕ) (c : Chip) (good : Whole g n
       alike′ : Same g c c′
       alike′ = same-like g (g .pages * n) (c .er) (c′ .er) (c .seq) (c′ .seq) (c .nodes) (c′ .nodes) (c .level) (c .root) new (good .sound .rooted)
           (subst (λ m. Likes (Like (c .nodes) (c′ .nodes) (c .level)) es m) (sym at-root)
-          (move-root-like k a new (λ l. 2 * half g l) (c .nodes) (c′ .nodes) fit stays (c .level) 4294967296 es k-low
+          (move-root-like k a new (λ l. 2 * half g l) (c .nodes) (c′ .nodes) fit stays (c .level) fourBytes es k-low
           (good .sound .rooted .rises) made))
           (λ k q. sought-map g n c′ good′ k q ∙ ap (find k) (the-move .pairs-are) ∙ sym (sought-map g n c good k q))
 
       old-p : (p < g .pages * n) × (c .er p ≡ false)
       old-p = let z = all-get (λ x. (1 ≤ x .level) × fitOf (g .pages * n) (c .er) (x .level) (x .page))
           (record { page = p; level = lowLevel (placesOf c) p }) (placesOf c)
-          (root-fit (fitOf (g .pages * n) (c .er)) (λ l. 2 * half g l) (rootMost g) (c .nodes) (c .level) (c .root) 4294967296 (good .sound .rooted))
+          (root-fit (fitOf (g .pages * n) (c .er)) (λ l. 2 * half g l) (rootMost g) (c .nodes) (c .level) (c .root) fourBytes (good .sound .rooted))
           (low .0) in
           fit-page (g .pages * n) (c .er) (lowLevel (placesOf c) p) p (z .0) (z .1)

@@ -12,6 +12,7 @@ use Rattle.geometry.specs.declared.Entry.{Entry}
 use Rattle.geometry.specs.Tests.{pick, and-true, and-false, and-none}
 use Rattle.geometry.specs.Geometry.{half, rootMost}
 use Rattle.geometry.specs.Shape.{Core}
+use Rattle.geometry.specs.Bounds.{fourBytes}
 use Rattle.model.specs.Count.{count}
 use Rattle.model.specs.Image.{Nodes, Chip, theRoot}
 use Rattle.model.specs.Tree.{under, mapOf, next, chosen, sought}
@@ -52,7 +53,7 @@ collapse-falls r (suc l) [] i one = absurd (omega (arith, one))
 collapse-falls r (suc l) (x ∷ []) i one = let w = collapse-low r l (r (x .addr) (suc l)) in omega (arith, w)
 collapse-falls r (suc l) (x ∷ y ∷ cs) i one = absurd (omega (arith, one))
 
-module _ (g : Geometry) (core : Core g) (n k : ℕ) (k-low : k < 4294967296) (c : Chip) (good : Whole g n c)
+module _ (g : Geometry) (core : Core g) (n k : ℕ) (k-low : k < fourBytes) (c : Chip) (good : Whole g n c)
     (present : isNone (sought c k) ≡ false) where
   abbrev r : Nodes
   r = c .nodes
@@ -84,7 +85,7 @@ module _ (g : Geometry) (core : Core g) (n k : ℕ) (k-low : k < 4294967296) (c 
   root-list : lists (suc (c .level)) ≡ rootList
   unfolding plainLess
   root-list = onPath-top fit roomAt r k (removeIn k) (λ e. remove k (e ∷ [])) (keptOn P) (remove-as k) (c .level) (theRoot c)
-      ∙ root-is fit roomAt r k (removeIn k) (λ e. remove k (e ∷ [])) (keptOn P) (remove-as k) (c .level) 4294967296 (c .root) k-low (λ _. some-root)
+      ∙ root-is fit roomAt r k (removeIn k) (λ e. remove k (e ∷ [])) (keptOn P) (remove-as k) (c .level) fourBytes (c .root) k-low (λ _. some-root)
       (good .sound .rooted .rises)
 
   -- the emptied levels, counted with other pages, are those of these lists
@@ -101,7 +102,7 @@ module _ (g : Geometry) (core : Core g) (n k : ℕ) (k-low : k < 4294967296) (c 
   unfolding plainLess
   left-high j b d h =
       let w = count-tail (j - 1) (c .level) (λ i. noneLeft (lists (suc i))) (λ i x y. some-left (lists (suc i)) (left-above fit roomAt r k P
-      (c .level) 4294967296 (theRoot c) k-low (λ _. some-root) (good .sound .rooted .rises) (suc i) j b (omega (arith, x)) (omega (arith, y)) h)) in
+      (c .level) fourBytes (theRoot c) k-low (λ _. some-root) (good .sound .rooted .rises) (suc i) j b (omega (arith, x)) (omega (arith, y)) h)) in
       omega (arith, w, emptied-is, b)
 
   -- one entry is left of a root above level 1: all below are emptied
@@ -113,7 +114,7 @@ module _ (g : Geometry) (core : Core g) (n k : ℕ) (k-low : k < 4294967296) (c 
         arith,
         one,
         good .sound .rooted .least i,
-        above-left fit roomAt r k P (c .level) 4294967296 (theRoot c) k-low (λ _. some-root) (good .sound .rooted .rises) (suc j)
+        above-left fit roomAt r k P (c .level) fourBytes (theRoot c) k-low (λ _. some-root) (good .sound .rooted .rises) (suc j)
             (omega arith) (omega (arith, b)) (left-some (lists (suc j)) z),
       ))))
       ∙ count-all (c .level)
@@ -179,14 +180,14 @@ module _ (g : Geometry) (core : Core g) (n k : ℕ) (k-low : k < 4294967296) (c 
       made : KeptMade r s k P fit′ N (c .level) (chosen k es)
       unfolding plainLess
       made = made-from fit roomAt r k (removeIn k) (λ e. remove k (e ∷ [])) (keptOn P) (remove-as k) (λ j d. KeptHeld P s fit′ N j (theRoot c) d) (c .level)
-          4294967296 (theRoot c) k-low (λ _. some-root) (good .sound .rooted .rises)
+          fourBytes (theRoot c) k-low (λ _. some-root) (good .sound .rooted .rises)
           (λ j b d h. let x : N j (P j) = (left-high j b d h, omega (arith, d), refl) in (at j b d h, fits j j (P j) x, x))
 
       pub less : (1 ≤ c .level → 2 ≤ length (lists (suc (c .level)))) → Done (c .level) (P (suc (c .level)))
       less b =
           let l = c .level in
           let nn : N (suc l) (P (suc l)) = (omega (arith, emptied-low), omega arith, refl) in
-          let w = plain-less k P 4294967296 (half g) (rootMost g) r s fit fit′ N (keep g core n c (good .r2) m free) stays k-low alone fresh l (c .root)
+          let w = plain-less k P fourBytes (half g) (rootMost g) r s fit fit′ N (keep g core n c (good .r2) m free) stays k-low alone fresh l (c .root)
           (good .sound) made (at-root ∙ root-list) (fits (suc l) (suc l) (P (suc l)) nn) nn
           (λ i. let z = b i in let u = ap length root-list in omega (arith, z, u)) in
           (record { r2 = after-r2; sound = w .0 }, w .1)
@@ -195,31 +196,31 @@ module _ (g : Geometry) (core : Core g) (n k : ℕ) (k-low : k < 4294967296) (c 
     wide j = let z = core .fits j in let w = core .even j in omega (arith, z, w)
 
     -- one entry is left of a root above level 1: the new root, an old list, stands on q
-    drop : (lv : ℕ) (xs : List Entry) → Proper fit roomAt (rootMost g) 4294967296 r lv (c .root)
+    drop : (lv : ℕ) (xs : List Entry) → Proper fit roomAt (rootMost g) fourBytes r lv (c .root)
         → xs ≡ atRoot (removeIn k) (deletedOn r k P lv) k lv (r (c .root) (suc lv)) → 1 ≤ lv → length xs ≡ 1
         → Coming 0 (P (suc (collapse r lv xs .level))) → s (P (suc (collapse r lv xs .level))) (suc (collapse r lv xs .level)) ≡ collapse r lv xs .list
-        → Proper fit′ roomAt (rootMost g) 4294967296 s (collapse r lv xs .level) (P (suc (collapse r lv xs .level))) ×
+        → Proper fit′ roomAt (rootMost g) fourBytes s (collapse r lv xs .level) (P (suc (collapse r lv xs .level))) ×
         (under s (suc (collapse r lv xs .level)) (the (P (suc (collapse r lv xs .level)))) ≡ remove k (under r (suc lv) (the (c .root))))
     unfolding atRoot
     drop zero xs h e i one = absurd (omega (arith, i))
     drop (suc l) xs h e i one =
         let ls = r (c .root) (suc (suc l)) in
         let b = h .rooted .least (omega arith) in
-        let sp = split (Ok fit roomAt r (suc l)) k 4294967296 ls (omega (arith, b)) k-low (h .rooted .rises) in
-        let w = splice-length (Ok fit roomAt r (suc l)) (deletedOn r k P (suc l)) k 4294967296 ls (omega (arith, b)) k-low (h .rooted .rises) in
+        let sp = split (Ok fit roomAt r (suc l)) k fourBytes ls (omega (arith, b)) k-low (h .rooted .rises) in
+        let w = splice-length (Ok fit roomAt r (suc l)) (deletedOn r k P (suc l)) k fourBytes ls (omega (arith, b)) k-low (h .rooted .rises) in
         let z = ap length e in
         let t = collapse r (suc l) (atRoot (removeIn k) (deletedOn r k P (suc l)) k (suc l) ls) in
         let N : ℕ → ℕ → Type 0 = λ l q. (l ≡ suc (t .level)) × Coming 0 q in
         let made : KeptMade r s k P fit′ N (suc l) (chosen k ls) = none-held k P (half g) r fit (KeptHeld P s fit′ N)
-        (λ l e c i j. absurd (omega (arith, i, j))) (suc l) (next (sp .post) 4294967296) (chosen k ls) (sp .under) (sp .here)
+        (λ l e c i j. absurd (omega (arith, i, j))) (suc l) (next (sp .post) fourBytes) (chosen k ls) (sp .under) (sp .here)
         (none-left (deletedOn r k P (suc l) (chosen k ls)) (omega (arith, w, z, one, b))) in
         let one′ : length (atRoot (removeIn k) (deletedOn r k P (suc l)) k (suc l) ls) ≡ 1 = omega (arith, z, one) in
         subst (λ (x : List Entry). Coming 0 (P (suc (collapse r (suc l) x .level)))
         → s (P (suc (collapse r (suc l) x .level))) (suc (collapse r (suc l) x .level)) ≡ collapse r (suc l) x .list
-        → Proper fit′ roomAt (rootMost g) 4294967296 s (collapse r (suc l) x .level) (P (suc (collapse r (suc l) x .level))) ×
+        → Proper fit′ roomAt (rootMost g) fourBytes s (collapse r (suc l) x .level) (P (suc (collapse r (suc l) x .level))) ×
         (under s (suc (collapse r (suc l) x .level)) (the (P (suc (collapse r (suc l) x .level)))) ≡ remove k (under r (suc (suc l)) (the (c .root)))))
         (sym e)
-        (λ first at. plain-collapse k P 4294967296 (half g) (rootMost g) r s fit fit′ N (keep g core n c (good .r2) m free) stays k-low
+        (λ first at. plain-collapse k P fourBytes (half g) (rootMost g) r s fit fit′ N (keep g core n c (good .r2) m free) stays k-low
         (λ i j p x y. x .0 ∙ sym (y .0)) (λ i l q x. coming-new 0 l q (x .1)) wide l (c .root) h made one′ at
         (coming-fits 0 (suc (t .level)) (P (suc (t .level))) first) (refl, first))
 
@@ -261,7 +262,7 @@ module _ (g : Geometry) (core : Core g) (n k : ℕ) (k-low : k < 4294967296) (c 
   unfolding plainLess
   empties j b d = (
     (λ t. let w = count-head j (c .level) (λ i. noneLeft (lists (suc i))) d (λ i x. by-test (noneLeft (lists (suc i))) (λ z. z)
-        (λ z. absurd (true-false (noneLeft (lists j)) t (some-left (lists j) (left-above fit roomAt r k P (c .level) 4294967296 (theRoot c) k-low
+        (λ z. absurd (true-false (noneLeft (lists j)) t (some-left (lists j) (left-above fit roomAt r k P (c .level) fourBytes (theRoot c) k-low
         (λ _. some-root) (good .sound .rooted .rises) j (suc i) (omega arith) (omega (arith, x)) d (left-some (lists (suc i)) z)))))) in
         omega (arith, w, emptied-is)),
     (λ h. by-test (noneLeft (lists j)) (λ z. z) (λ z. absurd (let w = left-high j b d (left-some (lists j) z) in omega (arith, w, h)))),
@@ -275,14 +276,14 @@ module _ (g : Geometry) (core : Core g) (n k : ℕ) (k-low : k < 4294967296) (c 
       omega (arith, e, w, kept-count, emptied-low)
 
   -- a root above level 1 keeps an entry
-  root-left : (lv : ℕ) → Proper fit roomAt (rootMost g) 4294967296 r lv (c .root) → 1 ≤ lv
+  root-left : (lv : ℕ) → Proper fit roomAt (rootMost g) fourBytes r lv (c .root) → 1 ≤ lv
       → 1 ≤ length (atRoot (removeIn k) (deletedOn r k P lv) k lv (r (c .root) (suc lv)))
   unfolding atRoot
   root-left zero h i = absurd (omega (arith, i))
   root-left (suc l) h i =
       let ls = r (c .root) (suc (suc l)) in
       let b = h .rooted .least (omega arith) in
-      let w = splice-length (Ok fit roomAt r (suc l)) (deletedOn r k P (suc l)) k 4294967296 ls (omega (arith, b)) k-low (h .rooted .rises) in
+      let w = splice-length (Ok fit roomAt r (suc l)) (deletedOn r k P (suc l)) k fourBytes ls (omega (arith, b)) k-low (h .rooted .rises) in
       omega (arith, w, b)
 
   -- the root stays, or one entry is left of it

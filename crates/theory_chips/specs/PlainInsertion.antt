@@ -12,6 +12,7 @@ use Rattle.geometry.specs.declared.Entry.{Entry}
 use Rattle.geometry.specs.Tests.{bit, and-left, and-right, and-both}
 use Rattle.geometry.specs.Geometry.{half, rootMost}
 use Rattle.geometry.specs.Shape.{Core}
+use Rattle.geometry.specs.Bounds.{fourBytes}
 use Rattle.model.specs.Count.{count}
 use Rattle.model.specs.Image.{Nodes, Chip, theRoot}
 use Rattle.model.specs.Tree.{under, mapOf, next, chosen, find, sought}
@@ -36,7 +37,7 @@ use Rattle.theory_chips.specs.PlainPlans.{noPlan, planAt, at-right, Cut,
 abbrev pub insertPages : Geometry → Chip → ℕ → ℕ
 insertPages g c k = suc (c .level) + plainCuts g c k + bit (plainGrows g c k)
 
-module _ (g : Geometry) (core : Core g) (n k a : ℕ) (k-low : k < 4294967296) (c : Chip) (good : Whole g n c)
+module _ (g : Geometry) (core : Core g) (n k a : ℕ) (k-low : k < fourBytes) (c : Chip) (good : Whole g n c)
     (narrow : rootMost g (suc (c .level)) ≡ 2 * half g (suc (c .level))) (some-half : 1 ≤ half g (suc (c .level)))
     (two-most : 2 ≤ rootMost g (suc (suc (c .level)))) where
   abbrev r : Nodes
@@ -87,12 +88,12 @@ module _ (g : Geometry) (core : Core g) (n k a : ℕ) (k-low : k < 4294967296) (
   pub root-list : lists (suc (c .level)) ≡ rootList
   unfolding plainList
   root-list = onPath-top fit roomAt r k (putIn k a) (λ e. put k a (e ∷ [])) (renewed k L R (half g)) (put-as k a) (c .level) (theRoot c)
-      ∙ root-is fit roomAt r k (putIn k a) (λ e. put k a (e ∷ [])) (renewed k L R (half g)) (put-as k a) (c .level) 4294967296 (c .root) k-low some-root
+      ∙ root-is fit roomAt r k (putIn k a) (λ e. put k a (e ∷ [])) (renewed k L R (half g)) (put-as k a) (c .level) fourBytes (c .root) k-low some-root
       (good .sound .rooted .rises)
 
   root-length : length rootList ≡ length es + bit gained
   unfolding under
-  root-length = root-size k a L (λ l _. L l) (λ l _. R l) (half g) r fit absent (c .level) 4294967296 es some-root k-low
+  root-length = root-size k a L (λ l _. L l) (λ l _. R l) (half g) r fit absent (c .level) fourBytes es some-root k-low
       (good .sound .rooted .rises) absent-is
 
   -- the root splits exactly if it would hold one entry too many
@@ -123,7 +124,7 @@ module _ (g : Geometry) (core : Core g) (n k a : ℕ) (k-low : k < 4294967296) (
   pub cut-levels : (j : ℕ) → 1 ≤ j → j ≤ suc (c .level) → Cut g lists cuts j
   unfolding plainList plainCuts plainGrows splits gains
   cut-levels j b d = by-le j (c .level)
-      (λ q. let w = splits-are k a L (λ l _. L l) (λ l _. R l) (half g) r fit absent (c .level) 4294967296 (theRoot c) k-low some-root
+      (λ q. let w = splits-are k a L (λ l _. L l) (λ l _. R l) (half g) r fit absent (c .level) fourBytes (theRoot c) k-low some-root
       (good .sound .rooted .rises) absent-is j b q in (
         (λ h. let x = w .0 h in omega (arith, x)),
         (λ h. w .1 (by-test grows
@@ -207,7 +208,7 @@ module _ (g : Geometry) (core : Core g) (n k a : ℕ) (k-low : k < 4294967296) (
     made : RenewMade r s k a L R (half g) fit′ N (c .level) (chosen k es)
     unfolding plainList
     made = made-from fit roomAt r k (putIn k a) (λ e. put k a (e ∷ [])) (renewed k L R (half g)) (put-as k a)
-        (λ j d. RenewHeld L R (half g) s fit′ N j (theRoot c) d) (c .level) 4294967296 (theRoot c) k-low some-root (good .sound .rooted .rises)
+        (λ j d. RenewHeld L R (half g) s fit′ N j (theRoot c) d) (c .level) fourBytes (theRoot c) k-low some-root (good .sound .rooted .rises)
         (λ j b d. let x = new-left j b (omega (arith, d)) in (
           (λ h. (whole j b (omega (arith, d)) h, fits j j (L j) x, x)),
           (λ h. let y : N j (R j) = (b, omega (arith, d), inr (cut-level j b d h, refl)) in let z = halves j b (omega (arith, d)) h in
@@ -227,7 +228,7 @@ module _ (g : Geometry) (core : Core g) (n k a : ℕ) (k-low : k < 4294967296) (
         let nn = new-left (suc l) (omega arith) (omega arith) in
         let here : s (L (suc l)) (suc l) ≡ rootList = whole (suc l) (omega arith) (omega arith) (let w = ap length root-list in omega (arith, w, short))
         ∙ root-list in
-        let w = plain-stay k a 4294967296 L R (half g) (rootMost g) r s fit fit′ N tt (keep g core n c (good .r2) m free) stays k-low alone fresh l (c .root) (L (suc l)) (good .sound)
+        let w = plain-stay k a fourBytes L R (half g) (rootMost g) r s fit fit′ N tt (keep g core n c (good .r2) m free) stays k-low alone fresh l (c .root) (L (suc l)) (good .sound)
         made here (fits (suc l) (suc l) (L (suc l)) nn) nn (omega (arith, short, narrow)) in
         (record { r2 = after-r2; sound = w .0 }, w .1)
 
@@ -243,7 +244,7 @@ module _ (g : Geometry) (core : Core g) (n k a : ℕ) (k-low : k < 4294967296) (
         let nn = new-left (suc (suc l)) (omega arith) (omega (arith, ap bit e)) in
         let cr : s (L (suc (suc l))) (suc (suc l)) ≡ both (L (suc l)) (R (suc l)) h (next rootList 0) rootList =
         crown e ∙ ap (λ x. both (L (suc l)) (R (suc l)) h (next x 0) x) root-list in
-        let w = plain-grow k a 4294967296 L R (half g) (rootMost g) r s fit fit′ N tt (keep g core n c (good .r2) m free) stays k-low alone fresh l (c .root) (L (suc (suc l)))
+        let w = plain-grow k a fourBytes L R (half g) (rootMost g) r s fit fit′ N tt (keep g core n c (good .r2) m free) stays k-low alone fresh l (c .root) (L (suc (suc l)))
         (L (suc l)) (R (suc l)) (good .sound) made
         (hs .0 ∙ ap (take h) root-list, hs .1 ∙ ap (drop h) root-list, fits (suc l) (suc l) (L (suc l)) nx, fits (suc l) (suc l) (R (suc l)) ny) nx ny
         cr (fits (suc (suc l)) (suc (suc l)) (L (suc (suc l))) nn) nn some-half (omega (arith, long)) (omega (arith, long, some-half)) two-most in

@@ -11,6 +11,7 @@ use Rattle.geometry.specs.declared.Entry.{Entry}
 use Rattle.geometry.specs.Tests.{bit, _&_}
 use Rattle.geometry.specs.Geometry.{half, rootMost}
 use Rattle.geometry.specs.Shape.{Core}
+use Rattle.geometry.specs.Bounds.{fourBytes}
 use Rattle.model.specs.Image.{Nodes, Chip, theRoot}
 use Rattle.model.specs.Tree.{chosen, sought}
 use Rattle.model.specs.Stores.{programs}
@@ -51,7 +52,7 @@ laid-programs g n c seq i [] = refl
 laid-programs g n c seq i (x ∷ []) = refl
 laid-programs g n c seq i (x ∷ y ∷ ps) = let h = laid-programs g n c seq (suc i) (y ∷ ps) in omega (arith, h)
 
-pub present-programs : (g : Geometry) → Core g → (n k a : ℕ) → k < 4294967296 → (c : Chip) → Whole g n c
+pub present-programs : (g : Geometry) → Core g → (n k a : ℕ) → k < fourBytes → (c : Chip) → Whole g n c
     → rootMost g (suc (c .level)) ≡ 2 * half g (suc (c .level)) → 1 ≤ half g (suc (c .level)) → 2 ≤ rootMost g (suc (suc (c .level)))
     → isNone (sought c k) ≡ false → (seq : ℕ) → programs (laid g n c seq 0 (insertPlans g n c k a)) ≡ suc (c .level)
 present-programs g core n k a k-low c good narrow some two present seq = laid-programs g n c seq 0 (insertPlans g n c k a)

@@ -9,6 +9,7 @@ use lib.Seq.{take-append-le}
 use Rattle.geometry.specs.declared.Geometry.{Geometry}
 use Rattle.geometry.specs.declared.Entry.{Entry}
 use Rattle.geometry.specs.Shape.{Shape, shape-core}
+use Rattle.geometry.specs.Bounds.{fourBytes}
 use Rattle.model.specs.Image.{blocksOf, pagesOf, Chip, chipOf}
 use Rattle.model.specs.Tree.{mapOf}
 use Rattle.model.specs.Rules.{verdict}
@@ -32,7 +33,7 @@ module _ (g : Geometry) (shape : Shape g) (img : List ℕ) (ready : Ready g img)
   pub blocks : Blocks g img
   blocks = good-blocks g img (ready .length-good)
 
-  pub few : pagesOf g n + g .pages < 4294967296
+  pub few : pagesOf g n + g .pages < fourBytes
   few = few-pages g (shape-core g shape) n (blocks .most)
 
   pub some-pages : 1 ≤ pagesOf g n
@@ -43,7 +44,7 @@ module _ (g : Geometry) (shape : Shape g) (img : List ℕ) (ready : Ready g img)
       record { held = z .0; r7 = z .1; r8 = z .2; map-is = refl }
 
   -- the map's keys rise
-  pub ready-rises : Rises (λ y x. Unit {0}) 4294967296 (mapAt g img)
+  pub ready-rises : Rises (λ y x. Unit {0}) fourBytes (mapAt g img)
   ready-rises = map-rises g n (chipOf g n img) (ready-keeps .held .whole)
 
   -- an image of the same length

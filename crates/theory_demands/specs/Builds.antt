@@ -14,6 +14,7 @@ use Rattle.geometry.specs.declared.Entry.{Entry}
 use Rattle.geometry.specs.Tests.{_&_, bit, and-true, and-false}
 use Rattle.geometry.specs.Geometry.{half, rootSlots}
 use Rattle.geometry.specs.Shape.{Shape, shape-core}
+use Rattle.geometry.specs.Bounds.{fourBytes}
 use Rattle.model.specs.Bytes.{byteAt}
 use Rattle.model.specs.Image.{blocksOf, goodLength, pagesOf, maxSeq, Chip, chipOf}
 use Rattle.model.specs.Tree.{mapOf, livePages, chosen, find, sought}
@@ -47,7 +48,7 @@ stores-length (erase b ∷ ss) = omega (arith, stores-length ss)
 abbrev pub storesMost : Geometry → ℕ
 storesMost g = programmedMost g + erasedMost g
 
-module _ (g : Geometry) (shape : Shape g) (img : List ℕ) (ready : Ready g img) (k : ℕ) (k-low : k < 4294967296) where
+module _ (g : Geometry) (shape : Shape g) (img : List ℕ) (ready : Ready g img) (k : ℕ) (k-low : k < fourBytes) where
   abbrev n : ℕ
   n = blocksOf g img
 
@@ -60,7 +61,7 @@ module _ (g : Geometry) (shape : Shape g) (img : List ℕ) (ready : Ready g img)
   enough ss al p e h = rw (le-leb (length ss) al (omega (arith, stores-length ss, p, e, h))) refl
 
   -- with room and enough stores allowed an insertion is DONE; ROOM looks at live pages alone, so dead ones are used again
-  pub insert-finishes : (a al : ℕ) → a < 4294967296 → storesMost g ≤ al → worn g n img ≡ false → tooHigh g c k ≡ false
+  pub insert-finishes : (a al : ℕ) → a < fourBytes → storesMost g ≤ al → worn g n img ≡ false → tooHigh g c k ≡ false
       → roomless g (freePages g n c) (needs g c k) ≡ false → insert g img k a al .answer ≡ 0
   insert-finishes a al a-low h x y z =
       let ss = insertStores g n img k a in
@@ -113,7 +114,7 @@ module _ (g : Geometry) (shape : Shape g) (some-worn : 1 ≤ g .worn) (img : Lis
   pub format-holds : Holds g [] new
   format-holds = record { ready = new-ready; map-is = ap (λ m. mapOf (chipOf g m new)) new-blocks ∙ keeps-new .map-is }
 
-  module _ (k a al : ℕ) (k-low : k < 4294967296) (a-low : a < 4294967296) (allowed : storesMost g ≤ al) where
+  module _ (k a al : ℕ) (k-low : k < fourBytes) (a-low : a < fourBytes) (allowed : storesMost g ≤ al) where
     -- a lookup answers ABSENT
     pub first-lookup : lookup g new k ≡ refused 4 new
     unfolding answered find

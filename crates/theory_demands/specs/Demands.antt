@@ -9,6 +9,7 @@ use mathlib.Core.Option.{none, some}
 use Prim.Native.Nat.{ℕ, _<_, _≤_}
 use Rattle.geometry.specs.declared.Geometry.{Geometry}
 use Rattle.geometry.specs.Shape.{Shape}
+use Rattle.geometry.specs.Bounds.{fourBytes}
 use Rattle.model.specs.Image.{blocksOf, chipOf}
 use Rattle.model.specs.Tree.{find}
 use Rattle.model.specs.Edit.{put, remove}
@@ -33,11 +34,11 @@ delete-refused g img k al = delete-untouched g img k 0 al
 pub lookup-reads : (g : Geometry) (img : List ℕ) (k : ℕ) → lookup g img k .image ≡ img
 lookup-reads g img k = lookup-image g img k
 
-module _ (g : Geometry) (shape : Shape g) (img : List ℕ) (ready : Ready g img) (k : ℕ) (k-low : k < 4294967296) where
+module _ (g : Geometry) (shape : Shape g) (img : List ℕ) (ready : Ready g img) (k : ℕ) (k-low : k < fourBytes) where
   -- ---- Demand 2: on a sound image the calls answer as the sorted map says
   -- the map's keys rise strictly and stay below 2^32
-  pub map-sorted : Rising 4294967296 (mapAt g img)
-  map-sorted = rising 4294967296 (mapAt g img) (ready-rises g shape img ready)
+  pub map-sorted : Rising fourBytes (mapAt g img)
+  map-sorted = rising fourBytes (mapAt g img) (ready-rises g shape img ready)
 
   -- lookup: answer 0 and the address that the map has for K, or answer 4 where it has none
   pub lookup-answers : lookup g img k ≡ answered (find k (mapAt g img)) img
@@ -65,7 +66,7 @@ module _ (g : Geometry) (shape : Shape g) (img : List ℕ) (ready : Ready g img)
   absent-delete al h = answer-absent g shape img ready k k-low al h
 
   -- an update that answers 0 leaves a sound image, its map with K put in or taken out
-  pub insert-done : (a al : ℕ) → a < 4294967296 → insert g img k a al .answer ≡ 0 → Holds g (put k a (mapAt g img)) (insert g img k a al .image)
+  pub insert-done : (a al : ℕ) → a < fourBytes → insert g img k a al .answer ≡ 0 → Holds g (put k a (mapAt g img)) (insert g img k a al .image)
   insert-done a al a-low h = insert-ends g shape img ready k k-low a al a-low h
 
   pub delete-done : (al : ℕ) → delete g img k al .answer ≡ 0 → Holds g (remove k (mapAt g img)) (delete g img k al .image)
@@ -79,14 +80,14 @@ module _ (g : Geometry) (shape : Shape g) (img : List ℕ) (ready : Ready g img)
   put-others a j d = find-put-other k a j (mapAt g img) d
 
   pub remove-finds : find k (remove k (mapAt g img)) ≡ none
-  remove-finds = find-remove k 4294967296 (mapAt g img) (ready-rises g shape img ready)
+  remove-finds = find-remove k fourBytes (mapAt g img) (ready-rises g shape img ready)
 
   pub remove-others : (j : ℕ) → (j ≡ k → ⊥) → find j (remove k (mapAt g img)) ≡ find j (mapAt g img)
   remove-others j d = find-remove-other k j (mapAt g img) d
 
   -- ---- Demand 3: the stores of an update that begins (answers 0 or 7), by `Kept`: each is legal; after each of them stands a
   -- sound image that holds the old map, or the new one once the last store is made; programs and erases are bounded
-  pub insert-stores : (a al : ℕ) → a < 4294967296 → Began (insert g img k a al)
+  pub insert-stores : (a al : ℕ) → a < fourBytes → Began (insert g img k a al)
       → Kept g (mapAt g img) (put k a (mapAt g img)) img (insertStores g (blocksOf g img) img k a)
   insert-stores a al a-low b = insert-kept g shape img ready k k-low a al a-low b
 
@@ -102,14 +103,14 @@ module _ (g : Geometry) (shape : Shape g) (img : List ℕ) (ready : Ready g img)
   delete-made al b = delete-passed g img k 0 al ready b .1
 
   -- so a stopped update leaves a sound image with the old map
-  pub insert-stopped : (a al : ℕ) → a < 4294967296 → insert g img k a al .answer ≡ 7 → Holds g (mapAt g img) (insert g img k a al .image)
+  pub insert-stopped : (a al : ℕ) → a < fourBytes → insert g img k a al .answer ≡ 7 → Holds g (mapAt g img) (insert g img k a al .image)
   insert-stopped a al a-low h = insert-stops g shape img ready k k-low a al a-low h
 
   pub delete-stopped : (al : ℕ) → delete g img k al .answer ≡ 7 → Holds g (mapAt g img) (delete g img k al .image)
   delete-stopped al h = delete-stops g shape img ready k k-low al h
 
   -- own pages: 1 + splits + 1 if the tree grows, of a delete 1; the rest of the list is collection, which ends because it is done
-  pub insert-own : (a al : ℕ) → a < 4294967296 → Began (insert g img k a al)
+  pub insert-own : (a al : ℕ) → a < fourBytes → Began (insert g img k a al)
       → Own g (blocksOf g img) img (needs g (chipOf g (blocksOf g img) img) k) (insertStores g (blocksOf g img) img k a)
   insert-own a al a-low b = insert-pages g shape img ready k k-low a al a-low b
 
@@ -117,7 +118,7 @@ module _ (g : Geometry) (shape : Shape g) (img : List ℕ) (ready : Ready g img)
   delete-own al b = delete-pages g shape img ready k k-low al b
 
   -- so at most 5 own pages, 191 programmed and 6 erased on the small chip, 7, 511 and 8 on the large one: `small-most`, `large-most`
-  pub insert-bounds : (a al : ℕ) → a < 4294967296 → Began (insert g img k a al)
+  pub insert-bounds : (a al : ℕ) → a < fourBytes → Began (insert g img k a al)
       → (needs g (chipOf g (blocksOf g img) img) k ≤ ownMost g) ×
       (programs (insertStores g (blocksOf g img) img k a) ≤ programmedMost g) ×
       (erases (insertStores g (blocksOf g img) img k a) ≤ erasedMost g)

@@ -33,9 +33,10 @@ use Rattle.theory_demands.specs.Proofs.{insert-fuller, insert-blocks}
 use Rattle.theory_demands.specs.Demands.{insert-done, insert-own}
 use Rattle.theory_demands.specs.Builds.{format-holds, new-is, new-blocks}
 use mathlib.Core.Logic.{inl}
+use Rattle.geometry.specs.Bounds.{fourBytes}
 
 module _ (g : Geometry) (shape : Shape g) where
-  own-is : (img : List ℕ) (x : Item) → Ready g img → x .key < 4294967296 → x .addr < 4294967296 → done g img x .answer ≡ 0
+  own-is : (img : List ℕ) (x : Item) → Ready g img → x .key < fourBytes → x .addr < fourBytes → done g img x .answer ≡ 0
       → ownPages g img x ≡ needs g (chipAt g img) (x .key)
   own-is img x h k a e =
       let o = insert-own g shape img h (x .key) k (x .addr) (x .allowance) a (inl e) in
@@ -65,14 +66,14 @@ module _ (g : Geometry) (shape : Shape g) where
     pub nodes : length (nodesBelow (chipAt g img)) ≡ x + chipAt g img .level
     pub filled : HalfFull g (chipAt g img)
 
-  one-more : (img : List ℕ) (x : Item) (n y : ℕ) → x .key < 4294967296 → x .addr < 4294967296 → find (x .key) (mapAt g img) ≡ none
+  one-more : (img : List ℕ) (x : Item) (n y : ℕ) → x .key < fourBytes → x .addr < fourBytes → find (x .key) (mapAt g img) ≡ none
       → done g img x .answer ≡ 0 → Stands img n y → Stands (done g img x .image) (suc n) (ownPages g img x - 1 + y)
   one-more img x n y k a none′ e h =
       let next = insert-done g shape img (h .ready) (x .key) k (x .addr) (x .allowance) a e in
       let f = subst (λ m. Fuller g (needs g (chipAt g img) (x .key)) (chipAt g img) (chipOf g m (done g img x .image)))
       (sym (insert-blocks g shape img (h .ready) (x .key) k (x .addr) (x .allowance) e))
       (insert-fuller g shape img (h .ready) (x .key) k (x .addr) (x .allowance) a e) in
-      let s = put-size (x .key) (x .addr) 4294967296 (mapAt g img) (ready-rises g shape img (h .ready)) in
+      let s = put-size (x .key) (x .addr) fourBytes (mapAt g img) (ready-rises g shape img (h .ready)) in
       let b = ap (λ o. bit (isNone o)) none′ in
       let l = ap length (next .map-is) in
       let o = own-is img x (h .ready) k a e in

@@ -8,6 +8,7 @@ use lib.ListN.{length}
 use Rattle.geometry.specs.declared.Geometry.{Geometry}
 use Rattle.geometry.specs.Tests.{bit}
 use Rattle.geometry.specs.Geometry.{half}
+use Rattle.geometry.specs.Bounds.{fourBytes}
 use Rattle.model.specs.Image.{blocksOf, Chip, chipOf}
 use Rattle.model.specs.Tree.{chosen, find, sought}
 use Rattle.model.specs.Edit.{splits}
@@ -48,7 +49,7 @@ growsAt g c k = bit (fills g (suc (c .level)) (length (rootNode c) + bit (rootGa
 -- each key is absent when its turn comes, and each insertion is accepted and finished
 unfoldable pub Finished : Geometry → List Item → List ℕ → Type 0
 Finished g [] img = Unit {0}
-Finished g (x ∷ xs) img = (x .key < 4294967296) × (x .addr < 4294967296) × (find (x .key) (mapAt g img) ≡ none) × (done g img x .answer ≡ 0) ×
+Finished g (x ∷ xs) img = (x .key < fourBytes) × (x .addr < fourBytes) × (find (x .key) (mapAt g img) ≡ none) × (done g img x .answer ≡ 0) ×
     Finished g xs (done g img x .image)
 
 -- the image after them

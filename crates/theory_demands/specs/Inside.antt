@@ -12,6 +12,7 @@ use Rattle.geometry.specs.declared.Finding.{Finding}
 use Rattle.geometry.specs.declared.Finding.the-variants.{Good, Bad}
 use Rattle.geometry.specs.declared.Verdict.the-variants.{Broken}
 use Rattle.geometry.specs.Tests.{and-right}
+use Rattle.geometry.specs.Bounds.{fourBytes}
 use Rattle.model.specs.Bytes.{erased}
 use Rattle.model.specs.Image.{blocksOf, goodLength, Chip, chipOf, pagesOf, rootOf, rootScore}
 use Rattle.model.specs.Rules.{r2, names, ownRoot, judgeEntries, judgeNode, r5, verdict}
@@ -47,10 +48,10 @@ module _ (g : Geometry) (n : ℕ) (img : List ℕ) where
     where
       go : ((ownRoot g (c .er) (c .nodes) t (suc (c .level)) (c .root) ≡ false) × (c .root ≡ p)) ⊎
           ((ownRoot g (c .er) (c .nodes) t (suc (c .level)) (c .root) ≡ true) ×
-          (judgeEntries (judgeNode g (c .er) (c .nodes) t (c .level)) (c .nodes (c .root) (suc (c .level))) 4294967296 ≡ Bad p)) → p < t
+          (judgeEntries (judgeNode g (c .er) (c .nodes) t (c .level)) (c .nodes (c .root) (suc (c .level))) fourBytes ≡ Bad p)) → p < t
       go (inl w) = omega (arith, w .1, root-below h)
-      go (inr w) = entries-below g (c .er) (c .nodes) t (c .level) (c .nodes (c .root) (suc (c .level))) 4294967296 p
-          (rising-names (names (c .er) t (suc (c .level))) (c .nodes (c .root) (suc (c .level))) 0 4294967296 (and-right _ _ (w .0)))
+      go (inr w) = entries-below g (c .er) (c .nodes) t (c .level) (c .nodes (c .root) (suc (c .level))) fourBytes p
+          (rising-names (names (c .er) t (suc (c .level))) (c .nodes (c .root) (suc (c .level))) 0 fourBytes (and-right _ _ (w .0)))
           (λ q lo y. node-below g (c .er) (c .nodes) t (c .level) q lo y p) (w .1)
 
   below-2 : (p : ℕ) → r2 (g .pages) n (erased g img) ≡ Bad p → p < t

@@ -15,6 +15,7 @@ use Rattle.geometry.specs.declared.Verdict.the-variants.{Broken}
 use Rattle.geometry.specs.Geometry.{half}
 use Rattle.geometry.specs.Shape.{Shape}
 use Rattle.geometry.specs.Tests.{pick, _&_}
+use Rattle.geometry.specs.Bounds.{fourBytes}
 use Rattle.model.specs.Image.{blocksOf, pagesOf, goodLength, Chip, chipOf}
 use Rattle.model.specs.Tree.{entryOf, find}
 use Rattle.model.specs.Rules.{verdict}
@@ -49,7 +50,7 @@ module _ (g : Geometry) (shape : Shape g) (img : List ℕ) (ready : Ready g img)
 
   -- the walk finds the map's part between the keys
   pub walk-between : rangedOf c low high ≡ part
-  walk-between = ranged-root (fitOf (pagesOf g (blocksOf g img)) (c .er)) (λ l. 2 * half g l) (c .nodes) low high (c .level) 4294967296 (c .root)
+  walk-between = ranged-root (fitOf (pagesOf g (blocksOf g img)) (c .er)) (λ l. 2 * half g l) (c .nodes) low high (c .level) fourBytes (c .root)
       (ready-keeps g shape img ready .held .whole .sound .rooted .rises)
 
   -- "The list is exactly the map's part between the keys": answer 0, how many pairs of it there are, how many were written, and the buffer
@@ -58,8 +59,8 @@ module _ (g : Geometry) (shape : Shape g) (img : List ℕ) (ready : Ready g img)
   listing-lists buffer = rw (ready .length-good, ready .is-sound) (ap (λ (es : List Entry). lists es buffer) walk-between)
 
   -- "each pair once", "in rising key order"
-  pub part-rises : Rising 4294967296 part
-  part-rises = between-rising low high 4294967296 (mapAt g img) (map-sorted g shape img ready 0 (omega arith))
+  pub part-rises : Rising fourBytes part
+  part-rises = between-rising low high fourBytes (mapAt g img) (map-sorted g shape img ready 0 (omega arith))
 
   -- every key between, both taken in, is there with the map's address, and no other key
   pub part-finds : (k : ℕ) → find k part ≡ pick (leb low k & leb k high) (find k (mapAt g img)) none
@@ -70,9 +71,9 @@ module _ (g : Geometry) (shape : Shape g) (img : List ℕ) (ready : Ready g img)
   part-none h = between-none low high (mapAt g img) h
 
   -- the walk looks at no more nodes than two and one for each pair at each level
-  pub few-looked : low < 4294967296 → length (lookedOf c low high) ≤ suc (c .level) * (2 + length part)
+  pub few-looked : low < fourBytes → length (lookedOf c low high) ≤ suc (c .level) * (2 + length part)
   few-looked h = subst (λ (es : List Entry). length (lookedOf c low high) ≤ suc (c .level) * (2 + length es)) walk-between
-      (looked-few (fitOf (pagesOf g (blocksOf g img)) (c .er)) (λ l. 2 * half g l) (c .nodes) low high (c .level) 4294967296 (c .root) h
+      (looked-few (fitOf (pagesOf g (blocksOf g img)) (c .er)) (λ l. 2 * half g l) (c .nodes) low high (c .level) fourBytes (c .root) h
       (ready-keeps g shape img ready .held .whole .sound .rooted .rises))
 
 -- ---- the buffer, for any list of pairs: the first `writtenOf` of them, key then address; what is beyond stays

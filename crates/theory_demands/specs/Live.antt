@@ -14,6 +14,7 @@ use Rattle.geometry.specs.declared.Geometry.{Geometry}
 use Rattle.geometry.specs.declared.Verdict.the-variants.{Sound}
 use Rattle.geometry.specs.Tests.{pick}
 use Rattle.geometry.specs.Shape.{Known, is-small, is-large, Shape}
+use Rattle.geometry.specs.Bounds.{fourBytes}
 use Rattle.model.specs.Bytes.{byteAt}
 use Rattle.model.specs.Image.{blocksOf, goodLength, chipOf}
 use Rattle.model.specs.Tree.{placesOf, live}
@@ -71,13 +72,13 @@ module _ (g : Geometry) (shape : Shape g) (whole : g .pages ≡ 32 * blockWords 
   abbrev left : ℕ → Outcome → Returned
   left m o = returned o (openedIn g m (o .image)) (liveWords g m (o .image) (h .table .words))
 
-  pub insert-by : (k a al : ℕ) → k < 4294967296 → a < 4294967296 → insertBy g n h img k a al ≡ left n (insertRest g n img k a al)
+  pub insert-by : (k a al : ℕ) → k < fourBytes → a < fourBytes → insertBy g n h img k a al ≡ left n (insertRest g n img k a al)
   insert-by k a al k-low a-low =
       subst (λ m. insertBy g m h img k a al ≡ left m (insertRest g m img k a al))
       (sym blocks) (inserts g shape (blocksOf g img) (few g shape img ready) (mapAt g img) img (ready-keeps g shape img ready)
       (some-pages g shape img ready) whole h tells′ (known-few g known) (known-tall g known) k a al k-low a-low)
 
-  pub delete-by : (k al : ℕ) → k < 4294967296 → deleteBy g n h img k al ≡ left n (deleteRest g n img k al)
+  pub delete-by : (k al : ℕ) → k < fourBytes → deleteBy g n h img k al ≡ left n (deleteRest g n img k al)
   delete-by k al k-low =
       subst (λ m. deleteBy g m h img k al ≡ left m (deleteRest g m img k al))
       (sym blocks) (deletes g shape (blocksOf g img) (few g shape img ready) (mapAt g img) img (ready-keeps g shape img ready)
@@ -102,7 +103,7 @@ module _ (g : Geometry) (shape : Shape g) (whole : g .pages ≡ 32 * blockWords 
     abbrev told : Returned → Reply
     told x = reply (x .outcome) (x .words)
 
-    pub insert-replies : (k a al : ℕ) → k < 4294967296 → a < 4294967296 → told (insertBy g n h img k a al) ≡ insertLive g img old k a al
+    pub insert-replies : (k a al : ℕ) → k < fourBytes → a < fourBytes → told (insertBy g n h img k a al) ≡ insertLive g img old k a al
     unfolding insertLive insert
     insert-replies k a al k-low a-low =
         let o = insertRest g b img k a al in
@@ -124,7 +125,7 @@ module _ (g : Geometry) (shape : Shape g) (whole : g .pages ≡ 32 * blockWords 
         ap told (insert-by k a al k-low a-low ∙ ap (λ m. left m (insertRest g m img k a al)) blocks)
         ∙ replies o (no 1 (omega arith) (omega arith)) (no 2 (omega arith) (omega arith)) ∙ ap (withWords g img old) (sym e)
 
-    pub delete-replies : (k al : ℕ) → k < 4294967296 → told (deleteBy g n h img k al) ≡ deleteLive g img old k al
+    pub delete-replies : (k al : ℕ) → k < fourBytes → told (deleteBy g n h img k al) ≡ deleteLive g img old k al
     unfolding deleteLive delete
     delete-replies k al k-low =
         let o = deleteRest g b img k al in

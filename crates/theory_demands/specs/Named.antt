@@ -13,6 +13,7 @@ use Rattle.geometry.specs.declared.Finding.{Finding}
 use Rattle.geometry.specs.declared.Finding.the-variants.{Good, Bad}
 use Rattle.geometry.specs.declared.Verdict.the-variants.{Broken}
 use Rattle.geometry.specs.Tests.{pick, _&_, and-left, and-right, and-both}
+use Rattle.geometry.specs.Bounds.{fourBytes}
 use Rattle.model.specs.Bytes.{erased, seqAt}
 use Rattle.model.specs.Count.{least}
 use Rattle.model.specs.Image.{Chip, chipOf, pagesOf}
@@ -129,9 +130,9 @@ module _ (g : Geometry) (n : ℕ) (img : List ℕ) where
   pub page-of-5 : (p : ℕ) → r5 g t c ≡ Bad p
       → ((ownRoot g (c .er) (c .nodes) t (suc (c .level)) (c .root) ≡ false) × (c .root ≡ p)) ⊎
       ((ownRoot g (c .er) (c .nodes) t (suc (c .level)) (c .root) ≡ true) ×
-      Led (judgeNode g (c .er) (c .nodes) t (c .level)) (c .nodes (c .root) (suc (c .level))) 4294967296 p)
+      Led (judgeNode g (c .er) (c .nodes) t (c .level)) (c .nodes (c .root) (suc (c .level))) fourBytes p)
   unfolding r5
-  page-of-5 p e = or-led (bad-unless _ _ p _ e) (led (judgeNode g (c .er) (c .nodes) t (c .level)) (c .nodes (c .root) (suc (c .level))) 4294967296 p)
+  page-of-5 p e = or-led (bad-unless _ _ p _ e) (led (judgeNode g (c .er) (c .nodes) t (c .level)) (c .nodes (c .root) (suc (c .level))) fourBytes p)
 
   -- and so below each entry: the node that it names, or else the first bad one below that
   pub page-below : (l q lo hi p : ℕ) → judgeNode g (c .er) (c .nodes) t (suc l) q lo hi ≡ Bad p

@@ -7,6 +7,7 @@ use native.Mathlib.Omega.{arith}
 use lib.ListN.{length}
 use Rattle.geometry.specs.declared.Geometry.{Geometry}
 use Rattle.geometry.specs.Shape.{Known, shape}
+use Rattle.geometry.specs.Bounds.{fourBytes}
 use Rattle.model.specs.Image.{blocksOf}
 use Rattle.model.specs.Calls.{Outcome, insert, delete}
 use Rattle.theory_trees.specs.Lists.{All}
@@ -31,8 +32,8 @@ pub data Update : Type 0 where
 
 -- keys and addresses below 2^32
 abbrev pub Low : Update → Type 0
-Low (put k a allowance) = (k < 4294967296) × (a < 4294967296)
-Low (take k allowance) = k < 4294967296
+Low (put k a allowance) = (k < fourBytes) × (a < fourBytes)
+Low (take k allowance) = k < fourBytes
 
 -- the old call
 abbrev pub old : Geometry → List ℕ → Update → Outcome

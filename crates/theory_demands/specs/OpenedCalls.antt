@@ -12,6 +12,7 @@ use borrow.Author.Tests.{le-leb, lt-leb}
 use Rattle.geometry.specs.declared.Geometry.{Geometry}
 use Rattle.geometry.specs.Shape.{Known, Shape, shape}
 use Rattle.geometry.specs.Tests.{and-false, and-none, and-both}
+use Rattle.geometry.specs.Bounds.{fourBytes}
 use Rattle.model.specs.Image.{blocksOf, goodLength, Chip, chipOf}
 use Rattle.model.specs.Tree.{Place, placesOf, live}
 use Rattle.model.specs.Calls.{Outcome, refused, insertRest, deleteRest, insert, delete}
@@ -143,7 +144,7 @@ module _ (g : Geometry) (known : Known g) (img : List ℕ) (ready : Ready g img)
   record-is x y e long r = sym (opened-ready g (x .image) r ∙ ap (λ (z : Outcome). openedIn g (blocksOf g (z .image)) (z .image)) e
       ∙ ap (λ m. openedIn g m (y .image)) (blocks-same g img (y .image) long))
 
-  pub insert-same : (k a al : ℕ) → k < 4294967296 → a < 4294967296
+  pub insert-same : (k a al : ℕ) → k < fourBytes → a < fourBytes
       → insertWith g img old (opened g img) k a al
       ≡ returned (insert g img k a al) (opened g (insert g img k a al .image)) (insertLive g img old k a al .words)
   unfolding insertWith insert
@@ -158,7 +159,7 @@ module _ (g : Geometry) (known : Known g) (img : List ℕ) (ready : Ready g img)
       let left = record-is (insert g img k a al) rest e (insert-long g n img k a al) (insert-ready g shaped img ready k a al k-low a-low) in
       given (λ r. insertBy g n (heldBy g n r img old) img k a al) ∙ by ∙ (λ i. returned (sym e i) (left i) (words i))
 
-  pub delete-same : (k al : ℕ) → k < 4294967296
+  pub delete-same : (k al : ℕ) → k < fourBytes
       → deleteWith g img old (opened g img) k al ≡ returned (delete g img k al) (opened g (delete g img k al .image)) (deleteLive g img old k al .words)
   unfolding deleteWith delete
   delete-same k al k-low =

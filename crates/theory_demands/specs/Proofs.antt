@@ -14,6 +14,7 @@ use Rattle.geometry.specs.declared.Verdict.{Verdict}
 use Rattle.geometry.specs.declared.Verdict.the-variants.{Sound, Broken}
 use Rattle.geometry.specs.Geometry.{half}
 use Rattle.geometry.specs.Shape.{Shape}
+use Rattle.geometry.specs.Bounds.{fourBytes}
 use Rattle.model.specs.Image.{blocksOf, goodLength, Nodes, Chip, chipOf}
 use Rattle.model.specs.Tree.{chosen, find, sought}
 use Rattle.model.specs.Rules.{verdict}
@@ -92,7 +93,7 @@ module _ (g : Geometry) (shape : Shape g) (img : List ℕ) (ready : Ready g img)
           omega (arith, few-free, keeps .r8)
       go (inr (inr (inr e))) = absurd e
 
-  module _ (k-low : k < 4294967296) where
+  module _ (k-low : k < fourBytes) where
     pub found : sought c k ≡ find k (mapAt g img)
     found = sought-map g n c (keeps .held .whole) k k-low
 
@@ -126,7 +127,7 @@ module _ (g : Geometry) (shape : Shape g) (img : List ℕ) (ready : Ready g img)
         go (inr (inr (inl e))) = absurd (omega (arith, e .0))
         go (inr (inr (inr e))) = absurd e
 
-    pub insert-kept : (a al : ℕ) → a < 4294967296 → Began (insert g img k a al)
+    pub insert-kept : (a al : ℕ) → a < fourBytes → Began (insert g img k a al)
         → Kept g (mapAt g img) (put k a (mapAt g img)) img (insertStores g n img k a)
     insert-kept a al a-low b =
         let p = insert-passed g img k a al ready b in
@@ -138,7 +139,7 @@ module _ (g : Geometry) (shape : Shape g) (img : List ℕ) (ready : Ready g img)
         (insert-updated g shape n f (mapAt g img) img keeps w s k a k-low a-low (p .0 .1 .0) (p .0 .1 .1 .0))
 
     -- what an insertion that answers 0 adds to the tree
-    pub insert-fuller : (a al : ℕ) → a < 4294967296 → insert g img k a al .answer ≡ 0 → Fuller g (needs g c k) c (chipOf g n (insert g img k a al .image))
+    pub insert-fuller : (a al : ℕ) → a < fourBytes → insert g img k a al .answer ≡ 0 → Fuller g (needs g c k) c (chipOf g n (insert g img k a al .image))
     insert-fuller a al a-low h =
         let p = insert-passed g img k a al ready (inl h) in
         let ss = insertStores g n img k a in
@@ -154,7 +155,7 @@ module _ (g : Geometry) (shape : Shape g) (img : List ℕ) (ready : Ready g img)
         let e = ap (λ (o : Outcome). o .image) (p .1) ∙ made-done g ss al img (sym (ap (λ (o : Outcome). o .answer) (p .1)) ∙ h) in
         ap (blocksOf g) e ∙ blocks-same g img (applyAll g ss img) (length-all g ss img)
 
-    pub insert-pages : (a al : ℕ) → a < 4294967296 → Began (insert g img k a al) → Own g n img (needs g c k) (insertStores g n img k a)
+    pub insert-pages : (a al : ℕ) → a < fourBytes → Began (insert g img k a al) → Own g n img (needs g c k) (insertStores g n img k a)
     unfolding insertStores
     insert-pages a al a-low b =
         let p = insert-passed g img k a al ready b in
@@ -192,7 +193,7 @@ module _ (g : Geometry) (shape : Shape g) (img : List ℕ) (ready : Ready g img)
         (p .0 .1 .0))
 
     -- the image of a finished call, and of a stopped one
-    pub insert-ends : (a al : ℕ) → a < 4294967296 → insert g img k a al .answer ≡ 0 → Holds g (put k a (mapAt g img)) (insert g img k a al .image)
+    pub insert-ends : (a al : ℕ) → a < fourBytes → insert g img k a al .answer ≡ 0 → Holds g (put k a (mapAt g img)) (insert g img k a al .image)
     insert-ends a al a-low h =
         let p = insert-passed g img k a al ready (inl h) in
         let ss = insertStores g n img k a in
@@ -206,7 +207,7 @@ module _ (g : Geometry) (shape : Shape g) (img : List ℕ) (ready : Ready g img)
         let e = ap (λ (o : Outcome). o .image) (p .1) ∙ made-done g ss al img (sym (ap (λ (o : Outcome). o .answer) (p .1)) ∙ h) in
         subst (Holds g (remove k (mapAt g img))) (sym e) (delete-kept al (inl h) .end)
 
-    pub insert-stops : (a al : ℕ) → a < 4294967296 → insert g img k a al .answer ≡ 7 → Holds g (mapAt g img) (insert g img k a al .image)
+    pub insert-stops : (a al : ℕ) → a < fourBytes → insert g img k a al .answer ≡ 7 → Holds g (mapAt g img) (insert g img k a al .image)
     insert-stops a al a-low h =
         let p = insert-passed g img k a al ready (inr h) in
         let ss = insertStores g n img k a in

@@ -10,6 +10,7 @@ use borrow.Author.Tests.{le-ltb}
 use Rattle.geometry.specs.declared.Geometry.{Geometry}
 use Rattle.geometry.specs.Geometry.{small, large}
 use Rattle.geometry.specs.Shape.{Known, Shape, shape, shape-core}
+use Rattle.geometry.specs.Bounds.{fourBytes}
 use Rattle.model.specs.Bytes.{byteAt}
 use Rattle.model.specs.Image.{blocksOf, goodLength, chipOf}
 use Rattle.model.specs.Calls.{Outcome, roomless, freePages, insert, delete, format}
@@ -36,10 +37,10 @@ pub data Call : Type 0 where
 
 -- keys and addresses below 2^32
 abbrev pub Low : Call → Type 0
-Low (put k a allowance) = (k < 4294967296) × (a < 4294967296)
-Low (take k allowance) = k < 4294967296
-Low (putOpened words k a allowance) = (k < 4294967296) × (a < 4294967296)
-Low (takeOpened words k allowance) = k < 4294967296
+Low (put k a allowance) = (k < fourBytes) × (a < fourBytes)
+Low (take k allowance) = k < fourBytes
+Low (putOpened words k a allowance) = (k < fourBytes) × (a < fourBytes)
+Low (takeOpened words k allowance) = k < fourBytes
 
 abbrev pub outcome : Geometry → List ℕ → Call → Outcome
 outcome g img (put k a allowance) = insert g img k a allowance

@@ -9,6 +9,7 @@ use lib.ListN.{length, take}
 use Rattle.geometry.specs.declared.Geometry.{Geometry}
 use Rattle.geometry.specs.Shape.{Shape}
 use Rattle.geometry.specs.Tests.{pick}
+use Rattle.geometry.specs.Bounds.{fourBytes}
 use Rattle.model.specs.Image.{chipOf}
 use Rattle.model.specs.Tree.{sought}
 use Rattle.model.specs.Stores.{Store}
@@ -19,7 +20,7 @@ use Rattle.theory_demands.specs.Words.{Ready, OneOf}
 use Rattle.theory_demands.specs.Demands.{insert-refused, delete-refused, insert-answers, delete-answers, insert-done, delete-done, insert-stopped, delete-stopped}
 
 module _ (g : Geometry) (shape : Shape g) (img : List ℕ) (ready : Ready g img) where
-  pub insert-ready : (k a al : ℕ) → k < 4294967296 → a < 4294967296 → Ready g (insert g img k a al .image)
+  pub insert-ready : (k a al : ℕ) → k < fourBytes → a < fourBytes → Ready g (insert g img k a al .image)
   insert-ready k a al k-low a-low = go (insert-answers g shape img ready k k-low a al)
     where
       stays : 1 ≤ insert g img k a al .answer → insert g img k a al .answer ≤ 6 → Ready g (insert g img k a al .image)
@@ -33,7 +34,7 @@ module _ (g : Geometry) (shape : Shape g) (img : List ℕ) (ready : Ready g img)
       go (inr (inr (inr (inr (inl e))))) = insert-stopped g shape img ready k k-low a al a-low e .ready
       go (inr (inr (inr (inr (inr e))))) = absurd e
 
-  pub delete-ready : (k al : ℕ) → k < 4294967296 → Ready g (delete g img k al .image)
+  pub delete-ready : (k al : ℕ) → k < fourBytes → Ready g (delete g img k al .image)
   delete-ready k al k-low = go (delete-answers g shape img ready k k-low al)
     where
       stays : 1 ≤ delete g img k al .answer → delete g img k al .answer ≤ 6 → Ready g (delete g img k al .image)

@@ -12,6 +12,7 @@ use borrow.Author.Tests.{eq-eqb, ne-eqb, eqb-true, eqb-false}
 use Rattle.geometry.specs.declared.Geometry.{Geometry}
 use Rattle.geometry.specs.declared.Entry.{Entry}
 use Rattle.geometry.specs.Shape.{Shape}
+use Rattle.geometry.specs.Bounds.{fourBytes}
 use Rattle.model.specs.Edit.{put}
 use Rattle.model.specs.Calls.{Outcome, insert}
 use Rattle.theory_trees.specs.Lists.{All, In, all-append, all-map}
@@ -30,7 +31,7 @@ pub record Stored (g : Geometry) (es : List Entry) (o : Outcome) : Type 0 where
   pub answers : OneOf (o .answer) (0 ∷ 3 ∷ 5 ∷ 6 ∷ 7 ∷ [])
 
 -- an outcome of 32 bits is a word
-word-low : (n : ℕ) → n < 4294967296 → word n ≡ n
+word-low : (n : ℕ) → n < fourBytes → word n ≡ n
 word-low n h = omega arith
 
 -- a record above all others is put at the end
@@ -46,7 +47,7 @@ store-more g s e es h = rw (eq-eqb (s .answer) 0 h) refl
 
 module _ (g : Geometry) (shape : Shape g) where
   -- one insert, refused or stopped: the map is as it was
-  refused-holds : (img : List ℕ) (m : List Entry) (k a : ℕ) → Holds g m img → k < 4294967296 → a < 4294967296
+  refused-holds : (img : List ℕ) (m : List Entry) (k a : ℕ) → Holds g m img → k < fourBytes → a < fourBytes
       → (insert g img k a largest .answer ≡ 0 → ⊥) → Holds g m (insert g img k a largest .image)
   refused-holds img m k a h k-low a-low n = go (insert-answers g shape img (h .ready) k k-low a largest)
     where
@@ -67,7 +68,7 @@ module _ (g : Geometry) (shape : Shape g) where
 
   -- the inserts of es after those of xs, whose keys are below low
   pub stored-all : (es xs : List Entry) (low : ℕ) (s : Outcome) → Rises low es → All (In 0 low) xs → Holds g xs (s .image)
-      → s .answer ≡ 0 → s .address ≡ length xs → length xs + length es < 4294967296 → Stored g (xs ++ es) (storeAll g s es)
+      → s .answer ≡ 0 → s .address ≡ length xs → length xs + length es < fourBytes → Stored g (xs ++ es) (storeAll g s es)
   unfolding storeAll counted
   stored-all [] xs low s r h i z n few = record {
     some = let w = length-append xs [] in omega (arith, w, n);
@@ -100,7 +101,7 @@ module _ (g : Geometry) (shape : Shape g) where
 
       go : (t : Bool) → eqb (inserted g s e .answer) 0 ≡ t
           → ((xs : List Entry) (low : ℕ) (s : Outcome) → Rises low es → All (In 0 low) xs → Holds g xs (s .image) → s .answer ≡ 0 → s .address ≡ length xs
-          → length xs + length es < 4294967296 → Stored g (xs ++ es) (storeAll g s es))
+          → length xs + length es < fourBytes → Stored g (xs ++ es) (storeAll g s es))
           → Stored g (xs ++ (e ∷ es)) (storeAll g (counted s (inserted g s e)) es)
       go true q ih =
           let a = eqb-true _ 0 q in

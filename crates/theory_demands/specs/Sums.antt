@@ -14,6 +14,7 @@ use Rattle.geometry.specs.declared.Geometry.{Geometry}
 use Rattle.geometry.specs.declared.Entry.{Entry}
 use Rattle.geometry.specs.Tests.{pick}
 use Rattle.geometry.specs.Shape.{Shape}
+use Rattle.geometry.specs.Bounds.{fourBytes}
 use Rattle.model.specs.Image.{blocksOf, chipOf}
 use Rattle.model.specs.Stores.{Store, programs, erases}
 use Rattle.model.specs.Update.{needs, tooHigh, insertStores}
@@ -40,7 +41,7 @@ pub record Limits (g : Geometry) (o : Outcome) : Type 0 where
   pub erased : o .erased ≤ erasedMost g
 
 module _ (g : Geometry) (shape : Shape g) (allowed : storesMost g ≤ largest) where
-  module _ (img : List ℕ) (ready : Ready g img) (k a : ℕ) (k-low : k < 4294967296) (a-low : a < 4294967296) where
+  module _ (img : List ℕ) (ready : Ready g img) (k a : ℕ) (k-low : k < fourBytes) (a-low : a < fourBytes) where
     abbrev n : ℕ
     n = blocksOf g img
 
@@ -84,7 +85,7 @@ module _ (g : Geometry) (shape : Shape g) (allowed : storesMost g ≤ largest) w
   -- any count that an import adds up, at most `most` an insert
   module _ (count : Outcome → ℕ) (most : ℕ) (adds : (s o : Outcome) → count (counted s o) ≡ word (count s + count o))
       (limits : (o : Outcome) → Limits g o → count o ≤ most) where
-    pub sums : (es : List Entry) (low : ℕ) (s : Outcome) → Rises low es → Ready g (s .image) → s .answer ≡ 0 → count s + most * length es < 4294967296
+    pub sums : (es : List Entry) (low : ℕ) (s : Outcome) → Rises low es → Ready g (s .image) → s .answer ≡ 0 → count s + most * length es < fourBytes
         → count (storeAll g s es) ≡ count s + sumOf g count (s .image) es
     unfolding storeAll sumOf counted
     sums [] low s r h z few = omega arith
@@ -101,7 +102,7 @@ module _ (g : Geometry) (shape : Shape g) (allowed : storesMost g ≤ largest) w
         next = let q = adds s (inserted g s e) in let l = lim in let w = room in omega (arith, q, l, w, few)
 
         go : (t : Bool) → eqb (inserted g s e .answer) 0 ≡ t
-            → ((low : ℕ) (s : Outcome) → Rises low es → Ready g (s .image) → s .answer ≡ 0 → count s + most * length es < 4294967296
+            → ((low : ℕ) (s : Outcome) → Rises low es → Ready g (s .image) → s .answer ≡ 0 → count s + most * length es < fourBytes
             → count (storeAll g s es) ≡ count s + sumOf g count (s .image) es)
             → count (storeAll g (counted s (inserted g s e)) es)
             ≡ count s + (count (inserted g s e) + pick t (sumOf g count (inserted g s e .image) es) 0)

@@ -12,6 +12,7 @@ use lib.Seq.{getD-set-same, getD-set-other}
 use borrow.Author.Tests.{eq-eqb, eqb-true}
 use Rattle.geometry.specs.declared.Entry.{Entry}
 use Rattle.geometry.specs.Tests.{and-left, and-right, and-both}
+use Rattle.geometry.specs.Bounds.{fourBytes}
 use Rattle.model.specs.Bytes.{byteAt, u32At, blank, entriesAt}
 use Rattle.model.specs.Page.{putU32, putEntry, putEntries}
 use Rattle.model.specs.Stores.{written}
@@ -150,28 +151,28 @@ entries-off b at (e ∷ es) k (inr h) = entries-off (putEntry b at e) (at + 8) e
 digits : (v a b c p q r : ℕ) → a * 256 + p ≡ v → b * 256 + q ≡ a → c * 256 + r ≡ b → p + 256 * q + 65536 * r + 16777216 * c ≡ v
 digits v a b c p q r x y z = omega arith
 
-four-bytes : (v : ℕ) → v < 4294967296 → v % 256 + 256 * (v / 256 % 256) + 65536 * (v / 65536 % 256) + 16777216 * (v / 16777216 % 256) ≡ v
+four-bytes : (v : ℕ) → v < fourBytes → v % 256 + 256 * (v / 256 % 256) + 65536 * (v / 65536 % 256) + 16777216 * (v / 16777216 % 256) ≡ v
 four-bytes v h =
     let top : v / 16777216 < 256 = omega arith in
     rw (mod-eq-of-lt top) (digits v (v / 256) (v / 65536) (v / 16777216) _ _ _ (div-add-mod' v 256)
     (rw (shr-shr v 8 8) at (div-add-mod' (v / 256) 256)) (rw (shr-shr v 16 8) at (div-add-mod' (v / 65536) 256)))
 
-pub word-same : (b : List ℕ) (i v : ℕ) → i + 4 ≤ length b → v < 4294967296 → u32At (putU32 b i v) i ≡ v
+pub word-same : (b : List ℕ) (i v : ℕ) → i + 4 ≤ length b → v < fourBytes → u32At (putU32 b i v) i ≡ v
 unfolding putU32 u32At
 word-same b i v h hv = let w = four-in b i (v % 256) (v / 256 % 256) (v / 65536 % 256) (v / 16777216 % 256) h in rw (w .0, w .1, w .2, w .3)
     (four-bytes v hv)
 
 abbrev pub Fits : Entry → Type 0
-Fits e = (e .key < 4294967296) × (e .addr < 4294967296)
+Fits e = (e .key < fourBytes) × (e .addr < fourBytes)
 
-pub entry-key : (b : List ℕ) (i : ℕ) (e : Entry) → i + 8 ≤ length b → e .key < 4294967296 → u32At (putEntry b i e) i ≡ e .key
+pub entry-key : (b : List ℕ) (i : ℕ) (e : Entry) → i + 8 ≤ length b → e .key < fourBytes → u32At (putEntry b i e) i ≡ e .key
 unfolding putEntry
 entry-key b i e h f =
     let b₁ = putU32 b i (e .key) in
     copy-u32 b₁ i (putU32 b₁ (i + 4) (e .addr)) i 4 (λ k q. word-off b₁ (i + 4) (e .addr) (i + k) (inl (omega arith))) 0 i i (omega arith)
     (omega arith) (omega arith) ∙ word-same b i (e .key) (omega arith) f
 
-pub entry-addr : (b : List ℕ) (i : ℕ) (e : Entry) → i + 8 ≤ length b → e .addr < 4294967296 → u32At (putEntry b i e) (i + 4) ≡ e .addr
+pub entry-addr : (b : List ℕ) (i : ℕ) (e : Entry) → i + 8 ≤ length b → e .addr < fourBytes → u32At (putEntry b i e) (i + 4) ≡ e .addr
 unfolding putEntry
 entry-addr b i e h f = word-same (putU32 b i (e .key)) (i + 4) (e .addr) (omega (arith, length-word b i (e .key))) f
 

@@ -10,6 +10,7 @@ use Rattle.geometry.specs.declared.Geometry.{Geometry}
 use Rattle.geometry.specs.declared.Entry.{Entry}
 use Rattle.geometry.specs.Geometry.{small, large, firstSlot, slotsOf, half, rootSlots, rootMost}
 use Rattle.geometry.specs.Shape.{Known, is-small, is-large, Shape, shape-core}
+use Rattle.geometry.specs.Bounds.{fourBytes}
 use Rattle.model.specs.Image.{pagesOf, Nodes, Chip, chipOf}
 use Rattle.model.specs.Tree.{gather, places, mapOf, placesOf}
 use Rattle.model.specs.Listing.{rangedOf}
@@ -66,20 +67,20 @@ module _ (g : Geometry) (shape : Shape g) (few : Few g) (n : ℕ) (img : List �
   low : c .level < g .top
   low = let z = height-most g (shape-core g shape) n img some-pages held in omega (arith, z)
 
-  abbrev root : Rooted (fitOf (pagesOf g n) (c .er)) (λ l. 2 * half g l) (rootMost g) 4294967296 (c .nodes) (c .level) (c .root)
+  abbrev root : Rooted (fitOf (pagesOf g n) (c .er)) (λ l. 2 * half g l) (rootMost g) fourBytes (c .nodes) (c .level) (c .root)
   root = held .whole .sound .rooted
 
   pub few-places : length (placesOf c) ≤ 8388608
   few-places =
-      let a = root-few (fitOf (pagesOf g n) (c .er)) (λ l. 2 * half g l) (c .nodes) (rootMost g) 4294967296 (c .level) (c .root) root in
+      let a = root-few (fitOf (pagesOf g n) (c .er)) (λ l. 2 * half g l) (c .nodes) (rootMost g) fourBytes (c .level) (c .root) root in
       let b = few .nodes (c .level) low in
       omega (arith, a, b)
 
   pub few-ranged : (from to : ℕ) → length (rangedOf c from to) ≤ 536870912
   few-ranged from to =
-      let is = ap length (ranged-root (fitOf (pagesOf g n) (c .er)) (λ j. 2 * half g j) (c .nodes) from to (c .level) 4294967296 (c .root) (root .rises)) in
+      let is = ap length (ranged-root (fitOf (pagesOf g n) (c .er)) (λ j. 2 * half g j) (c .nodes) from to (c .level) fourBytes (c .root) (root .rises)) in
       let a = between-fewer from to (mapOf c) in
-      let b = root-most (fitOf (pagesOf g n) (c .er)) (λ j. 2 * half g j) (c .nodes) (c .level) 4294967296 (rootMost g (suc (c .level))) (c .root)
+      let b = root-most (fitOf (pagesOf g n) (c .er)) (λ j. 2 * half g j) (c .nodes) (c .level) fourBytes (rootMost g (suc (c .level))) (c .root)
       (root .rises) (root .atmost) in
       let d = few .pairs (c .level) low in
       omega (arith, is, a, b, d)

@@ -15,6 +15,7 @@ use Rattle.geometry.specs.declared.Verdict.the-variants.{Sound}
 use Rattle.geometry.specs.Tests.{pick, _&_, and-true, and-false, and-left, and-right, and-both}
 use Rattle.geometry.specs.Geometry.{pageBytes, halves, codePlace, pageBase, half, rootMost}
 use Rattle.geometry.specs.Shape.{Shape, Core, shape-core, halved}
+use Rattle.geometry.specs.Bounds.{fourBytes}
 use Rattle.model.specs.Bytes.{byteAt, u32At, blank, erased, seqAt, heightAt, tailAt}
 use Rattle.model.specs.Codes.{codesFit}
 use Rattle.model.specs.Count.{any}
@@ -177,7 +178,7 @@ module _ (g : Geometry) (core : Core g) (n : ℕ) (img : List ℕ) where
       let high = leb-true 1 (heightOf g img (rootOf g n img)) (good-unless _ _ _ (h .fourth) .0) in
       let pages : 1 ≤ t = let z = block-in (g .pages) 0 n pos in let w = some-page g core in omega (arith, z, w, mul-zero (g .pages)) in
       let root = r5-rooted g core t chip (root-below g n img pages, root-er g n img high) (h .fifth) in
-      let fits = root-fit (fitOf t (chip .er)) (λ l. 2 * half g l) (rootMost g) (chip .nodes) (chip .level) (chip .root) 4294967296 root in
+      let fits = root-fit (fitOf t (chip .er)) (λ l. 2 * half g l) (rootMost g) (chip .nodes) (chip .level) (chip .root) fourBytes root in
       let tied = r6-tied t chip (all-map (λ x. (1 ≤ x .level) × fitOf t (chip .er) (x .level) (x .page)) (λ x. x .page < t) (placesOf chip)
       (λ x i. fit-page t (chip .er) (x .level) (x .page) (i .0) (i .1) .0) fits) (h .sixth) in
       record {

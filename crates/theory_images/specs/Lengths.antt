@@ -12,6 +12,7 @@ use Rattle.geometry.specs.declared.Geometry.{Geometry}
 use Rattle.geometry.specs.Tests.{_&_, and-left, and-right}
 use Rattle.geometry.specs.Geometry.{pageBytes, pageBase}
 use Rattle.geometry.specs.Shape.{Core}
+use Rattle.geometry.specs.Bounds.{fourBytes}
 use Rattle.model.specs.Image.{blockBytes, blocksOf, goodLength, pagesOf}
 use Rattle.model.specs.Stores.{Store, applyStore, applyAll}
 use Rattle.theory_images.specs.Stores.{Image, length-store, base-add}
@@ -57,5 +58,5 @@ length-all g [] img = refl
 length-all g (s ∷ ss) img = length-all g ss (applyStore g s img) ∙ length-store g s img
 
 -- the pages of 1,024 blocks have numbers of 32 bits
-pub few-pages : (g : Geometry) → Core g → (n : ℕ) → n ≤ 1024 → pagesOf g n + g .pages < 4294967296
+pub few-pages : (g : Geometry) → Core g → (n : ℕ) → n ≤ 1024 → pagesOf g n + g .pages < fourBytes
 few-pages g core n h = let a = mul-le-mul-left (g .pages) h in let p = core .pages-high in omega (arith, a, p)

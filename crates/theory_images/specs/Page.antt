@@ -15,6 +15,7 @@ use Rattle.geometry.specs.declared.Entry.{Entry}
 use Rattle.geometry.specs.Tests.{pick, _&_, and-left, and-right, and-both}
 use Rattle.geometry.specs.Geometry.{pageBytes, halves, codePlace, pageBase, slots, firstSlot, slotsOf, rootSlots, rootMost, inTable}
 use Rattle.geometry.specs.Shape.{Shape, Core, most-slots}
+use Rattle.geometry.specs.Bounds.{fourBytes}
 use Rattle.model.specs.Bytes.{byteAt, u32At, blank, erased, seqAt, heightAt, countAt, entriesAt, nodePlace, nodeCount, nodeAt}
 use Rattle.model.specs.Codes.{codesFit}
 use Rattle.model.specs.Image.{pagesOf, seqOf, heightOf, maxSeq, rootScore, rootOf, chipOf}
@@ -239,7 +240,7 @@ module _ (g : Geometry) (core : Core g) (parts : ℕ → List Entry) where
   numbered-height seq h b q s = getD-set-same (putU32 b (g .main) seq) (g .main + 4) (h % 256) 0 (omega (arith, length-word b (g .main) seq))
       ∙ mod-eq-of-lt s
 
-  numbered-seq : (seq h : ℕ) (b : List ℕ) → g .main + 5 ≤ length b → seq < 4294967296 → u32At (numbered g b seq h) (g .main) ≡ seq
+  numbered-seq : (seq h : ℕ) (b : List ℕ) → g .main + 5 ≤ length b → seq < fourBytes → u32At (numbered g b seq h) (g .main) ≡ seq
   unfolding numbered
   numbered-seq seq h b q s =
       copy-u32 (putU32 b (g .main) seq) (g .main) (set (putU32 b (g .main) seq) (g .main + 4) (h % 256)) (g .main) 4
@@ -258,7 +259,7 @@ module _ (g : Geometry) (core : Core g) (parts : ℕ → List Entry) where
   sealed-height : (seq h : ℕ) (b : List ℕ) → g .main + 5 ≤ length b → h < 256 → byteAt (sealed g b seq h) (g .main + 4) ≡ h
   sealed-height seq h b q s = sealed-byte seq h b (g .main + 4) (inl (omega arith)) ∙ numbered-height seq h b q s
 
-  sealed-seq : (seq h : ℕ) (b : List ℕ) → g .main + 5 ≤ length b → seq < 4294967296 → u32At (sealed g b seq h) (g .main) ≡ seq
+  sealed-seq : (seq h : ℕ) (b : List ℕ) → g .main + 5 ≤ length b → seq < fourBytes → u32At (sealed g b seq h) (g .main) ≡ seq
   sealed-seq seq h b q s =
       copy-u32 (numbered g b seq h) (g .main) (sealed g b seq h) (g .main) 4 (λ k w. sealed-byte seq h b (g .main + k) (inl (omega arith))) 0 (g .main)
       (g .main) (omega arith) (omega arith) (omega arith)

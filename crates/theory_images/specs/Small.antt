@@ -11,6 +11,7 @@ use borrow.Author.Tests.{ltb-true, ltb-false}
 use Rattle.geometry.specs.declared.Geometry.{Geometry}
 use Rattle.geometry.specs.declared.Entry.{Entry}
 use Rattle.geometry.specs.Geometry.{pageBytes, halves, codePlace, pageBase, firstSlot}
+use Rattle.geometry.specs.Bounds.{fourBytes}
 use Rattle.model.specs.Bytes.{byteAt, u32At, entriesAt, nodePlace, nodeCount, nodeAt}
 use Rattle.model.specs.Codes.{freshCode, putCode}
 use Rattle.model.specs.Page.{putU32, putEntry, putEntries, putLevel, putLevels, numbered, coded, sealed, built}
@@ -23,7 +24,7 @@ abbrev pub Small : List ℕ → Type 0
 Small l = (i : ℕ) → byteAt l i < 256
 
 -- reading
-pub u32-fits : (img : List ℕ) (i : ℕ) → Small img → u32At img i < 4294967296
+pub u32-fits : (img : List ℕ) (i : ℕ) → Small img → u32At img i < fourBytes
 unfolding u32At
 u32-fits img i s = omega (arith, s i, s (i + 1), s (i + 2), s (i + 3))
 

@@ -12,6 +12,7 @@ use Rattle.geometry.specs.declared.Entry.{Entry}
 use Rattle.geometry.specs.Tests.{pick}
 use Rattle.geometry.specs.Geometry.{half, rootMost}
 use Rattle.geometry.specs.Shape.{Core}
+use Rattle.geometry.specs.Bounds.{fourBytes}
 use Rattle.model.specs.Count.{count, peak, arg}
 use Rattle.model.specs.Image.{pagesOf, maxSeq, Chip, chipOf}
 use Rattle.model.specs.Tree.{mapOf, places, placesOf, live}
@@ -159,7 +160,7 @@ module _ (g : Geometry) (core : Core g) (n : ℕ) (img : List ℕ) (held : Held 
         unfolding beside
         side-whole = record {
           r2 = r2-next (g .pages) n (ahead g n c) (some-page g core) (held .whole .r2) (found .0) (found .1);
-          sound = sound-same 4294967296 (λ l. 2 * half g l) (rootMost g) (c .nodes) (beside c N w .nodes) (fitOf t (c .er))
+          sound = sound-same fourBytes (λ l. 2 * half g l) (rootMost g) (c .nodes) (beside c N w .nodes) (fitOf t (c .er))
               (fitOf t (after N (c .er))) (fit-after t N (c .er)) stays (c .level) (c .root) (held .whole .sound);
         }
 
@@ -176,12 +177,12 @@ module _ (g : Geometry) (core : Core g) (n : ℕ) (img : List ℕ) (held : Held 
 
         pub side-map : mapOf (chipOf g n next) ≡ mapOf c
         unfolding beside
-        side-map = ap mapOf side-chip ∙ pairs-same 4294967296 (λ l. 2 * half g l) (rootMost g) (c .nodes) (beside c N w .nodes) (fitOf t (c .er))
+        side-map = ap mapOf side-chip ∙ pairs-same fourBytes (λ l. 2 * half g l) (rootMost g) (c .nodes) (beside c N w .nodes) (fitOf t (c .er))
             (fitOf t (after N (c .er))) (fit-after t N (c .er)) stays (c .level) (c .root) (held .whole .sound .rooted)
 
         pub side-lives : placesOf (chipOf g n next) ≡ placesOf c
         unfolding beside
-        side-lives = ap placesOf side-chip ∙ root-places-same 4294967296 (λ l. 2 * half g l) (rootMost g) (c .nodes) (beside c N w .nodes)
+        side-lives = ap placesOf side-chip ∙ root-places-same fourBytes (λ l. 2 * half g l) (rootMost g) (c .nodes) (beside c N w .nodes)
             (fitOf t (c .er)) (fitOf t (after N (c .er))) (fit-after t N (c .er)) stays (c .level) (c .root) (held .whole .sound .rooted)
 
         pub side-frees : count t (c .er) ≡ suc (count t (chipOf g n next .er))

@@ -9,6 +9,7 @@ use lib.ListN.{take}
 use lib.Dec.{ltb}
 use borrow.Author.Tests.{ltb-true}
 use Rattle.geometry.specs.Tests.{pick}
+use Rattle.geometry.specs.Bounds.{fourBytes}
 use Rattle.text_lines.specs.Lines.{fields}
 use Rattle.text_decimals.specs.Decimals.{numberOf}
 use Rattle.text_decimals.specs.Back.{number-most}
@@ -25,7 +26,7 @@ abbrev LineFits : Line → Type 0
 LineFits Other = Unit {0}
 LineFits (Of order) = Fits order
 
-given-fits : (w : List ℕ) (f : ℕ → Line) → ((n : ℕ) → n < 4294967296 → LineFits (f n)) → LineFits (given (numberOf w) f)
+given-fits : (w : List ℕ) (f : ℕ → Line) → ((n : ℕ) → n < fourBytes → LineFits (f n)) → LineFits (given (numberOf w) f)
 unfolding given
 given-fits w f h = go (numberOf w) refl
   where

@@ -9,6 +9,7 @@ use Rattle.geometry.specs.declared.Geometry.{Geometry}
 use Rattle.geometry.specs.declared.Entry.{Entry}
 use Rattle.geometry.specs.Geometry.{small, plain}
 use Rattle.geometry.specs.Shape.{small-shape, shape-core, plain-core}
+use Rattle.geometry.specs.Bounds.{fourBytes}
 use Rattle.model.specs.Image.{blocksOf}
 use Rattle.model.specs.Tree.{find}
 use Rattle.model.specs.Stores.{Store}
@@ -51,7 +52,7 @@ module _ (img : List ℕ) (ready : Ready small img) where
   here : Holds small map img
   here = record { ready = ready; map-is = refl }
 
-  mu-put : (k a al : ℕ) → k < 4294967296 → a < 4294967296 → Accepts (insert small img k a al) → Leaves small img 0 0 (put k a map) (insert small img k a al)
+  mu-put : (k a al : ℕ) → k < fourBytes → a < fourBytes → Accepts (insert small img k a al) → Leaves small img 0 0 (put k a map) (insert small img k a al)
   mu-put k a al k-low a-low accepts =
       let ss = insertStores small n img k a in
       put-leaves small img map (insert small img k a al)
@@ -61,7 +62,7 @@ module _ (img : List ℕ) (ready : Ready small img) where
       (insert-stores small small-shape img ready k k-low a al a-low (inl h)) (insert-made small small-shape img ready k k-low a al (inl h)) h)
       k a (insert-answers small small-shape img ready k k-low a al) (insert-done small small-shape img ready k k-low a al a-low)
 
-  mu-remove : (k al : ℕ) → k < 4294967296 → Accepts (delete small img k al) → Leaves small img (absence (find k map)) 0 (remove k map) (delete small img k al)
+  mu-remove : (k al : ℕ) → k < fourBytes → Accepts (delete small img k al) → Leaves small img (absence (find k map)) 0 (remove k map) (delete small img k al)
   mu-remove k al k-low accepts =
       let ss = deleteStores small n img k in
       remove-leaves small img map (delete small img k al)
@@ -124,7 +125,7 @@ module _ (img : List ℕ) (ready : Ready plain img) where
   there : Holds plain its img
   there = record { ready = ready; map-is = refl }
 
-  plain-put : (k a al : ℕ) → k < 4294967296 → a < 4294967296 → Accepts (plainInsert plain img k a al)
+  plain-put : (k a al : ℕ) → k < fourBytes → a < fourBytes → Accepts (plainInsert plain img k a al)
       → Leaves plain img 0 0 (put k a its) (plainInsert plain img k a al)
   plain-put k a al k-low a-low accepts =
       let ss = plainInsertStores plain m img k a in
@@ -135,7 +136,7 @@ module _ (img : List ℕ) (ready : Ready plain img) where
       (plain-insert-kept img ready k k-low a al a-low (inl h)) (plain-insert-passed img k a al ready (inl h) .1) h)
       k a (plain-insert-answers img k ready a al) (plain-insert-done img ready k k-low a al a-low)
 
-  plain-remove : (k al : ℕ) → k < 4294967296 → Accepts (plainDelete plain img k al)
+  plain-remove : (k al : ℕ) → k < fourBytes → Accepts (plainDelete plain img k al)
       → Leaves plain img (absence (find k its)) 0 (remove k its) (plainDelete plain img k al)
   plain-remove k al k-low accepts =
       let ss = plainDeleteStores plain m img k in

@@ -8,6 +8,7 @@ use mathlib.Core.Option.{Option, none, some}
 use Prim.Native.Nat.{ℕ, _<_}
 use Rattle.geometry.specs.declared.Entry.{Entry}
 use Rattle.geometry.specs.Geometry.{small, plain}
+use Rattle.geometry.specs.Bounds.{fourBytes}
 use Rattle.model.specs.Edit.{put, remove}
 use Rattle.model.specs.Calls.{Outcome}
 use Rattle.text_lines.specs.Lines.{lines}
@@ -43,10 +44,10 @@ afterOrder order x = record { mu-tree = byMu order x .image; plain-tree = byPlai
 -- keys and addresses below 2^32
 abbrev pub Fits : Order → Type 0
 Fits Format = Unit {0}
-Fits (Insert k a) = (k < 4294967296) × (a < 4294967296)
-Fits (Delete k) = k < 4294967296
-Fits (Lookup k) = k < 4294967296
-Fits (Limited k a allowance) = (k < 4294967296) × (a < 4294967296)
+Fits (Insert k a) = (k < fourBytes) × (a < fourBytes)
+Fits (Delete k) = k < fourBytes
+Fits (Lookup k) = k < fourBytes
+Fits (Limited k a allowance) = (k < fourBytes) × (a < fourBytes)
 
 -- ---- "while both accept": an order is accepted unless the answer is 3 WORN, 5 HEIGHT, 6 ROOM or 7 STOPPED
 abbrev pub Accepts : Outcome → Type 0

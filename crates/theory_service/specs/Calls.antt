@@ -16,6 +16,7 @@ use Rattle.geometry.specs.Tests.{pick}
 use lib.ListN.{length, take}
 use Rattle.geometry.specs.Geometry.{chosenOf}
 use Rattle.geometry.specs.Shape.{Known, is-small, is-large, Shape, shape, shape-core, chosen-known}
+use Rattle.geometry.specs.Bounds.{fourBytes}
 use Rattle.model.specs.Image.{blocksOf, pagesOf, goodLength}
 use Rattle.model.specs.Tree.{find}
 use Rattle.model.specs.Rules.{verdict}
@@ -150,7 +151,7 @@ module _ (kind : ℕ) (g : Geometry) (is : chosenOf kind ≡ Of g) (image result
   pub page-in : page < pagesOf g (blocksOf g image)
   page-in = page-inside g formed-by image good rule page broken
 
-  page-low : page < 4294967296
+  page-low : page < fourBytes
   page-low = omega (arith, few-pages g (shape-core g formed-by) (blocksOf g image) (good-blocks g image good .most), page-in)
 
   pub damaged-call : (enough : Geometry → Type 0) → enough g → (l : Left) → Refused kind image result enough l
@@ -190,7 +191,7 @@ erases-fewer (suc j) (program p bs ∷ ss) = erases-fewer j ss
 erases-fewer (suc j) (erase b ∷ ss) = omega (arith, erases-fewer j ss)
 
 -- the counts fit into 32 bits
-most-low : (g : Geometry) → Known g → programmedMost g < 4294967296
+most-low : (g : Geometry) → Known g → programmedMost g < fourBytes
 most-low _ is-small = omega arith
 most-low _ is-large = omega arith
 
@@ -212,7 +213,7 @@ module _ (g : Geometry) (known : Known g) (image result : List ℕ) (room : 24 �
       ∙ told-number o result room 3 (omega arith) (omega (arith, q, erases-fewer allowance stores, few .1, shape g known .top-high)) ∙ q
 
 module _ (kind : ℕ) (g : Geometry) (is : chosenOf kind ≡ Of g) (image result : List ℕ) (ready : Ready g image) (room : 24 ≤ length result)
-    (key : ℕ) (key-low : key < 4294967296) where
+    (key : ℕ) (key-low : key < fourBytes) where
   abbrev n : ℕ
   n = blocksOf g image
 
@@ -256,7 +257,7 @@ module _ (kind : ℕ) (g : Geometry) (is : chosenOf kind ≡ Of g) (image result
   -- with enough words
   module _ (live : List ℕ) (enough : Enough image live g) where
     -- mutree_insert
-    pub insert-call : (address allowance : ℕ) → address < 4294967296 → Updates g (mapAt g image) (put key address (mapAt g image))
+    pub insert-call : (address allowance : ℕ) → address < fourBytes → Updates g (mapAt g image) (put key address (mapAt g image))
         (0 ∷ 3 ∷ 5 ∷ 6 ∷ 7 ∷ []) (insertStores g n image key address) allowance (inserts kind image live key address allowance result)
     unfolding insertLiveOf
     insert-call address allowance low = update-call (mapAt g image) (put key address (mapAt g image)) (0 ∷ 3 ∷ 5 ∷ 6 ∷ 7 ∷ [])

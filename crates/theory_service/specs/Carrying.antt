@@ -13,6 +13,7 @@ use Rattle.geometry.specs.declared.Chosen.the-variants.{Of}
 use Rattle.geometry.specs.declared.Verdict.the-variants.{Broken}
 use Rattle.geometry.specs.Geometry.{chosenOf}
 use Rattle.geometry.specs.Shape.{Known, chosen-known}
+use Rattle.geometry.specs.Bounds.{fourBytes}
 use Rattle.model.specs.Bytes.{byteAt}
 use Rattle.model.specs.Image.{blocksOf, goodLength}
 use Rattle.model.specs.Rules.{verdict}
@@ -131,7 +132,7 @@ module _ (kind : ℕ) (g : Geometry) (is : chosenOf kind ≡ Of g) where
     pub round-trip-text : exportsText kind (importsText kind image text result .image) buffer other .image ≡ text ++ drop (length text) buffer
     round-trip-text = ap (λ (l : Left). l .image) round-trip
 
-    text-low : length text < 4294967296
+    text-low : length text < fourBytes
     text-low =
         let s = text-short 0 (was-read .0) (read-rises text (was-read .0) (was-read .2)) in
         let f = read-few text (was-read .0) (was-read .2) in

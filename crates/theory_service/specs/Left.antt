@@ -14,6 +14,7 @@ use Rattle.geometry.specs.declared.Chosen.{Chosen}
 use Rattle.geometry.specs.declared.Chosen.the-variants.{Of, Unknown}
 use Rattle.geometry.specs.Geometry.{small, large, chosenOf}
 use Rattle.geometry.specs.Tests.{pick}
+use Rattle.geometry.specs.Bounds.{fourBytes}
 use Rattle.model.specs.Bytes.{u32At}
 use Rattle.model.specs.Page.{putU32}
 use Rattle.model.specs.Image.{blocksOf}
@@ -156,7 +157,7 @@ numbers-before b [] i at h = refl
 numbers-before b (v ∷ vs) i at h = numbers-before (putU32 b at v) vs i (at + 4) (omega (arith, h)) ∙ word-before b i at v h
 
 -- each number of a list is read as it was put
-pub number-read : (b vs : List ℕ) (at i : ℕ) → at + 4 * length vs ≤ length b → i < length vs → getD vs i 0 < 4294967296
+pub number-read : (b vs : List ℕ) (at i : ℕ) → at + 4 * length vs ≤ length b → i < length vs → getD vs i 0 < fourBytes
     → u32At (putNumbers b at vs) (at + 4 * i) ≡ getD vs i 0
 unfolding putNumbers
 number-read b [] at i room h low = absurd (omega (arith, h))
@@ -168,6 +169,6 @@ number-read b (v ∷ vs) at (suc i) room h low =
     rw q (number-read (putU32 b at v) vs (at + 4) i (omega (arith, room, length-word b at v)) (omega (arith, h)) low)
 
 -- so is each number of an outcome
-pub told-number : (o : Outcome) (result : List ℕ) → 24 ≤ length result → (i : ℕ) → i < 6 → getD (numbersOf o) i 0 < 4294967296
+pub told-number : (o : Outcome) (result : List ℕ) → 24 ≤ length result → (i : ℕ) → i < 6 → getD (numbersOf o) i 0 < fourBytes
     → numberIn i (whole o result .result) ≡ getD (numbersOf o) i 0
 told-number o result room i h low = let q : 4 * i ≡ 0 + 4 * i = omega arith in rw q (number-read result (numbersOf o) 0 i room h low)

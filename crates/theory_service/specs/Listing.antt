@@ -13,6 +13,7 @@ use Rattle.geometry.specs.declared.Chosen.the-variants.{Of}
 use Rattle.geometry.specs.declared.Verdict.the-variants.{Broken}
 use Rattle.geometry.specs.Geometry.{chosenOf}
 use Rattle.geometry.specs.Shape.{Known, shape, chosen-known}
+use Rattle.geometry.specs.Bounds.{fourBytes}
 use Rattle.model.specs.Image.{blocksOf, goodLength}
 use Rattle.model.specs.Rules.{verdict}
 use Rattle.model.specs.Calls.{chosenCall}
@@ -68,7 +69,7 @@ module _ (kind : ℕ) (image : List ℕ) (low high : ℕ) (pairs result : List �
       pub list-pairs : listsPairs kind image low high pairs result .image ≡ filled part pairs
       list-pairs = ap (λ (l : Left). l .image) list-call
 
-      few : length part < 4294967296
+      few : length part < fourBytes
       few =
           let w = few-pairs g (blocksOf g image) image low high known (ready .is-sound) in
           let q = ap length (walk-between g (shape g known) image ready low high) in

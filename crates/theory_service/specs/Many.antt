@@ -12,6 +12,7 @@ use lib.ListN.{length}
 use Rattle.geometry.specs.Geometry.{small}
 use Rattle.geometry.specs.Shape.{small-shape}
 use Rattle.geometry.specs.Tests.{pick}
+use Rattle.geometry.specs.Bounds.{fourBytes}
 use Rattle.model.specs.Bytes.{byteAt}
 use Rattle.model.specs.Image.{blocksOf, goodLength}
 use Rattle.model.specs.Tree.{find}
@@ -45,7 +46,7 @@ leaves image x = inserts 0 image (x .live) (x .key) (x .address) (x .allowance) 
 -- one after the other: mutree_lookup answers ABSENT (4) before, and mutree_insert DONE (0)
 unfoldable pub Done : List Call → List ℕ → Type 0
 Done [] image = Unit {0}
-Done (x ∷ xs) image = (x .key < 4294967296) × (x .address < 4294967296) × (looksUp 0 image (x .key) (x .result) .answer ≡ 4) ×
+Done (x ∷ xs) image = (x .key < fourBytes) × (x .address < fourBytes) × (looksUp 0 image (x .key) (x .result) .answer ≡ 4) ×
     (leaves image x .answer ≡ 0) × Done xs (leaves image x .image)
 
 -- X: the pages that the calls report, less one for each call, the collector's moves left out
@@ -63,7 +64,7 @@ unfolding answered
 absent-by image none e = refl
 absent-by image (some a) e = absurd (omega (arith, e))
 
-module _ (image : List ℕ) (ready : Ready small image) (x : Call) (k-low : x .key < 4294967296) (a-low : x .address < 4294967296) where
+module _ (image : List ℕ) (ready : Ready small image) (x : Call) (k-low : x .key < fourBytes) (a-low : x .address < fourBytes) where
   absent : looksUp 0 image (x .key) (x .result) .answer ≡ 4 → find (x .key) (mapAt small image) ≡ none
   unfolding chosenCall lookupOf
   absent e =

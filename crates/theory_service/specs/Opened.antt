@@ -13,6 +13,7 @@ use Rattle.geometry.specs.declared.Chosen.the-variants.{Of}
 use Rattle.geometry.specs.declared.Verdict.the-variants.{Broken}
 use Rattle.geometry.specs.Geometry.{chosenOf}
 use Rattle.geometry.specs.Shape.{Known, shape, chosen-known}
+use Rattle.geometry.specs.Bounds.{fourBytes}
 use Rattle.model.specs.Image.{blocksOf, goodLength}
 use Rattle.model.specs.Rules.{verdict}
 use Rattle.model.specs.Calls.{Outcome, gives, refused, damaged, lookup, insert, delete, chosenCall, lookupOf}
@@ -363,9 +364,9 @@ module _ (g : Geometry) (known : Known g) (image bytes live result : List ℕ) (
       On : Leaves → Type 0
       On l = Session g (l .left .image) (l .bytes) (l .words)
 
-module _ (kind : ℕ) (g : Geometry) (is : chosenOf kind ≡ Of g) (image bytes live result : List ℕ) (s : Session g image bytes live) (key : ℕ) (key-low : key < 4294967296) where
+module _ (kind : ℕ) (g : Geometry) (is : chosenOf kind ≡ Of g) (image bytes live result : List ℕ) (s : Session g image bytes live) (key : ℕ) (key-low : key < fourBytes) where
   -- "answers and bytes equal the old calls', and the record returned is what opening would then give", for every answer and allowance
-  pub insert-opened-call : (address allowance : ℕ) → address < 4294967296
+  pub insert-opened-call : (address allowance : ℕ) → address < fourBytes
       → Same g (insertsOpened kind image bytes live key address allowance result) (inserts kind image live key address allowance result)
       (insertWords kind image live key address allowance result)
   unfolding insertBytes insertWithOf insertLiveOf insert

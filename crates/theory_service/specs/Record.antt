@@ -13,6 +13,7 @@ use Rattle.geometry.specs.declared.Geometry.{Geometry}
 use Rattle.geometry.specs.Geometry.{pageBase}
 use Rattle.geometry.specs.Shape.{Known, shape}
 use Rattle.geometry.specs.Tests.{pick}
+use Rattle.geometry.specs.Bounds.{fourBytes}
 use Rattle.model.specs.Bytes.{byteAt, u32At, erased, seqAt, heightAt}
 use Rattle.model.specs.Page.{putU32}
 use Rattle.model.specs.Image.{pagesOf, blocksOf, chipOf, seqOf, heightOf, maxSeq, rootOf}
@@ -30,12 +31,12 @@ use Rattle.theory_service.specs.Left.{number-read}
 
 -- six numbers of 32 bits
 pub record Fits (o : Opened) : Type 0 where
-  pub root-low : o .root < 4294967296
-  pub number-low : o .number < 4294967296
-  pub most-low : o .most < 4294967296
-  pub height-low : o .height < 4294967296
-  pub next-low : o .next < 4294967296
-  pub erased-low : o .erased < 4294967296
+  pub root-low : o .root < fourBytes
+  pub number-low : o .number < fourBytes
+  pub most-low : o .most < fourBytes
+  pub height-low : o .height < fourBytes
+  pub next-low : o .next < fourBytes
+  pub erased-low : o .erased < fourBytes
 
 -- what is put is read
 pub record-read : (o : Opened) (bytes : List ℕ) → 24 ≤ length bytes → Fits o → recordIn (putRecord o bytes) ≡ o
@@ -108,23 +109,23 @@ module _ (o : Opened) (bytes : List ℕ) where
 
 -- ---- the record that opening gives for a sound image
 module _ (g : Geometry) (img : List ℕ) (s : Small img) where
-  seq-fits : (q : ℕ) → seqOf g img q < 4294967296
+  seq-fits : (q : ℕ) → seqOf g img q < fourBytes
   unfolding seqOf seqAt
   seq-fits q = go (erased g img q)
     where
-      go : (t : Bool) → pick t 0 (u32At img (pageBase g q + g .main)) < 4294967296
+      go : (t : Bool) → pick t 0 (u32At img (pageBase g q + g .main)) < fourBytes
       go true = omega arith
       go false = u32-fits img (pageBase g q + g .main) s
 
-  height-fits : (q : ℕ) → heightOf g img q < 4294967296
+  height-fits : (q : ℕ) → heightOf g img q < fourBytes
   unfolding heightOf heightAt
   height-fits q = go (erased g img q)
     where
-      go : (t : Bool) → pick t 0 (byteAt img (pageBase g q + g .main + 4)) < 4294967296
+      go : (t : Bool) → pick t 0 (byteAt img (pageBase g q + g .main + 4)) < fourBytes
       go true = omega arith
       go false = omega (arith, s (pageBase g q + g .main + 4))
 
-  most-fits : (n : ℕ) → 0 < pagesOf g n → maxSeq g n img < 4294967296
+  most-fits : (n : ℕ) → 0 < pagesOf g n → maxSeq g n img < fourBytes
   unfolding maxSeq
   most-fits n h = rw (peak-at (seqOf g img) (pagesOf g n) h) (seq-fits _)
 
@@ -133,7 +134,7 @@ unfolding openedIn
 opened-fits g known img ready =
     let n = blocksOf g img in
     let sh = shape g known in
-    let few : pagesOf g n < 4294967296 = (let a = mul-le-mul-left (g .pages) (blocks g sh img ready .most) in let b = sh .pages-high in omega (arith, a, b)) in
+    let few : pagesOf g n < fourBytes = (let a = mul-le-mul-left (g .pages) (blocks g sh img ready .most) in let b = sh .pages-high in omega (arith, a, b)) in
     let root = ready-keeps g sh img ready .held .whole .sound .rooted .fits .0 in
     subst Fits (sym (opened-ready g img ready)) (record {
       root-low = omega (arith, root, few);

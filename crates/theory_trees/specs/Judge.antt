@@ -15,6 +15,7 @@ use Rattle.geometry.specs.declared.Finding.the-variants.{Good, Bad}
 use Rattle.geometry.specs.Tests.{pick, _&_, and-true, and-false, and-left, and-right, and-both}
 use Rattle.geometry.specs.Geometry.{slotsOf, half, rootMost}
 use Rattle.geometry.specs.Shape.{Core}
+use Rattle.geometry.specs.Bounds.{fourBytes}
 use Rattle.model.specs.Image.{Nodes, Chip}
 use Rattle.model.specs.Tree.{Place, placesOf, lowLevel, next}
 use Rattle.model.specs.Rules.{unless, first, names, rising, own, ownRoot, judgeEntries, judgeNode, r5, namesPage, loose, lowestPage, r6}
@@ -138,7 +139,7 @@ module _ (g : Geometry) (core : Core g) (er : ℕ → Bool) (r : Nodes) (t : ℕ
 -- ---- R5
 module _ (g : Geometry) (core : Core g) (t : ℕ) (c : Chip) where
   abbrev Root : Type 0
-  Root = Rooted (fitOf t (c .er)) (λ l. 2 * half g l) (rootMost g) 4294967296 (c .nodes) (c .level) (c .root)
+  Root = Rooted (fitOf t (c .er)) (λ l. 2 * half g l) (rootMost g) fourBytes (c .nodes) (c .level) (c .root)
 
   least-of : (l m : ℕ) → leb (pick (eqb (suc l) 1) 0 2) m ≡ true → 1 ≤ l → 2 ≤ m
   least-of l m h i = leb-true 2 m (rw (ne-eqb (suc l) 1 (λ z. omega (arith, z, i))) at h)
@@ -152,7 +153,7 @@ module _ (g : Geometry) (core : Core g) (t : ℕ) (c : Chip) where
 
   -- the root's own count, keys and page numbers, and R5 below it
   r5-own : r5 g t c ≡ Good → (ownRoot g (c .er) (c .nodes) t (suc (c .level)) (c .root) ≡ true) ×
-      (judgeEntries (judgeNode g (c .er) (c .nodes) t (c .level)) (c .nodes (c .root) (suc (c .level))) 4294967296 ≡ Good)
+      (judgeEntries (judgeNode g (c .er) (c .nodes) t (c .level)) (c .nodes (c .root) (suc (c .level))) fourBytes ≡ Good)
   unfolding r5
   r5-own h = good-unless _ _ _ h
 
@@ -160,17 +161,17 @@ module _ (g : Geometry) (core : Core g) (t : ℕ) (c : Chip) where
   unfolding ownRoot
   r5-most h = leb-true _ (rootMost g (suc (c .level))) (and-right _ _ (and-left _ _ (r5-own h .0)))
 
-  pub r5-rises : r5 g t c ≡ Good → Rises (Ok (fitOf t (c .er)) (λ l. 2 * half g l) (c .nodes) (c .level)) 4294967296 (c .nodes (c .root) (suc (c .level)))
+  pub r5-rises : r5 g t c ≡ Good → Rises (Ok (fitOf t (c .er)) (λ l. 2 * half g l) (c .nodes) (c .level)) fourBytes (c .nodes (c .root) (suc (c .level)))
   unfolding ownRoot
   r5-rises h =
       let u = r5-own h in
       let l = c .level in
       let es = c .nodes (c .root) (suc l) in
-      let up = rising-up (names (c .er) t (suc l)) es 0 4294967296 (and-right _ _ (u .0)) in
+      let up = rising-up (names (c .er) t (suc l)) es 0 fourBytes (and-right _ _ (u .0)) in
       rises-map (λ y x. (names (c .er) t (suc l) (x .addr) ≡ true) × (judgeNode g (c .er) (c .nodes) t l (x .addr) (x .key) y ≡ Good))
-      (Ok (fitOf t (c .er)) (λ l. 2 * half g l) (c .nodes) l) 4294967296 es
+      (Ok (fitOf t (c .er)) (λ l. 2 * half g l) (c .nodes) l) fourBytes es
       (λ y x _ _ i. entry-ok g core (c .er) (c .nodes) t l y x (names-fit (c .er) t l (x .addr) (i .0)) (i .1))
-      (entries-good (names (c .er) t (suc l)) (judgeNode g (c .er) (c .nodes) t l) es 4294967296 (up .0) (u .1))
+      (entries-good (names (c .er) t (suc l)) (judgeNode g (c .er) (c .nodes) t l) es fourBytes (up .0) (u .1))
 
   pub r5-rooted : fitOf t (c .er) (suc (c .level)) (c .root) → r5 g t c ≡ Good → Root
   unfolding ownRoot
@@ -188,10 +189,10 @@ module _ (g : Geometry) (core : Core g) (t : ℕ) (c : Chip) where
       let es = c .nodes (c .root) (suc l) in
       unless-both _ _ _
       (and-both _ _ (and-both _ _ (of-least l (length es) (h .least)) (le-leb (length es) (rootMost g (suc l)) (h .atmost)))
-      (up-rising (names (c .er) t (suc l)) es 0 4294967296 (may-all g core (c .er) (c .nodes) t l 4294967296 es (h .rises)) (λ _. omega arith)))
-      (good-entries (judgeNode g (c .er) (c .nodes) t l) es 4294967296
+      (up-rising (names (c .er) t (suc l)) es 0 fourBytes (may-all g core (c .er) (c .nodes) t l fourBytes es (h .rises)) (λ _. omega arith)))
+      (good-entries (judgeNode g (c .er) (c .nodes) t l) es fourBytes
       (rises-map (Ok (fitOf t (c .er)) (λ l. 2 * half g l) (c .nodes) l) (λ y x. judgeNode g (c .er) (c .nodes) t l (x .addr) (x .key) y ≡ Good)
-      4294967296 es (λ y x _ _ i. ok-entry g core (c .er) (c .nodes) t l y x i) (h .rises)))
+      fourBytes es (λ y x _ _ i. ok-entry g core (c .er) (c .nodes) t l y x i) (h .rises)))
 
 -- ---- R6
 pub names-some : (p : ℕ) (es : List Entry) → namesPage p es ≡ true → Some (λ e. e .addr ≡ p) es

@@ -11,6 +11,7 @@ use borrow.Author.Tests.{eq-eqb, ne-eqb, le-ltb}
 use Rattle.geometry.specs.declared.Geometry.{Geometry}
 use Rattle.geometry.specs.Tests.{pick, _&_, and-right}
 use Rattle.geometry.specs.Shape.{Shape, Core, shape-core}
+use Rattle.geometry.specs.Bounds.{fourBytes}
 use Rattle.model.specs.Bytes.{erased, nodeAt}
 use Rattle.model.specs.Count.{count, least, peak, arg}
 use Rattle.model.specs.Image.{pagesOf, seqOf, maxSeq, Chip, chipOf}
@@ -178,7 +179,7 @@ store-same g shape n o img h q held q-in free t =
     λ i. program (x i) (built g (suc (t .most-is i)) (suc (t .level-is i)) (λ j. pick (leb (a i) j)
     (onPath (nodeAt g img) (next (nodeAt g img q (a i)) 0) same (renamed (a i) (x i)) (t .level-is i) (named (t .root-is i)) j) []))
 
-module _ (g : Geometry) (shape : Shape g) (n : ℕ) (few : pagesOf g n + g .pages < 4294967296) (img : List ℕ) (held : Held g n img) (q : ℕ)
+module _ (g : Geometry) (shape : Shape g) (n : ℕ) (few : pagesOf g n + g .pages < fourBytes) (img : List ℕ) (held : Held g n img) (q : ℕ)
     (q-in : q < pagesOf g n) (free : 1 ≤ count (pagesOf g n) (chipOf g n img .er)) (alive : live (placesOf (chipOf g n img)) q ≡ true)
     (low : suc (maxSeq g n img) < 4294967295) where
   abbrev c : Chip

@@ -14,6 +14,7 @@ use Rattle.geometry.specs.declared.Geometry.{Geometry}
 use Rattle.geometry.specs.declared.Entry.{Entry}
 use Rattle.geometry.specs.Tests.{pick}
 use Rattle.geometry.specs.Shape.{Shape, shape-core}
+use Rattle.geometry.specs.Bounds.{fourBytes}
 use Rattle.model.specs.Bytes.{erased}
 use Rattle.model.specs.Count.{count}
 use Rattle.model.specs.Image.{pagesOf, maxSeq, Chip, chipOf}
@@ -90,7 +91,7 @@ pub victim-same : (g : Geometry) (n : ℕ) (img : List ℕ) (t : Table) → g .p
 victim-same g n img t e r = victim-alike (full (g .pages) (erased g img)) (λ b. blockOnes g (t .words) b) (λ b. livesIn (g .pages) b (chipOf g n img)) n
     (block-ones g (live (placesOf (chipOf g n img))) n (t .words) e (r .told))
 
-module _ (g : Geometry) (shape : Shape g) (n : ℕ) (few : pagesOf g n + g .pages < 4294967296) where
+module _ (g : Geometry) (shape : Shape g) (n : ℕ) (few : pagesOf g n + g .pages < fourBytes) where
   -- one move
   move-same : (o : Opened) (img : List ℕ) (q : ℕ) (h : Beside) → Held g n img → q < pagesOf g n → 1 ≤ count (pagesOf g n) (chipOf g n img .er)
       → live (placesOf (chipOf g n img)) q ≡ true → suc (maxSeq g n img) < 4294967295 → Tracks g n o img h

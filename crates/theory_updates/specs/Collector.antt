@@ -14,6 +14,7 @@ use Rattle.geometry.specs.declared.Geometry.{Geometry}
 use Rattle.geometry.specs.declared.Entry.{Entry}
 use Rattle.geometry.specs.Tests.{pick}
 use Rattle.geometry.specs.Shape.{Shape, shape-core}
+use Rattle.geometry.specs.Bounds.{fourBytes}
 use Rattle.model.specs.Count.{count}
 use Rattle.model.specs.Image.{pagesOf, maxSeq, Chip, chipOf}
 use Rattle.model.specs.Tree.{mapOf, Place, placesOf, live}
@@ -32,7 +33,7 @@ use Rattle.theory_images.specs.Writes.{wipe-chip, wipe-held, wipe-max}
 use Rattle.theory_updates.specs.Along.{Along, Keeps, Runs, runs-end, runs-none, runs-then, runs-as}
 use Rattle.theory_updates.specs.Move.{move-chip, move-held, move-map, move-max, move-legal}
 
-module _ (g : Geometry) (shape : Shape g) (n : ℕ) (few : pagesOf g n + g .pages < 4294967296) (base : List Entry) where
+module _ (g : Geometry) (shape : Shape g) (n : ℕ) (few : pagesOf g n + g .pages < fourBytes) (base : List Entry) where
   abbrev t : ℕ
   t = pagesOf g n
 

@@ -12,6 +12,7 @@ use Rattle.geometry.specs.declared.Entry.{Entry}
 use Rattle.geometry.specs.Tests.{pick, bit}
 use Rattle.geometry.specs.Geometry.{slotsOf, half}
 use Rattle.geometry.specs.Shape.{Shape}
+use Rattle.geometry.specs.Bounds.{fourBytes}
 use Rattle.model.specs.Image.{pagesOf, Chip, theRoot}
 use Rattle.model.specs.Tree.{next, chosen, sought}
 use Rattle.model.specs.Page.{only}
@@ -30,7 +31,7 @@ use Rattle.theory_images.specs.Page.{Parts}
 use Rattle.theory_updates.specs.Table.{parts-most}
 
 -- ---- numbers of 32 bits
-pub next-fits : (es : List Entry) → All Fits es → next es 0 < 4294967296
+pub next-fits : (es : List Entry) → All Fits es → next es 0 < fourBytes
 next-fits [] h = omega arith
 next-fits (e ∷ es) h = h .0 .0
 
@@ -55,7 +56,7 @@ half-most k m r c a b = go (turn k m c)
     go true = (ld, lt)
     go false = (lt, ld)
 
-module _ (k a : ℕ) (k-fits : k < 4294967296) (a-fits : a < 4294967296) where
+module _ (k a : ℕ) (k-fits : k < fourBytes) (a-fits : a < fourBytes) where
   one-fits : (e : Entry) → Fits e → All Fits (put k a (e ∷ []))
   one-fits e h = go (ltb (e .key) k) (eqb (e .key) k)
     where
@@ -82,11 +83,11 @@ module _ (k a : ℕ) (k-fits : k < 4294967296) (a-fits : a < 4294967296) where
   put-most [] = omega arith
   put-most (e ∷ es) = splice-most (λ x. put k a (x ∷ [])) k 1 (e ∷ es) one-most
 
-  module _ (n : ℕ) (side half : ℕ → ℕ) (n-fits : n < 4294967296) (side-fits : (l : ℕ) → side l < 4294967296) where
-    pub two-fits : (l m z : ℕ) (c : List Entry) → z < 4294967296 → All Fits c → All Fits (two k n (side l) m z c)
+  module _ (n : ℕ) (side half : ℕ → ℕ) (n-fits : n < fourBytes) (side-fits : (l : ℕ) → side l < fourBytes) where
+    pub two-fits : (l m z : ℕ) (c : List Entry) → z < fourBytes → All Fits c → All Fits (two k n (side l) m z c)
     two-fits l m z c f h = go (turn k m c)
       where
-        next-low : next (drop m c) 0 < 4294967296
+        next-low : next (drop m c) 0 < fourBytes
         next-low = next-fits (drop m c) (all-drop Fits m c h)
 
         go : (t : Bool) → All Fits (record { key = z; addr = pick t (side l) n } ∷ record { key = next (drop m c) 0; addr = pick t n (side l) } ∷ [])
@@ -96,7 +97,7 @@ module _ (k a : ℕ) (k-fits : k < 4294967296) (a-fits : a < 4294967296) where
     named-fits : (l : ℕ) (e : Entry) (c : List Entry) → Fits e → All Fits c → All Fits (named k n side half l e c)
     named-fits l e c f h = go (leb (length c) (2 * half l))
       where
-        low : min (e .key) k < 4294967296
+        low : min (e .key) k < fourBytes
         low = let z = f .0 in omega (arith, z)
 
         go : (t : Bool) → All Fits (pick t (record { key = min (e .key) k; addr = n } ∷ []) (two k n (side l) (half l) (min (e .key) k) c))
@@ -110,8 +111,8 @@ module _ (k a : ℕ) (k-fits : k < 4294967296) (a-fits : a < 4294967296) where
         go true = omega arith
         go false = omega arith
 
-module _ (g : Geometry) (shape : Shape g) (n : ℕ) (few : pagesOf g n + g .pages < 4294967296) (k a : ℕ) (k-low : k < 4294967296)
-    (a-low : a < 4294967296)
+module _ (g : Geometry) (shape : Shape g) (n : ℕ) (few : pagesOf g n + g .pages < fourBytes) (k a : ℕ) (k-low : k < fourBytes)
+    (a-low : a < fourBytes)
     (c : Chip) (whole : Whole g n c) (all-fit : (q l : ℕ) → All Fits (c .nodes q l)) (high : suc (c .level) ≤ g .top)
     (not-high : tooHigh g c k ≡ false) where
   abbrev m : ℕ
@@ -132,7 +133,7 @@ module _ (g : Geometry) (shape : Shape g) (n : ℕ) (few : pagesOf g n + g .page
   abbrev grows : Bool
   grows = fills g (suc (c .level)) (length (lists (suc (c .level))))
 
-  side-low : (l : ℕ) → side l < 4294967296
+  side-low : (l : ℕ) → side l < fourBytes
   side-low l = let z = side-most g n c l in omega (arith, z, few)
 
   lists-fit : (j : ℕ) → All Fits (lists j)
@@ -143,7 +144,7 @@ module _ (g : Geometry) (shape : Shape g) (n : ℕ) (few : pagesOf g n + g .page
   lists-most : (j : ℕ) → 1 ≤ j → j ≤ c .level → length (lists j) ≤ 2 * half g j + 1
   unfolding insertList
   lists-most j b d = path-most (c .nodes) k (putIn k a) (named k N side (half g)) 1 (put-most k a k-low a-low)
-      (named-most k a k-low a-low N side (half g) (side-low m) side-low) (fitOf (pagesOf g n) (c .er)) (λ l. 2 * half g l) (c .level) 4294967296
+      (named-most k a k-low a-low N side (half g) (side-low m) side-low) (fitOf (pagesOf g n) (c .er)) (λ l. 2 * half g l) (c .level) fourBytes
       (theRoot c)
       (λ i. let z = whole .sound .rooted .least i in omega (arith, z)) (whole .sound .rooted .rises) j b d
 
@@ -217,7 +218,7 @@ module _ (g : Geometry) (shape : Shape g) (n : ℕ) (few : pagesOf g n + g .page
       X : List Entry
       X = lists (suc (c .level))
 
-      first-low : next (lists (suc (c .level))) 0 < 4294967296
+      first-low : next (lists (suc (c .level))) 0 < fourBytes
       first-low = next-fits (lists (suc (c .level))) (lists-fit (suc (c .level)))
 
       crown-fits : (j : ℕ) (t u v w : Bool)

@@ -12,6 +12,7 @@ use Rattle.geometry.specs.declared.Entry.{Entry}
 use Rattle.geometry.specs.Tests.{pick, _&_, and-true, and-false}
 use Rattle.geometry.specs.Geometry.{slotsOf, half}
 use Rattle.geometry.specs.Shape.{Shape, shape-core}
+use Rattle.geometry.specs.Bounds.{fourBytes}
 use Rattle.model.specs.Count.{count, peak}
 use Rattle.model.specs.Image.{pagesOf, maxSeq, Nodes, Chip, chipOf, theRoot}
 use Rattle.model.specs.Tree.{mapOf, sought}
@@ -61,7 +62,7 @@ remove-most k es = splice-most (λ x. remove k (x ∷ [])) k 0 es one
         go true = omega arith
         go false = omega arith
 
-pub kept-fits : (n : ℕ) → n < 4294967296 → (l : ℕ) (e : Entry) (c : List Entry) → Fits e → All Fits c → All Fits (kept n l e c)
+pub kept-fits : (n : ℕ) → n < fourBytes → (l : ℕ) (e : Entry) (c : List Entry) → Fits e → All Fits c → All Fits (kept n l e c)
 kept-fits n q l e [] f h = tt
 kept-fits n q l e (x ∷ c) f h = ((f .0, q), tt)
 
@@ -77,7 +78,7 @@ collapse-all P r all (suc l) [] h = h
 collapse-all P r all (suc l) (x ∷ []) h = collapse-all P r all l (r (x .addr) (suc l)) (all (x .addr) (suc l))
 collapse-all P r all (suc l) (x ∷ y ∷ c) h = h
 
-module _ (g : Geometry) (shape : Shape g) (n : ℕ) (few : pagesOf g n + g .pages < 4294967296) (k : ℕ) (k-low : k < 4294967296)
+module _ (g : Geometry) (shape : Shape g) (n : ℕ) (few : pagesOf g n + g .pages < fourBytes) (k : ℕ) (k-low : k < fourBytes)
     (base : List Entry) (img : List ℕ) (keeps : Keeps g n base img) (present : isNone (sought (chipOf g n img) k) ≡ false)
     (room : g .pages + 1 ≤ count (pagesOf g n) (chipOf g n img .er)) (low : maxSeq g n img + 1 < 4294967295) where
   abbrev c : Chip
@@ -118,7 +119,7 @@ module _ (g : Geometry) (shape : Shape g) (n : ℕ) (few : pagesOf g n + g .page
   lists-most : (j : ℕ) → 1 ≤ j → j ≤ c .level → length (lists j) ≤ slotsOf g j
   unfolding deleteList
   lists-most j b d =
-      let w = path-most (c .nodes) k (removeIn k) (kept N) 0 (remove-most k) (kept-most N) (fitOf t (c .er)) (λ l. 2 * half g l) (c .level) 4294967296
+      let w = path-most (c .nodes) k (removeIn k) (kept N) 0 (remove-most k) (kept-most N) (fitOf t (c .er)) (λ l. 2 * half g l) (c .level) fourBytes
       (theRoot c) (λ i. let z = whole .sound .rooted .least i in omega (arith, z)) (whole .sound .rooted .rises) j b d in
       let e = shape .even j in
       omega (arith, w, e)

@@ -12,6 +12,7 @@ use Rattle.geometry.specs.declared.Geometry.{Geometry}
 use Rattle.geometry.specs.Tests.{pick, _&_, and-both}
 use Rattle.geometry.specs.Geometry.{pageBase}
 use Rattle.geometry.specs.Shape.{Shape, shape-core}
+use Rattle.geometry.specs.Bounds.{fourBytes}
 use Rattle.model.specs.Bytes.{u32At, erased, seqAt}
 use Rattle.model.specs.Count.{count, arg}
 use Rattle.model.specs.Image.{pagesOf, seqOf, heightOf, maxSeq, rootOf, Chip, chipOf}
@@ -35,11 +36,11 @@ use Rattle.theory_updates.specs.Beside.{Tracks}
 use Rattle.theory_updates.specs.NextErased.{next-erased}
 
 -- ---- numbers
-seq-fits : (g : Geometry) (img : List ℕ) (q : ℕ) → Small img → seqOf g img q < 4294967296
+seq-fits : (g : Geometry) (img : List ℕ) (q : ℕ) → Small img → seqOf g img q < fourBytes
 unfolding seqOf seqAt
 seq-fits g img q s = go (erased g img q)
   where
-    go : (t : Bool) → pick t 0 (u32At img (pageBase g q + g .main)) < 4294967296
+    go : (t : Bool) → pick t 0 (u32At img (pageBase g q + g .main)) < fourBytes
     go true = omega arith
     go false = u32-fits img (pageBase g q + g .main) s
 
@@ -131,8 +132,8 @@ module _ (g : Geometry) (shape : Shape g) (n : ℕ) (img : List ℕ) (held : Hel
         let f = t .most-is in
         omega (arith, a, b, e, f)
 
-    small : h .most % 4294967296 ≡ h .most
-    small = mod-eq-of-lt (subst (λ m. m < 4294967296) top (seq-fits g img (h .root) (held .bytes)))
+    small : h .most % fourBytes ≡ h .most
+    small = mod-eq-of-lt (subst (λ m. m < fourBytes) top (seq-fits g img (h .root) (held .bytes)))
 
     next-then : nextErased (g .pages) n (erased g then) (h .root) (h .next) ≡ nextPage (g .pages) n (ahead g n (chipOf g n then))
     next-then =
@@ -144,8 +145,8 @@ module _ (g : Geometry) (shape : Shape g) (n : ℕ) (img : List ℕ) (held : Hel
 
     goes-on : openedIn g n then ≡ record {
       root = h .root;
-      number = h .most % 4294967296;
-      most = h .most % 4294967296;
+      number = h .most % fourBytes;
+      most = h .most % fourBytes;
       height = o .height;
       next = min (pagesOf g n) (nextErased (g .pages) n (erased g then) (h .root) (h .next));
       erased = o .erased - (h .most - o .most) + g .pages;

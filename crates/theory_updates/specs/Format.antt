@@ -14,6 +14,7 @@ use Rattle.geometry.specs.declared.Entry.{Entry}
 use Rattle.geometry.specs.Tests.{pick}
 use Rattle.geometry.specs.Geometry.{half, rootMost, inTable}
 use Rattle.geometry.specs.Shape.{Core}
+use Rattle.geometry.specs.Bounds.{fourBytes}
 use Rattle.model.specs.Count.{count}
 use Rattle.model.specs.Image.{pagesOf, maxSeq, Nodes, Chip, chipOf}
 use Rattle.model.specs.Tree.{gather, under, mapOf, Place, places, placesOf, live, livePages}
@@ -180,7 +181,7 @@ module _ (g : Geometry) (core : Core g) (n : ℕ) (three : 3 ≤ n) (img : List 
   whole = record {
     r2 = fresh-r2 (g .pages) n (d .er) (some-page g core) er-is;
     sound = fresh-sound t (d .er) (λ l. 2 * half g l)
-        (rootMost g) 4294967296 (d .nodes) pos (er-is 0 pos) nodes-none;
+        (rootMost g) fourBytes (d .nodes) pos (er-is 0 pos) nodes-none;
   }
 
   formatted-held : Held g n formatted

@@ -12,6 +12,7 @@ use Rattle.geometry.specs.declared.Entry.{Entry}
 use Rattle.geometry.specs.Tests.{pick, bit}
 use Rattle.geometry.specs.Geometry.{half}
 use Rattle.geometry.specs.Shape.{Shape, shape-core}
+use Rattle.geometry.specs.Bounds.{fourBytes}
 use Rattle.model.specs.Count.{count, peak}
 use Rattle.model.specs.Image.{pagesOf, maxSeq, Chip, chipOf}
 use Rattle.model.specs.Tree.{mapOf, placesOf, live, chosen, sought}
@@ -60,8 +61,8 @@ pub record Inserted (g : Geometry) (n : ℕ) (c : Chip) (m k a : ℕ) (e : Chip)
   pub fuller : Fuller g m c e
   pub stands : Stands g n c m (insertCrest g c (sidePage g n c) m k a) e
 
-module _ (g : Geometry) (shape : Shape g) (n : ℕ) (few : pagesOf g n + g .pages < 4294967296) (k a : ℕ) (k-low : k < 4294967296)
-    (a-low : a < 4294967296)
+module _ (g : Geometry) (shape : Shape g) (n : ℕ) (few : pagesOf g n + g .pages < fourBytes) (k a : ℕ) (k-low : k < fourBytes)
+    (a-low : a < fourBytes)
     (base : List Entry) (img : List ℕ) (keeps : Keeps g n base img) (not-high : tooHigh g (chipOf g n img) k ≡ false)
     (room : g .pages + needs g (chipOf g n img) k ≤ count (pagesOf g n) (chipOf g n img .er))
     (low : maxSeq g n img + needs g (chipOf g n img) k < 4294967295)

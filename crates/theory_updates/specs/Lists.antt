@@ -9,6 +9,7 @@ use borrow.Author.Tests.{ltb-false}
 use Rattle.geometry.specs.declared.Geometry.{Geometry}
 use Rattle.geometry.specs.declared.Entry.{Entry}
 use Rattle.geometry.specs.Shape.{Shape, shape-core}
+use Rattle.geometry.specs.Bounds.{fourBytes}
 use Rattle.model.specs.Count.{count}
 use Rattle.model.specs.Image.{pagesOf, maxSeq, Chip, chipOf}
 use Rattle.model.specs.Tree.{placesOf, live, find, sought}
@@ -36,7 +37,7 @@ not-worn g n img h = ltb-false (g .worn) (maxSeq g n img) h
 abbrev pub programMost : Geometry → ℕ → ℕ
 programMost g k = suc k * (g .pages - 1) + k
 
-module _ (g : Geometry) (shape : Shape g) (n : ℕ) (few : pagesOf g n + g .pages < 4294967296) (base : List Entry) (img : List ℕ)
+module _ (g : Geometry) (shape : Shape g) (n : ℕ) (few : pagesOf g n + g .pages < fourBytes) (base : List Entry) (img : List ℕ)
     (keeps : Keeps g n base img) (unworn : maxSeq g n img ≤ g .worn) where
   abbrev c : Chip
   c = chipOf g n img
@@ -58,7 +59,7 @@ module _ (g : Geometry) (shape : Shape g) (n : ℕ) (few : pagesOf g n + g .page
   roomy k h r = let z = ltb-false (freePages g n c) (2 * g .pages - 1 + k) r in let p = some-page g (shape-core g shape) in omega (arith, z, p, h)
 
   -- an insertion
-  module _ (some-pages : 1 ≤ t) (k a : ℕ) (k-low : k < 4294967296) (a-low : a < 4294967296) (not-high : tooHigh g c k ≡ false)
+  module _ (some-pages : 1 ≤ t) (k a : ℕ) (k-low : k < fourBytes) (a-low : a < fourBytes) (not-high : tooHigh g c k ≡ false)
       (not-room : roomless g (freePages g n c) (needs g c k) ≡ false) where
     abbrev m : ℕ
     m = needs g c k
@@ -144,7 +145,7 @@ module _ (g : Geometry) (shape : Shape g) (n : ℕ) (few : pagesOf g n + g .page
     insert-stands = last-done .also .1
 
   -- a deletion
-  module _ (some-pages : 1 ≤ t) (k : ℕ) (k-low : k < 4294967296) (present : isNone (sought c k) ≡ false) where
+  module _ (some-pages : 1 ≤ t) (k : ℕ) (k-low : k < fourBytes) (present : isNone (sought c k) ≡ false) where
     pub one-top : 1 ≤ g .top
     one-top = let z = shape .top-low in omega (arith, z)
 

@@ -13,6 +13,7 @@ use borrow.Author.Tests.{leb-true}
 use Rattle.geometry.specs.declared.Geometry.{Geometry}
 use Rattle.geometry.specs.Tests.{pick}
 use Rattle.geometry.specs.Shape.{Shape, shape-core}
+use Rattle.geometry.specs.Bounds.{fourBytes}
 use Rattle.model.specs.Bytes.{erased}
 use Rattle.model.specs.Image.{pagesOf, heightOf, maxSeq, rootOf, Chip, chipOf}
 use Rattle.model.specs.Tree.{Place, placesOf, live, erasedPages}
@@ -37,7 +38,7 @@ pub record-made : (g : Geometry) (n : ℕ) (start then : List ℕ) (m : ℕ) (t 
 unfolding recordMade openedIn maxSeq
 record-made g n start then m t s held low =
     let top = s .topped in
-    let number : (maxSeq g n start + m) % 4294967296 ≡ maxSeq g n start + m = mod-eq-of-lt low in
+    let number : (maxSeq g n start + m) % fourBytes ≡ maxSeq g n start + m = mod-eq-of-lt low in
     let height : suc (t .level) ≡ heightOf g then (rootOf g n then) = (let a = s .level-is in let b = held .r4 in let c = root-height g n then in omega (arith, a, b, c)) in
     let left = top .frees in
     λ i. record {

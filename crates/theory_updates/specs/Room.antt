@@ -8,6 +8,7 @@ use borrow.Author.Tests.{lt-ltb, le-ltb}
 use Rattle.geometry.specs.declared.Geometry.{Geometry}
 use Rattle.geometry.specs.Geometry.{half, rootMost}
 use Rattle.geometry.specs.Tests.{bit, _&_, and-true, and-none}
+use Rattle.geometry.specs.Bounds.{fourBytes}
 use Rattle.model.specs.Count.{count}
 use Rattle.model.specs.Image.{pagesOf, Chip}
 use Rattle.model.specs.Tree.{placesOf, live}
@@ -31,7 +32,7 @@ module _ (g : Geometry) (n : ℕ) (c : Chip) (whole : Whole g n c) where
   dead : (q : ℕ) → c .er q ≡ true → live (placesOf c) q ≡ false
   dead q e = dead-live q (placesOf c) (all-map (λ x. (1 ≤ x .level) × fitOf (g .pages * n) (c .er) (x .level) (x .page)) (λ x. x .page ≡ q → ⊥) (placesOf c)
       (λ x i z. true-false (c .er q) e (ap (c .er) (sym z) ∙ fit-page (g .pages * n) (c .er) (x .level) (x .page) (i .0) (i .1) .1))
-      (root-fit (fitOf (g .pages * n) (c .er)) (λ l. 2 * half g l) (rootMost g) (c .nodes) (c .level) (c .root) 4294967296 (whole .sound .rooted)))
+      (root-fit (fitOf (g .pages * n) (c .er)) (λ l. 2 * half g l) (rootMost g) (c .nodes) (c .level) (c .root) fourBytes (whole .sound .rooted)))
 
   -- F is at most T − L
   pub free-most : count (pagesOf g n) (c .er) ≤ freePages g n c

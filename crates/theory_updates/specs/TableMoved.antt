@@ -8,6 +8,7 @@ use mathlib.Core.Logic.{inl, inr}
 use lib.ListN.{length}
 use Rattle.geometry.specs.declared.Geometry.{Geometry}
 use Rattle.geometry.specs.Shape.{Shape, shape-core}
+use Rattle.geometry.specs.Bounds.{fourBytes}
 use Rattle.model.specs.Bytes.{nodeAt}
 use Rattle.model.specs.Count.{count}
 use Rattle.model.specs.Image.{Chip, chipOf, pagesOf, maxSeq, theRoot}
@@ -55,7 +56,7 @@ module _ (c c′ : Chip) (q new m : ℕ) (lows : Lowered new (lowLevel (placesOf
     ));
   }
 
-module _ (g : Geometry) (shape : Shape g) (n : ℕ) (few : pagesOf g n + g .pages < 4294967296) (img : List ℕ) (held : Held g n img) (q : ℕ)
+module _ (g : Geometry) (shape : Shape g) (n : ℕ) (few : pagesOf g n + g .pages < fourBytes) (img : List ℕ) (held : Held g n img) (q : ℕ)
     (alive : live (placesOf (chipOf g n img)) q ≡ true) (free : 1 ≤ count (pagesOf g n) (chipOf g n img .er))
     (low : maxSeq g n img + 1 < 4294967295) where
   abbrev c : Chip

@@ -10,6 +10,7 @@ use Rattle.geometry.specs.declared.Geometry.{Geometry}
 use Rattle.geometry.specs.declared.Entry.{Entry}
 use Rattle.geometry.specs.Tests.{pick, _&_}
 use Rattle.geometry.specs.Shape.{Shape, shape-core}
+use Rattle.geometry.specs.Bounds.{fourBytes}
 use Rattle.model.specs.Count.{count}
 use Rattle.model.specs.Image.{pagesOf, maxSeq, Chip, chipOf}
 use Rattle.model.specs.Tree.{placesOf, live, sought}
@@ -42,7 +43,7 @@ use Rattle.theory_updates.specs.OwnBy.{own-by, crest-by, page-by}
 use Rattle.theory_updates.specs.Records.{record-made, made-by}
 use Rattle.theory_updates.specs.Room.{room-same}
 
-module _ (g : Geometry) (shape : Shape g) (n : ℕ) (few : pagesOf g n + g .pages < 4294967296) (base : List Entry) (img : List ℕ)
+module _ (g : Geometry) (shape : Shape g) (n : ℕ) (few : pagesOf g n + g .pages < fourBytes) (base : List Entry) (img : List ℕ)
     (keeps : Keeps g n base img) (some-pages : 1 ≤ pagesOf g n) (whole : g .pages ≡ 32 * blockWords g) (h : Kept) (tells : Tells g n img h)
     (nodes : Few g) (tall : g .top ≤ g .pages) where
   abbrev c : Chip
@@ -71,7 +72,7 @@ module _ (g : Geometry) (shape : Shape g) (n : ℕ) (few : pagesOf g n + g .page
   worn-is = ap (λ (o : Opened). ltb (g .worn) (o .most)) (tells .at-is)
 
   -- ---- insert
-  module _ (k a al : ℕ) (k-low : k < 4294967296) (a-low : a < 4294967296) where
+  module _ (k a al : ℕ) (k-low : k < fourBytes) (a-low : a < fourBytes) where
     abbrev m : ℕ
     m = needs g c k
 
@@ -136,7 +137,7 @@ module _ (g : Geometry) (shape : Shape g) (n : ℕ) (few : pagesOf g n + g .page
         go false false false u v d = insert-made (not-worn g n img u) v d
 
   -- ---- delete
-  module _ (k al : ℕ) (k-low : k < 4294967296) where
+  module _ (k al : ℕ) (k-low : k < fourBytes) where
     abbrev takes : List Store
     takes = deleteStores g n img k
 

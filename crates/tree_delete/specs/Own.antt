@@ -6,6 +6,7 @@ use lib.Dec.{eqb}
 use Rattle.geometry.specs.declared.Geometry.{Geometry}
 use Rattle.geometry.specs.declared.Entry.{Entry}
 use Rattle.geometry.specs.Tests.{pick}
+use Rattle.geometry.specs.Bounds.{fourBytes, longestPage}
 use Rattle.model.specs.Bytes.{nodeAt}
 use Rattle.model.specs.Edit.{collapse}
 use Rattle.model.specs.Page.{built, only}
@@ -36,7 +37,7 @@ leftAt g j l i c = record { page = j .page; level = collapse (nodeAt g i) l c .l
 
 -- the whole, with the path laid on a blank buffer
 unfoldable pub storeBy : Geometry → Job → ℕ → Entry → List ℕ → Store
-storeBy g j l e i = rootStore g j l i (laid g (partsOf g j i l e) l (blanks 2112)) (changed g j i l e)
+storeBy g j l e i = rootStore g j l i (laid g (partsOf g j i l e) l (blanks longestPage)) (changed g j i l e)
 
 abbrev pub topBy : Geometry → Job → ℕ → Entry → List ℕ → Crest
 topBy g j l e i = leftAt g j l i (changed g j i l e)
@@ -46,5 +47,5 @@ pub record Removes (at seq k : ℕ) (j : Job) : Type 0 where
   pub key : j .key ≡ k
   pub change : j .change ≡ Remove
   pub number : j .seq ≡ seq
-  pub small : j .seq < 4294967296
+  pub small : j .seq < fourBytes
   pub page : j .page ≡ at

@@ -8,6 +8,7 @@ use borrow.Author.Tests.{eq-eqb, ne-eqb}
 use Rattle.geometry.specs.declared.Geometry.{Geometry}
 use Rattle.geometry.specs.declared.Entry.{Entry}
 use Rattle.geometry.specs.Geometry.{pageBytes}
+use Rattle.geometry.specs.Bounds.{longestPage}
 use Rattle.model.specs.Bytes.{nodeAt}
 use Rattle.model.specs.Edit.{collapse}
 use Rattle.model.specs.Page.{built, only}
@@ -65,7 +66,7 @@ nothing g j m c e = ap (λ (v : Change). storesOf g v j m c) e
 
 pub with-is : (g : Geometry) (j : Job) (l : ℕ) (e : Entry) (b : Budget) (r : Own) (u : Changed) (i h o p q : List ℕ)
     → Owns g (rootStore g j l h q (entries (u .node)) ∷ []) (leftAt g j l h (entries (u .node))) (u .budget) r h o
-    → Changes g j l e b u i h p q → p ≡ blanks 2112 → j .change ≡ Remove → Owns g (storeBy g j l e i ∷ []) (topBy g j l e i) b r i o
+    → Changes g j l e b u i h p q → p ≡ blanks longestPage → j .change ≡ Remove → Owns g (storeBy g j l e i ∷ []) (topBy g j l e i) b r i o
 unfolding storeBy
 with-is g j l e b r u i h o p q w ch ep ec =
     let s = still g j l e b u i h p q ch (λ m c. nothing g j m c ec) in

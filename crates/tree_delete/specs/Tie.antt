@@ -11,6 +11,7 @@ use Rattle.geometry.specs.declared.Geometry.{Geometry}
 use Rattle.geometry.specs.declared.Entry.{Entry}
 use Rattle.geometry.specs.Geometry.{pageBytes}
 use Rattle.geometry.specs.Tests.{pick, and-true, and-false}
+use Rattle.geometry.specs.Bounds.{longestPage}
 use Rattle.model.specs.Bytes.{nodeAt}
 use Rattle.model.specs.Image.{Chip, Nodes}
 use Rattle.model.specs.Page.{built, sealed, only}
@@ -94,30 +95,30 @@ module _ (g : Geometry) (i : List ℕ) (at seq l p k : ℕ) (j : Job) (pj : Remo
   c : Chip
   c = chipWith g i l p
 
-  stays : pageBytes g ≤ 2112 → deleteTop c k (j .page) .level ≡ l
-      → take (pageBytes g) (sealed g (bare g (suc l) (g .top - suc l) (laidLevel g (laid g (partsOf g j i l (rootAt p)) l (blanks 2112)) (suc l) (changed g j i l (rootAt p)))) (suc (j .seq)) (suc l))
+  stays : pageBytes g ≤ longestPage → deleteTop c k (j .page) .level ≡ l
+      → take (pageBytes g) (sealed g (bare g (suc l) (g .top - suc l) (laidLevel g (laid g (partsOf g j i l (rootAt p)) l (blanks longestPage)) (suc l) (changed g j i l (rootAt p)))) (suc (j .seq)) (suc l))
       ≡ built g (suc seq) (suc (deleteTop c k (j .page) .level)) (deletePart c k (j .page))
   unfolding c
   stays le e =
-      let low : laid g (partsOf g j i l (rootAt p)) l (blanks 2112) ≡ laid g (deletePart (chipWith g i l p) k (j .page)) l (blanks 2112) =
-      laid-agree g (partsOf g j i l (rootAt p)) (deletePart (chipWith g i l p) k (j .page)) l (blanks 2112) (λ x a h. part-of x ∙ sym (part-low g (chipWith g i l p) k (j .page) e x h)) in
-      let up : laidLevel g (laid g (partsOf g j i l (rootAt p)) l (blanks 2112)) (suc l) (changed g j i l (rootAt p)) ≡ laid g (deletePart (chipWith g i l p) k (j .page)) (suc l) (blanks 2112) =
-      (λ z. laidLevel g (low z) (suc l) ((top-of ∙ sym (part-top g (chipWith g i l p) k (j .page) e)) z)) ∙ laid-more g (deletePart (chipWith g i l p) k (j .page)) l (blanks 2112) in
+      let low : laid g (partsOf g j i l (rootAt p)) l (blanks longestPage) ≡ laid g (deletePart (chipWith g i l p) k (j .page)) l (blanks longestPage) =
+      laid-agree g (partsOf g j i l (rootAt p)) (deletePart (chipWith g i l p) k (j .page)) l (blanks longestPage) (λ x a h. part-of x ∙ sym (part-low g (chipWith g i l p) k (j .page) e x h)) in
+      let up : laidLevel g (laid g (partsOf g j i l (rootAt p)) l (blanks longestPage)) (suc l) (changed g j i l (rootAt p)) ≡ laid g (deletePart (chipWith g i l p) k (j .page)) (suc l) (blanks longestPage) =
+      (λ z. laidLevel g (low z) (suc l) ((top-of ∙ sym (part-top g (chipWith g i l p) k (j .page) e)) z)) ∙ laid-more g (deletePart (chipWith g i l p) k (j .page)) l (blanks longestPage) in
       (λ z. take (pageBytes g) (sealed g (bare g (suc l) (g .top - suc l) (up z)) (suc (pj .number z)) (suc l)))
-      ∙ page-is g (deletePart (chipWith g i l p) k (j .page)) (suc l) (suc seq) (suc l) (blanks 2112) _ refl refl le (part-above g (chipWith g i l p) k (j .page) e)
+      ∙ page-is g (deletePart (chipWith g i l p) k (j .page)) (suc l) (suc seq) (suc l) (blanks longestPage) _ refl refl le (part-above g (chipWith g i l p) k (j .page) e)
       ∙ sym (λ z. built g (suc seq) (suc (e z)) (deletePart (chipWith g i l p) k (j .page)))
 
   falls : collapse (nodeAt g i) l (changed g j i l (rootAt p)) ≡ deleteTop c k (j .page)
   unfolding c deleteTop
   falls = ap (λ (es : List Entry). collapse (nodeAt g i) l es) top-of
 
-  store-is : pageBytes g ≤ 2112 → storeBy g j l (rootAt p) i ≡ program (j .page) (built g (suc seq) (suc (deleteTop c k (j .page) .level)) (deletePart c k (j .page)))
+  store-is : pageBytes g ≤ longestPage → storeBy g j l (rootAt p) i ≡ program (j .page) (built g (suc seq) (suc (deleteTop c k (j .page) .level)) (deletePart c k (j .page)))
   unfolding storeBy rootStore pathStore topStore c
   store-is le = go (eqb (collapse (nodeAt g i) l (changed g j i l (rootAt p)) .level) l) refl
     where
       go : (t : Bool) → eqb (collapse (nodeAt g i) l (changed g j i l (rootAt p)) .level) l ≡ t
           → pick t
-          (program (j .page) (take (pageBytes g) (sealed g (bare g (suc l) (g .top - suc l) (laidLevel g (laid g (partsOf g j i l (rootAt p)) l (blanks 2112)) (suc l) (changed g j i l (rootAt p)))) (suc (j .seq)) (suc l))))
+          (program (j .page) (take (pageBytes g) (sealed g (bare g (suc l) (g .top - suc l) (laidLevel g (laid g (partsOf g j i l (rootAt p)) l (blanks longestPage)) (suc l) (changed g j i l (rootAt p)))) (suc (j .seq)) (suc l))))
           (program (j .page) (built g (suc (j .seq)) (suc (collapse (nodeAt g i) l (changed g j i l (rootAt p)) .level)) (only (suc (collapse (nodeAt g i) l (changed g j i l (rootAt p)) .level)) (collapse (nodeAt g i) l (changed g j i l (rootAt p)) .list))))
           ≡ program (j .page) (built g (suc seq) (suc (deleteTop c k (j .page) .level)) (deletePart c k (j .page)))
       go true q = ap (λ (bs : List ℕ). program (j .page) bs) (stays le (sym (λ z. falls z .level) ∙ eqb-true _ _ q))
@@ -125,7 +126,7 @@ module _ (g : Geometry) (i : List ℕ) (at seq l p k : ℕ) (j : Job) (pj : Remo
           (λ z. program (j .page) (built g (suc (pj .number z)) (suc (falls z .level)) (only (suc (falls z .level)) (falls z .list))))
           ∙ sym (λ z. program (j .page) (built g (suc seq) (suc (deleteTop c k (j .page) .level)) (λ x. part-only g c k (j .page) (λ r. eqb-false _ _ q ((λ z. falls z .level) ∙ r)) x z)))
 
-  own-is : pageBytes g ≤ 2112 → storeBy g j l (rootAt p) i ≡ deleteStoreAt g seq (chipWith g i l p) at k
+  own-is : pageBytes g ≤ longestPage → storeBy g j l (rootAt p) i ≡ deleteStoreAt g seq (chipWith g i l p) at k
   unfolding deleteStoreAt c
   own-is le = store-is le ∙ (λ z. program (pj .page z) (built g (suc seq) (suc (deleteTop c k (pj .page z) .level)) (deletePart c k (pj .page z))))
 
@@ -136,7 +137,7 @@ module _ (g : Geometry) (i : List ℕ) (at seq l p k : ℕ) (j : Job) (pj : Remo
 -- by the record
 pub deleted : (g : Geometry) (n : ℕ) (i : List ℕ) (o : Opened) (k : ℕ) (j : Job) (b : Budget) (r : Own) (then : List ℕ) (l : ℕ)
     → Owns g (storeBy g j l (rootAt (o .root)) i ∷ []) (topBy g j l (rootAt (o .root)) i) b r i then
-    → l ≡ levelBy g o → Removes (nextBy g n o) (o .most) k j → pageBytes g ≤ 2112
+    → l ≡ levelBy g o → Removes (nextBy g n o) (o .most) k j → pageBytes g ≤ longestPage
     → Owns g (deleteStoreAt g (o .most) (chipBy g i o) (pageBy g n i o 0) k ∷ []) (deleteCrest (chipBy g i o) (pageBy g n i o 0) k) b r i then
 unfolding pageFrom
 deleted g n i o k j b r then l run eh pj le =

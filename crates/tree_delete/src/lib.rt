@@ -3,8 +3,9 @@ ghost use mathlib.Core.Path.{_≡_};
 ghost use mathlib.Core.List.{[], _∷_};
 ghost use Prim.Native.Nat.{_+_, _≤_, _<_};
 ghost use Rattle.geometry.specs.Geometry.{pageBytes};
+ghost use Rattle.geometry.specs.Bounds.{fourBytes, longestPage};
 ghost use Rattle.tree_node.specs.Node.{entries};
-ghost use Rattle.chip_store.specs.Run.{Ran};
+ghost use Rattle.chip_store.specs.Run.{Ran, Countable};
 ghost use Rattle.tree_root.specs.Owns.{Owns};
 ghost use Rattle.open_record.specs.Opened.{chipBy};
 ghost use Rattle.live_beside.specs.Beside.{nextBy, pageBy};
@@ -23,7 +24,7 @@ use tree_split::Job;
 
 // Page N where the tree shrinks: the new root alone.
 fn store_top(g: Geometry, img: &mut [u8], b: Budget, at: u32, seq: u64, t: Top) -> Budget
-    requires { ⌜ (t .node .count ≤ 256) × (t .level < 255) × (pageBytes g ≤ 2112) × (b .left + b .programmed + b .erased < 4294967296) ⌝ }
+    requires { ⌜ (t .node .count ≤ 256) × (t .level < 255) × (pageBytes g ≤ longestPage) × (Countable b) ⌝ }
     ensures { λ r. ⌜ Ran g (topStore g at seq (t .level) (entries (t .node)) ∷ []) b r (now (img .entry)) (now (img .exit)) ⌝ }
 {
     let level = t.level + 1;
@@ -34,7 +35,7 @@ fn store_top(g: Geometry, img: &mut [u8], b: Budget, at: u32, seq: u64, t: Top) 
 
 // Page N, once the path is changed.
 fn store_root(g: Geometry, img: &mut [u8], page: &mut [u8], job: Job, level: u32, u: Changed) -> Own
-    requires { ⌜ (u .node .count ≤ 256) × (level < 255) × (pageBytes g ≤ 2112) × (job .seq < 4294967296) × (u .budget .left + u .budget .programmed + u .budget .erased < 4294967296) ⌝ }
+    requires { ⌜ (u .node .count ≤ 256) × (level < 255) × (pageBytes g ≤ longestPage) × (job .seq < fourBytes) × (Countable (u .budget)) ⌝ }
     ensures { λ r.
         ⌜ Owns g (rootStore g job level (now (img .entry)) (now (page .entry)) (entries (u .node)) ∷ []) (leftAt g job level (now (img .entry)) (entries (u .node))) (u .budget) r
         (now (img .entry)) (now (img .exit)) ⌝ }
@@ -69,7 +70,7 @@ fn store_root(g: Geometry, img: &mut [u8], page: &mut [u8], job: Job, level: u32
 
 // The store of a job of removing.
 fn delete_with(g: Geometry, img: &mut [u8], b: Budget, job: Job, level: u32, root: u32) -> Own
-    requires { ⌜ (level < 255) × (pageBytes g ≤ 2112) × (job .seq < 4294967296) × (b .left + b .programmed + b .erased < 4294967296) × (job .change ≡ Change.Remove) ⌝ }
+    requires { ⌜ (level < 255) × (pageBytes g ≤ longestPage) × (job .seq < fourBytes) × (Countable b) × (job .change ≡ Change.Remove) ⌝ }
     ensures { λ r.
         ⌜ Owns g (storeBy g job level (rootAt root) (now (img .entry)) ∷ []) (topBy g job level (rootAt root) (now (img .entry))) b r (now (img .entry)) (now (img .exit)) ⌝ }
 {
@@ -87,7 +88,7 @@ fn delete_with(g: Geometry, img: &mut [u8], b: Budget, job: Job, level: u32, roo
 }
 
 fn long(x: u32) -> u64
-    ensures { λ r. ⌜ (r ≡ x) × (r < 4294967296) ⌝ }
+    ensures { λ r. ⌜ (r ≡ x) × (r < fourBytes) ⌝ }
 {
     x as u64
 }
@@ -110,7 +111,7 @@ fn delete_job(g: Geometry, n: u16, o: Opened, key: u32) -> Job
 
 // The store of a delete on an image of n blocks, by its record; and where the root then stands.
 pub fn delete_own(g: Geometry, img: &mut [u8], n: u16, b: Budget, o: Opened, key: u32) -> Own
-    requires { ⌜ (o .height < 256) × (pageBytes g ≤ 2112) × (b .left + b .programmed + b .erased < 4294967296) ⌝ }
+    requires { ⌜ (o .height < 256) × (pageBytes g ≤ longestPage) × (Countable b) ⌝ }
     ensures { λ r.
         ⌜ Owns g (deleteStoreAt g (o .most) (chipBy g (now (img .entry)) o) (pageBy g n (now (img .entry)) o 0) key ∷ []) (deleteCrest (chipBy g (now (img .entry)) o) (pageBy g n (now (img .entry)) o 0) key) b r
         (now (img .entry)) (now (img .exit)) ⌝ }

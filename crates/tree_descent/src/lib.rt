@@ -1,6 +1,6 @@
 // Descent with a key, and what stands under it.
 ghost use mathlib.Core.Path.{_≡_};
-ghost use Prim.Native.Nat.{ℕ, _+_, _*_, _-_, _≤_, _<_};
+ghost use Prim.Native.Nat.{_+_, _-_, _<_};
 ghost use Rattle.model.specs.Bytes.{nodeAt};
 ghost use Rattle.model.specs.Tree.{leaf, sought};
 ghost use Rattle.chip_read.specs.Chip.{named, chipWith};

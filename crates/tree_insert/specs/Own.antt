@@ -6,6 +6,7 @@ use lib.Dec.{leb}
 use Rattle.geometry.specs.declared.Geometry.{Geometry}
 use Rattle.geometry.specs.declared.Entry.{Entry}
 use Rattle.geometry.specs.Tests.{pick}
+use Rattle.geometry.specs.Bounds.{fourBytes}
 use Rattle.model.specs.Page.{built}
 use Rattle.model.specs.Stores.{Store, program}
 use Rattle.model.specs.Update.{crownStore, crownHeight}
@@ -55,6 +56,6 @@ pub record Puts (side : ℕ → ℕ) (seq l m k a : ℕ) (j : Job) : Type 0 wher
   pub key : j .key ≡ k
   pub change : j .change ≡ Put a
   pub number : j .seq ≡ seq
-  pub small : j .seq < 4294967296
+  pub small : j .seq < fourBytes
   pub page : j .page ≡ side m
   pub sides : (x : ℕ) → 1 ≤ x → x ≤ suc l → sideOf j x ≡ side x

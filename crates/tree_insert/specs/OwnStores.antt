@@ -12,6 +12,7 @@ use Rattle.geometry.specs.declared.Geometry.{Geometry}
 use Rattle.geometry.specs.declared.Entry.{Entry}
 use Rattle.geometry.specs.Geometry.{pageBytes}
 use Rattle.geometry.specs.Tests.{pick}
+use Rattle.geometry.specs.Bounds.{fourBytes, longestPage}
 use Rattle.model.specs.Bytes.{erased}
 use Rattle.model.specs.Image.{pagesOf}
 use Rattle.model.specs.Page.{sealed, built}
@@ -89,7 +90,7 @@ climbs g j l e b u r i h o p d q cr ch =
 
 pub inserts : (g : Geometry) (j : Job) (l : ℕ) (e : Entry) (b r : Budget) (w : Summit) (last : ℕ) (i h o p q : List ℕ)
     → Ran g (program (j .page) (take (pageBytes g) (sealed g (bare g (l + 2) (g .top - (l + 2)) q) last (w .height))) ∷ []) (w .budget) r h o
-    → Climbs g j l e b w i h p q → p ≡ blanks 2112 → pageBytes g ≤ 2112
+    → Climbs g j l e b w i h p q → p ≡ blanks longestPage → pageBytes g ≤ longestPage
     → Owns g (storesBy g j i last l e) (topBy g j i l e) b (record { budget = r; page = j .page; level = w .height - 1 }) i o
 unfolding storesBy
 inserts g j l e b r w last i h o p q run c ep le =
@@ -113,7 +114,7 @@ side-is page zero h = absurd (omega arith)
 side-is page (suc x) h = rw sub-one
 
 pub puts : (g : Geometry) (n : ℕ) (i : List ℕ) (o : Opened) (m k a : ℕ) (ps : List ℕ) (c x y z w l : ℕ) → Coming (g .pages) n (erased g i) w c ps → w ≡ min (pagesOf g n) (o .next)
-    → c ≡ max x (y + 1) → x ≡ m → y ≡ l → z ≡ o .most → z < 4294967296 → 1 ≤ m
+    → c ≡ max x (y + 1) → x ≡ m → y ≡ l → z ≡ o .most → z < fourBytes → 1 ≤ m
     → Puts (sidesOn g n i o) (o .most) l m k a (record { key = k; page = getD ps (x - 1) 0; seq = z; sides = ps; change = Put a })
 unfolding sideOf sidesOn
 puts g n i o m k a ps c x y z w l cm ew ec ex ey ez low h = record {

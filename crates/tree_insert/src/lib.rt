@@ -2,6 +2,8 @@
 ghost use mathlib.Core.Path.{_≡_};
 ghost use Prim.Native.Nat.{_+_, _≤_, _<_, max};
 ghost use Rattle.geometry.specs.Geometry.{pageBytes};
+ghost use Rattle.geometry.specs.Bounds.{fourBytes, longestPage};
+ghost use Rattle.chip_store.specs.Run.{Countable};
 ghost use Rattle.tree_root.specs.Owns.{Owns};
 ghost use Rattle.live_beside.specs.Update.{ownBy, crestBy};
 ghost use Rattle.tree_insert.specs.Own.{Climbs, storesBy, topBy, rootAt, sidesOn, Puts};
@@ -24,7 +26,7 @@ fn climb(
     level: u32,
     root: u32,
 ) -> Summit
-    requires { ⌜ (level < 255) × (pageBytes g ≤ 2112) × (job .seq < 4294967296) × (b .left + b .programmed + b .erased < 4294967296) ⌝ }
+    requires { ⌜ (level < 255) × (pageBytes g ≤ longestPage) × (job .seq < fourBytes) × (Countable b) ⌝ }
     ensures { λ r. ⌜ Climbs g job level (rootAt root) b r (now (img .entry)) (now (img .exit)) (now (page .entry)) (now (page .exit)) ⌝ }
 {
     let u = tree_path::change(
@@ -51,7 +53,7 @@ fn insert_with(
     level: u32,
     root: u32,
 ) -> Own
-    requires { ⌜ (level < 255) × (pageBytes g ≤ 2112) × (job .seq < 4294967296) × (b .left + b .programmed + b .erased < 4294967296) ⌝ }
+    requires { ⌜ (level < 255) × (pageBytes g ≤ longestPage) × (job .seq < fourBytes) × (Countable b) ⌝ }
     ensures { λ r.
         ⌜ Owns g (storesBy g job (now (img .entry)) last level (rootAt root)) (topBy g job (now (img .entry)) level (rootAt root)) b r (now (img .entry)) (now (img .exit)) ⌝ }
 {
@@ -85,7 +87,7 @@ fn larger(a: usize, b: usize) -> usize
 }
 
 fn long(x: u32) -> u64
-    ensures { λ r. ⌜ (r ≡ x) × (r < 4294967296) ⌝ }
+    ensures { λ r. ⌜ (r ≡ x) × (r < fourBytes) ⌝ }
 {
     x as u64
 }
@@ -136,7 +138,7 @@ pub fn insert_own(
     key: u32,
     addr: u32,
 ) -> Own
-    requires { ⌜ (o .height < 256) × (1 ≤ m) × (m ≤ 256) × (pageBytes g ≤ 2112) × (b .left + b .programmed + b .erased < 4294967296) ⌝ }
+    requires { ⌜ (o .height < 256) × (1 ≤ m) × (m ≤ 256) × (pageBytes g ≤ longestPage) × (Countable b) ⌝ }
     ensures { λ r.
         ⌜ Owns g (ownBy g n (now (img .entry)) o m key addr) (crestBy g n (now (img .entry)) o m key addr) b r (now (img .entry)) (now (img .exit)) ⌝ }
 {

@@ -1,7 +1,7 @@
 // Nodes of an image, by value: as they stand, with a key put in or taken out, and with the place that descent takes; and the
 // root that is left.
 ghost use mathlib.Core.Path.{_≡_};
-ghost use Prim.Native.Nat.{ℕ, _+_, _*_, _-_, _≤_, _<_};
+ghost use Prim.Native.Nat.{_+_, _*_, _-_, _≤_, _<_};
 ghost use Rattle.model.specs.Bytes.{entriesAt, nodeAt};
 ghost use Rattle.model.specs.Edit.{putIn, removeIn};
 ghost use Rattle.tree_node.specs.Node.{entries};

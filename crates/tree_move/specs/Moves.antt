@@ -8,6 +8,7 @@ use borrow.Author.Tests.{le-leb, lt-leb}
 use Rattle.geometry.specs.declared.Geometry.{Geometry}
 use Rattle.geometry.specs.declared.Entry.{Entry}
 use Rattle.geometry.specs.Tests.{pick}
+use Rattle.geometry.specs.Bounds.{longestPage}
 use Rattle.model.specs.Bytes.{nodeAt}
 use Rattle.model.specs.Tree.{next}
 use Rattle.tree_node.specs.declared.Node.{Node}
@@ -40,7 +41,7 @@ unfolding storesOf
 nothing g j low m c e = ap (λ (v : Change). storesOf g v j m c) e
 
 pub with-is : (g : Geometry) (j : Job) (low l : ℕ) (e : Entry) (b r : Budget) (u : Changed) (n : Node) (i h o p q : List ℕ) → Ran g (pathStore g (j .page) (j .seq + 1) l (entries n) q ∷ []) (u .budget) r h o
-    → Changes g j l e b u i h p q → entries n ≡ pick (leb low (l + 1)) (entries (u .node)) [] → p ≡ blanks 2112 → j .change ≡ Rename low → Ran g (storeBy g j low l e i ∷ []) b r i o
+    → Changes g j l e b u i h p q → entries n ≡ pick (leb low (l + 1)) (entries (u .node)) [] → p ≡ blanks longestPage → j .change ≡ Rename low → Ran g (storeBy g j low l e i ∷ []) b r i o
 unfolding storeBy
 with-is g j low l e b r u n i h o p q run ch en ep ec =
     let s = still g j l e b u i h p q ch (λ m c. nothing g j low m c ec) in

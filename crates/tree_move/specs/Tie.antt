@@ -9,6 +9,7 @@ use Rattle.geometry.specs.declared.Geometry.{Geometry}
 use Rattle.geometry.specs.declared.Entry.{Entry}
 use Rattle.geometry.specs.Geometry.{pageBytes}
 use Rattle.geometry.specs.Tests.{pick}
+use Rattle.geometry.specs.Bounds.{longestPage}
 use Rattle.model.specs.Bytes.{nodeAt}
 use Rattle.model.specs.Page.{built, sealed}
 use Rattle.model.specs.Stores.{program}
@@ -61,14 +62,14 @@ module _ (g : Geometry) (i : List ℕ) (p most l m low k : ℕ) (j : Job) (pj : 
   unfolding parts moved
   above x h = (λ z. pick (leb low x) (path-above (nodeAt g i) (j .key) same (renamed low (j .page)) l (named p) x h z) []) ∙ either (leb low x)
 
-  bytes-is : pageBytes g ≤ 2112 → storeBy g j low l (named p) i ≡ program (j .page) (built g (suc most) (suc l) parts)
+  bytes-is : pageBytes g ≤ longestPage → storeBy g j low l (named p) i ≡ program (j .page) (built g (suc most) (suc l) parts)
   unfolding storeBy pathStore
   bytes-is le =
-      let low-is : laid g (partsOf g j i l (named p)) l (blanks 2112) ≡ laid g parts l (blanks 2112) = laid-agree g (partsOf g j i l (named p)) parts l (blanks 2112) (λ x a h. part-of x) in
-      let up : laidLevel g (laid g (partsOf g j i l (named p)) l (blanks 2112)) (suc l) (pick (leb low (suc l)) (changed g j i l (named p)) []) ≡ laid g parts (suc l) (blanks 2112) =
-      (λ z. laidLevel g (low-is z) (suc l) (top-part z)) ∙ laid-more g parts l (blanks 2112) in
+      let low-is : laid g (partsOf g j i l (named p)) l (blanks longestPage) ≡ laid g parts l (blanks longestPage) = laid-agree g (partsOf g j i l (named p)) parts l (blanks longestPage) (λ x a h. part-of x) in
+      let up : laidLevel g (laid g (partsOf g j i l (named p)) l (blanks longestPage)) (suc l) (pick (leb low (suc l)) (changed g j i l (named p)) []) ≡ laid g parts (suc l) (blanks longestPage) =
+      (λ z. laidLevel g (low-is z) (suc l) (top-part z)) ∙ laid-more g parts l (blanks longestPage) in
       (λ z. program (j .page) (take (pageBytes g) (sealed g (bare g (suc l) (g .top - suc l) (up z)) (suc (pj .number z)) (suc l))))
-      ∙ ap (λ (bs : List ℕ). program (j .page) bs) (page-is g parts (suc l) (suc most) (suc l) (blanks 2112) _ refl refl le above)
+      ∙ ap (λ (bs : List ℕ). program (j .page) bs) (page-is g parts (suc l) (suc most) (suc l) (blanks longestPage) _ refl refl le above)
 
   module _ (t : Table) (q : ℕ) (el : low ≡ lowIn t q) (ek : k ≡ next (nodeAt g i q low) 0) where
     h : Beside
@@ -82,11 +83,11 @@ module _ (g : Geometry) (i : List ℕ) (p most l m low k : ℕ) (j : Job) (pj : 
     unfolding parts moved movePartBy h
     parts-is x = λ z. pick (leb (el z) x) (onPath (nodeAt g i) (key-of z) same (renamed (el z) (pj .page z)) l (named p) x) []
 
-    store-is : pageBytes g ≤ 2112 → storeBy g j low l (named p) i ≡ moveStoreBy g h q i
+    store-is : pageBytes g ≤ longestPage → storeBy g j low l (named p) i ≡ moveStoreBy g h q i
     unfolding moveStoreBy h
     store-is le = bytes-is le ∙ (λ z. program (pj .page z) (built g (suc most) (suc l) (λ x. parts-is x z)))
 
-  pub was-moved : (b r : Budget) (o : List ℕ) → Ran g (storeBy g j low l (named p) i ∷ []) b r i o → pageBytes g ≤ 2112 → Moved g p most l m low k b r i o
+  pub was-moved : (b r : Budget) (o : List ℕ) → Ran g (storeBy g j low l (named p) i ∷ []) b r i o → pageBytes g ≤ longestPage → Moved g p most l m low k b r i o
   unfolding h
   was-moved b r o run le = record { ran = λ t q el ek. rw (store-is t q el ek le) at run }
 

@@ -5,11 +5,12 @@ ghost use Prim.Native.Nat.{_+_, _≤_, _<_};
 ghost use lib.Dec.{leb};
 ghost use Rattle.geometry.specs.Geometry.{pageBytes};
 ghost use Rattle.geometry.specs.Tests.{pick};
+ghost use Rattle.geometry.specs.Bounds.{longestPage};
 ghost use Rattle.model.specs.Bytes.{nodeAt};
 ghost use Rattle.model.specs.Tree.{next};
 ghost use Rattle.chip_read.specs.Chip.{named};
 ghost use Rattle.tree_node.specs.Node.{entries};
-ghost use Rattle.chip_store.specs.Run.{Ran};
+ghost use Rattle.chip_store.specs.Run.{Ran, Countable};
 ghost use Rattle.tree_move.specs.Own.{Moves, Moved, storeBy};
 ghost use Rattle.tree_split.specs.declared.Change.{Change};
 use chip_store::Budget;
@@ -62,7 +63,7 @@ fn move_with(
     level: u32,
     root: u32,
 ) -> Budget
-    requires { ⌜ (level < 255) × (pageBytes g ≤ 2112) × (job .seq < 8589934592) × (b .left + b .programmed + b .erased < 4294967296) × (job .change ≡ Change.Rename low) ⌝ }
+    requires { ⌜ (level < 255) × (pageBytes g ≤ longestPage) × (job .seq < 8589934592) × (Countable b) × (job .change ≡ Change.Rename low) ⌝ }
     ensures { λ r. ⌜ Ran g (storeBy g job low level (named root) (now (img .entry)) ∷ []) b r (now (img .entry)) (now (img .exit)) ⌝ }
 {
     let mut page = chip_page::blank();
@@ -103,7 +104,7 @@ pub fn move_page(
     low: u32,
     key: u32,
 ) -> Budget
-    requires { ⌜ (level < 255) × (pageBytes g ≤ 2112) × (most < 8589934592) × (b .left + b .programmed + b .erased < 4294967296) ⌝ }
+    requires { ⌜ (level < 255) × (pageBytes g ≤ longestPage) × (most < 8589934592) × (Countable b) ⌝ }
     ensures { λ r. ⌜ Moved g root most level to low key b r (now (img .entry)) (now (img .exit)) ⌝ }
 {
     let job = move_job(most, to, low, key);

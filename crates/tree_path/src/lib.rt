@@ -1,8 +1,10 @@
 // An update's way down the path and up again. All is read on the way down; on the way up the levels are laid on page N
 // and the other halves stored.
 ghost use mathlib.Core.Path.{_≡_};
-ghost use Prim.Native.Nat.{ℕ, _+_, _*_, _-_, _≤_, _<_};
+ghost use Prim.Native.Nat.{_+_, _*_, _-_, _≤_, _<_};
 ghost use Rattle.geometry.specs.Geometry.{pageBytes};
+ghost use Rattle.geometry.specs.Bounds.{longestPage};
+ghost use Rattle.chip_store.specs.Run.{Countable};
 ghost use Rattle.model.specs.Bytes.{nodeAt};
 ghost use Rattle.tree_node.specs.Node.{entries};
 ghost use Rattle.tree_split.specs.Step.{leafOf};
@@ -42,7 +44,7 @@ fn rejoin(
     t: Taken,
     u: Changed,
 ) -> Changed
-    requires { ⌜ (t .at ≤ t .node .count - 1) × (t .node .count < 256) × (u .node .count ≤ 256) × (pageBytes g ≤ 2112) × (job .seq < 8589934592) × (u .budget .left + u .budget .programmed + u .budget .erased < 4294967296) ⌝ }
+    requires { ⌜ (t .at ≤ t .node .count - 1) × (t .node .count < 256) × (u .node .count ≤ 256) × (pageBytes g ≤ longestPage) × (job .seq < 8589934592) × (Countable (u .budget)) ⌝ }
     ensures { λ r. ⌜ Rejoined g job below t (entries (u .node)) (u .budget) r (now (img .entry)) (now (img .exit)) (now (page .entry)) (now (page .exit)) ⌝ }
 {
     let c = u.node;
@@ -69,7 +71,7 @@ pub fn change(
     below: u32,
     e: Entry,
 ) -> Changed
-    requires { ⌜ (below < 256) × (pageBytes g ≤ 2112) × (job .seq < 8589934592) × (b .left + b .programmed + b .erased < 4294967296) ⌝ }
+    requires { ⌜ (below < 256) × (pageBytes g ≤ longestPage) × (job .seq < 8589934592) × (Countable b) ⌝ }
     ensures { λ r. ⌜ Changes g job below e b r (now (img .entry)) (now (img .exit)) (now (page .entry)) (now (page .exit)) ⌝ }
 {
     if below == 0 {

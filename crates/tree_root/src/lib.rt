@@ -2,15 +2,16 @@
 ghost use mathlib.Core.Path.{_≡_};
 ghost use mathlib.Core.Bool.{false};
 ghost use mathlib.Core.List.{[], _∷_};
-ghost use Prim.Native.Nat.{ℕ, suc, _+_, _*_, _-_, _≤_, _<_};
-ghost use lib.ListN.{length, take};
+ghost use Prim.Native.Nat.{suc, _+_, _*_, _-_, _≤_, _<_};
+ghost use lib.ListN.{take};
 ghost use Rattle.geometry.specs.Geometry.{pageBytes};
 ghost use Rattle.geometry.specs.Tests.{pick};
+ghost use Rattle.geometry.specs.Bounds.{longestPage};
 ghost use Rattle.model.specs.Page.{sealed};
 ghost use Rattle.model.specs.Stores.{Store};
 ghost use Rattle.tree_node.specs.Node.{entries, carried};
 ghost use Rattle.chip_page.specs.Page.{laidLevel, bare};
-ghost use Rattle.chip_store.specs.Run.{Ran};
+ghost use Rattle.chip_store.specs.Run.{Ran, Countable};
 ghost use Rattle.tree_root.specs.Crown.{Grows, Crowns, Crowned, pathStore};
 use chip_store::Budget;
 use geometry::Entry;
@@ -144,7 +145,7 @@ pub fn settle(
     level: u32,
     c: Node,
 ) -> Summit
-    requires { ⌜ (c .count ≤ 256) × (level < 65536) × (pageBytes g ≤ 2112) × (job .seq < 8589934592) × (b .left + b .programmed + b .erased < 4294967296) ⌝ }
+    requires { ⌜ (c .count ≤ 256) × (level < 65536) × (pageBytes g ≤ longestPage) × (job .seq < 8589934592) × (Countable b) ⌝ }
     ensures { λ r. ⌜ Crowned g job level (entries c) b r (now (img .entry)) (now (img .exit)) (now (page .entry)) (now (page .exit)) ⌝ }
 {
     let s = crown_of(g, job, level, c);
@@ -171,7 +172,7 @@ pub fn store_last(
     seq: u64,
     height: u32,
 ) -> Budget
-    requires { ⌜ (from < 65536) × (b .left + b .programmed + b .erased < 4294967296) ⌝ }
+    requires { ⌜ (from < 65536) × (Countable b) ⌝ }
     ensures { λ r. ⌜ Ran g (Store.program at (take (pageBytes g) (sealed g (bare g from (g .top - from) (now (page .entry))) seq height)) ∷ []) b r (now (img .entry)) (now (img .exit)) ⌝ }
 {
     chip_page::close(g, &mut *page, from, seq, height);
@@ -189,7 +190,7 @@ pub fn store_path(
     level: u32,
     c: Node,
 ) -> Budget
-    requires { ⌜ (c .count ≤ 256) × (level < 255) × (b .left + b .programmed + b .erased < 4294967296) ⌝ }
+    requires { ⌜ (c .count ≤ 256) × (level < 255) × (Countable b) ⌝ }
     ensures { λ r. ⌜ Ran g (pathStore g at seq level (entries c) (now (page .entry)) ∷ []) b r (now (img .entry)) (now (img .exit)) ⌝ }
 {
     chip_page::lay_level(g, &mut *page, level + 1, c);

@@ -1,6 +1,6 @@
 // Searching inside a node. The only place that compares a key with the keys of a node.
 ghost use mathlib.Core.Path.{_≡_};
-ghost use Prim.Native.Nat.{ℕ, _+_, _*_, _-_, _≤_, _<_};
+ghost use Prim.Native.Nat.{_+_, _*_, _-_, _≤_, _<_};
 ghost use Rattle.model.specs.Bytes.{entriesAt, nodeAt};
 ghost use Rattle.model.specs.Tree.{place, chosen, findIn};
 ghost use Rattle.tree_search.specs.Search.{ahead, holds, found};

@@ -1,11 +1,11 @@
 // One step of an update's way up: a changed node goes on page N, its other half on a page alone, and what names them stands above.
 ghost use mathlib.Core.Path.{_≡_};
-ghost use Prim.Native.Nat.{ℕ, _+_, _*_, _-_, _≤_, _<_, min};
-ghost use mathlib.Core.Bool.{Bool, false};
-ghost use lib.ListN.{length};
+ghost use Prim.Native.Nat.{_+_, _*_, _-_, _≤_, _<_, min};
+ghost use mathlib.Core.Bool.{false};
 ghost use Rattle.geometry.specs.Geometry.{pageBytes};
+ghost use Rattle.geometry.specs.Bounds.{longestPage};
 ghost use Rattle.tree_node.specs.Node.{entries};
-ghost use Rattle.chip_store.specs.Run.{Ran};
+ghost use Rattle.chip_store.specs.Run.{Ran, Countable};
 ghost use Rattle.tree_split.specs.Step.{sideOf, Halved, Stepped, cutStores, Finished};
 ghost use Rattle.tree_split.specs.declared.Change.{Change};
 use chip_store::Budget;
@@ -204,7 +204,7 @@ pub fn store_side(
     split: bool,
     n: Node,
 ) -> Budget
-    requires { ⌜ (n .count ≤ 256) × (pageBytes g ≤ 2112) × (job .seq < 8589934592) × (b .left + b .programmed + b .erased < 4294967296) ⌝ }
+    requires { ⌜ (n .count ≤ 256) × (pageBytes g ≤ longestPage) × (job .seq < 8589934592) × (Countable b) ⌝ }
     ensures { λ r. ⌜ Ran g (cutStores g job level split (entries n)) b r (now (img .entry)) (now (img .exit)) ⌝ }
 {
     if split {
@@ -225,7 +225,7 @@ pub fn finish(
     e: Entry,
     c: Node,
 ) -> Climbed
-    requires { ⌜ (c .count ≤ 256) × (pageBytes g ≤ 2112) × (job .seq < 8589934592) × (b .left + b .programmed + b .erased < 4294967296) ⌝ }
+    requires { ⌜ (c .count ≤ 256) × (pageBytes g ≤ longestPage) × (job .seq < 8589934592) × (Countable b) ⌝ }
     ensures { λ r. ⌜ Finished g job level e (entries c) b r (now (img .entry)) (now (img .exit)) (now (page .entry)) (now (page .exit)) ⌝ }
 {
     let s = step(g, job, level, e, c);

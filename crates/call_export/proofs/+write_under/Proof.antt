@@ -8,6 +8,7 @@ use Rattle.text_carrying.specs.Carrying.{textOf}
 use Rattle.call_export.specs.Exporter.{after, rest}
 use borrow.Fn.Kinds.{In}
 use borrow.Fn.PlainCycle.{Measures, is, falls, and}
+use Rattle.geometry.specs.Bounds.{fourBytes}
 use Rattle.call_export.proofs.write_under.Reads as write-under
 use Rattle.call_export.proofs.write_under.Kinds as write-under-kinds
 use Rattle.call_export.proofs.+write_under.Lts-write_under as write-under-lts
@@ -33,7 +34,7 @@ write-under-below t =
 
 abbrev write-under-Inv-loop : write-under-lts.InvT-loop
 write-under-Inv-loop g img text₀ level at n so-far₀ i₀ text so-far i =
-    (i ≤ n) × (length text ≡ length text₀) × (so-far₀ .records + length (rest g img level at n 0) < 4294967296) × (so-far .at ≤ 22 * so-far .records) ×
+    (i ≤ n) × (length text ≡ length text₀) × (so-far₀ .records + length (rest g img level at n 0) < fourBytes) × (so-far .at ≤ 22 * so-far .records) ×
     (after so-far₀ (rest g img level at n 0) ≡ after so-far (rest g img level at n i)) ×
     (sets text₀ (so-far₀ .at) (textOf (rest g img level at n 0)) ≡ sets text (so-far .at) (textOf (rest g img level at n i)))
 

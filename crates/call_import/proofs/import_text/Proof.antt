@@ -61,6 +61,7 @@ use Rattle.geometry.proofs.Geometry as G
 use Rattle.geometry.proofs.Geometry.Laws as G′
 use Rattle.geometry.proofs.Entry as T
 use Rattle.geometry.proofs.Entry.Laws as T′
+use Rattle.geometry.specs.Bounds.{longestPage}
 use Rattle.call_answers.proofs.Row as S
 use Rattle.call_answers.proofs.Row.Laws as S′
 use Rattle.text_reader.proofs.Spot as P
@@ -170,7 +171,7 @@ module _ {M : Type 1} (𝓤 : URA M) (H : Heap 𝓤) (A : Atoms 𝓤) (W : Given
   abbrev to-begin : Begins 𝓤 H A at-mem run .Ghost
   to-begin = (((ν ∷ [], tt), (fullShare, tt), tt, (g, (at-list b o δ zs, (t, (e, tt)))), (machG g ∷ [], (sliceVal (b, o) m ∷ [], (machS t ∷ [], (vint w64 e ∷ [], tt))))), tt)
 
-  goes-begin : pageBytes g ≤ 2112 → FineG g → FineS t → e < 2 ^ 64 → ent 𝓤 (sep 𝓤 (A .lft (ν ∷ []) fullShare) (sem 𝓤 H A (Img (ν ∷ []) b o δ zs m))) (Begins 𝓤 H A at-mem run .pre to-begin)
+  goes-begin : pageBytes g ≤ longestPage → FineG g → FineS t → e < 2 ^ 64 → ent 𝓤 (sep 𝓤 (A .lft (ν ∷ []) fullShare) (sem 𝓤 H A (Img (ν ∷ []) b o δ zs m))) (Begins 𝓤 H A at-mem run .pre to-begin)
   goes-begin asked g-fine t-fine e-fits =
       qed W (‵ (flft (ν ∷ []) fullShare) ∷ ‵ (Img (ν ∷ []) b o δ zs m) ∷ []) ∵ says ! asked $ nothing ! $ move ! (1 ∷ 0 ∷ []) $ join ! $ frame ! $
       nothing ! $ owned ! usize (Is usize) (uint-makes 𝓤 H A W w64) e _ (refl, e-fits) $ fjoin ! $ owned ! P.the-row (Is P.the-row) ((LL.makes P.the-type P′.the-plain) 𝓤 H A) t _ t-fine $ fjoin ! $ move ! (1 ∷ 0 ∷ []) $ fjoin ! $
@@ -178,7 +179,7 @@ module _ {M : Type 1} (𝓤 : URA M) (H : Heap 𝓤) (A : Atoms 𝓤) (W : Given
 
 module _ {M : Type 1} {𝓤 : URA M} {H : Heap 𝓤} {A : Atoms 𝓤} {K : Type 0} {W : Given 𝓤 H A} (at-mem : Memory → SProp 𝓤) (run : Routine → Fun 𝓤) {C : Calls 𝓤 H} {Λ : Loops 𝓤 H} (fm : FmC 𝓤 H (W .laws) C) (known : Triple 𝓤 (C #call-import·begin) (Begins 𝓤 H A at-mem run)) where
   calls-begin : K → {Γ : List (Item 𝓤)} {E : Env 𝓤 H} {z : Post 𝓤 H} {xs : List Operand} {d : Place} {rest : Code} (κ : Lft) (q : Share) (g : Geometry) (b o : ℕ) (γ : GName) (m : ℕ) (zs : List ℕ) (t : Spot) (e : ℕ)
-      → Room u8 m → length zs ≡ m → pageBytes g ≤ 2112 → FineG g → FineS t → e < 2 ^ 64
+      → Room u8 m → length zs ≡ m → pageBytes g ≤ longestPage → FineG g → FineS t → e < 2 ^ 64
       → ((ν : ℕ) (δ : GName) → Opds K W (raw (Begins 𝓤 H A at-mem run .pre (to-begin 𝓤 H A W at-mem run g b o m zs t e ν δ)) ∷ ‵ (LentAgain u8 κ (ν ∷ []) q γ b o δ zs) ∷ Γ) E xs (machG g ∷ sliceVal (b, o) m ∷ machS t ∷ vint w64 e ∷ []))
       → ((r : Row) (ws : List ℕ) → toldBy r ws ≡ begun g zs t e → length ws ≡ length zs → FineW r → Seq K W (‵ (flft κ q) ∷ ‵ (Img κ b o γ ws m) ∷ Γ) (lands C Λ E d (machW r) rest z)) → Seq K W (‵ (flft κ q) ∷ ‵ (Img κ b o γ zs m) ∷ Γ) (runs C Λ E (seq (call #call-import·begin xs d) rest) z)
   calls-begin c {Γ} {E} {z} {xs} {d} {rest} κ q g b o γ m zs t e room l asked g-fine t-fine e-fits os k =
