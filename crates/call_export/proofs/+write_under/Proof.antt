@@ -72,9 +72,12 @@ pub +write-under-spec : {M : Type 1} → statement M
     (λ c. search all)
     (λ c. search all)
     (λ c.
-    let inv = c .before .before .before .before .before .before .loop .inv in
-    let here = c .before .before .before .before .before .loop-test .taken in
-    let found = c .before .before .before .before .entry-at .ensures in
+    let at-entry-at = c .before .before .before .before in
+    let at-loop-test = at-entry-at .before in
+    let at-loop = at-loop-test .before in
+    let inv = at-loop .loop .inv in
+    let here = at-loop-test .loop-test .taken in
+    let found = at-entry-at .entry-at .ensures in
     let more = c .before .before .write-under .ensures in (
       search needs,
       search all,

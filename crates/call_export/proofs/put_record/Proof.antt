@@ -22,9 +22,12 @@ put-record-spec =
     (λ c. search all)
     (λ c. search all)
     (λ c.
-    let one = c .before .before .before .before .before .before .before .before .before .before .before .before .before .before .put-value .ensures in
-    let tab = c .before .before .before .before .before .before .before .before .before .before .put-byte .ensures in
-    let two = c .before .before .before .before .before .before .put-value2 .ensures in
+    let at-put-value2 = c .before .before .before .before .before .before in
+    let at-put-byte = at-put-value2 .before .before .before .before in
+    let at-put-value = at-put-byte .before .before .before .before in
+    let one = at-put-value .put-value .ensures in
+    let tab = at-put-byte .put-byte .ensures in
+    let two = at-put-value2 .put-value2 .ensures in
     let end = c .before .before .put-byte2 .ensures in (
       (line-place _ _ _ _ (one .0 .0) (two .0 .0), omega (arith, one .0 .1, two .0 .1)),
       line-bytes _ _ _ _ (one .0 .0) (two .0 .0) _ _ _ _ _ (one .1) tab (two .1) end,

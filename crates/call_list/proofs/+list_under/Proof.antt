@@ -74,10 +74,14 @@ pub +list-under-spec : {M : Type 1} → statement M
     (λ c. search all)
     (λ c. search all)
     (λ c.
-    let inv = c .before .before .before .before .before .before .before .before .loop .inv in
-    let found = c .before .before .before .before .before .before .entry-at .ensures in
-    let taken = c .before .before .before .before .before .before .before .loop-test .taken in
-    let goes = c .before .before .before .before .if3 .left in
+    let at-if3 = c .before .before .before .before in
+    let at-entry-at = at-if3 .before .before in
+    let at-loop-test = at-entry-at .before in
+    let at-loop = at-loop-test .before in
+    let inv = at-loop .loop .inv in
+    let found = at-entry-at .entry-at .ensures in
+    let taken = at-loop-test .loop-test .taken in
+    let goes = at-if3 .if3 .left in
     let more = c .before .before .list-under .ensures in
     (search all, search all, goes-turn _ _ _ _ _ _ _ _ _ _ _ _ _ _ _ _ (inv .2) found taken goes more))
     (λ c. search all)

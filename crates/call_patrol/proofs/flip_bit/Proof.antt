@@ -20,4 +20,6 @@ flip-bit-spec =
     (λ c. search all)
     (λ c. search all)
     (λ c. search all)
-    (λ c. flip-is _ (c .before .before .before .before .args .at) (c .before .before .before .before .args .n) _ _ (c .before .before .bit .ensures) (c .before .index .ensures .0)))
+    (λ c.
+    let at-args = c .before .before .before .before in
+    flip-is _ (at-args .args .at) (at-args .args .n) _ _ (c .before .before .bit .ensures) (c .before .index .ensures .0)))

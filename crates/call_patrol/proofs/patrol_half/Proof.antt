@@ -25,18 +25,35 @@ patrol-half-spec =
     (λ c κs. search all)
     (λ c κs. search all)
     (λ c. search all)
-    (λ c. (
-      found-data _ _ _ _ _ _ (c .before .before .before .before .before .before .before .difference .ensures .0) (c .before .before .before .before .before .before .before .before .code-at .ensures .0) (c .before .before .before .before .before .before .before .before .before .before .fresh-code .ensures .0) _ (c .before .before .before .before .before .in-pairs .ensures) (c .before .before .before .before .if2 .taken) (c .before .before .before .before .before .before .if1 .left),
-      after-data _ _ _ _ _ _ (c .before .before .before .before .before .before .before .difference .ensures .0) (c .before .before .before .before .before .before .before .before .code-at .ensures .0) (c .before .before .before .before .before .before .before .before .before .before .fresh-code .ensures .0) _ _ (c .before .before .before .before .before .in-pairs .ensures) (c .before .before .before .before .if2 .taken) (c .before .before .before .before .before .before .if1 .left) (c .before .before .flip-bit .ensures),
+    (λ c.
+    let at-if2 = c .before .before .before .before in
+    let at-in-pairs = at-if2 .before in
+    let at-if1 = at-in-pairs .before in
+    let at-difference = at-if1 .before in
+    let at-code-at = at-difference .before in
+    let at-fresh-code = at-code-at .before .before in (
+      found-data _ _ _ _ _ _ (at-difference .difference .ensures .0) (at-code-at .code-at .ensures .0) (at-fresh-code .fresh-code .ensures .0) _ (at-in-pairs .in-pairs .ensures) (at-if2 .if2 .taken) (at-if1 .if1 .left),
+      after-data _ _ _ _ _ _ (at-difference .difference .ensures .0) (at-code-at .code-at .ensures .0) (at-fresh-code .fresh-code .ensures .0) _ _ (at-in-pairs .in-pairs .ensures) (at-if2 .if2 .taken) (at-if1 .if1 .left) (c .before .before .flip-bit .ensures),
     ))
     (λ c κs. search all)
     (λ c. search all)
-    (λ c. (
-      found-code _ _ _ _ _ _ (c .before .before .before .before .before .before .before .before .difference .ensures .0) (c .before .before .before .before .before .before .before .before .before .code-at .ensures .0) (c .before .before .before .before .before .before .before .before .before .before .before .fresh-code .ensures .0) _ (c .before .before .before .before .before .before .in-pairs .ensures) (c .before .before .before .before .before .if2 .left) (c .before .before .before .before .before .before .before .if1 .left) (c .before .before .before .before .before .before .before .before .difference .ensures .1) (c .before .before .before .before .if3 .taken),
-      after-code _ _ _ _ _ _ (c .before .before .before .before .before .before .before .before .difference .ensures .0) (c .before .before .before .before .before .before .before .before .before .code-at .ensures .0) (c .before .before .before .before .before .before .before .before .before .before .before .fresh-code .ensures .0) _ _ (c .before .before .before .before .before .before .in-pairs .ensures) (c .before .before .before .before .before .if2 .left) (c .before .before .before .before .before .before .before .if1 .left) (c .before .before .before .before .before .before .before .before .difference .ensures .1) (c .before .before .before .before .if3 .taken) (c .before .before .put-code .ensures),
+    (λ c.
+    let at-if3 = c .before .before .before .before in
+    let at-if2 = at-if3 .before in
+    let at-in-pairs = at-if2 .before in
+    let at-if1 = at-in-pairs .before in
+    let at-difference = at-if1 .before in
+    let at-code-at = at-difference .before in
+    let at-fresh-code = at-code-at .before .before in (
+      found-code _ _ _ _ _ _ (at-difference .difference .ensures .0) (at-code-at .code-at .ensures .0) (at-fresh-code .fresh-code .ensures .0) _ (at-in-pairs .in-pairs .ensures) (at-if2 .if2 .left) (at-if1 .if1 .left) (at-difference .difference .ensures .1) (at-if3 .if3 .taken),
+      after-code _ _ _ _ _ _ (at-difference .difference .ensures .0) (at-code-at .code-at .ensures .0) (at-fresh-code .fresh-code .ensures .0) _ _ (at-in-pairs .in-pairs .ensures) (at-if2 .if2 .left) (at-if1 .if1 .left) (at-difference .difference .ensures .1) (at-if3 .if3 .taken) (c .before .before .put-code .ensures),
     ))
     (λ c. search all)
-    (λ c. (
-      found-beyond _ _ _ _ _ _ (c .before .before .before .before .difference .ensures .0) (c .before .before .before .before .before .code-at .ensures .0) (c .before .before .before .before .before .before .before .fresh-code .ensures .0) _ (c .before .before .in-pairs .ensures) (c .before .if2 .left) (c .before .before .before .if1 .left) (c .before .before .before .before .difference .ensures .1) (c .if3 .left),
-      after-beyond _ _ _ _ _ _ (c .before .before .before .before .difference .ensures .0) (c .before .before .before .before .before .code-at .ensures .0) (c .before .before .before .before .before .before .before .fresh-code .ensures .0) _ (c .before .before .in-pairs .ensures) (c .before .if2 .left) (c .before .before .before .if1 .left) (c .before .before .before .before .difference .ensures .1) (c .if3 .left),
+    (λ c.
+    let at-if1 = c .before .before .before in
+    let at-difference = at-if1 .before in
+    let at-code-at = at-difference .before in
+    let at-fresh-code = at-code-at .before .before in (
+      found-beyond _ _ _ _ _ _ (at-difference .difference .ensures .0) (at-code-at .code-at .ensures .0) (at-fresh-code .fresh-code .ensures .0) _ (c .before .before .in-pairs .ensures) (c .before .if2 .left) (at-if1 .if1 .left) (at-difference .difference .ensures .1) (c .if3 .left),
+      after-beyond _ _ _ _ _ _ (at-difference .difference .ensures .0) (at-code-at .code-at .ensures .0) (at-fresh-code .fresh-code .ensures .0) _ (c .before .before .in-pairs .ensures) (c .before .if2 .left) (at-if1 .if1 .left) (at-difference .difference .ensures .1) (c .if3 .left),
     )))

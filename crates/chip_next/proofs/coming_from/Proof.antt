@@ -38,5 +38,7 @@ coming-from-spec =
     (λ c. search all)
     (λ c. search all)
     (λ c. search all)
-    (λ c. (search all, search all, search all, search set-length, (let h : c .before .before .before .loop .i < 256 = omega arith in search (coming-more, h)), search page-more))
+    (λ c.
+    let at-loop = c .before .before .before in
+    (search all, search all, search all, search set-length, (let h : at-loop .loop .i < 256 = omega arith in search (coming-more, h)), search page-more))
     (λ c. search all))

@@ -20,4 +20,8 @@ put-code-spec =
     (λ c. search all)
     (λ c κs. search all)
     (λ c. search all)
-    (λ c. code-is _ _ _ _ _ _ _ (c .before .before .put-low3 .ensures) (c .before .before .before .before .before .before .put-low2 .ensures) (c .before .before .before .before .before .before .before .before .before .before .put-low .ensures) (c .before .before .before .before .before .before .before .before .before .before .before .before .long .ensures)))
+    (λ c.
+    let at-put-low2 = c .before .before .before .before .before .before in
+    let at-put-low = at-put-low2 .before .before .before .before in
+    let at-long = at-put-low .before .before in
+    code-is _ _ _ _ _ _ _ (c .before .before .put-low3 .ensures) (at-put-low2 .put-low2 .ensures) (at-put-low .put-low .ensures) (at-long .long .ensures)))

@@ -22,4 +22,8 @@ put-u32-spec =
     (λ c. search all)
     (λ c κs. search all)
     (λ c. search all)
-    (λ c. word-is _ _ _ _ _ _ _ (c .before .before .put-low4 .ensures) (c .before .before .before .before .before .before .put-low3 .ensures) (c .before .before .before .before .before .before .before .before .before .before .put-low2 .ensures) (c .before .before .before .before .before .before .before .before .before .before .before .before .before .before .put-low .ensures)))
+    (λ c.
+    let at-put-low3 = c .before .before .before .before .before .before in
+    let at-put-low2 = at-put-low3 .before .before .before .before in
+    let at-put-low = at-put-low2 .before .before .before .before in
+    word-is _ _ _ _ _ _ _ (c .before .before .put-low4 .ensures) (at-put-low3 .put-low3 .ensures) (at-put-low2 .put-low2 .ensures) (at-put-low .put-low .ensures)))

@@ -41,10 +41,39 @@ pub +collect-spec : {M : Type 1} → statement M
     (λ c. search all)
     (λ c. search all)
     (λ c. search all)
-    (λ c. collect-halt _ _ _ _ _ _ _ _ _ (c .before .before .before .before .before .before .before .before .before .before .before .before .before .before .before .enough .ensures) _ _ _ _ (c .before .before .before .before .before .before .before .before .before .clear .ensures) (c .before .before .before .before .before .before .before .before .before .before .before .before .before .if2 .left) _ (c .before .before .before .before .before .before .before .before .before .before .before .before .before .before .before .before .if1 .left) (c .before .before .before .before .before .before .before .before .before .before .before .before .before .before .before .before .before .before .before .before .pre .1 .4) (c .if3 .taken))
+    (λ c.
+    let at-clear = c .before .before .before .before .before .before .before .before .before in
+    let at-if2 = at-clear .before .before .before .before in
+    let at-enough = at-if2 .before .before in
+    let at-if1 = at-enough .before in
+    let at-pre = at-if1 .before .before .before .before in
+    collect-halt _ _ _ _ _ _ _ _ _ (at-enough .enough .ensures) _ _ _ _ (at-clear .clear .ensures) (at-if2 .if2 .left) _ (at-if1 .if1 .left) (at-pre .pre .1 .4) (c .if3 .taken))
     (λ c. search all)
-    (λ c κs. (let p = c .before .before .before .before .before .before .before .before .before .before .before .before .before .before .before .before .before .before .before .before .before .before .before .pre .1 in let z = c .before .before .before .before .before .before .before .before .before .before .before .before .before .before .before .before .before .before .before .if1 .left in let w = c .before .before .before .before .before .before .before .before .before .before .before .before .clear .ensures in (omega (arith, c .before .before .before .before .before .before .before .before .before .before .before .before .before .before .before .before .before .before .before .before .before .before .before .pre .0, z), (w .low, p .1, p .2, omega (arith, w .made .ran .total, p .3), c .before .before .before .if3 .left))))
-    (λ c. omega (arith, c .before .before .before .before .before .before .collect .kept, c .before .before .before .before .before .before .before .before .before .before .before .before .before .before .before .before .before .before .before .clear .kept))
-    (λ c. omega (arith, c .before .before .before .before .before .before .collect .kept, c .before .before .before .before .before .before .before .before .before .before .before .before .before .before .before .before .before .before .before .clear .kept))
-    (λ c. omega (arith, c .before .before .before .before .before .before .collect .kept, c .before .before .before .before .before .before .before .before .before .before .before .before .before .before .before .before .before .before .before .clear .kept))
-    (λ c. collect-on _ _ _ _ _ _ _ _ _ (c .before .before .before .before .before .before .before .before .before .before .before .before .before .before .before .before .before .before .before .before .before .before .before .before .before .enough .ensures) _ _ _ _ (c .before .before .before .before .before .before .before .before .before .before .before .before .before .before .before .before .before .before .before .clear .ensures) (c .before .before .before .before .before .before .before .before .before .before .before .before .before .before .before .before .before .before .before .before .before .before .before .if2 .left) _ _ _ _ _ (c .before .before .before .before .before .before .collect .ensures) (c .before .before .before .before .before .before .before .before .before .before .before .before .before .before .before .before .before .before .before .before .before .before .before .before .before .before .if1 .left) (c .before .before .before .before .before .before .before .before .before .before .if3 .left))
+    (λ c κs.
+    let at-if3 = c .before .before .before in
+    let at-clear = at-if3 .before .before .before .before .before .before .before .before .before in
+    let at-if1 = at-clear .before .before .before .before .before .before .before in
+    let at-pre = at-if1 .before .before .before .before in
+    (let p = at-pre .pre .1 in
+    let z = at-if1 .if1 .left in
+    let w = at-clear .clear .ensures in (omega (arith, at-pre .pre .0, z), (w .low, p .1, p .2, omega (arith, w .made .ran .total, p .3), at-if3 .if3 .left))))
+    (λ c.
+    let at-collect = c .before .before .before .before .before .before in
+    let at-clear = at-collect .before .before .before .before .before .before .before .before .before .before .before .before .before in
+    omega (arith, at-collect .collect .kept, at-clear .clear .kept))
+    (λ c.
+    let at-collect = c .before .before .before .before .before .before in
+    let at-clear = at-collect .before .before .before .before .before .before .before .before .before .before .before .before .before in
+    omega (arith, at-collect .collect .kept, at-clear .clear .kept))
+    (λ c.
+    let at-collect = c .before .before .before .before .before .before in
+    let at-clear = at-collect .before .before .before .before .before .before .before .before .before .before .before .before .before in
+    omega (arith, at-collect .collect .kept, at-clear .clear .kept))
+    (λ c.
+    let at-collect = c .before .before .before .before .before .before in
+    let at-if3 = at-collect .before .before .before .before in
+    let at-clear = at-if3 .before .before .before .before .before .before .before .before .before in
+    let at-if2 = at-clear .before .before .before .before in
+    let at-enough = at-if2 .before .before in
+    let at-if1 = at-enough .before in
+    collect-on _ _ _ _ _ _ _ _ _ (at-enough .enough .ensures) _ _ _ _ (at-clear .clear .ensures) (at-if2 .if2 .left) _ _ _ _ _ (at-collect .collect .ensures) (at-if1 .if1 .left) (at-if3 .if3 .left))

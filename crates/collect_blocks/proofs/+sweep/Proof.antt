@@ -37,14 +37,37 @@ pub +sweep-spec : {M : Type 1} → statement M
     (λ c. search all)
     (λ c. search all)
     (λ c κs. search all)
-    (λ c κs. (let p = c .before .before .before .before .before .before .before .before .before .pre .1 in let z = c .before .before .before .before .before .if1 .left in (p .1, p .2, omega (arith, p .3, z), omega (arith, p .4, z), p .5, p .6)))
+    (λ c κs.
+    let at-if1 = c .before .before .before .before .before in
+    let at-pre = at-if1 .before .before .before .before in
+    (let p = at-pre .pre .1 in
+    let z = at-if1 .if1 .left in (p .1, p .2, omega (arith, p .3, z), omega (arith, p .4, z), p .5, p .6)))
     (λ c. search all)
     (λ c. search all)
     (λ c. search all)
-    (λ c. sweep-halt _ _ _ _ _ _ _ _ _ _ _ _ _ _ _ (c .before .before .before .before .before .before .before .before .before .sweep-page .ensures .0) _ (c .before .before .before .before .before .before .before .before .before .before .before .before .before .page-of .ensures) (c .before .before .before .before .before .before .before .before .before .before .before .before .before .before .before .if1 .left) (c .before .before .before .before .before .before .before .before .before .before .before .before .before .before .before .before .before .before .before .pre .1 .6) (c .if2 .taken))
+    (λ c.
+    let at-sweep-page = c .before .before .before .before .before .before .before .before .before in
+    let at-page-of = at-sweep-page .before .before .before .before in
+    let at-if1 = at-page-of .before .before in
+    let at-pre = at-if1 .before .before .before .before in
+    sweep-halt _ _ _ _ _ _ _ _ _ _ _ _ _ _ _ (at-sweep-page .sweep-page .ensures .0) _ (at-page-of .page-of .ensures) (at-if1 .if1 .left) (at-pre .pre .1 .6) (c .if2 .taken))
     (λ c. search all)
-    (λ c κs. (let p = c .before .before .before .before .before .before .before .before .before .before .before .before .before .before .before .before .before .before .before .before .before .before .pre .1 in let w = c .before .before .before .before .before .before .before .before .before .before .before .before .sweep-page .ensures in let z = c .before .before .before .before .before .before .before .before .before .before .before .before .before .before .before .before .before .before .if1 .left in let f = c .before .before .before .before .before .before .before .before .before .before .before .before .before .before .before .before .before .before .before .before .before .before .fits .left .fits in (omega (arith, c .before .before .before .before .before .before .before .before .before .before .before .before .before .before .before .before .before .before .before .before .before .before .pre .0, z), (omega (arith, p .0), p .1, p .2, omega (arith, w .1 .0, p .3, z), omega (arith, w .1 .1, p .4, z, f), omega (arith, w .0 .ran .total, p .5), c .before .before .before .if2 .left))))
+    (λ c κs.
+    let at-if2 = c .before .before .before in
+    let at-sweep-page = at-if2 .before .before .before .before .before .before .before .before .before in
+    let at-if1 = at-sweep-page .before .before .before .before .before .before in
+    let at-pre = at-if1 .before .before .before .before in
+    (let p = at-pre .pre .1 in
+    let w = at-sweep-page .sweep-page .ensures in
+    let z = at-if1 .if1 .left in
+    let f = at-pre .fits .left .fits in (omega (arith, at-pre .pre .0, z), (omega (arith, p .0), p .1, p .2, omega (arith, w .1 .0, p .3, z), omega (arith, w .1 .1, p .4, z, f), omega (arith, w .0 .ran .total, p .5), at-if2 .if2 .left))))
     (λ c. search all)
     (λ c. search all)
     (λ c. search all)
-    (λ c. sweep-on _ _ _ _ _ _ _ _ _ _ _ _ _ _ _ (c .before .before .before .before .before .before .before .before .before .before .before .before .before .before .before .before .before .before .before .sweep-page .ensures .0) _ _ _ _ _ _ (c .before .before .before .before .before .before .sweep .ensures) (c .before .before .before .before .before .before .before .before .before .before .before .before .before .before .before .before .before .before .before .before .before .before .before .page-of .ensures) (c .before .before .before .before .before .before .before .before .before .before .before .before .before .before .before .before .before .before .before .before .before .before .before .before .before .if1 .left) (c .before .before .before .before .before .before .before .before .before .before .if2 .left))
+    (λ c.
+    let at-sweep = c .before .before .before .before .before .before in
+    let at-if2 = at-sweep .before .before .before .before in
+    let at-sweep-page = at-if2 .before .before .before .before .before .before .before .before .before in
+    let at-page-of = at-sweep-page .before .before .before .before in
+    let at-if1 = at-page-of .before .before in
+    sweep-on _ _ _ _ _ _ _ _ _ _ _ _ _ _ _ (at-sweep-page .sweep-page .ensures .0) _ _ _ _ _ _ (at-sweep .sweep .ensures) (at-page-of .page-of .ensures) (at-if1 .if1 .left) (at-if2 .if2 .left))

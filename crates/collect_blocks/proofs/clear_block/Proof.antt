@@ -26,4 +26,10 @@ clear-block-spec =
     (λ c. search all)
     (λ c. search all)
     (λ c. search all)
-    (λ c. clear-done _ _ _ _ _ _ _ _ _ _ _ _ _ _ _ (c .before .before .before .before .before .before .before .before .before .before .before .before .before .before .before .before .before .before .begin .ensures .0) (c .before .before .before .before .before .before .before .before .before .before .before .before .before .sweep .ensures) (c .before .before .before .before .before .before .before .before .before .before .before .before .before .before .before .before .before .level-by .ensures) (c .before .before .before .before .before .before .before .before .before .before .before .before .before .before .before .before .before .before .before .before .before .before .pre .1) _ _ (c .before .before .wipe .ensures) (c .before .before .before .before .if1 .left)))
+    (λ c.
+    let at-if1 = c .before .before .before .before in
+    let at-sweep = at-if1 .before .before .before .before .before .before .before .before .before in
+    let at-level-by = at-sweep .before .before .before .before in
+    let at-begin = at-level-by .before in
+    let at-pre = at-begin .before .before .before .before in
+    clear-done _ _ _ _ _ _ _ _ _ _ _ _ _ _ _ (at-begin .begin .ensures .0) (at-sweep .sweep .ensures) (at-level-by .level-by .ensures) (at-pre .pre .1) _ _ (c .before .before .wipe .ensures) (at-if1 .if1 .left)))

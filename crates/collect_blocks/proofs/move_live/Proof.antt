@@ -20,9 +20,17 @@ move-live-spec =
     (λ c. search all)
     (λ c. search all)
     (λ c. search all)
-    (λ c. (move-halt _ _ _ _ _ _ _ _ _ _ (c .before .before .before .before .before .before .before .before .before .before .before .before .before .before .before .before .pre .1) _ _ _ _ _ (c .before .before .before .move-page .ensures) (c .before .before .before .before .before .before .before .before .before .move-marks .ensures) _ (c .if1 .taken), (omega arith, omega arith)))
+    (λ c.
+    let at-move-page = c .before .before .before in
+    let at-move-marks = at-move-page .before .before .before .before .before .before in
+    let at-pre = at-move-marks .before .before .before .before .before .before .before in
+    (move-halt _ _ _ _ _ _ _ _ _ _ (at-pre .pre .1) _ _ _ _ _ (at-move-page .move-page .ensures) (at-move-marks .move-marks .ensures) _ (c .if1 .taken), (omega arith, omega arith)))
     (λ c κs. search all)
     (λ c. search all)
     (λ c. search all)
     (λ c. search all)
-    (λ c. (move-done _ _ _ _ _ _ _ _ _ _ (c .before .before .before .before .before .before .before .before .before .before .before .before .before .before .before .before .before .before .pre .1) _ _ _ _ _ (c .before .before .before .before .before .move-page .ensures) (c .before .before .before .before .before .before .before .before .before .before .before .move-marks .ensures) _ (c .kept-after .ensures .0) (c .before .before .before .before .before .before .before .before .before .before .before .before .before .before .before .before .before .before .pre .0 .6) (c .before .before .if1 .left), c .kept-after .ensures .1)))
+    (λ c.
+    let at-move-page = c .before .before .before .before .before in
+    let at-move-marks = at-move-page .before .before .before .before .before .before in
+    let at-pre = at-move-marks .before .before .before .before .before .before .before in
+    (move-done _ _ _ _ _ _ _ _ _ _ (at-pre .pre .1) _ _ _ _ _ (at-move-page .move-page .ensures) (at-move-marks .move-marks .ensures) _ (c .kept-after .ensures .0) (at-pre .pre .0 .6) (c .before .before .if1 .left), c .kept-after .ensures .1)))

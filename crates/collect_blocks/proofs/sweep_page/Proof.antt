@@ -21,4 +21,8 @@ sweep-page-spec =
     (λ c. search all)
     (λ c. search all)
     (λ c. search all)
-    (λ c. (page-live _ _ _ _ _ _ _ _ _ _ (c .before .before .before .before .before .before .before .before .before .before .before .noted .ensures .0) _ _ _ _ _ (c .before .before .before .before .before .before .move-live .ensures .0) (c .before .before .before .before .before .before .before .before .before .before .if1 .left), c .before .before .before .before .before .before .move-live .ensures .1)))
+    (λ c.
+    let at-move-live = c .before .before .before .before .before .before in
+    let at-if1 = at-move-live .before .before .before .before in
+    let at-noted = at-if1 .before in
+    (page-live _ _ _ _ _ _ _ _ _ _ (at-noted .noted .ensures .0) _ _ _ _ _ (at-move-live .move-live .ensures .0) (at-if1 .if1 .left), at-move-live .move-live .ensures .1)))

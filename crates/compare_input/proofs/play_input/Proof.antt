@@ -19,43 +19,65 @@ abbrev μ-loop : tie.MeasureT-loop
 μ-loop mu₀ plain₀ line₀ part₀ run mu plain line part state = left state
 
 loop-holds : tie.Need-loop-holds Inv-loop μ-loop
-loop-holds c = let pre = c .before .before .before .before .pre in (pre .0, pre .1, refl, refl)
+loop-holds c =
+    let at-pre = c .before .before .before .before in
+    let pre = at-pre .pre in (pre .0, pre .1, refl, refl)
 
 same-length : tie.Need-same-length Inv-loop μ-loop
-same-length c = c .before .before .before .before .before .before .before .before .before .loop .inv .2
+same-length c =
+    let at-loop = c .before .before .before .before .before .before .before .before .before in
+    at-loop .loop .inv .2
 
 same-length-2 : tie.Need-same-length-2 Inv-loop μ-loop
-same-length-2 c = c .before .before .before .before .before .before .before .before .before .loop .inv .3
+same-length-2 c =
+    let at-loop = c .before .before .before .before .before .before .before .before .before in
+    at-loop .loop .inv .3
 
 same-length-3 : tie.Need-same-length-3 Inv-loop μ-loop
-same-length-3 c = c .before .before .before .before .before .before .before .before .before .loop .inv .0 .room ∙ sym (c .before .before .before .before .before .before .before .before .before .before .before .before .before .before .pre .0 .room)
+same-length-3 c =
+    let at-loop = c .before .before .before .before .before .before .before .before .before in
+    let at-pre = at-loop .before .before .before .before .before in
+    at-loop .loop .inv .0 .room ∙ sym (at-pre .pre .0 .room)
 
 same-length-4 : tie.Need-same-length-4 Inv-loop μ-loop
 same-length-4 c =
-    let loop = c .before .before .before .before .before .before .before .before .before .loop in
-    let same : length (c .before .before .before .before .before .read .last .1 .0) ≡ length (loop .part) = search needs in
-    same ∙ loop .inv .1 ∙ sym (c .before .before .before .before .before .before .before .before .before .before .before .before .before .before .pre .1)
+    let at-read = c .before .before .before .before .before in
+    let at-loop = at-read .before .before .before .before in
+    let at-pre = at-loop .before .before .before .before .before in
+    let loop = at-loop .loop in
+    let same : length (at-read .read .last .1 .0) ≡ length (loop .part) = search needs in
+    same ∙ loop .inv .1 ∙ sym (at-pre .pre .1)
 
 play-part-requires : tie.Need-play-part-requires Inv-loop μ-loop
 play-part-requires c κs =
-    let loop = c .before .before .before .before .before .before .before .before .before .before .before .before .before .loop in
-    let read = c .before .before .before .before .before .before .before .before .before .read in
+    let at-count = c .before .before .before .before .before in
+    let at-read = at-count .before .before .before .before in
+    let at-loop = at-read .before .before .before .before in
+    let loop = at-loop .loop in
+    let read = at-read .read in
     let same : length (read .last .1 .0) ≡ length (loop .part) = search needs in
-    let n = length-take (c .before .before .before .before .before .count .result) (read .last .1 .0) in
+    let n = length-take (at-count .count .result) (read .last .1 .0) in
     (loop .inv .0, omega (arith, n, same, loop .inv .1))
 
 loop-less : tie.Need-loop-less Inv-loop μ-loop
 loop-less c =
-    let going = c .before .before .before .before .before .before .before .before .before .before .before .before .before .before .before .before .before .before .before in
-    let some = left-some (going .before .loop .state) (sym (going .is-going .ensures) ∙ c .before .before .before .before .before .before .before .before .before .before .before .before .before .before .before .before .before .before .if1 .taken) in
-    let n = c .before .before .before .before .before .before .before .before .before .before .before .before .count .ensures .0 .1 in
-    omega (arith, some, n, c .before .before .before .before .before .before .play-part .ensures .1 .0, c .before .before .before .before .before .before .before .before .before .before .before .if2 .left)
+    let at-play-part = c .before .before .before .before .before .before in
+    let at-if2 = at-play-part .before .before .before .before .before in
+    let at-count = at-if2 .before in
+    let at-before = at-count .before .before .before .before .before .before in
+    let going = at-before .before in
+    let some = left-some (going .before .loop .state) (sym (going .is-going .ensures) ∙ at-before .if1 .taken) in
+    let n = at-count .count .ensures .0 .1 in
+    omega (arith, some, n, at-play-part .play-part .ensures .1 .0, at-if2 .if2 .left)
 
 loop-again : tie.Need-loop-again Inv-loop μ-loop
 loop-again c =
-    let loop = c .before .before .before .before .before .before .before .before .before .before .before .before .before .before .before .before .before .before .before .before .loop in
-    let played = c .before .before .before .before .before .before .play-part in
-    let part : length (c .before .before .before .before .before .before .before .before .before .before .before .before .before .before .before .before .read .last .1 .0) ≡ length (loop .part) = c .before .before .before .before .before .before .before .before .before .before .before .before .before .before .before .before .read .kept .1 .0 in
+    let at-play-part = c .before .before .before .before .before .before in
+    let at-read = at-play-part .before .before .before .before .before .before .before .before .before .before in
+    let at-loop = at-read .before .before .before .before in
+    let loop = at-loop .loop in
+    let played = at-play-part .play-part in
+    let part : length (at-read .read .last .1 .0) ≡ length (loop .part) = at-read .read .kept .1 .0 in
     let mu : length (played .last .0) ≡ length (loop .mu) = search needs in
     let plain : length (played .last .1 .0) ≡ length (loop .plain) = search needs in
     (played .ensures .0, part ∙ loop .inv .1, mu ∙ loop .inv .2, plain ∙ loop .inv .3)
@@ -67,10 +89,14 @@ same-length-6 : tie.Need-same-length-6 Inv-loop μ-loop
 same-length-6 c = c .before .before .loop .inv .3
 
 same-length-7 : tie.Need-same-length-7 Inv-loop μ-loop
-same-length-7 c = c .before .before .loop .inv .0 .room ∙ sym (c .before .before .before .before .before .before .before .pre .0 .room)
+same-length-7 c =
+    let at-pre = c .before .before .before .before .before .before .before in
+    c .before .before .loop .inv .0 .room ∙ sym (at-pre .pre .0 .room)
 
 same-length-8 : tie.Need-same-length-8 Inv-loop μ-loop
-same-length-8 c = c .before .before .loop .inv .1 ∙ sym (c .before .before .before .before .before .before .before .pre .1)
+same-length-8 c =
+    let at-pre = c .before .before .before .before .before .before .before in
+    c .before .before .loop .inv .1 ∙ sym (at-pre .pre .1)
 
 pub play-input-spec : {M : Type 1} → statement M
 play-input-spec =
@@ -86,7 +112,9 @@ play-input-spec =
     same-length-2
     same-length-3
     same-length-4
-    (λ c. c .before .before .before .before .before .before .before .before .before .loop .inv .0)
+    (λ c.
+    let at-loop = c .before .before .before .before .before .before .before .before .before in
+    at-loop .loop .inv .0)
     (λ c. search all)
     (λ c. search all)
     play-part-requires

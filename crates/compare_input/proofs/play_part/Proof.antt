@@ -21,27 +21,37 @@ abbrev μ-loop : tie.MeasureT-loop
 μ-loop mu₀ plain₀ line₀ part at₀ run mu plain line at state = length part - at
 
 loop-holds : tie.Need-loop-holds Inv-loop μ-loop
-loop-holds c = let pre = c .before .before .before .before .pre in (omega arith, pre .0, pre .1, omega arith, λ rest. refl, refl, refl)
+loop-holds c =
+    let at-pre = c .before .before .before .before in
+    let pre = at-pre .pre in (omega arith, pre .0, pre .1, omega arith, λ rest. refl, refl, refl)
 
 shared-slice-read-feed : tie.Need-shared-slice-read-feed Inv-loop μ-loop
 shared-slice-read-feed c = search needs
 
 feed-requires : tie.Need-feed-requires Inv-loop μ-loop
-feed-requires c κs = c .before .before .before .before .before .loop .inv .1
+feed-requires c κs =
+    let at-loop = c .before .before .before .before .before in
+    at-loop .loop .inv .1
 
 add-at : tie.Need-add-at Inv-loop μ-loop
-add-at c = record { fits = omega (arith, c .before .before .before .before .before .before .before .before .before .before .before .loop-test .taken, c .before .before .before .before .before .before .before .before .before .before .before .before .loop .inv .2) }
+add-at c =
+    let at-loop-test = c .before .before .before .before .before .before .before .before .before .before .before in
+    let at-loop = at-loop-test .before in
+    record { fits = omega (arith, at-loop-test .loop-test .taken, at-loop .loop .inv .2) }
 
 loop-less : tie.Need-loop-less Inv-loop μ-loop
 loop-less c = search needs
 
 loop-again : tie.Need-loop-again Inv-loop μ-loop
 loop-again c =
-    let loop = c .before .before .before .before .before .before .before .before .before .before .before .before .loop in
+    let at-feed = c .before .before .before .before .before .before in
+    let at-loop-test = at-feed .before .before .before .before .before in
+    let at-loop = at-loop-test .before in
+    let loop = at-loop .loop in
     let inv = loop .inv in
-    let fed = c .before .before .before .before .before .before .feed in
+    let fed = at-feed .feed in
     let f = fed .ensures in
-    let test = c .before .before .before .before .before .before .before .before .before .before .before .loop-test .taken in
+    let test = at-loop-test .loop-test .taken in
     let mu : length (fed .last .0) ≡ length (loop .mu) = search needs in
     let plain : length (fed .last .1 .0) ≡ length (loop .plain) = search needs in
     let less = run-left (loop .state) (fed .result) (loop .line) (loop .mu) (loop .plain) _ (inv .1) (f .0) in (
@@ -62,7 +72,9 @@ same-length-2 : tie.Need-same-length-2 Inv-loop μ-loop
 same-length-2 c = c .before .loop .inv .6
 
 same-length-3 : tie.Need-same-length-3 Inv-loop μ-loop
-same-length-3 c = c .before .loop .inv .1 .room ∙ sym (c .before .before .before .before .before .before .pre .0 .room)
+same-length-3 c =
+    let at-pre = c .before .before .before .before .before .before in
+    c .before .loop .inv .1 .room ∙ sym (at-pre .pre .0 .room)
 
 returns : tie.Need-returns Inv-loop μ-loop
 returns c =

@@ -9,7 +9,8 @@ ruleset all = (needs, step-laws)
 
 returns : tie.Need-returns
 returns c =
-    let start = c .before .before .before .before .before .before in
+    let at-before = c .before .before .before .before .before in
+    let start = at-before .before in
     let a = start .args in
     let h = start .pre in
     let e = sym (c .before .is-going .ensures) ∙ not-true _ (c .if1 .taken) in (
@@ -25,12 +26,17 @@ returns c =
 
 returns-2 : tie.Need-returns-2
 returns-2 c =
-    let start = c .before .before .before .before .before .before .before .before .before .before .before .before .before .before .before in
+    let at-close-line = c .before .before .before .before in
+    let at-if2 = at-close-line .before .before .before .before in
+    let at-if1 = at-if2 .before in
+    let at-is-going = at-if1 .before in
+    let at-before = at-is-going .before .before .before .before in
+    let start = at-before .before in
     let a = start .args in
     let h = start .pre in
-    let e = sym (c .before .before .before .before .before .before .before .before .before .before .is-going .ensures) ∙ not-false _ (c .before .before .before .before .before .before .before .before .before .if1 .left) in
-    let q = c .before .before .before .before .before .before .before .before .if2 .taken in
-    let r = c .before .before .before .before .close-line in
+    let e = sym (at-is-going .is-going .ensures) ∙ not-false _ (at-if1 .if1 .left) in
+    let q = at-if2 .if2 .taken in
+    let r = at-close-line .close-line in
     let f = r .ensures in (
       end-run (a .run) (r .result) (a .line .now) (a .mu .now) (a .plain .now) (a .b) h e q (f .0),
       (
@@ -47,11 +53,15 @@ returns-2 c =
 
 returns-3 : tie.Need-returns-3
 returns-3 c =
-    let start = c .before .before .before .before .before .before .before .before .before .before .before in
+    let at-if2 = c .before .before .before .before in
+    let at-if1 = at-if2 .before in
+    let at-is-going = at-if1 .before in
+    let at-before = at-is-going .before .before .before .before in
+    let start = at-before .before in
     let a = start .args in
     let h = start .pre in
-    let e = sym (c .before .before .before .before .before .before .is-going .ensures) ∙ not-false _ (c .before .before .before .before .before .if1 .left) in
-    let q = c .before .before .before .before .if2 .left in
+    let e = sym (at-is-going .is-going .ensures) ∙ not-false _ (at-if1 .if1 .left) in
+    let q = at-if2 .if2 .left in
     let r = c .before .before .lengthen in
     let f = r .ensures in (
       more-run (a .run) (r .result) (a .line .now) (a .mu .now) (a .plain .now) (a .b) h e q (f .0),

@@ -15,7 +15,8 @@ same-length c = search needs
 
 returns : tie.Need-returns
 returns c =
-    let a = c .before .before .before .before .before .before .before .before .before .before .before .args in
+    let at-args = c .before .before .before .before .before .before .before .before .before .before .before in
+    let a = at-args .args in
     let e = finish-last (a .run .course) (a .run .score) (a .line .now) (a .run .filled) (search needs) (search needs) in
     let f = c .before .before .put-report .ensures in
     (rw e (f .0), (f .1 .0, rw e (f .1 .1)))
@@ -40,7 +41,8 @@ same-length-2 c = search needs
 
 returns-2 : tie.Need-returns-2
 returns-2 c =
-    let start = c .before .before .before .before .before .before .before .before .before .before .before in
+    let at-before = c .before .before .before .before .before .before .before .before .before .before in
+    let start = at-before .before in
     let a = start .args in
     let e = finish-begun (a .run .course) (a .run .score) (a .line .now) (a .run .filled) (start .pre .room) (search needs) (search needs) in
     let f = c .before .before .put-error .ensures in
@@ -51,7 +53,8 @@ same-length-3 c = search needs
 
 returns-3 : tie.Need-returns-3
 returns-3 c =
-    let a = c .before .before .before .before .before .before .before .before .before .args in
+    let at-args = c .before .before .before .before .before .before .before .before .before in
+    let a = at-args .args in
     let e = finish-stopped (a .run .course) (a .run .score) (take (a .run .filled) (a .line .now)) (search needs) in
     let f = c .before .before .put-report2 .ensures in
     (rw e (f .0), (f .1 .0, rw e (f .1 .1)))
@@ -61,7 +64,8 @@ same-length-4 c = search needs
 
 returns-4 : tie.Need-returns-4
 returns-4 c =
-    let a = c .before .before .before .before .before .before .before .before .before .args in
+    let at-args = c .before .before .before .before .before .before .before .before .before in
+    let a = at-args .args in
     let e = finish-refused (a .run .course) (a .run .score) (take (a .run .filled) (a .line .now)) (search needs) in
     let f = c .before .before .put-error2 .ensures in
     (rw e (f .0), (f .1 .0, rw e (f .1 .1)))

@@ -8,10 +8,14 @@ use Rattle.compare_machine.proofs.play.Tie as tie
 
 returns : tie.Need-returns
 returns c =
-    let start = c .before .before .before .before .before .before .before .before .before .before .before .before .before in
-    let own = c .before .before .before .before .before .before .before .before .before .obey in
-    let first = c .before .before .before .before .before .before .row-of in
-    let other = c .before .before .before .before .obey-plain in
+    let at-obey-plain = c .before .before .before .before in
+    let at-row-of = at-obey-plain .before .before in
+    let at-obey = at-row-of .before .before .before in
+    let at-before = at-obey .before .before .before in
+    let start = at-before .before in
+    let own = at-obey .obey in
+    let first = at-row-of .row-of in
+    let other = at-obey-plain .obey-plain in
     let second = c .before .row-of2 in
     let e =
     close-both (start .args .s) (start .args .order) (first .result) (second .result) (start .args .mu .now) (start .args .plain .now) (own .last .0) (other .last .0) (own .result) (other .result)

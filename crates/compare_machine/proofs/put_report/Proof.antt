@@ -18,9 +18,11 @@ same-length c = search needs
 
 returns : tie.Need-returns
 returns c =
+    let at-ratio-of = c .before .before .before .before in
+    let at-args = at-ratio-of .before .before in
     let f = c .before .before .put-numbers .ensures in
-    let a = c .before .before .before .before .before .before .args in
-    let ratio = c .before .before .before .before .ratio-of in
+    let a = at-args .args in
+    let ratio = at-ratio-of .ratio-of in
     let e = report-is (a .s) (ratio .result) (ratio .ensures) in
     (omega (arith, f .0, ap length e), (omega (arith, f .1 .0), f .1 .1 ∙ ap (sets (a .out .now) 0) e))
 

@@ -42,12 +42,14 @@ off-path-spec =
     (λ c κs. search all)
     (λ c. search all)
     (λ c. search all)
-    (λ c. (
+    (λ c.
+    let at-unmark = c .before .before .before .before .before in
+    let at-loop = at-unmark .before .before .before .before .before in (
       search all,
       search all,
       search all,
-      off-go _ _ _ _ _ _ _ _ _ _ _ (c .before .before .before .before .before .before .before .before .before .before .loop .inv .3) (c .chosen-entry .ensures)
-          (c .before .before .before .before .before .unmark .ensures .0) (search needs) (search needs),
+      off-go _ _ _ _ _ _ _ _ _ _ _ (at-loop .loop .inv .3) (c .chosen-entry .ensures)
+          (at-unmark .unmark .ensures .0) (search needs) (search needs),
     ))
     (λ c κs. search all)
     (λ c. search all)

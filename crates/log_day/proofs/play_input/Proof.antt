@@ -18,7 +18,9 @@ abbrev μ-loop : tie.MeasureT-loop
 μ-loop img₀ line₀ out₀ part₀ run img line out part state = left state
 
 loop-holds : tie.Need-loop-holds Inv-loop μ-loop
-loop-holds c = let pre = c .before .before .before .before .pre in (pre .0, pre .1, pre .2, refl)
+loop-holds c =
+    let at-pre = c .before .before .before .before in
+    let pre = at-pre .pre in (pre .0, pre .1, pre .2, refl)
 
 read-requires : tie.Need-read-requires Inv-loop μ-loop
 read-requires c κs = search all
@@ -27,21 +29,34 @@ count-requires : tie.Need-count-requires Inv-loop μ-loop
 count-requires c κs = search all
 
 same-length : tie.Need-same-length Inv-loop μ-loop
-same-length c = c .before .before .before .before .before .before .before .before .before .loop .inv .3
+same-length c =
+    let at-loop = c .before .before .before .before .before .before .before .before .before in
+    at-loop .loop .inv .3
 
 same-length-2 : tie.Need-same-length-2 Inv-loop μ-loop
-same-length-2 c = c .before .before .before .before .before .before .before .before .before .loop .inv .0 .steady .room ∙ sym (c .before .before .before .before .before .before .before .before .before .before .before .before .before .before .pre .0 .steady .room)
+same-length-2 c =
+    let at-loop = c .before .before .before .before .before .before .before .before .before in
+    let at-pre = at-loop .before .before .before .before .before in
+    at-loop .loop .inv .0 .steady .room ∙ sym (at-pre .pre .0 .steady .room)
 
 same-length-3 : tie.Need-same-length-3 Inv-loop μ-loop
-same-length-3 c = c .before .before .before .before .before .before .before .before .before .loop .inv .1 ∙ sym (c .before .before .before .before .before .before .before .before .before .before .before .before .before .before .pre .1)
+same-length-3 c =
+    let at-loop = c .before .before .before .before .before .before .before .before .before in
+    let at-pre = at-loop .before .before .before .before .before in
+    at-loop .loop .inv .1 ∙ sym (at-pre .pre .1)
 
 same-length-4 : tie.Need-same-length-4 Inv-loop μ-loop
 same-length-4 c =
-    let same : length (c .before .before .before .before .before .read .last .1 .0) ≡ length (c .before .before .before .before .before .before .before .before .before .loop .part) = search needs in
-    same ∙ c .before .before .before .before .before .before .before .before .before .loop .inv .2 ∙ sym (c .before .before .before .before .before .before .before .before .before .before .before .before .before .before .pre .2)
+    let at-read = c .before .before .before .before .before in
+    let at-loop = at-read .before .before .before .before in
+    let at-pre = at-loop .before .before .before .before .before in
+    let same : length (at-read .read .last .1 .0) ≡ length (at-loop .loop .part) = search needs in
+    same ∙ at-loop .loop .inv .2 ∙ sym (at-pre .pre .2)
 
 returns : tie.Need-returns Inv-loop μ-loop
-returns c = c .before .before .before .before .before .before .before .before .before .loop .inv .0
+returns c =
+    let at-loop = c .before .before .before .before .before .before .before .before .before in
+    at-loop .loop .inv .0
 
 slice-reshare-prefix-play-read : tie.Need-slice-reshare-prefix-play-read Inv-loop μ-loop
 slice-reshare-prefix-play-read c = search all
@@ -51,23 +66,35 @@ slice-aggregate-play-read c = search all
 
 play-read-requires : tie.Need-play-read-requires Inv-loop μ-loop
 play-read-requires c κs =
-    let loop = c .before .before .before .before .before .before .before .before .before .before .before .before .before .loop in
-    let same : length (c .before .before .before .before .before .before .before .before .before .read .last .1 .0) ≡ length (loop .part) = search needs in
-    let n = length-take (c .before .before .before .before .before .count .result) (c .before .before .before .before .before .before .before .before .before .read .last .1 .0) in
+    let at-count = c .before .before .before .before .before in
+    let at-read = at-count .before .before .before .before in
+    let at-loop = at-read .before .before .before .before in
+    let loop = at-loop .loop in
+    let same : length (at-read .read .last .1 .0) ≡ length (loop .part) = search needs in
+    let n = length-take (at-count .count .result) (at-read .read .last .1 .0) in
     (loop .inv .0, loop .inv .1, omega (arith, n, same, loop .inv .2))
 
 loop-less : tie.Need-loop-less Inv-loop μ-loop
 loop-less c =
-    let some = left-some (c .before .before .before .before .before .before .before .before .before .before .before .before .before .before .before .before .before .before .before .before .loop .state) (not-true _ (c .before .before .before .before .before .before .before .before .before .before .before .before .before .before .before .before .before .before .if1 .taken)) in
-    let n = part-counted (c .before .before .before .before .before .before .before .before .before .before .before .before .before .before .before .before .read .last .1 .0) (c .before .before .before .before .before .before .before .before .before .before .before .before .count .result) (search needs) in
-    omega (arith, some, n, c .before .before .before .before .before .before .play-read .ensures .1, c .before .before .before .before .before .before .before .before .before .before .before .if2 .left)
+    let at-play-read = c .before .before .before .before .before .before in
+    let at-if2 = at-play-read .before .before .before .before .before in
+    let at-count = at-if2 .before in
+    let at-read = at-count .before .before .before .before in
+    let at-if1 = at-read .before .before in
+    let at-loop = at-if1 .before .before in
+    let some = left-some (at-loop .loop .state) (not-true _ (at-if1 .if1 .taken)) in
+    let n = part-counted (at-read .read .last .1 .0) (at-count .count .result) (search needs) in
+    omega (arith, some, n, at-play-read .play-read .ensures .1, at-if2 .if2 .left)
 
 loop-again : tie.Need-loop-again Inv-loop μ-loop
 loop-again c =
-    let loop = c .before .before .before .before .before .before .before .before .before .before .before .before .before .before .before .before .before .before .before .before .loop in
-    let played = c .before .before .before .before .before .before .play-read in
+    let at-play-read = c .before .before .before .before .before .before in
+    let at-read = at-play-read .before .before .before .before .before .before .before .before .before .before in
+    let at-loop = at-read .before .before .before .before in
+    let loop = at-loop .loop in
+    let played = at-play-read .play-read in
     let out : length (played .last .1 .1 .0) ≡ length (loop .out) = search needs in
-    let part : length (c .before .before .before .before .before .before .before .before .before .before .before .before .before .before .before .before .read .last .1 .0) ≡ length (loop .part) = c .before .before .before .before .before .before .before .before .before .before .before .before .before .before .before .before .read .kept .1 .0 in
+    let part : length (at-read .read .last .1 .0) ≡ length (loop .part) = at-read .read .kept .1 .0 in
     let image : length (played .last .0) ≡ length (loop .img) = search needs in
     (played .ensures .0, out ∙ loop .inv .1, part ∙ loop .inv .2, image ∙ loop .inv .3)
 
@@ -75,13 +102,19 @@ same-length-5 : tie.Need-same-length-5 Inv-loop μ-loop
 same-length-5 c = c .before .before .loop .inv .3
 
 same-length-6 : tie.Need-same-length-6 Inv-loop μ-loop
-same-length-6 c = c .before .before .loop .inv .0 .steady .room ∙ sym (c .before .before .before .before .before .before .before .pre .0 .steady .room)
+same-length-6 c =
+    let at-pre = c .before .before .before .before .before .before .before in
+    c .before .before .loop .inv .0 .steady .room ∙ sym (at-pre .pre .0 .steady .room)
 
 same-length-7 : tie.Need-same-length-7 Inv-loop μ-loop
-same-length-7 c = c .before .before .loop .inv .1 ∙ sym (c .before .before .before .before .before .before .before .pre .1)
+same-length-7 c =
+    let at-pre = c .before .before .before .before .before .before .before in
+    c .before .before .loop .inv .1 ∙ sym (at-pre .pre .1)
 
 same-length-8 : tie.Need-same-length-8 Inv-loop μ-loop
-same-length-8 c = c .before .before .loop .inv .2 ∙ sym (c .before .before .before .before .before .before .before .pre .2)
+same-length-8 c =
+    let at-pre = c .before .before .before .before .before .before .before in
+    c .before .before .loop .inv .2 ∙ sym (at-pre .pre .2)
 
 returns-2 : tie.Need-returns-2 Inv-loop μ-loop
 returns-2 c = c .before .before .loop .inv .0

@@ -18,30 +18,41 @@ abbrev μ-loop : tie.MeasureT-loop
 μ-loop img₀ line₀ out₀ part at₀ run img line out at state = length part - at
 
 loop-holds : tie.Need-loop-holds Inv-loop μ-loop
-loop-holds c = let pre = c .before .before .before .before .pre in (omega arith, pre .0, pre .1, pre .2, omega arith, refl)
+loop-holds c =
+    let at-pre = c .before .before .before .before in
+    let pre = at-pre .pre in (omega arith, pre .0, pre .1, pre .2, omega arith, refl)
 
 play-part-requires : tie.Need-play-part-requires Inv-loop μ-loop
 play-part-requires c κs =
-    let inv = c .before .before .before .before .loop .inv in
+    let at-loop = c .before .before .before .before in
+    let inv = at-loop .loop .inv in
     (inv .1 .steady, inv .0, omega (arith, inv .1 .none), omega (arith, inv .2), inv .3)
 
 write-out-requires : tie.Need-write-out-requires Inv-loop μ-loop
-write-out-requires c κs = c .before .before .before .before .before .before .before .before .play-part .ensures .1 .0
+write-out-requires c κs =
+    let at-play-part = c .before .before .before .before .before .before .before .before in
+    at-play-part .play-part .ensures .1 .0
 
 loop-less : tie.Need-loop-less Inv-loop μ-loop
 loop-less c =
-    let inv = c .before .before .before .before .before .before .before .before .before .before .before .before .before .before .loop .inv in
-    let f = c .before .before .before .before .before .before .before .before .before .play-part .ensures in
-    let goes = f .1 .1 .1 .0 (c .before .before .before .before .before .before .before .before .before .before .before .before .before .loop-test .taken) (omega (arith, inv .1 .none, inv .2)) in
+    let at-play-part = c .before .before .before .before .before .before .before .before .before in
+    let at-loop-test = at-play-part .before .before .before .before in
+    let at-loop = at-loop-test .before in
+    let inv = at-loop .loop .inv in
+    let f = at-play-part .play-part .ensures in
+    let goes = f .1 .1 .1 .0 (at-loop-test .loop-test .taken) (omega (arith, inv .1 .none, inv .2)) in
     omega (arith, goes, f .1 .1 .0)
 
 loop-again : tie.Need-loop-again Inv-loop μ-loop
 loop-again c =
-    let loop = c .before .before .before .before .before .before .before .before .before .before .before .before .before .before .loop in
+    let at-play-part = c .before .before .before .before .before .before .before .before .before in
+    let at-loop-test = at-play-part .before .before .before .before in
+    let at-loop = at-loop-test .before in
+    let loop = at-loop .loop in
     let inv = loop .inv in
-    let played = c .before .before .before .before .before .before .before .before .before .play-part in
+    let played = at-play-part .play-part in
     let f = played .ensures in
-    let goes = f .1 .1 .1 .0 (c .before .before .before .before .before .before .before .before .before .before .before .before .before .loop-test .taken) (omega (arith, inv .1 .none, inv .2)) in
+    let goes = f .1 .1 .1 .0 (at-loop-test .loop-test .taken) (omega (arith, inv .1 .none, inv .2)) in
     let same : length (played .last .1 .1 .0) ≡ length (loop .out) = search needs in
     let image : length (played .last .0) ≡ length (loop .img) = search needs in
     let less = left-emptied (played .result .run) (c .write-out .result) (played .last .1 .0) (c .write-out .ensures) in (
@@ -57,10 +68,14 @@ same-length : tie.Need-same-length Inv-loop μ-loop
 same-length c = c .before .loop .inv .5
 
 same-length-2 : tie.Need-same-length-2 Inv-loop μ-loop
-same-length-2 c = c .before .loop .inv .1 .steady .room ∙ sym (c .before .before .before .before .before .before .pre .0 .steady .room)
+same-length-2 c =
+    let at-pre = c .before .before .before .before .before .before in
+    c .before .loop .inv .1 .steady .room ∙ sym (at-pre .pre .0 .steady .room)
 
 same-length-3 : tie.Need-same-length-3 Inv-loop μ-loop
-same-length-3 c = c .before .loop .inv .2 ∙ sym (c .before .before .before .before .before .before .pre .1)
+same-length-3 c =
+    let at-pre = c .before .before .before .before .before .before in
+    c .before .loop .inv .2 ∙ sym (at-pre .pre .1)
 
 returns : tie.Need-returns Inv-loop μ-loop
 returns c = let inv = c .before .loop .inv in (inv .1, omega (arith, inv .4, c .loop-test .left))

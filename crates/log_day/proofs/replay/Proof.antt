@@ -40,7 +40,8 @@ slice-aggregate-finish-2 c = search all
 
 finish-requires : tie.Need-finish-requires
 finish-requires c κs =
-    let ready = c .before .before .before .before .before .before .play-input .ensures in
+    let at-play-input = c .before .before .before .before .before .before in
+    let ready = at-play-input .play-input .ensures in
     (ready .steady, omega (arith, ready .none))
 
 array-share-prefix-out : tie.Need-array-share-prefix-out
@@ -48,9 +49,10 @@ array-share-prefix-out c = search all
 
 slice-aggregate-write-all : tie.Need-slice-aggregate-write-all
 slice-aggregate-write-all c =
+    let at-play-input = c .before .before .before .before .before .before .before .before .before in
     let ended = c .before .before .finish in
     let same : length (ended .last .0) ≡ 65536 = search needs in
-    let counted = part-counted (ended .last .0) (ended .result) (omega (arith, same, ended .ensures .1 .0, c .before .before .before .before .before .before .before .before .before .play-input .ensures .none)) in
+    let counted = part-counted (ended .last .0) (ended .result) (omega (arith, same, ended .ensures .1 .0, at-play-input .play-input .ensures .none)) in
     search needs
 
 write-all-requires : tie.Need-write-all-requires

@@ -24,14 +24,17 @@ abbrev μ-loop : tie.MeasureT-loop
 
 loop-holds : tie.Need-loop-holds Inv-loop μ-loop
 loop-holds c =
-    let pre = c .before .before .before .before .pre in
+    let at-pre = c .before .before .before .before in
+    let pre = at-pre .pre in
     (omega arith, pre .1, pre .0, pre .2, refl, pre .3, λ _. refl, omega arith, λ rest. refl, refl)
 
 sub-if1 : tie.Need-sub-if1 Inv-loop μ-loop
 sub-if1 c = let inv = c .before .before .loop .inv in omega (arith, inv .3)
 
 same-length : tie.Need-same-length Inv-loop μ-loop
-same-length c = c .before .before .before .loop .inv .9
+same-length c =
+    let at-loop = c .before .before .before in
+    at-loop .loop .inv .9
 
 same-length-2 : tie.Need-same-length-2 Inv-loop μ-loop
 same-length-2 c = search all
@@ -41,35 +44,46 @@ same-length-3 c = search all
 
 returns : tie.Need-returns Inv-loop μ-loop
 returns c =
-    let loop = c .before .before .before .loop in
+    let at-loop = c .before .before .before in
+    let at-args = at-loop .before .before .before .before .before in
+    let loop = at-loop .loop in
     let inv = loop .inv in
-    (inv .2, (inv .3, (inv .1, (λ h k. went _ (loop .state) (loop .out) (c .before .before .before .before .before .before .before .before .args .out .now) _ _ (inv .0) (inv .6) (inv .4) (c .if1 .taken) k, (inv .7, inv .8)))))
+    (inv .2, (inv .3, (inv .1, (λ h k. went _ (loop .state) (loop .out) (at-args .args .out .now) _ _ (inv .0) (inv .6) (inv .4) (c .if1 .taken) k, (inv .7, inv .8)))))
 
 shared-slice-read-feed : tie.Need-shared-slice-read-feed Inv-loop μ-loop
 shared-slice-read-feed c = search all
 
 feed-requires : tie.Need-feed-requires Inv-loop μ-loop
-feed-requires c κs = let inv = c .before .before .before .before .before .before .before .loop .inv in (inv .2, omega (arith, inv .3, inv .4, inv .5))
+feed-requires c κs =
+    let at-loop = c .before .before .before .before .before .before .before in
+    let inv = at-loop .loop .inv in (inv .2, omega (arith, inv .3, inv .4, inv .5))
 
 add-at : tie.Need-add-at Inv-loop μ-loop
-add-at c = record { fits = omega (arith, c .before .before .before .before .before .before .before .before .before .before .before .before .before .loop-test .taken, c .before .before .before .before .before .before .before .before .before .before .before .before .before .before .before .before .before .before .before .pre .4) }
+add-at c =
+    let at-loop-test = c .before .before .before .before .before .before .before .before .before .before .before .before .before in
+    let at-pre = at-loop-test .before .before .before .before .before .before in
+    record { fits = omega (arith, at-loop-test .loop-test .taken, at-pre .pre .4) }
 
 loop-less : tie.Need-loop-less Inv-loop μ-loop
 loop-less c = search all
 
 loop-again : tie.Need-loop-again Inv-loop μ-loop
 loop-again c =
-    let loop = c .before .before .before .before .before .before .before .before .before .before .before .before .before .before .loop in
+    let at-feed = c .before .before .before .before .before .before in
+    let at-if1 = at-feed .before .before .before .before .before in
+    let at-loop-test = at-if1 .before .before in
+    let at-loop = at-loop-test .before in
+    let loop = at-loop .loop in
     let inv = loop .inv in
-    let fed = c .before .before .before .before .before .before .feed in
+    let fed = at-feed .feed in
     let f = fed .ensures in
-    let room = c .before .before .before .before .before .before .before .before .before .before .before .if1 .left in
+    let room = at-if1 .if1 .left in
     let same : length (fed .last .1 .1 .0) ≡ length (loop .out) = search needs in
     let image : length (fed .last .0) ≡ length (loop .img) = search needs in
     let most = f .1 .1 .1 .1 .0 in
     let less = run-left (loop .state) (fed .result) (loop .line) (loop .img) _ (inv .2) (f .0) in (
       omega (arith, inv .0),
-      omega (arith, c .before .before .before .before .before .before .before .before .before .before .before .before .before .loop-test .taken),
+      omega (arith, at-loop-test .loop-test .taken),
       f .1 .1 .1 .1 .1,
       omega (arith, same, most, room, inv .3),
       same ∙ inv .4,
@@ -77,7 +91,7 @@ loop-again c =
       λ e. absurd (omega (arith, e, inv .0)),
       omega (arith, less, inv .7, inv .0),
       λ rest. inv .8 rest ∙ whole-goes (loop .state) (fed .result) (loop .line) (loop .img) (loop .out) (fed .last .1 .0) (fed .last .0) (fed .last .1 .1 .0) _ (f .0) (f .1 .0) (f .1 .1 .0)
-          (f .1 .1 .1 .0) _ rest (loop .at) (c .before .before .before .before .before .before .before .before .before .before .before .before .before .loop-test .taken) refl (omega (arith, most, room, inv .3)),
+          (f .1 .1 .1 .0) _ rest (loop .at) (at-loop-test .loop-test .taken) refl (omega (arith, most, room, inv .3)),
       image ∙ inv .9,
     )
 

@@ -8,7 +8,8 @@ ruleset all = (needs, step-laws)
 
 returns : tie.Need-returns
 returns c =
-    let start = c .before .before .before .before .before in
+    let at-before = c .before .before .before .before in
+    let start = at-before .before in
     let a = start .args in
     let h = start .pre .0 in
     let e = c .if1 .taken in (
@@ -45,12 +46,16 @@ same-length-3 c = search all
 
 returns-2 : tie.Need-returns-2
 returns-2 c =
-    let start = c .before .before .before .before .before .before .before .before .before .before .before .before .before .before in
+    let at-close-line = c .before .before .before .before in
+    let at-if2 = at-close-line .before .before .before .before in
+    let at-if1 = at-if2 .before in
+    let at-before = at-if1 .before .before .before .before in
+    let start = at-before .before in
     let a = start .args in
     let h = start .pre .0 in
-    let e = c .before .before .before .before .before .before .before .before .before .if1 .left in
-    let q = c .before .before .before .before .before .before .before .before .if2 .taken in
-    let r = c .before .before .before .before .close-line in
+    let e = at-if1 .if1 .left in
+    let q = at-if2 .if2 .taken in
+    let r = at-close-line .close-line in
     let f = r .ensures in (
       end-run (a .run) (r .result) (a .line .now) (a .img .now) (a .b) h e q (f .0),
       (
@@ -76,12 +81,16 @@ same-length-5 c = search all
 
 returns-3 : tie.Need-returns-3
 returns-3 c =
-    let start = c .before .before .before .before .before .before .before .before .before .before .before .before .before in
+    let at-lengthen = c .before .before .before .before in
+    let at-if2 = at-lengthen .before .before .before in
+    let at-if1 = at-if2 .before in
+    let at-before = at-if1 .before .before .before .before in
+    let start = at-before .before in
     let a = start .args in
     let h = start .pre .0 in
-    let e = c .before .before .before .before .before .before .before .before .if1 .left in
-    let q = c .before .before .before .before .before .before .before .if2 .left in
-    let r = c .before .before .before .before .lengthen in
+    let e = at-if1 .if1 .left in
+    let q = at-if2 .if2 .left in
+    let r = at-lengthen .lengthen in
     let f = r .ensures in (
       more-run (a .run) (r .result) (a .line .now) (a .img .now) (a .b) h e q (f .0),
       (

@@ -10,7 +10,8 @@ ruleset all = (needs)
 
 returns : tie.Need-returns
 returns c =
-    let a = c .before .before .before .before .args in
+    let at-args = c .before .before .before .before in
+    let a = at-args .args in
     let e = finish-over (a .run) (a .line .now) (c .if1 .taken) in
     (rw (e, add-zero) refl, (omega arith, rw e refl))
 
@@ -22,8 +23,11 @@ same-length c = search all
 
 returns-2 : tie.Need-returns-2
 returns-2 c =
-    let a = c .before .before .before .before .before .before .before .before .before .before .args in
-    let e = finish-last (a .run) (a .line .now) (c .before .before .before .before .before .before .if1 .left) (c .before .before .before .before .if2 .taken) in
+    let at-if2 = c .before .before .before .before in
+    let at-if1 = at-if2 .before .before in
+    let at-args = at-if1 .before .before .before .before in
+    let a = at-args .args in
+    let e = finish-last (a .run) (a .line .now) (at-if1 .if1 .left) (at-if2 .if2 .taken) in
     let f = c .before .before .put-line .ensures in
     (rw e (f .0), (f .1 .0, rw e (f .1 .1)))
 
@@ -38,9 +42,12 @@ same-length-2 c = search all
 
 returns-3 : tie.Need-returns-3
 returns-3 c =
-    let start = c .before .before .before .before .before .before .before .before .before .before .before in
+    let at-if2 = c .before .before .before .before .before in
+    let at-if1 = at-if2 .before .before in
+    let at-before = at-if1 .before .before .before in
+    let start = at-before .before in
     let a = start .args in
-    let e = finish-error (a .run) (a .line .now) (start .pre .0) (c .before .before .before .before .before .before .before .if1 .left) (c .before .before .before .before .before .if2 .left) in
+    let e = finish-error (a .run) (a .line .now) (start .pre .0) (at-if1 .if1 .left) (at-if2 .if2 .left) in
     let f = c .before .before .put-line2 .ensures in
     (rw e (f .0), (f .1 .0, rw e (f .1 .1)))
 

@@ -17,8 +17,9 @@ same-length c = search all
 
 returns : tie.Need-returns
 returns c =
+    let at-args = c .before .before .before .before .before .before in
     let line = c .before .before .put-line .ensures in
-    (ap (overAt (c .before .before .before .before .before .before .args .t)) (line .0), (line .1 .0, line .1 .1))
+    (ap (overAt (at-args .args .t)) (line .0), (line .1 .0, line .1 .1))
 
 pub refuse-spec : {M : Type 1} → statement M
 refuse-spec = tie.close (tie.spec add-t7 put-line-requires same-length returns)

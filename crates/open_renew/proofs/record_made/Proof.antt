@@ -25,4 +25,9 @@ record-made-spec =
     (λ c κs. search all)
     (λ c κs. search all)
     (λ c. search all)
-    (λ c. made-is _ _ _ _ _ _ _ _ _ _ _ _ _ _ (c .before .before .before .before .short .ensures) (c .before .before .before .before .before .before .long .ensures .0) (c .before .before .before .before .before .long2 .ensures .0) (c .before .before .next-by .ensures .0) (c .before .before .before .next-after .ensures .0) (c .less .ensures .0) (c .before .long3 .ensures .0)))
+    (λ c.
+    let at-next-after = c .before .before .before in
+    let at-short = at-next-after .before in
+    let at-long2 = at-short .before in
+    let at-long = at-long2 .before in
+    made-is _ _ _ _ _ _ _ _ _ _ _ _ _ _ (at-short .short .ensures) (at-long .long .ensures .0) (at-long2 .long2 .ensures .0) (c .before .before .next-by .ensures .0) (at-next-after .next-after .ensures .0) (c .less .ensures .0) (c .before .long3 .ensures .0)))

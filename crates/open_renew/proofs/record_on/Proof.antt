@@ -19,4 +19,6 @@ record-on-spec =
     (λ c κs. search all)
     (λ c κs. search all)
     (λ c κs. search all)
-    (λ c. record-on _ _ _ _ _ _ _ _ _ _ _ (c .before .before .before .erased-after .ensures) (c .before .next-by .ensures .0) (c .before .before .next-erased .ensures) (c .short .ensures)))
+    (λ c.
+    let at-erased-after = c .before .before .before in
+    record-on _ _ _ _ _ _ _ _ _ _ _ (at-erased-after .erased-after .ensures) (c .before .next-by .ensures .0) (c .before .before .next-erased .ensures) (c .short .ensures)))

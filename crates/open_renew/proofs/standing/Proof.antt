@@ -22,4 +22,10 @@ standing-spec =
     (λ c κs. search all)
     (λ c. search all)
     (λ c κs. search all)
-    (λ c. stale-height _ _ _ _ _ (c .before .before .before .before .before .before .before .before .before .first-page .ensures .0) (c .before .before .before .before .before .before .before .if1 .left) _ (c .before .before .before .before .before .before .page-erased .ensures) (c .before .before .before .before .before .if2 .left) _ (c .before .before .before .before .seq-at .ensures) _ (c .before .height-at .ensures .0) (c .before .before .if3 .left)))
+    (λ c.
+    let at-seq-at = c .before .before .before .before in
+    let at-if2 = at-seq-at .before in
+    let at-page-erased = at-if2 .before in
+    let at-if1 = at-page-erased .before in
+    let at-first-page = at-if1 .before .before in
+    stale-height _ _ _ _ _ (at-first-page .first-page .ensures .0) (at-if1 .if1 .left) _ (at-page-erased .page-erased .ensures) (at-if2 .if2 .left) _ (at-seq-at .seq-at .ensures) _ (c .before .height-at .ensures .0) (c .before .before .if3 .left)))

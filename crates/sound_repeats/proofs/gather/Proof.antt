@@ -33,17 +33,25 @@ gather-spec =
     (λ c κs. search all)
     (λ c. search all)
     (λ c. search all)
-    (λ c. (search all, search all, search all, search all, search all, search all, search all, held-skip _ _ _ _ _ _ _ (c .before .before .before .loop .inv .7) _ (c .before .is-within .ensures .0) (c .before .is-within .ensures .1) (c .if1 .taken)))
+    (λ c.
+    let at-loop = c .before .before .before in
+    (search all, search all, search all, search all, search all, search all, search all, held-skip _ _ _ _ _ _ _ (at-loop .loop .inv .7) _ (c .before .is-within .ensures .0) (c .before .is-within .ensures .1) (c .if1 .taken)))
     (λ c κs. search all)
     (λ c. search all)
     (λ c. search all)
     (λ c. search all)
     (λ c. search all)
     (λ c. search all)
-    (λ c. (search all, search all, search all, search all, search all, search all, search all, held-more _ _ _ _ _ _ _ (c .before .before .before .before .before .loop .inv .7) _ (c .before .before .before .is-within .ensures .0) (c .before .before .before .is-within .ensures .1) (c .before .before .if1 .left) _ (c .key-of .ensures .0) (c .key-of .ensures .1) (c .key-of .ensures .2) (search all)))
+    (λ c.
+    let at-is-within = c .before .before .before in
+    let at-loop = at-is-within .before .before in
+    (search all, search all, search all, search all, search all, search all, search all, held-more _ _ _ _ _ _ _ (at-loop .loop .inv .7) _ (at-is-within .is-within .ensures .0) (at-is-within .is-within .ensures .1) (c .before .before .if1 .left) _ (c .key-of .ensures .0) (c .key-of .ensures .1) (c .key-of .ensures .2) (search all)))
     (λ c. search all)
     (λ c. search all)
-    (λ c. (search all, (held-stops _ _ _ _ _ _ _ (c .before .before .before .before .before .loop .inv .7) _ (c .before .before .before .is-within .ensures .0) (c .before .before .before .is-within .ensures .1) _ (c .before .before .if1 .left) (search all) (search all) (search all), (search all, search all, search all))))
+    (λ c.
+    let at-is-within = c .before .before .before in
+    let at-loop = at-is-within .before .before in
+    (search all, (held-stops _ _ _ _ _ _ _ (at-loop .loop .inv .7) _ (at-is-within .is-within .ensures .0) (at-is-within .is-within .ensures .1) _ (c .before .before .if1 .left) (search all) (search all) (search all), (search all, search all, search all))))
     (λ c κs. search all)
     (λ c κs. search all)
     (λ c. search all)

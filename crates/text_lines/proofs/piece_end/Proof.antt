@@ -23,9 +23,11 @@ shared-slice-read-if1 c = search needs
 
 returns : tie.Need-returns Inv-loop μ-loop
 returns c =
-    let b = c .before .before .before .loop .i in
-    let s = c .before .before .before .before .args .s .now in
-    let h = reach-stops s b _ (c .before .before .before .before .args .at) refl (search needs) (c .if1 .taken) in
+    let at-loop = c .before .before .before in
+    let at-args = at-loop .before in
+    let b = at-loop .loop .i in
+    let s = at-args .args .s .now in
+    let h = reach-stops s b _ (at-args .args .at) refl (search needs) (c .if1 .taken) in
     (omega (arith, h), (omega arith, omega arith))
 
 add-i : tie.Need-add-i Inv-loop μ-loop
@@ -36,9 +38,11 @@ loop-less c = search needs
 
 loop-again : tie.Need-loop-again Inv-loop μ-loop
 loop-again c =
-    let b = c .before .before .before .loop .i in
-    let s = c .before .before .before .before .args .s .now in
-    let h = reach-goes s b _ (c .before .before .before .before .args .at) refl (search needs) (c .if1 .left) in
+    let at-loop = c .before .before .before in
+    let at-args = at-loop .before in
+    let b = at-loop .loop .i in
+    let s = at-args .args .s .now in
+    let h = reach-goes s b _ (at-args .args .at) refl (search needs) (c .if1 .left) in
     (omega arith, omega arith, omega (arith, h))
 
 returns-2 : tie.Need-returns-2 Inv-loop μ-loop
