@@ -47,8 +47,7 @@ told a img = toldBy (rowOf a) img
 
 -- an answer is settled by its row: the number is its place in the table
 rebuilt : Outcome → Answer
-rebuilt o = getD (Done (o .address) (o .programmed) (o .erased) ∷ Length ∷ Damaged (o .rule)
-    (o .page) ∷ Worn ∷ Absent ∷ Height ∷ Room
+rebuilt o = getD (Done (o .address) (o .programmed) (o .erased) ∷ Length ∷ Damaged (o .rule) (o .page) ∷ Worn ∷ Absent ∷ Height ∷ Room
     ∷ Stopped (o .programmed) (o .erased) ∷ Stale ∷ []) (o .answer) Length
 
 same : (x : Answer) (img : List ℕ) → rebuilt (told x img) ≡ x

@@ -22,5 +22,4 @@ countedRow s w = record {
 
 -- what the reader says of a text of so many bytes: refused with a line, or the image is formatted
 unfoldable pub begun : Geometry → List ℕ → Spot → ℕ → Outcome
-begun g img t end = pick (eqb (t .bad) 0) (pick (ltb (t .at) end) (gives 9 (suc mostRecords) 0 0 img) (format g img))
-    (gives 9 (t .bad) 0 0 img)
+begun g img t end = pick (eqb (t .bad) 0) (pick (ltb (t .at) end) (gives 9 (suc mostRecords) 0 0 img) (format g img)) (gives 9 (t .bad) 0 0 img)

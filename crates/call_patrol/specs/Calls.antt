@@ -25,8 +25,7 @@ blocks-in : (g : Geometry) (img : List ℕ) → pageBase g (g .pages * blocksOf 
 unfolding pageBase blocksOf
 blocks-in g img =
     let e : g .pages * (length img / blockBytes g) * pageBytes g ≡ length img / blockBytes g * blockBytes g
-    = ap (λ (x : ℕ). x * pageBytes g) (mul-comm (g .pages) (length img / blockBytes g))
-    ∙ mul-assoc (length img / blockBytes g) (g .pages) (pageBytes g) in
+    = ap (λ (x : ℕ). x * pageBytes g) (mul-comm (g .pages) (length img / blockBytes g)) ∙ mul-assoc (length img / blockBytes g) (g .pages) (pageBytes g) in
     omega (arith, e, div-add-mod' (length img) (blockBytes g))
 
 -- n: the blocks, t: the pages, a: the halves of a page
@@ -58,36 +57,21 @@ module _ (g : Geometry) (img : List ℕ) (page half n t : ℕ) (en : n ≡ goodB
       let y = blocks-in g img in
       omega (arith, x, y, ea, eb, hi)
 
-  pub patrol-is : (a b c i x y : ℕ) (p : Patrol) (o : List ℕ) → a ≡ halves g → b ≡ pageBase g page → i ≡ half
-      → c ≡ codePlace g i
-      → p ≡ found img (b + 256 * i) (b + c) → o ≡ mended img (b + 256 * i) (b + c) (found img (b + 256 * i) (b + c))
-      → x ≡ findingOf p → y ≡ bitOf p
+  pub patrol-is : (a b c i x y : ℕ) (p : Patrol) (o : List ℕ) → a ≡ halves g → b ≡ pageBase g page → i ≡ half → c ≡ codePlace g i
+      → p ≡ found img (b + 256 * i) (b + c) → o ≡ mended img (b + 256 * i) (b + c) (found img (b + 256 * i) (b + c)) → x ≡ findingOf p → y ≡ bitOf p
       → page < t → i < a → told (Done x y 0) o ≡ patrol g img page half
   unfolding patrol isHalf patrolled
   patrol-is a b c i x y p o ea eb ei ec ep eo ex ey hp hi =
       let s = some-blocks (goodLength g img) refl hp in
       let u : page < g .pages * blocksOf g img = rw (← (s .1), ← et) hp in
       let v : half < halves g = rw (← ei, ← ea) hi in
-      rw (
-        s .0,
-        and-true,
-        lt-ltb page (g .pages * blocksOf g img) u,
-        and-true,
-        lt-ltb half (halves g) v,
-        ← ei,
-        ← eb,
-        ← ec,
-      )
+      rw (s .0, and-true, lt-ltb page (g .pages * blocksOf g img) u, and-true, lt-ltb half (halves g) v, ← ei, ← eb, ← ec)
       (λ k. gives 0 ((ex ∙ ap findingOf ep) k) ((ey ∙ ap bitOf ep) k) 0 (eo k))
 
 -- a half that no page has
 module _ (g : Geometry) (img : List ℕ) (page half : ℕ) where
   pub past-half : (a i : ℕ) → a ≡ halves g → i ≡ half → a ≤ i → told Length img ≡ patrol g img page half
   unfolding patrol isHalf
-  past-half a i ea ei h = rw (
-    le-ltb half (halves g) (rw (← ei, ← ea) h),
-    and-none
-        (goodLength g img & ltb page (pagesOf g (blocksOf g img))),
-  ) refl
+  past-half a i ea ei h = rw (le-ltb half (halves g) (rw (← ei, ← ea) h), and-none (goodLength g img & ltb page (pagesOf g (blocksOf g img)))) refl
 
 pub ruleset call-laws = (no-page, half-in, patrol-is, past-half)

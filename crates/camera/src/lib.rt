@@ -1,5 +1,4 @@
-// The calls as a camera service in C makes them: the geometry's number, numbers, the lent image, and a lent result
-// buffer.
+// The calls as a camera service in C makes them: the geometry's number, numbers, the lent image, and a lent result buffer.
 ghost use mathlib.Core.Path.{_≡_};
 ghost use Rattle.model.specs.Calls.{formatOf, lookupOf, patrolOf};
 ghost use Rattle.model.specs.Listing.{listOf, asOutcome};
@@ -50,12 +49,9 @@ pub fn report(result: &mut [u8], a: Answer) -> u32
 
 #[no_mangle]
 pub extern "C" fn mutree_format(kind: u32, image: &mut [u8], result: &mut [u8]) -> u32
-    ensures answer { λ r. ⌜ r ≡ returned (formatOf kind (now (image .entry))) (now (image .entry))
-        (now (result .entry)) .answer ⌝ }
-    ensures image { λ _. ⌜ now (image .exit) ≡ returned (formatOf kind (now (image .entry))) (now (image .entry))
-        (now (result .entry)) .image ⌝ }
-    ensures result { λ _. ⌜ now (result .exit) ≡ returned (formatOf kind (now (image .entry))) (now (image .entry))
-        (now (result .entry)) .result ⌝ }
+    ensures answer { λ r. ⌜ r ≡ returned (formatOf kind (now (image .entry))) (now (image .entry)) (now (result .entry)) .answer ⌝ }
+    ensures image { λ _. ⌜ now (image .exit) ≡ returned (formatOf kind (now (image .entry))) (now (image .entry)) (now (result .entry)) .image ⌝ }
+    ensures result { λ _. ⌜ now (result .exit) ≡ returned (formatOf kind (now (image .entry))) (now (image .entry)) (now (result .entry)) .result ⌝ }
 {
     if result.len() < 24 {
         return 1;
@@ -66,10 +62,8 @@ pub extern "C" fn mutree_format(kind: u32, image: &mut [u8], result: &mut [u8]) 
 
 #[no_mangle]
 pub extern "C" fn mutree_lookup(kind: u32, image: &[u8], key: u32, result: &mut [u8]) -> u32
-    ensures answer { λ r. ⌜ r ≡ returned (lookupOf kind (now (image .entry)) key) (now (image .entry))
-        (now (result .entry)) .answer ⌝ }
-    ensures result { λ _. ⌜ now (result .exit) ≡ returned (lookupOf kind (now (image .entry)) key) (now (image .entry))
-        (now (result .entry)) .result ⌝ }
+    ensures answer { λ r. ⌜ r ≡ returned (lookupOf kind (now (image .entry)) key) (now (image .entry)) (now (result .entry)) .answer ⌝ }
+    ensures result { λ _. ⌜ now (result .exit) ≡ returned (lookupOf kind (now (image .entry)) key) (now (image .entry)) (now (result .entry)) .result ⌝ }
 {
     if result.len() < 24 {
         return 1;
@@ -87,12 +81,9 @@ pub extern "C" fn mutree_list(
     pairs: &mut [u32],
     result: &mut [u8],
 ) -> u32
-    ensures answer { λ r. ⌜ r ≡ returned (asOutcome (listOf kind (now (image .entry)) low high (now (pairs .entry))))
-        (now (pairs .entry)) (now (result .entry)) .answer ⌝ }
-    ensures pairs { λ _. ⌜ now (pairs .exit) ≡ returned (asOutcome (listOf kind (now (image .entry)) low high
-        (now (pairs .entry)))) (now (pairs .entry)) (now (result .entry)) .image ⌝ }
-    ensures result { λ _. ⌜ now (result .exit) ≡ returned (asOutcome (listOf kind (now (image .entry)) low high
-        (now (pairs .entry)))) (now (pairs .entry)) (now (result .entry)) .result ⌝ }
+    ensures answer { λ r. ⌜ r ≡ returned (asOutcome (listOf kind (now (image .entry)) low high (now (pairs .entry)))) (now (pairs .entry)) (now (result .entry)) .answer ⌝ }
+    ensures pairs { λ _. ⌜ now (pairs .exit) ≡ returned (asOutcome (listOf kind (now (image .entry)) low high (now (pairs .entry)))) (now (pairs .entry)) (now (result .entry)) .image ⌝ }
+    ensures result { λ _. ⌜ now (result .exit) ≡ returned (asOutcome (listOf kind (now (image .entry)) low high (now (pairs .entry)))) (now (pairs .entry)) (now (result .entry)) .result ⌝ }
 {
     if result.len() < 24 {
         return 1;
@@ -111,14 +102,10 @@ pub extern "C" fn mutree_insert(
     allowance: u32,
     result: &mut [u8],
 ) -> u32
-    ensures answer { λ r. ⌜ r ≡ returned (insertLiveOf kind (now (image .entry)) (now (live .entry)) key address
-        allowance .outcome) (now (image .entry)) (now (result .entry)) .answer ⌝ }
-    ensures image { λ _. ⌜ now (image .exit) ≡ returned (insertLiveOf kind (now (image .entry)) (now (live .entry)) key
-        address allowance .outcome) (now (image .entry)) (now (result .entry)) .image ⌝ }
-    ensures live { λ _. ⌜ now (live .exit) ≡ wordsLeft (insertLiveOf kind (now (image .entry)) (now (live .entry)) key
-        address allowance) (now (live .entry)) (now (result .entry)) ⌝ }
-    ensures result { λ _. ⌜ now (result .exit) ≡ returned (insertLiveOf kind (now (image .entry))
-        (now (live .entry)) key address allowance .outcome) (now (image .entry)) (now (result .entry)) .result ⌝ }
+    ensures answer { λ r. ⌜ r ≡ returned (insertLiveOf kind (now (image .entry)) (now (live .entry)) key address allowance .outcome) (now (image .entry)) (now (result .entry)) .answer ⌝ }
+    ensures image { λ _. ⌜ now (image .exit) ≡ returned (insertLiveOf kind (now (image .entry)) (now (live .entry)) key address allowance .outcome) (now (image .entry)) (now (result .entry)) .image ⌝ }
+    ensures live { λ _. ⌜ now (live .exit) ≡ wordsLeft (insertLiveOf kind (now (image .entry)) (now (live .entry)) key address allowance) (now (live .entry)) (now (result .entry)) ⌝ }
+    ensures result { λ _. ⌜ now (result .exit) ≡ returned (insertLiveOf kind (now (image .entry)) (now (live .entry)) key address allowance .outcome) (now (image .entry)) (now (result .entry)) .result ⌝ }
 {
     if result.len() < 24 {
         return 1;
@@ -136,14 +123,10 @@ pub extern "C" fn mutree_delete(
     allowance: u32,
     result: &mut [u8],
 ) -> u32
-    ensures answer { λ r. ⌜ r ≡ returned (deleteLiveOf kind (now (image .entry)) (now (live .entry)) key
-        allowance .outcome) (now (image .entry)) (now (result .entry)) .answer ⌝ }
-    ensures image { λ _. ⌜ now (image .exit) ≡ returned (deleteLiveOf kind (now (image .entry)) (now (live .entry)) key
-        allowance .outcome) (now (image .entry)) (now (result .entry)) .image ⌝ }
-    ensures live { λ _. ⌜ now (live .exit) ≡ wordsLeft (deleteLiveOf kind (now (image .entry)) (now (live .entry)) key
-        allowance) (now (live .entry)) (now (result .entry)) ⌝ }
-    ensures result { λ _. ⌜ now (result .exit) ≡ returned (deleteLiveOf kind (now (image .entry))
-        (now (live .entry)) key allowance .outcome) (now (image .entry)) (now (result .entry)) .result ⌝ }
+    ensures answer { λ r. ⌜ r ≡ returned (deleteLiveOf kind (now (image .entry)) (now (live .entry)) key allowance .outcome) (now (image .entry)) (now (result .entry)) .answer ⌝ }
+    ensures image { λ _. ⌜ now (image .exit) ≡ returned (deleteLiveOf kind (now (image .entry)) (now (live .entry)) key allowance .outcome) (now (image .entry)) (now (result .entry)) .image ⌝ }
+    ensures live { λ _. ⌜ now (live .exit) ≡ wordsLeft (deleteLiveOf kind (now (image .entry)) (now (live .entry)) key allowance) (now (live .entry)) (now (result .entry)) ⌝ }
+    ensures result { λ _. ⌜ now (result .exit) ≡ returned (deleteLiveOf kind (now (image .entry)) (now (live .entry)) key allowance .outcome) (now (image .entry)) (now (result .entry)) .result ⌝ }
 {
     if result.len() < 24 {
         return 1;
@@ -160,12 +143,9 @@ pub extern "C" fn mutree_patrol(
     half: u32,
     result: &mut [u8],
 ) -> u32
-    ensures answer { λ r. ⌜ r ≡ returned (patrolOf kind (now (image .entry)) page half) (now (image .entry))
-        (now (result .entry)) .answer ⌝ }
-    ensures image { λ _. ⌜ now (image .exit) ≡ returned (patrolOf kind (now (image .entry)) page half)
-        (now (image .entry)) (now (result .entry)) .image ⌝ }
-    ensures result { λ _. ⌜ now (result .exit) ≡ returned (patrolOf kind (now (image .entry)) page half)
-        (now (image .entry)) (now (result .entry)) .result ⌝ }
+    ensures answer { λ r. ⌜ r ≡ returned (patrolOf kind (now (image .entry)) page half) (now (image .entry)) (now (result .entry)) .answer ⌝ }
+    ensures image { λ _. ⌜ now (image .exit) ≡ returned (patrolOf kind (now (image .entry)) page half) (now (image .entry)) (now (result .entry)) .image ⌝ }
+    ensures result { λ _. ⌜ now (result .exit) ≡ returned (patrolOf kind (now (image .entry)) page half) (now (image .entry)) (now (result .entry)) .result ⌝ }
 {
     if result.len() < 24 {
         return 1;
@@ -176,12 +156,9 @@ pub extern "C" fn mutree_patrol(
 
 #[no_mangle]
 pub extern "C" fn mutree_export(kind: u32, image: &[u8], text: &mut [u8], result: &mut [u8]) -> u32
-    ensures answer { λ r. ⌜ r ≡ returned (exportOf kind (now (image .entry)) (now (text .entry))) (now (text .entry))
-        (now (result .entry)) .answer ⌝ }
-    ensures text { λ _. ⌜ now (text .exit) ≡ returned (exportOf kind (now (image .entry)) (now (text .entry)))
-        (now (text .entry)) (now (result .entry)) .image ⌝ }
-    ensures result { λ _. ⌜ now (result .exit) ≡ returned (exportOf kind (now (image .entry)) (now (text .entry)))
-        (now (text .entry)) (now (result .entry)) .result ⌝ }
+    ensures answer { λ r. ⌜ r ≡ returned (exportOf kind (now (image .entry)) (now (text .entry))) (now (text .entry)) (now (result .entry)) .answer ⌝ }
+    ensures text { λ _. ⌜ now (text .exit) ≡ returned (exportOf kind (now (image .entry)) (now (text .entry))) (now (text .entry)) (now (result .entry)) .image ⌝ }
+    ensures result { λ _. ⌜ now (result .exit) ≡ returned (exportOf kind (now (image .entry)) (now (text .entry))) (now (text .entry)) (now (result .entry)) .result ⌝ }
 {
     if result.len() < 24 {
         return 1;
@@ -192,12 +169,9 @@ pub extern "C" fn mutree_export(kind: u32, image: &[u8], text: &mut [u8], result
 
 #[no_mangle]
 pub extern "C" fn mutree_import(kind: u32, image: &mut [u8], text: &[u8], result: &mut [u8]) -> u32
-    ensures answer { λ r. ⌜ r ≡ returned (importOf kind (now (image .entry)) (now (text .entry))) (now (image .entry))
-        (now (result .entry)) .answer ⌝ }
-    ensures image { λ _. ⌜ now (image .exit) ≡ returned (importOf kind (now (image .entry)) (now (text .entry)))
-        (now (image .entry)) (now (result .entry)) .image ⌝ }
-    ensures result { λ _. ⌜ now (result .exit) ≡ returned (importOf kind (now (image .entry)) (now (text .entry)))
-        (now (image .entry)) (now (result .entry)) .result ⌝ }
+    ensures answer { λ r. ⌜ r ≡ returned (importOf kind (now (image .entry)) (now (text .entry))) (now (image .entry)) (now (result .entry)) .answer ⌝ }
+    ensures image { λ _. ⌜ now (image .exit) ≡ returned (importOf kind (now (image .entry)) (now (text .entry))) (now (image .entry)) (now (result .entry)) .image ⌝ }
+    ensures result { λ _. ⌜ now (result .exit) ≡ returned (importOf kind (now (image .entry)) (now (text .entry))) (now (image .entry)) (now (result .entry)) .result ⌝ }
 {
     if result.len() < 24 {
         return 1;
@@ -268,8 +242,7 @@ fn list_bytes(
     high: u32,
     pairs: &mut [u32],
 ) -> Answer
-    ensures { λ r. ⌜ told r (now (pairs .exit)) ≡ listBytes kind (now (image .entry)) (now (bytes .entry)) low high
-        (now (pairs .entry)) ⌝ }
+    ensures { λ r. ⌜ told r (now (pairs .exit)) ≡ listBytes kind (now (image .entry)) (now (bytes .entry)) low high (now (pairs .entry)) ⌝ }
 {
     if bytes.len() < 24 {
         return Answer::Length;
@@ -287,8 +260,7 @@ fn insert_bytes(
     address: u32,
     allowance: u32,
 ) -> Answer
-    ensures { λ r. ⌜ reopened (told r (now (image .exit))) (now (bytes .exit)) (now (live .exit)) ≡ insertBytes kind
-        (now (image .entry)) (now (live .entry)) (now (bytes .entry)) key address allowance ⌝ }
+    ensures { λ r. ⌜ reopened (told r (now (image .exit))) (now (bytes .exit)) (now (live .exit)) ≡ insertBytes kind (now (image .entry)) (now (live .entry)) (now (bytes .entry)) key address allowance ⌝ }
 {
     if bytes.len() < 24 {
         return Answer::Length;
@@ -308,8 +280,7 @@ fn delete_bytes(
     key: u32,
     allowance: u32,
 ) -> Answer
-    ensures { λ r. ⌜ reopened (told r (now (image .exit))) (now (bytes .exit)) (now (live .exit)) ≡ deleteBytes kind
-        (now (image .entry)) (now (live .entry)) (now (bytes .entry)) key allowance ⌝ }
+    ensures { λ r. ⌜ reopened (told r (now (image .exit))) (now (bytes .exit)) (now (live .exit)) ≡ deleteBytes kind (now (image .entry)) (now (live .entry)) (now (bytes .entry)) key allowance ⌝ }
 {
     if bytes.len() < 24 {
         return Answer::Length;
@@ -323,12 +294,9 @@ fn delete_bytes(
 
 #[no_mangle]
 pub extern "C" fn mutree_open(kind: u32, image: &[u8], bytes: &mut [u8], result: &mut [u8]) -> u32
-    ensures answer { λ r. ⌜ r ≡ returned (openBytes kind (now (image .entry)) (now (bytes .entry))) (now (image .entry))
-        (now (result .entry)) .answer ⌝ }
-    ensures bytes { λ _. ⌜ now (bytes .exit) ≡ kept (now (result .entry)) (now (bytes .entry))
-        (openRecord kind (now (image .entry)) (now (bytes .entry))) ⌝ }
-    ensures result { λ _. ⌜ now (result .exit) ≡ returned (openBytes kind (now (image .entry)) (now (bytes .entry)))
-        (now (image .entry)) (now (result .entry)) .result ⌝ }
+    ensures answer { λ r. ⌜ r ≡ returned (openBytes kind (now (image .entry)) (now (bytes .entry))) (now (image .entry)) (now (result .entry)) .answer ⌝ }
+    ensures bytes { λ _. ⌜ now (bytes .exit) ≡ kept (now (result .entry)) (now (bytes .entry)) (openRecord kind (now (image .entry)) (now (bytes .entry))) ⌝ }
+    ensures result { λ _. ⌜ now (result .exit) ≡ returned (openBytes kind (now (image .entry)) (now (bytes .entry))) (now (image .entry)) (now (result .entry)) .result ⌝ }
 {
     if result.len() < 24 {
         return 1;
@@ -345,10 +313,8 @@ pub extern "C" fn mutree_lookup_opened(
     key: u32,
     result: &mut [u8],
 ) -> u32
-    ensures answer { λ r. ⌜ r ≡ returned (lookupBytes kind (now (image .entry)) (now (bytes .entry)) key)
-        (now (image .entry)) (now (result .entry)) .answer ⌝ }
-    ensures result { λ _. ⌜ now (result .exit) ≡ returned (lookupBytes kind (now (image .entry))
-        (now (bytes .entry)) key) (now (image .entry)) (now (result .entry)) .result ⌝ }
+    ensures answer { λ r. ⌜ r ≡ returned (lookupBytes kind (now (image .entry)) (now (bytes .entry)) key) (now (image .entry)) (now (result .entry)) .answer ⌝ }
+    ensures result { λ _. ⌜ now (result .exit) ≡ returned (lookupBytes kind (now (image .entry)) (now (bytes .entry)) key) (now (image .entry)) (now (result .entry)) .result ⌝ }
 {
     if result.len() < 24 {
         return 1;
@@ -367,12 +333,9 @@ pub extern "C" fn mutree_list_opened(
     pairs: &mut [u32],
     result: &mut [u8],
 ) -> u32
-    ensures answer { λ r. ⌜ r ≡ returned (listBytes kind (now (image .entry)) (now (bytes .entry)) low high
-        (now (pairs .entry))) (now (pairs .entry)) (now (result .entry)) .answer ⌝ }
-    ensures pairs { λ _. ⌜ now (pairs .exit) ≡ returned (listBytes kind (now (image .entry)) (now (bytes .entry)) low
-        high (now (pairs .entry))) (now (pairs .entry)) (now (result .entry)) .image ⌝ }
-    ensures result { λ _. ⌜ now (result .exit) ≡ returned (listBytes kind (now (image .entry)) (now (bytes .entry)) low
-        high (now (pairs .entry))) (now (pairs .entry)) (now (result .entry)) .result ⌝ }
+    ensures answer { λ r. ⌜ r ≡ returned (listBytes kind (now (image .entry)) (now (bytes .entry)) low high (now (pairs .entry))) (now (pairs .entry)) (now (result .entry)) .answer ⌝ }
+    ensures pairs { λ _. ⌜ now (pairs .exit) ≡ returned (listBytes kind (now (image .entry)) (now (bytes .entry)) low high (now (pairs .entry))) (now (pairs .entry)) (now (result .entry)) .image ⌝ }
+    ensures result { λ _. ⌜ now (result .exit) ≡ returned (listBytes kind (now (image .entry)) (now (bytes .entry)) low high (now (pairs .entry))) (now (pairs .entry)) (now (result .entry)) .result ⌝ }
 {
     if result.len() < 24 {
         return 1;
@@ -392,18 +355,11 @@ pub extern "C" fn mutree_insert_opened(
     allowance: u32,
     result: &mut [u8],
 ) -> u32
-    ensures answer { λ r. ⌜ r ≡ returned (insertBytes kind (now (image .entry)) (now (live .entry))
-        (now (bytes .entry)) key address allowance .outcome) (now (image .entry)) (now (result .entry)) .answer ⌝ }
-    ensures image { λ _. ⌜ now (image .exit) ≡ returned (insertBytes kind (now (image .entry)) (now (live .entry))
-        (now (bytes .entry)) key address allowance .outcome) (now (image .entry)) (now (result .entry)) .image ⌝ }
-    ensures bytes { λ _. ⌜ now (bytes .exit) ≡ kept (now (result .entry)) (now (bytes .entry))
-        (insertBytes kind (now (image .entry)) (now (live .entry)) (now (bytes .entry)) key address
-        allowance .bytes) ⌝ }
-    ensures live { λ _. ⌜ now (live .exit) ≡ kept (now (result .entry)) (now (live .entry))
-        (insertBytes kind (now (image .entry)) (now (live .entry)) (now (bytes .entry)) key address
-        allowance .words) ⌝ }
-    ensures result { λ _. ⌜ now (result .exit) ≡ returned (insertBytes kind (now (image .entry)) (now (live .entry))
-        (now (bytes .entry)) key address allowance .outcome) (now (image .entry)) (now (result .entry)) .result ⌝ }
+    ensures answer { λ r. ⌜ r ≡ returned (insertBytes kind (now (image .entry)) (now (live .entry)) (now (bytes .entry)) key address allowance .outcome) (now (image .entry)) (now (result .entry)) .answer ⌝ }
+    ensures image { λ _. ⌜ now (image .exit) ≡ returned (insertBytes kind (now (image .entry)) (now (live .entry)) (now (bytes .entry)) key address allowance .outcome) (now (image .entry)) (now (result .entry)) .image ⌝ }
+    ensures bytes { λ _. ⌜ now (bytes .exit) ≡ kept (now (result .entry)) (now (bytes .entry)) (insertBytes kind (now (image .entry)) (now (live .entry)) (now (bytes .entry)) key address allowance .bytes) ⌝ }
+    ensures live { λ _. ⌜ now (live .exit) ≡ kept (now (result .entry)) (now (live .entry)) (insertBytes kind (now (image .entry)) (now (live .entry)) (now (bytes .entry)) key address allowance .words) ⌝ }
+    ensures result { λ _. ⌜ now (result .exit) ≡ returned (insertBytes kind (now (image .entry)) (now (live .entry)) (now (bytes .entry)) key address allowance .outcome) (now (image .entry)) (now (result .entry)) .result ⌝ }
 {
     if result.len() < 24 {
         return 1;
@@ -430,16 +386,11 @@ pub extern "C" fn mutree_delete_opened(
     allowance: u32,
     result: &mut [u8],
 ) -> u32
-    ensures answer { λ r. ⌜ r ≡ returned (deleteBytes kind (now (image .entry)) (now (live .entry))
-        (now (bytes .entry)) key allowance .outcome) (now (image .entry)) (now (result .entry)) .answer ⌝ }
-    ensures image { λ _. ⌜ now (image .exit) ≡ returned (deleteBytes kind (now (image .entry)) (now (live .entry))
-        (now (bytes .entry)) key allowance .outcome) (now (image .entry)) (now (result .entry)) .image ⌝ }
-    ensures bytes { λ _. ⌜ now (bytes .exit) ≡ kept (now (result .entry)) (now (bytes .entry))
-        (deleteBytes kind (now (image .entry)) (now (live .entry)) (now (bytes .entry)) key allowance .bytes) ⌝ }
-    ensures live { λ _. ⌜ now (live .exit) ≡ kept (now (result .entry)) (now (live .entry))
-        (deleteBytes kind (now (image .entry)) (now (live .entry)) (now (bytes .entry)) key allowance .words) ⌝ }
-    ensures result { λ _. ⌜ now (result .exit) ≡ returned (deleteBytes kind (now (image .entry)) (now (live .entry))
-        (now (bytes .entry)) key allowance .outcome) (now (image .entry)) (now (result .entry)) .result ⌝ }
+    ensures answer { λ r. ⌜ r ≡ returned (deleteBytes kind (now (image .entry)) (now (live .entry)) (now (bytes .entry)) key allowance .outcome) (now (image .entry)) (now (result .entry)) .answer ⌝ }
+    ensures image { λ _. ⌜ now (image .exit) ≡ returned (deleteBytes kind (now (image .entry)) (now (live .entry)) (now (bytes .entry)) key allowance .outcome) (now (image .entry)) (now (result .entry)) .image ⌝ }
+    ensures bytes { λ _. ⌜ now (bytes .exit) ≡ kept (now (result .entry)) (now (bytes .entry)) (deleteBytes kind (now (image .entry)) (now (live .entry)) (now (bytes .entry)) key allowance .bytes) ⌝ }
+    ensures live { λ _. ⌜ now (live .exit) ≡ kept (now (result .entry)) (now (live .entry)) (deleteBytes kind (now (image .entry)) (now (live .entry)) (now (bytes .entry)) key allowance .words) ⌝ }
+    ensures result { λ _. ⌜ now (result .exit) ≡ returned (deleteBytes kind (now (image .entry)) (now (live .entry)) (now (bytes .entry)) key allowance .outcome) (now (image .entry)) (now (result .entry)) .result ⌝ }
 {
     if result.len() < 24 {
         return 1;

@@ -21,11 +21,4 @@ goodBlocks g img = pick (goodLength g img) (blocksOf g img) 0
 
 -- what the rules see of an image whose root stands at this page, with so many levels below it
 abbrev pub chipWith : Geometry → List ℕ → ℕ → ℕ → Chip
-chipWith g img level root = record {
-  er = erased g img;
-  seq = seqOf g img;
-  nodes = nodeAt g img;
-  level = level;
-  root =
-      root;
-}
+chipWith g img level root = record { er = erased g img; seq = seqOf g img; nodes = nodeAt g img; level = level; root = root }

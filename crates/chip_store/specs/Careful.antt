@@ -1,5 +1,4 @@
--- "program erased pages only": the stores of a list up to the first program of a page that is not erased. Definitions
--- alone; assumes nothing.
+-- "program erased pages only": the stores of a list up to the first program of a page that is not erased. Definitions alone; assumes nothing.
 use mathlib.Core.Path.{_≡_}
 use mathlib.Core.Bool.{true}
 use mathlib.Core.List.{List, [], _∷_}
@@ -12,8 +11,7 @@ use Rattle.model.specs.Stores.{Store, program, erase, applyStore}
 
 unfoldable pub careful : Geometry → List Store → List ℕ → List Store
 careful g [] img = []
-careful g (program p bs ∷ ss) img = pick (erased g img p)
-    (program p bs ∷ careful g ss (applyStore g (program p bs) img)) []
+careful g (program p bs ∷ ss) img = pick (erased g img p) (program p bs ∷ careful g ss (applyStore g (program p bs) img)) []
 careful g (erase b ∷ ss) img = erase b ∷ careful g ss (applyStore g (erase b) img)
 
 -- the stores that are made of a list under an allowance

@@ -18,14 +18,12 @@ module _ (g : Geometry) where
   pub careful-cautious : (ss : List Store) (img : List ℕ) → Cautious g (careful g ss img) img
   unfolding careful Cautious
   careful-cautious [] img = tt
-  careful-cautious (program p bs ∷ ss) img = go (erased g img p) refl
-      (careful-cautious ss (applyStore g (program p bs) img))
+  careful-cautious (program p bs ∷ ss) img = go (erased g img p) refl (careful-cautious ss (applyStore g (program p bs) img))
     where
       then : List ℕ
       then = applyStore g (program p bs) img
 
-      go : (t : Bool) → erased g img p ≡ t → Cautious g (careful g ss then) then
-          → Cautious g (pick t (program p bs ∷ careful g ss then) []) img
+      go : (t : Bool) → erased g img p ≡ t → Cautious g (careful g ss then) then → Cautious g (pick t (program p bs ∷ careful g ss then) []) img
       go true e c = (e, c)
       go false e c = tt
   careful-cautious (erase b ∷ ss) img = careful-cautious ss (applyStore g (erase b) img)
@@ -43,10 +41,8 @@ module _ (g : Geometry) where
   unfolding Cautious careful
   cautious-careful [] img c = refl
   cautious-careful (program p bs ∷ ss) img c =
-      rw (c .0) (ap (λ (l : List Store). program p bs ∷ l) (cautious-careful ss (applyStore g (program p bs) img)
-      (c .1)))
-  cautious-careful (erase b ∷ ss) img c = ap (λ (l : List Store). erase b ∷ l) (cautious-careful ss
-      (applyStore g (erase b) img) c)
+      rw (c .0) (ap (λ (l : List Store). program p bs ∷ l) (cautious-careful ss (applyStore g (program p bs) img) (c .1)))
+  cautious-careful (erase b ∷ ss) img c = ap (λ (l : List Store). erase b ∷ l) (cautious-careful ss (applyStore g (erase b) img) c)
 
   -- no more are made than there are
   pub careful-few : (ss : List Store) (img : List ℕ) → length (careful g ss img) ≤ length ss
@@ -71,32 +67,27 @@ module _ (g : Geometry) where
       more : List Store
       more = careful g ss (applyStore g (program p bs) img)
 
-      go : (t : Bool) → suc (length ss) ≤ length (pick t (program p bs ∷ more) [])
-          → (length ss ≤ length more → more ≡ ss)
+      go : (t : Bool) → suc (length ss) ≤ length (pick t (program p bs ∷ more) []) → (length ss ≤ length more → more ≡ ss)
           → pick t (program p bs ∷ more) [] ≡ program p bs ∷ ss
-      go true l f = ap (λ (l : List Store). program p bs ∷ l) (f (let z : suc (length ss) ≤ suc (length more) = l in
-          omega arith))
+      go true l f = ap (λ (l : List Store). program p bs ∷ l) (f (let z : suc (length ss) ≤ suc (length more) = l in omega arith))
       go false l f = absurd (let z : suc (length ss) ≤ 0 = l in omega arith)
   careful-whole (erase b ∷ ss) img h =
       ap (λ (l : List Store). erase b ∷ l) (careful-whole ss (applyStore g (erase b) img)
       (let z : suc (length ss) ≤ suc (length (careful g ss (applyStore g (erase b) img))) = h in omega arith))
 
   -- an append whose first part is made whole, and one whose first part is not
-  careful-on : (xs ys : List Store) (img : List ℕ) → Cautious g xs img → careful g (xs ++ ys) img ≡ xs ++ careful g ys
-      (applyAll g xs img)
+  careful-on : (xs ys : List Store) (img : List ℕ) → Cautious g xs img → careful g (xs ++ ys) img ≡ xs ++ careful g ys (applyAll g xs img)
   unfolding Cautious careful applyAll
   careful-on [] ys img c = refl
   careful-on (program p bs ∷ xs) ys img c =
       rw (c .0) (ap (λ (l : List Store). program p bs ∷ l) (careful-on xs ys (applyStore g (program p bs) img) (c .1)))
-  careful-on (erase b ∷ xs) ys img c = ap (λ (l : List Store). erase b ∷ l) (careful-on xs ys
-      (applyStore g (erase b) img) c)
+  careful-on (erase b ∷ xs) ys img c = ap (λ (l : List Store). erase b ∷ l) (careful-on xs ys (applyStore g (erase b) img) c)
 
   pub append-whole : (xs ys : List Store) (img : List ℕ) → length xs ≤ length (careful g xs img)
       → careful g (xs ++ ys) img ≡ xs ++ careful g ys (applyAll g xs img)
   append-whole xs ys img h = careful-on xs ys img (rw (careful-whole xs img h) at (careful-cautious xs img))
 
-  pub append-cut : (xs ys : List Store) (img : List ℕ) → length (careful g xs img) < length xs
-      → careful g (xs ++ ys) img ≡ careful g xs img
+  pub append-cut : (xs ys : List Store) (img : List ℕ) → length (careful g xs img) < length xs → careful g (xs ++ ys) img ≡ careful g xs img
   unfolding careful
   append-cut [] ys img h = absurd (let z : 0 < 0 = h in omega arith)
   append-cut (program p bs ∷ xs) ys img h = go (erased g img p) h (append-cut xs ys (applyStore g (program p bs) img))
@@ -107,11 +98,9 @@ module _ (g : Geometry) where
       all : List Store
       all = careful g (xs ++ ys) (applyStore g (program p bs) img)
 
-      go : (t : Bool) → length (pick t (program p bs ∷ more) []) < suc (length xs)
-          → (length more < length xs → all ≡ more)
+      go : (t : Bool) → length (pick t (program p bs ∷ more) []) < suc (length xs) → (length more < length xs → all ≡ more)
           → pick t (program p bs ∷ all) [] ≡ pick t (program p bs ∷ more) []
-      go true l f = ap (λ (l : List Store). program p bs ∷ l) (f (let z : suc (length more) < suc (length xs) = l in
-          omega arith))
+      go true l f = ap (λ (l : List Store). program p bs ∷ l) (f (let z : suc (length more) < suc (length xs) = l in omega arith))
       go false l f = refl
   append-cut (erase b ∷ xs) ys img h =
       ap (λ (l : List Store). erase b ∷ l) (append-cut xs ys (applyStore g (erase b) img)
@@ -127,5 +116,4 @@ module _ (g : Geometry) where
       go true e = append-cut xs ys img (ltb-true _ _ e) ∙ sym (append-nil (careful g xs img))
       go false e =
           let h : length xs ≤ length (careful g xs img) = ltb-false _ _ e in
-          append-whole xs ys img h ∙ ap (λ (l : List Store). l ++ careful g ys (applyAll g xs img))
-          (sym (careful-whole xs img h))
+          append-whole xs ys img h ∙ ap (λ (l : List Store). l ++ careful g ys (applyAll g xs img)) (sym (careful-whole xs img h))

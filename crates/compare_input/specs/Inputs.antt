@@ -22,14 +22,7 @@ unfolding ran
 ran-goes run r line mu pl line′ mu′ pl′ b e l m p part rest at h q =
     let fed = feed (stateOf run line mu pl) b in
     let same : stateOf r line′ mu′ pl′ ≡ fed =
-    rw (l, m, p) (ap (λ (x : Run). record {
-      line = fed .line;
-      score = x .score;
-      mu = fed .mu;
-      plain =
-          fed .plain;
-      course = x .course;
-    }) e) in
+    rw (l, m, p) (ap (λ (x : Run). record { line = fed .line; score = x .score; mu = fed .mu; plain = fed .plain; course = x .course }) e) in
     rw (drop-cons part at 0 h, ← q, add-one, same) refl
 
 pub part-ends : (part rest : List ℕ) (at : ℕ) → at ≤ length part → length part ≤ at → drop at part ++ rest ≡ rest

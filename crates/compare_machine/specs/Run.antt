@@ -14,14 +14,7 @@ abbrev pub startOf : Run
 startOf = record { filled = 0; score = none-yet; course = Going }
 
 abbrev pub stateOf : Run → List ℕ → List ℕ → List ℕ → State
-stateOf r line mu pl = record {
-  line = take (r .filled) line;
-  score = r .score;
-  mu = mu;
-  plain = pl;
-  course =
-      r .course;
-}
+stateOf r line mu pl = record { line = take (r .filled) line; score = r .score; mu = mu; plain = pl; course = r .course }
 
 abbrev pub runOf : State → Run
 runOf s = record { filled = length (s .line); score = s .score; course = s .course }

@@ -53,8 +53,7 @@ no-part a b u l d h e f p q =
     let g = greatest a b in
     let x = rw e at (mul-dvd-mul-right d p g) in
     let y = rw f at (mul-dvd-mul-right d q g) in
-    eq-one-of-dvd-one (dvd-of-mul-dvd-mul-right d {n = 1} h (subst (λ m. d * g ∣ m) (sym (one-mul g))
-    (parted b a b (d * g) x y)))
+    eq-one-of-dvd-one (dvd-of-mul-dvd-mul-right d {n = 1} h (subst (λ m. d * g ∣ m) (sym (one-mul g)) (parted b a b (d * g) x y)))
 
 pub lowest-terms : (a b : ℕ) → 1 ≤ b → Lowest a b (ratio a b)
 unfolding ratio

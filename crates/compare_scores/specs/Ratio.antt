@@ -15,5 +15,4 @@ greatest a b = euclid b a b
 
 -- "or 0 and 0 if the second count is zero"
 unfoldable pub ratio : ℕ → ℕ → Ratio
-ratio a b = pick (eqb b 0) (record { upper = 0; lower = 0 })
-    (record { upper = a / greatest a b; lower = b / greatest a b })
+ratio a b = pick (eqb b 0) (record { upper = 0; lower = 0 }) (record { upper = a / greatest a b; lower = b / greatest a b })

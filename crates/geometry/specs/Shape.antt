@@ -1,5 +1,5 @@
--- The halving rule over the table, and what theorems may know of a geometry: linear facts, proved once for each
--- geometry. Assumes nothing.
+-- The halving rule over the table, and what theorems may know of a geometry: linear facts, proved once for each geometry.
+-- Assumes nothing.
 use Prim.Native.Nat.{ℕ, zero, suc, _+_, _-_, _*_, _/_, _^_, _<_, _≤_}
 use mathlib.Core.Bool.{Bool, true, false}
 use mathlib.Core.Path.{_≡_, refl, ap, subst}
@@ -138,13 +138,11 @@ here f n l y h = at f (levels n) y l (rw (levels-length n) h)
 module _ (g : Geometry) (past : (l : ℕ) → suc (g .top) ≤ l → slotsOf g l ≡ 0) where
   even-all : T (every (even-test g) 0 (levels (suc (g .top)))) → (l : ℕ) → slotsOf g l ≡ 2 * half g l
   unfolding even-test
-  even-all t l = by-lt l (suc (g .top)) (λ h. eqb→eq _ _ (here (even-test g) (suc (g .top)) l t h))
-      (λ h. let e = past l h in rw e refl)
+  even-all t l = by-lt l (suc (g .top)) (λ h. eqb→eq _ _ (here (even-test g) (suc (g .top)) l t h)) (λ h. let e = past l h in rw e refl)
 
   most-all : T (every (most-test g) 0 (levels (suc (g .top)))) → (l : ℕ) → slotsOf g l ≤ rootMost g l
   unfolding most-test
-  most-all t l = by-lt l (suc (g .top)) (λ h. leb→le _ _ (here (most-test g) (suc (g .top)) l t h))
-      (λ h. let e = past l h in omega (arith, e))
+  most-all t l = by-lt l (suc (g .top)) (λ h. leb→le _ _ (here (most-test g) (suc (g .top)) l t h)) (λ h. let e = past l h in omega (arith, e))
 
 module _ (g : Geometry) (x : Numbers g) (t : Tested g) where
   shape-by : Shape g
@@ -162,8 +160,7 @@ module _ (g : Geometry) (x : Numbers g) (t : Tested g) where
     room = λ l h. leb→le _ _ (here (room-test g) (suc (g .top)) l (t .room) (omega arith));
     steps = λ l h. leb→le _ _ (here (steps-test g) (g .top) l (t .steps) h);
     even = even-all g (t .past) (t .even);
-    double = λ l i h. rw (← (pred l i)) (eqb→eq _ _ (here (double-test g) (g .top - 1) (l - 1) (t .double)
-        (omega arith)));
+    double = λ l i h. rw (← (pred l i)) (eqb→eq _ _ (here (double-test g) (g .top - 1) (l - 1) (t .double) (omega arith)));
     some = λ l i h. rw (← (pred l i)) (leb→le _ _ (here (some-test g) (g .top - 1) (l - 1) (t .some) (omega arith)));
     top-none = x .top-none;
     top-slots = x .top-slots;
@@ -193,17 +190,7 @@ small-past l h = List·getD-eq-default smallSlots 0 h
 
 small-tested : Tested small
 unfolding room-test steps-test even-test double-test some-test most-test byte-test levels firstSlot slotsOf rootSlots rootMost
-small-tested = record {
-  room = tt;
-  steps = tt;
-  even = tt;
-  double = tt;
-  some = tt;
-  most = tt;
-  byte = tt;
-  past =
-      small-past;
-}
+small-tested = record { room = tt; steps = tt; even = tt; double = tt; some = tt; most = tt; byte = tt; past = small-past }
 
 pub small-shape : Shape small
 small-shape = shape-by small small-numbers small-tested
@@ -230,17 +217,7 @@ large-past l h = List·getD-eq-default largeSlots 0 h
 
 large-tested : Tested large
 unfolding room-test steps-test even-test double-test some-test most-test byte-test levels firstSlot slotsOf rootSlots rootMost
-large-tested = record {
-  room = tt;
-  steps = tt;
-  even = tt;
-  double = tt;
-  some = tt;
-  most = tt;
-  byte = tt;
-  past =
-      large-past;
-}
+large-tested = record { room = tt; steps = tt; even = tt; double = tt; some = tt; most = tt; byte = tt; past = large-past }
 
 pub large-shape : Shape large
 large-shape = shape-by large large-numbers large-tested
@@ -249,8 +226,8 @@ pub shape : (g : Geometry) → Known g → Shape g
 shape _ is-small = small-shape
 shape _ is-large = large-shape
 
--- what holds of the plain tree's geometry too: all that the laws of bytes, stores, next pages and R1 to R6 use. Of
--- `Shape` those of the μ-Tree's updates use also steps, double, some, top-none and top-slots
+-- what holds of the plain tree's geometry too: all that the laws of bytes, stores, next pages and R1 to R6 use. Of `Shape`
+-- those of the μ-Tree's updates use also steps, double, some, top-none and top-slots
 pub record Core (g : Geometry) : Type 0 where
   pub pages-low : 2 ≤ g .pages
   pub pages-high : g .pages ≤ 64
@@ -308,8 +285,7 @@ plain-core = record {
 -- a root of the plain tree holds as many as a node below it: two halves
 pub plain-most : (l : ℕ) → 1 ≤ l → l ≤ 5 → rootMost plain l ≡ 2 * half plain l
 unfolding levels firstSlot slotsOf rootSlots rootMost
-plain-most l i h = rw (← (pred l i)) (eqb→eq _ _ (here (λ l x. eqb (rootMost plain (suc l)) (2 * half plain (suc l))) 5
-    (l - 1) tt (omega arith)))
+plain-most l i h = rw (← (pred l i)) (eqb→eq _ _ (here (λ l x. eqb (rootMost plain (suc l)) (2 * half plain (suc l))) 5 (l - 1) tt (omega arith)))
 
 pub most-slots : (g : Geometry) (l : ℕ) → rootMost g l ≤ rootSlots g l
 unfolding rootMost

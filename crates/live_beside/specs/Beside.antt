@@ -1,5 +1,4 @@
--- What an update keeps beside the image: the record of request 8 and the table; and one move of a sweep. Definitions
--- alone; assumes nothing.
+-- What an update keeps beside the image: the record of request 8 and the table; and one move of a sweep. Definitions alone; assumes nothing.
 use Prim.Native.Nat.{ℕ, zero, suc, _+_, _*_, _/_, _%_, min}
 use mathlib.Core.Bool.{Bool}
 use mathlib.Core.List.{List, []}
@@ -28,9 +27,9 @@ pub record Held : Type 0 where
 abbrev pub holding : Opened → Table → Held
 holding o t = record { at = o; table = t }
 
--- ---- the pages to come the page after page x, which has just been programmed and so has the largest number: the next
--- one of its block; past the block's end page 0 of the first wholly erased block after it, round past the end to the
--- start
+-- ---- the pages to come
+-- the page after page x, which has just been programmed and so has the largest number: the next one of its block; past the block's end page 0
+-- of the first wholly erased block after it, round past the end to the start
 unfoldable pub nextAfter : ℕ → ℕ → (ℕ → Bool) → ℕ → ℕ
 nextAfter p n er x = pick (eqb (suc x % p) 0) (p * round n (x / p) (λ b. er (p * b + 0))) (suc x)
 
@@ -57,14 +56,7 @@ pub record Beside : Type 0 where
 
 -- at its start
 abbrev pub besideBy : Geometry → ℕ → Held → Beside
-besideBy g n h = record {
-  root = h .at .root;
-  most = h .at .most;
-  level = levelBy g (h .at);
-  next =
-      nextBy g n (h .at);
-  table = h .table;
-}
+besideBy g n h = record { root = h .at .root; most = h .at .most; level = levelBy g (h .at); next = nextBy g n (h .at); table = h .table }
 
 -- the key by which descent comes to the lowest live node of page q
 abbrev pub keyBy : Geometry → Beside → ℕ → List ℕ → ℕ
@@ -73,8 +65,7 @@ keyBy g h q img = next (nodeAt g img q (lowIn (h .table) q)) 0
 -- "one page holding the nodes from the root to that page's lowest live node": at level j
 unfoldable pub movePartBy : Geometry → Beside → ℕ → List ℕ → ℕ → List Entry
 movePartBy g h q img j = pick (leb (lowIn (h .table) q) j)
-    (onPath (nodeAt g img) (keyBy g h q img) same (renamed (lowIn (h .table) q) (h .next)) (h .level)
-    (named (h .root)) j) []
+    (onPath (nodeAt g img) (keyBy g h q img) same (renamed (lowIn (h .table) q) (h .next)) (h .level) (named (h .root)) j) []
 
 -- the store that moves page q
 unfoldable pub moveStoreBy : Geometry → Beside → ℕ → List ℕ → Store
@@ -87,6 +78,5 @@ besideMoved g n h q img then = record {
   most = suc (h .most);
   level = h .level;
   next = nextAfter (g .pages) n (erased g then) (h .next);
-  table = tableMoved (wordsOf g n) (nodeAt g img) (keyBy g h q img) (lowIn (h .table) q) (h .level) (named (h .root))
-      (h .next) (h .table);
+  table = tableMoved (wordsOf g n) (nodeAt g img) (keyBy g h q img) (lowIn (h .table) q) (h .level) (named (h .root)) (h .next) (h .table);
 }

@@ -1,5 +1,5 @@
--- Insert and delete by the record and the table, on every image: the outcome, the record and the words that are left.
--- Definitions alone; assumes nothing.
+-- Insert and delete by the record and the table, on every image: the outcome, the record and the words that are left. Definitions alone;
+-- assumes nothing.
 use Prim.Native.Nat.{ℕ, zero, suc, _+_, _-_, _%_, min}
 use mathlib.Core.Bool.{Bool}
 use mathlib.Core.List.{List, [], _∷_, _++_}
@@ -60,8 +60,8 @@ recordMade g n o m t then = record {
   erased = o .erased - m;
 }
 
--- the stores made under an allowance, m of them own pages after the record o: where all are, the record goes on from o;
--- else it is taken anew from the image that is left. The words are those of the record
+-- the stores made under an allowance, m of them own pages after the record o: where all are, the record goes on from o; else it is taken anew
+-- from the image that is left. The words are those of the record
 unfoldable pub madeBy : Geometry → ℕ → List Store → Opened → ℕ → Crest → ℕ → List ℕ → List ℕ → Returned
 madeBy g n ss o m t allowance img old =
     let made = madeOf g ss allowance img in
@@ -108,8 +108,7 @@ unfoldable pub insertMade : Geometry → ℕ → Held → List ℕ → ℕ → �
 insertMade g n h img k a allowance =
     let m = needs g (chipBy g img (h .at)) k in
     let r = collectBy g n m (suc m) h img in
-    madeBy g n (r .stores ++ ownBy g n (r .image) (r .kept .at) m k a) (r .kept .at) m
-    (crestBy g n (r .image) (r .kept .at) m k a) allowance img
+    madeBy g n (r .stores ++ ownBy g n (r .image) (r .kept .at) m k a) (r .kept .at) m (crestBy g n (r .image) (r .kept .at) m k a) allowance img
     (h .table .words)
 
 -- T − L by the words
@@ -142,8 +141,7 @@ deleteMade g n h img k allowance =
     let r = collectBy g n 1 2 h img in
     let o = r .kept .at in
     let page = pageBy g n (r .image) o 0 in
-    madeBy g n (r .stores ++ (deleteStoreAt g (o .most) (chipBy g (r .image) o) page k ∷ [])) o 1
-    (deleteCrest (chipBy g (r .image) o) page k)
+    madeBy g n (r .stores ++ (deleteStoreAt g (o .most) (chipBy g (r .image) o) page k ∷ [])) o 1 (deleteCrest (chipBy g (r .image) o) page k)
     allowance img (h .table .words)
 
 unfoldable pub deleteBy : Geometry → ℕ → Held → List ℕ → ℕ → ℕ → Returned

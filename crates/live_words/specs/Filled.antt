@@ -28,8 +28,7 @@ pub past-set : (m : ℕ) (x : List ℕ) (i w : ℕ) → i < m → Past m x (set 
 past-set m x i w h = record { long = length-set x i w; same = λ j k. getD-set-other x i j w 0 (omega arith) }
 
 -- ---- a word by its 32 tests
-pub words-alike : (f h : ℕ → Bool) (n at : ℕ) → ((j : ℕ) → j < n → f (at + j) ≡ h (at + j))
-    → wordOf f n at ≡ wordOf h n at
+pub words-alike : (f h : ℕ → Bool) (n at : ℕ) → ((j : ℕ) → j < n → f (at + j) ≡ h (at + j)) → wordOf f n at ≡ wordOf h n at
 unfolding wordOf
 words-alike f h zero at e = refl
 words-alike f h (suc n) at e =
@@ -64,8 +63,7 @@ module _ (f h : ℕ → Bool) (m i : ℕ) (e : (p : ℕ) → (p / 32 ≡ i → �
   pub told-one : (words : List ℕ) → Told f m words → Told h m (set words i (word h i))
   told-one words t = record {
     room = rw (length-set words i (word h i)) (t .room);
-    each = λ j k. by-lt j i (λ b. other j k (omega arith)) (λ b. by-lt i j (λ d. other j k (omega arith))
-        (λ d. same j k (omega arith)));
+    each = λ j k. by-lt j i (λ b. other j k (omega arith)) (λ b. by-lt i j (λ d. other j k (omega arith)) (λ d. same j k (omega arith)));
   }
     where
       other : (j : ℕ) → j < m → (j ≡ i → ⊥) → getD (set words i (word h i)) j 0 ≡ word h j
@@ -96,11 +94,7 @@ module _ (f : ℕ → Bool) where
 
   pub filled-past : (m : ℕ) (old : List ℕ) → Past m old (filled f m old)
   unfolding filled
-  filled-past m old = record {
-    long = length-filled m old;
-    same = λ i h. written-after old 0 (word f) m i 0
-        (omega arith);
-  }
+  filled-past m old = record { long = length-filled m old; same = λ i h. written-after old 0 (word f) m i 0 (omega arith) }
 
   pub filled-told : (m : ℕ) (old : List ℕ) → m ≤ length old → Told f m (filled f m old)
   filled-told m old h = record { room = rw (length-filled m old) h; each = λ i k. filled-in m old i k (omega arith) }

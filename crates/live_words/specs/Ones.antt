@@ -67,20 +67,17 @@ module _ (f : ℕ → Bool) (m : ℕ) (words : List ℕ) (t : Told f m words) wh
   ones-from (suc q) at h =
       rw (t .each at (omega arith), ones-word f 32 (32 * at), ones-from q (at + 1) (omega arith))
       (let w : 32 * suc q ≡ 32 + 32 * q = omega arith in
-      sym (rw w (count-split (λ j. f (32 * at + j)) 32 (32 * q) ∙ ap (λ (x : ℕ). count 32
-      (λ j. f (32 * at + j)) + x) next)))
+      sym (rw w (count-split (λ j. f (32 * at + j)) 32 (32 * q) ∙ ap (λ (x : ℕ). count 32 (λ j. f (32 * at + j)) + x) next)))
     where
       next : count (32 * q) (λ j. f (32 * at + (32 + j))) ≡ count (32 * q) (λ j. f (32 * (at + 1) + j))
       next = count-same (λ j. f (32 * at + (32 + j))) (λ j. f (32 * (at + 1) + j)) (32 * q) (λ j k. ap f (omega arith))
 
-module _ (g : Geometry) (f : ℕ → Bool) (n : ℕ) (words : List ℕ) (e : g .pages ≡ 32 * blockWords g)
-    (t : Told f (wordsOf g n) words) where
+module _ (g : Geometry) (f : ℕ → Bool) (n : ℕ) (words : List ℕ) (e : g .pages ≡ 32 * blockWords g) (t : Told f (wordsOf g n) words) where
   -- the words of a block
   pub block-ones : (b : ℕ) → b < n → blockOnes g words b ≡ inBlock (g .pages) f b
   block-ones b h =
       ones-from f (wordsOf g n) words t (blockWords g) (blockWords g * b) inside
-      ∙ rw (← e) (count-same (λ j. f (32 * (blockWords g * b) + j)) (λ j. f (g .pages * b + j)) (g .pages)
-      (λ j k. ap (λ (x : ℕ). f (x + j)) at))
+      ∙ rw (← e) (count-same (λ j. f (32 * (blockWords g * b) + j)) (λ j. f (g .pages * b + j)) (g .pages) (λ j k. ap (λ (x : ℕ). f (x + j)) at))
     where
       inside : blockWords g * b + blockWords g ≤ blockWords g * n
       inside = (let z = mul-le-mul-left (blockWords g) h in let w = mul-suc (blockWords g) b in omega (arith, z, w))

@@ -19,10 +19,7 @@ pub record Ready (r : Run) (line : List ℕ) : Type 0 where
 
 pub ready-start : (r : Run) (line : List ℕ) → r ≡ startOf → length line ≡ 34 → Ready r line
 ready-start r line e n = subst (λ (x : Run). Ready x line) (sym e)
-    (record {
-      steady = record { filled = omega arith; room = n; within = (omega arith, omega arith, omega arith) };
-      none = refl;
-    })
+    (record { steady = record { filled = omega arith; room = n; within = (omega arith, omega arith, omega arith) }; none = refl })
 
 module _ (r s : Run) (line : List ℕ) (e : s ≡ emptied r) where
   pub ready-emptied : Steady r line → Ready s line

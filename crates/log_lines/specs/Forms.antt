@@ -1,5 +1,4 @@
--- Request 3: "F ..., `I key address`, `D key`, `L key`, and `S key address allowance`", "fields parted by tabs".
--- Definitions alone; assumes nothing.
+-- Request 3: "F ..., `I key address`, `D key`, `L key`, and `S key address allowance`", "fields parted by tabs". Definitions alone; assumes nothing.
 use Prim.Native.Nat.{ℕ}
 use mathlib.Core.Bool.{Bool, false}
 use mathlib.Core.List.{List, [], _∷_}
@@ -34,8 +33,7 @@ formOf (w ∷ x ∷ []) =
 formOf (w ∷ x ∷ y ∷ []) =
     pick (isLetter 73 w) (given (numberOf x) (λ k. given (numberOf y) (λ a. Of (Insert k a)))) Other
 formOf (w ∷ x ∷ y ∷ z ∷ []) =
-    pick (isLetter 83 w) (given (numberOf x) (λ k. given (numberOf y)
-    (λ a. given (numberOf z) (λ m. Of (Limited k a m))))) Other
+    pick (isLetter 83 w) (given (numberOf x) (λ k. given (numberOf y) (λ a. given (numberOf z) (λ m. Of (Limited k a m))))) Other
 formOf (w ∷ x ∷ y ∷ z ∷ u ∷ us) = Other
 
 abbrev pub parsed : List ℕ → Line

@@ -1,5 +1,4 @@
--- A line that has a form is at most 34 bytes long: S, three tabs and three numbers of at most ten digits. Assumes
--- nothing.
+-- A line that has a form is at most 34 bytes long: S, three tabs and three numbers of at most ten digits. Assumes nothing.
 use mathlib.Core.Path.{_≡_, refl, subst}
 use mathlib.Core.List.{List, [], _∷_, _++_}
 use mathlib.Core.Bool.{Bool, true, false, false≢true}
@@ -34,8 +33,7 @@ pick-short : (t : Bool) (x y : Line) (n : ℕ) → (t ≡ true → Short x n) �
 pick-short true x y n f h = f refl
 pick-short false x y n f h = h
 
-given-short : (ds : List ℕ) (f : ℕ → Line) (n : ℕ) → (length ds ≤ 10 → (k : ℕ) → Short (f k) n)
-    → Short (given (numberOf ds) f) n
+given-short : (ds : List ℕ) (f : ℕ → Line) (n : ℕ) → (length ds ≤ 10 → (k : ℕ) → Short (f k) n) → Short (given (numberOf ds) f) n
 unfolding given
 given-short ds f n h = go (numberOf ds) refl
   where
@@ -48,8 +46,7 @@ parts-length w r = let a = length-append (w ++ (9 ∷ [])) r in let b = length-a
 
 fields-short : (E : List (List ℕ)) (R : List ℕ) → Short (formOf (E ++ (R ∷ []))) (length (joined 9 E R))
 unfolding formOf joined
-fields-short [] R = pick-short (isLetter 70 R) (Of Format) Other (length R) (λ t. let a = letter-short 70 R t in
-    omega (arith, a)) tt
+fields-short [] R = pick-short (isLetter 70 R) (Of Format) Other (length R) (λ t. let a = letter-short 70 R t in omega (arith, a)) tt
 fields-short (w ∷ []) R =
     let n = parts-length w R in
     pick-short (isLetter 68 w) _ _ (length ((w ++ (9 ∷ [])) ++ R))
@@ -61,8 +58,7 @@ fields-short (w ∷ x ∷ []) R =
     let m = parts-length x R in
     pick-short (isLetter 73 w) _ Other (length ((w ++ (9 ∷ [])) ++ ((x ++ (9 ∷ [])) ++ R)))
     (λ t. let a = letter-short 73 w t in
-    given-short x (λ k. given (numberOf R) (λ d. Of (Insert k d))) _ (λ b k. given-short R (λ d. Of (Insert k d)) _
-    (λ c d. omega (arith, a, b, c, n, m)))) tt
+    given-short x (λ k. given (numberOf R) (λ d. Of (Insert k d))) _ (λ b k. given-short R (λ d. Of (Insert k d)) _ (λ c d. omega (arith, a, b, c, n, m)))) tt
 fields-short (w ∷ x ∷ y ∷ []) R =
     let n = parts-length w ((x ++ (9 ∷ [])) ++ ((y ++ (9 ∷ [])) ++ R)) in
     let m = parts-length x ((y ++ (9 ∷ [])) ++ R) in
@@ -76,8 +72,7 @@ fields-short (w ∷ x ∷ y ∷ z ∷ []) R = tt
 fields-short (w ∷ x ∷ y ∷ z ∷ u ∷ E) R = tt
 
 line-short : (l : List ℕ) → Short (parsed l) (length l)
-line-short l = subst (λ m. Short (parsed l) (length m)) (pieces-join 9 l)
-    (fields-short (pieces 9 l .ended) (pieces 9 l .rest))
+line-short l = subst (λ m. Short (parsed l) (length m)) (pieces-join 9 l) (fields-short (pieces 9 l .ended) (pieces 9 l .rest))
 
 -- a longer line is one of another form
 pub long-other : (l : List ℕ) → longest < length l → parsed l ≡ Other

@@ -19,13 +19,7 @@ stateOf r line img = record { line = take (r .filled) line; tally = r .tally; im
 
 -- the run after a step, with its output behind what waited before
 abbrev pub runOf : Fed → ℕ → Run
-runOf f wrote = record {
-  filled = length (f .state .line);
-  tally = f .state .tally;
-  over = f .state .over;
-  wrote =
-      wrote + length (f .out);
-}
+runOf f wrote = record { filled = length (f .state .line); tally = f .state .tally; over = f .state .over; wrote = wrote + length (f .out) }
 
 -- a run that E has ended
 abbrev pub overAt : Tally → ℕ → Run

@@ -1,5 +1,5 @@
--- "Answer numbers": the calls on every image. Each gives its answer, address, counts, rule, page and the image
--- afterwards. Definitions alone; assumes nothing.
+-- "Answer numbers": the calls on every image. Each gives its answer, address, counts, rule, page and the image afterwards.
+-- Definitions alone; assumes nothing.
 use Prim.Native.Nat.{ℕ, _+_, _-_, _*_}
 use mathlib.Core.Bool.{Bool}
 use mathlib.Core.List.{List}
@@ -34,16 +34,7 @@ pub record Outcome : Type 0 where
 -- an answer with an address and counts; rule and page are "0 in other answers" than DAMAGED
 abbrev pub gives : ℕ → ℕ → ℕ → ℕ → List ℕ → Outcome
 gives answer address programmed erased img =
-    record {
-      answer = answer;
-      address = address;
-      programmed = programmed;
-      erased = erased;
-      rule = 0;
-      page = 0;
-      image =
-          img;
-    }
+    record { answer = answer; address = address; programmed = programmed; erased = erased; rule = 0; page = 0; image = img }
 
 -- DONE 0, LENGTH 1, DAMAGED 2, WORN 3, ABSENT 4, HEIGHT 5, ROOM 6, STOPPED 7.
 -- "Numbers 1 to 6 leave the image untouched"
@@ -52,22 +43,12 @@ refused answer img = gives answer 0 0 0 img
 
 -- DAMAGED: "name the first broken rule .. and the page"
 abbrev pub damaged : List ℕ → ℕ → ℕ → Outcome
-damaged img rule page = record {
-  answer = 2;
-  address = 0;
-  programmed = 0;
-  erased = 0;
-  rule = rule;
-  page = page;
-  image =
-      img;
-}
+damaged img rule page = record { answer = 2; address = 0; programmed = 0; erased = 0; rule = rule; page = page; image = img }
 
 -- 0 with all stores made, or 7 with exactly the first `allowance` of them
 unfoldable pub made : Geometry → List Store → ℕ → List ℕ → Outcome
 made g stores allowance img =
-    gives (pick (leb (length stores) allowance) 0 7) 0 (programs (take allowance stores))
-    (erases (take allowance stores))
+    gives (pick (leb (length stores) allowance) 0 7) 0 (programs (take allowance stores)) (erases (take allowance stores))
     (applyAll g (take allowance stores) img)
 
 -- a verdict, for a call of any kind: what it gives for a broken rule with its page, and what on a sound image

@@ -1,5 +1,4 @@
--- Collection: the victim, the moves, the erase, each on the image as it then stands. Definitions alone; assumes
--- nothing.
+-- Collection: the victim, the moves, the erase, each on the image as it then stands. Definitions alone; assumes nothing.
 use Prim.Native.Nat.{ℕ, zero, suc, _+_, _-_, _*_}
 use mathlib.Core.Bool.{Bool}
 use mathlib.Core.List.{List, [], _∷_, _++_}
@@ -43,16 +42,13 @@ movePart c q m j = pick (leb (lowLevel (placesOf c) q) j)
 -- the store that moves page q
 unfoldable pub moveStore : Geometry → ℕ → ℕ → List ℕ → Store
 moveStore g n q img = program (nextPage (g .pages) n (ahead g n (chipOf g n img)))
-    (built g (suc (maxSeq g n img)) (suc (chipOf g n img .level))
-    (movePart (chipOf g n img) q (nextPage (g .pages) n (ahead g n (chipOf g n img)))))
+    (built g (suc (maxSeq g n img)) (suc (chipOf g n img .level)) (movePart (chipOf g n img) q (nextPage (g .pages) n (ahead g n (chipOf g n img)))))
 
--- "While the victim has a live page, take the lowest-numbered": its last j pages in rising order, each that is then
--- live
+-- "While the victim has a live page, take the lowest-numbered": its last j pages in rising order, each that is then live
 unfoldable pub sweepStores : Geometry → ℕ → ℕ → ℕ → List ℕ → List Store
 sweepStores g n v zero img = []
 sweepStores g n v (suc j) img = pick (live (placesOf (chipOf g n img)) (g .pages * v + (g .pages - suc j)))
-    (moveStore g n (g .pages * v + (g .pages - suc j)) img ∷ sweepStores g n v j
-    (applyStore g (moveStore g n (g .pages * v + (g .pages - suc j)) img) img))
+    (moveStore g n (g .pages * v + (g .pages - suc j)) img ∷ sweepStores g n v j (applyStore g (moveStore g n (g .pages * v + (g .pages - suc j)) img) img))
     (sweepStores g n v j img)
 
 -- "Then erase the victim"

@@ -1,5 +1,5 @@
--- Request 1 of document 02, "Frames between two keys": the part of a map, the walk that finds it, and the call on every
--- image. Definitions alone; assumes nothing.
+-- Request 1 of document 02, "Frames between two keys": the part of a map, the walk that finds it, and the call on every image.
+-- Definitions alone; assumes nothing.
 use Prim.Native.Nat.{ℕ, zero, suc, _*_, _/_, min}
 use mathlib.Core.List.{List, [], _∷_, _++_}
 use lib.Dec.{leb}
@@ -60,40 +60,21 @@ pub record Listed : Type 0 where
 
 abbrev pub lists : List Entry → List ℕ → Listed
 lists es buffer =
-    record {
-      answer = 0;
-      exist = length es;
-      written = writtenOf es buffer;
-      rule = 0;
-      page = 0;
-      buffer =
-          filled es buffer;
-    }
+    record { answer = 0; exist = length es; written = writtenOf es buffer; rule = 0; page = 0; buffer = filled es buffer }
 
 -- "with both counts 0, and leave the buffer untouched"
 abbrev pub listsNone : ℕ → ℕ → ℕ → List ℕ → Listed
-listsNone answer rule page buffer = record {
-  answer = answer;
-  exist = 0;
-  written = 0;
-  rule = rule;
-  page = page;
-  buffer =
-      buffer;
-}
+listsNone answer rule page buffer = record { answer = answer; exist = 0; written = 0; rule = rule; page = page; buffer = buffer }
 
 -- "LENGTH and DAMAGED come first"
 unfoldable pub listing : Geometry → List ℕ → ℕ → ℕ → List ℕ → Listed
 listing g img low high buffer =
-    judged g img (listsNone 1 0 0 buffer) (λ rule page. listsNone 2 rule page buffer)
-    (lists (rangedOf (chipOf g (blocksOf g img) img) low high) buffer)
+    judged g img (listsNone 1 0 0 buffer) (λ rule page. listsNone 2 rule page buffer) (lists (rangedOf (chipOf g (blocksOf g img) img) low high) buffer)
 
 unfoldable pub listOf : ℕ → List ℕ → ℕ → ℕ → List ℕ → Listed
-listOf kind img low high buffer = chosenCall (chosenOf kind) (λ g. listing g img low high buffer)
-    (listsNone 1 0 0 buffer)
+listOf kind img low high buffer = chosenCall (chosenOf kind) (λ g. listing g img low high buffer) (listsNone 1 0 0 buffer)
 
--- a listing in the numbers of the other calls: pairs that exist, pairs written, 0. The lent buffer stands where they
--- have the image
+-- a listing in the numbers of the other calls: pairs that exist, pairs written, 0. The lent buffer stands where they have the image
 abbrev pub asOutcome : Listed → Outcome
 asOutcome l = record {
   answer = l .answer;

@@ -1,5 +1,5 @@
--- A page as it is built: all 255, then each level's entries and count, then number and height, then the codes. A put
--- outside the page changes nothing. Definitions alone; assumes nothing.
+-- A page as it is built: all 255, then each level's entries and count, then number and height, then the codes. A put outside the page
+-- changes nothing. Definitions alone; assumes nothing.
 use Prim.Native.Nat.{ℕ, zero, suc, _+_, _*_, _/_, _%_}
 use mathlib.Core.List.{List, [], _∷_}
 use lib.Dec.{eqb}
@@ -12,8 +12,7 @@ use Rattle.model.specs.Codes.{freshCode, putCode}
 
 -- 32 bits, least byte first
 unfoldable pub putU32 : List ℕ → ℕ → ℕ → List ℕ
-putU32 b at v = set (set (set (set b at (v % 256)) (at + 1) (v / 256 % 256)) (at + 2) (v / 65536 % 256))
-    (at + 3) (v / 16777216 % 256)
+putU32 b at v = set (set (set (set b at (v % 256)) (at + 1) (v / 256 % 256)) (at + 2) (v / 65536 % 256)) (at + 3) (v / 16777216 % 256)
 
 -- a slot: key, then address
 unfoldable pub putEntry : List ℕ → ℕ → Entry → List ℕ

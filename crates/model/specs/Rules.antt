@@ -1,5 +1,5 @@
--- "A sound image": R1 to R7 and, by request 11, R8, one by one, each with the page that request 5 of document 02 names,
--- and the verdict: the first broken rule. Definitions alone; assumes nothing.
+-- "A sound image": R1 to R7 and, by request 11, R8, one by one, each with the page that request 5 of document 02 names, and the verdict: the first broken rule.
+-- Definitions alone; assumes nothing.
 use Prim.Native.Nat.{ℕ, zero, suc, _+_, _-_, _*_}
 use mathlib.Core.Bool.{Bool, true, false, not}
 use mathlib.Core.List.{List, [], _∷_}
@@ -34,12 +34,10 @@ unfoldable pub first : Finding → Finding → Finding
 first Good v = v
 first (Bad p) v = Bad p
 
--- R1: erased, or byte 4 is 0 to 5, the bytes after the codes are 255, the number isn't 0 and, by request 4, the codes
--- fit
+-- R1: erased, or byte 4 is 0 to 5, the bytes after the codes are 255, the number isn't 0 and, by request 4, the codes fit
 unfoldable pub wellFormed : Geometry → List ℕ → ℕ → Bool
 wellFormed g img p = pick (erased g img p) true
-    (leb (heightAt g img p) (g .top) & tailAt g img p & leb 1 (seqAt g img p) & codesFit g img (pageBase g p)
-    (halves g))
+    (leb (heightAt g img p) (g .top) & tailAt g img p & leb 1 (seqAt g img p) & codesFit g img (pageBase g p) (halves g))
 
 unfoldable pub r1 : Geometry → ℕ → List ℕ → Finding
 r1 g n img = lowest (pagesOf g n) (λ p. not (wellFormed g img p))
@@ -86,8 +84,7 @@ own g er r t l p lo hi =
 -- R5: the root's own: a level 1 root may have 0 entries, one at level 2 or above has at least 2
 unfoldable pub ownRoot : Geometry → (ℕ → Bool) → Nodes → ℕ → ℕ → ℕ → Bool
 ownRoot g er r t l p =
-    leb (pick (eqb l 1) 0 2) (length (r p l)) & leb (length (r p l)) (rootMost g l) & rising (names er t l)
-    (r p l) 0 4294967296
+    leb (pick (eqb l 1) 0 2) (length (r p l)) & leb (length (r p l)) (rootMost g l) & rising (names er t l) (r p l) 0 4294967296
 
 -- "A node is judged by its entries and each entry by the node below it, turn about, the level falling":
 -- all keys under entry i are at least its key and below that of entry i+1. The first bad node's page, each node before
@@ -122,11 +119,9 @@ lowestPage f [] t = t
 lowestPage f (x ∷ xs) t = lowestPage f xs (pick (f x & ltb (x .page) t) (x .page) t)
 
 unfoldable pub r6 : ℕ → Chip → Finding
-r6 t c = unless (leb t (lowestPage (loose (c .nodes) (placesOf c)) (placesOf c) t))
-    (lowestPage (loose (c .nodes) (placesOf c)) (placesOf c) t) Good
+r6 t c = unless (leb t (lowestPage (loose (c .nodes) (placesOf c)) (placesOf c) t)) (lowestPage (loose (c .nodes) (placesOf c)) (placesOf c) t) Good
 
--- R7: at least 32 pages are erased, or some block without erased pages has no more live pages than the image has erased
--- ones
+-- R7: at least 32 pages are erased, or some block without erased pages has no more live pages than the image has erased ones
 unfoldable pub spareRoom : ℕ → ℕ → Chip → Bool
 spareRoom p n c = pick (leb p (count (p * n) (c .er))) true
     (any n (λ b. full p (c .er) b & leb (inBlock p (live (placesOf c)) b) (count (p * n) (c .er))))
@@ -155,8 +150,7 @@ unfoldable pub verdict : Geometry → ℕ → List ℕ → Verdict
 verdict g n img =
     orElse 1 (r1 g n img) (orElse 2 (r2 (g .pages) n (erased g img)) (orElse 3 (r3 g n img) (orElse 4 (r4 g n img)
     (orElse 5 (r5 g (pagesOf g n) (chipOf g n img)) (orElse 6 (r6 (pagesOf g n) (chipOf g n img))
-    (orElse 7 (asked g (r7 (g .pages) n (chipOf g n img)))
-    (orElse 8 (asked g (r8 (g .pages) n (chipOf g n img))) Sound)))))))
+    (orElse 7 (asked g (r7 (g .pages) n (chipOf g n img))) (orElse 8 (asked g (r8 (g .pages) n (chipOf g n img))) Sound)))))))
 
 abbrev pub isSound : Verdict → Bool
 isSound Sound = true

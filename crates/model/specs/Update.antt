@@ -50,8 +50,7 @@ insertList g c k a n side j = onPath (c .nodes) k (putIn k a) (named k n side (h
 -- the root's changed node es at level l, as it stands on N at level j: as it is, or halved under a two-entry root
 unfoldable pub crownPart : Geometry → ℕ → ℕ → (ℕ → ℕ) → ℕ → List Entry → ℕ → List Entry
 crownPart g k n side l es j = pick (fills g l (length es))
-    (pick (eqb j l) (pathHalf k (2 * half g l) es)
-    (pick (eqb j (suc l)) (two k n (side l) (2 * half g l) (next es 0) es) []))
+    (pick (eqb j l) (pathHalf k (2 * half g l) es) (pick (eqb j (suc l)) (two k n (side l) (2 * half g l) (next es 0) es) []))
     (pick (eqb j l) es [])
 
 -- what N holds at level j
@@ -71,8 +70,7 @@ splitStore g seq k side l es =
 -- "programmed lower level first": levels 1 to l
 unfoldable pub sideStores : Geometry → ℕ → ℕ → (ℕ → ℕ) → (ℕ → List Entry) → ℕ → List Store
 sideStores g seq k side lists zero = []
-sideStores g seq k side lists (suc l) = sideStores g seq k side lists l ++ splitStore g seq k side (suc l)
-    (lists (suc l))
+sideStores g seq k side lists (suc l) = sideStores g seq k side lists l ++ splitStore g seq k side (suc l) (lists (suc l))
 
 -- the other half of a root that grows
 unfoldable pub crownStore : Geometry → ℕ → ℕ → (ℕ → ℕ) → ℕ → List Entry → List Store
@@ -92,11 +90,9 @@ sidePage g n c (suc l) = nth (g .pages) n (ahead g n c) l
 unfoldable pub ownStores : Geometry → ℕ → ℕ → Chip → ℕ → ℕ → ℕ → List Store
 ownStores g n seq c m k a =
     sideStores g seq k (sidePage g n c) (insertList g c k a (sidePage g n c m) (sidePage g n c)) (c .level)
-    ++ (crownStore g seq k (sidePage g n c) (suc (c .level)) (insertList g c k a (sidePage g n c m) (sidePage g n c)
-    (suc (c .level)))
+    ++ (crownStore g seq k (sidePage g n c) (suc (c .level)) (insertList g c k a (sidePage g n c m) (sidePage g n c) (suc (c .level)))
     ++ (program (sidePage g n c m)
-    (built g (seq + m) (crownHeight g (suc (c .level)) (insertList g c k a (sidePage g n c m) (sidePage g n c)
-    (suc (c .level))))
+    (built g (seq + m) (crownHeight g (suc (c .level)) (insertList g c k a (sidePage g n c m) (sidePage g n c) (suc (c .level))))
     (insertPart g c k a (sidePage g n c m) (sidePage g n c))) ∷ []))
 
 -- ---- delete
@@ -108,8 +104,7 @@ deleteList c k n j = onPath (c .nodes) k (removeIn k) (kept n) (c .level) (theRo
 unfoldable pub deleteTop : Chip → ℕ → ℕ → Top
 deleteTop c k n = collapse (c .nodes) (c .level) (deleteList c k n (suc (c .level)))
 
--- "Delete programs N only, holding the root and the path's nodes left below it": at level j. Where the tree shrinks
--- none is left below
+-- "Delete programs N only, holding the root and the path's nodes left below it": at level j. Where the tree shrinks none is left below
 unfoldable pub deletePart : Chip → ℕ → ℕ → ℕ → List Entry
 deletePart c k n j = pick (eqb j (suc (deleteTop c k n .level))) (deleteTop c k n .list)
     (pick (eqb (deleteTop c k n .level) (c .level) & leb j (c .level)) (deleteList c k n j) [])

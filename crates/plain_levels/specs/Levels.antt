@@ -1,5 +1,5 @@
--- An update of the plain tree (request 12) level by level, as the code makes it, over any pages to come: page i is the
--- i-th of them. Definitions alone; assumes nothing.
+-- An update of the plain tree (request 12) level by level, as the code makes it, over any pages to come: page i is the i-th of them. Definitions
+-- alone; assumes nothing.
 use Prim.Native.Nat.{ℕ, zero, suc, _+_, _-_, _*_, min}
 use mathlib.Core.List.{List, [], _∷_, _++_}
 use lib.Dec.{eqb, leb}
@@ -34,15 +34,12 @@ rightPlace cuts l = l - 1 + min l cuts
 
 -- a changed node without the root's height
 unfoldable pub levelStores : Geometry → (ℕ → ℕ) → ℕ → ℕ → ℕ → List Entry → List Store
-levelStores g page seq cuts l es = pick (leb (length es) (2 * half g l))
-    (nodeStore g page seq (leftPlace cuts l) 0 l es ∷ [])
-    (nodeStore g page seq (leftPlace cuts l) 0 l (take (half g l) es) ∷ nodeStore g page seq (rightPlace cuts l) 0 l
-    (drop (half g l) es) ∷ [])
+levelStores g page seq cuts l es = pick (leb (length es) (2 * half g l)) (nodeStore g page seq (leftPlace cuts l) 0 l es ∷ [])
+    (nodeStore g page seq (leftPlace cuts l) 0 l (take (half g l) es) ∷ nodeStore g page seq (rightPlace cuts l) 0 l (drop (half g l) es) ∷ [])
 
 unfoldable pub storesTo : Geometry → (ℕ → ℕ) → ℕ → ℕ → (ℕ → List Entry) → ℕ → List Store
 storesTo g page seq cuts lists zero = []
-storesTo g page seq cuts lists (suc l) = storesTo g page seq cuts lists l ++ levelStores g page seq cuts (suc l)
-    (lists (suc l))
+storesTo g page seq cuts lists (suc l) = storesTo g page seq cuts lists l ++ levelStores g page seq cuts (suc l) (lists (suc l))
 
 -- the new root over the halves of es, that of level h
 abbrev pub crownList : Geometry → (ℕ → ℕ) → ℕ → ℕ → List Entry → List Entry
@@ -50,8 +47,7 @@ crownList g page cuts h es = both (page (leftPlace cuts h)) (page (rightPlace cu
 
 -- the root, at level h: whole, or its halves under a new one
 unfoldable pub rootStores : Geometry → (ℕ → ℕ) → ℕ → ℕ → ℕ → List Entry → List Store
-rootStores g page seq cuts h es = pick (leb (length es) (2 * half g h))
-    (nodeStore g page seq (leftPlace cuts h) h h es ∷ [])
+rootStores g page seq cuts h es = pick (leb (length es) (2 * half g h)) (nodeStore g page seq (leftPlace cuts h) h h es ∷ [])
     (levelStores g page seq cuts h es ++ (nodeStore g page seq (leftPlace cuts (suc h)) (suc h) (suc h) (crownList g page cuts h es) ∷ []))
 
 -- what stands above a changed node: the name of an edit's `onPath`
@@ -82,10 +78,8 @@ topAt c k page v = collapse (c .nodes) (c .level) (lessAt c k page v (suc (c .le
 unfoldable pub deleteStoresAt : Geometry → Chip → ℕ → (ℕ → ℕ) → ℕ → ℕ → List Store
 deleteStoresAt g c k page seq v = pick (eqb (topAt c k page v .level) (c .level))
     (keptStores g page seq v (lessAt c k page v) (c .level)
-    ++ (nodeStore g page seq (c .level - v) (suc (c .level)) (suc (c .level))
-    (lessAt c k page v (suc (c .level))) ∷ []))
-    (nodeStore g page seq 0 (suc (topAt c k page v .level)) (suc (topAt c k page v .level))
-    (topAt c k page v .list) ∷ [])
+    ++ (nodeStore g page seq (c .level - v) (suc (c .level)) (suc (c .level)) (lessAt c k page v (suc (c .level))) ∷ []))
+    (nodeStore g page seq 0 (suc (topAt c k page v .level)) (suc (topAt c k page v .level)) (topAt c k page v .list) ∷ [])
 
 -- ---- the calls on an image of n blocks, whatever it holds: erased pages alone are programmed
 -- the pages to come, after the next one

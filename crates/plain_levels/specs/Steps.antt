@@ -51,11 +51,7 @@ storesBy g Remove j l c = pick (noneLeft c) [] (aloneStore g j (l - 1 - j .level
 
 -- what stands above two halves: their keys there are z and y
 unfoldable pub pairOf : Job → ℕ → ℕ → ℕ → List Entry
-pairOf j l z y = record { key = z; addr = pageAt j (leftPlace (j .levels) l) } ∷ record {
-  key = y;
-  addr =
-      pageAt j (rightPlace (j .levels) l);
-} ∷ []
+pairOf j l z y = record { key = z; addr = pageAt j (leftPlace (j .levels) l) } ∷ record { key = y; addr = pageAt j (rightPlace (j .levels) l) } ∷ []
 
 -- the halves of c at level l, z the left one's key above
 pub record Halved (g : Geometry) (j : Job) (l z : ℕ) (c : List Entry) (r : Halves) : Type 0 where
@@ -66,16 +62,13 @@ pub record Halved (g : Geometry) (j : Job) (l z : ℕ) (c : List Entry) (r : Hal
   pub some : r .right .count ≤ 256
 
 unfoldable pub halfStores : Geometry → Job → ℕ → List Entry → List Store
-halfStores g j l c = aloneStore g j (leftPlace (j .levels) l) 0 l (take (half g l) c) ∷ aloneStore g j
-    (rightPlace (j .levels) l) 0 l (drop (half g l) c) ∷ []
+halfStores g j l c = aloneStore g j (leftPlace (j .levels) l) 0 l (take (half g l) c) ∷ aloneStore g j (rightPlace (j .levels) l) 0 l (drop (half g l) c) ∷ []
 
-pub record Parted (g : Geometry) (j : Job) (l z : ℕ) (c : List Entry) (b : Budget) (r : Climbed) (i o : List ℕ) : Type 0
-  where
-    pub carry : carried (r .carry) ≡ pairOf j l z (next (drop (half g l) c) 0)
-    pub ran : Ran g (halfStores g j l c) b (r .budget) i o
+pub record Parted (g : Geometry) (j : Job) (l z : ℕ) (c : List Entry) (b : Budget) (r : Climbed) (i o : List ℕ) : Type 0 where
+  pub carry : carried (r .carry) ≡ pairOf j l z (next (drop (half g l) c) 0)
+  pub ran : Ran g (halfStores g j l c) b (r .budget) i o
 
-pub record Settled (g : Geometry) (j : Job) (w : Change) (l : ℕ) (e : Entry) (c : List Entry)
-    (b : Budget) (r : Climbed) (i o : List ℕ) : Type 0 where
+pub record Settled (g : Geometry) (j : Job) (w : Change) (l : ℕ) (e : Entry) (c : List Entry) (b : Budget) (r : Climbed) (i o : List ℕ) : Type 0 where
   pub carry : carried (r .carry) ≡ nameBy g w j l e c
   pub ran : Ran g (storesBy g w j l c) b (r .budget) i o
 
@@ -93,8 +86,7 @@ unfoldable pub storesUp : Geometry → Job → (ℕ → List Entry) → ℕ → 
 storesUp g j lists zero = []
 storesUp g j lists (suc l) = storesUp g j lists l ++ storesBy g (j .change) j (suc l) (lists (suc l))
 
-pub record Rejoined (g : Geometry) (j : Job) (l : ℕ) (t : Taken) (c : List Entry)
-    (b : Budget) (r : Changed) (i o : List ℕ) : Type 0 where
+pub record Rejoined (g : Geometry) (j : Job) (l : ℕ) (t : Taken) (c : List Entry) (b : Budget) (r : Changed) (i o : List ℕ) : Type 0 where
   pub node : entries (r .node) ≡ replaceBy (t .at) (nameBy g (j .change) j l (t .entry) c) (entries (t .node))
   pub few : r .node .count ≤ 256
   pub ran : Ran g (storesBy g (j .change) j l c) b (r .budget) i o
@@ -108,8 +100,7 @@ pub record Changes (g : Geometry) (j : Job) (l : ℕ) (e : Entry) (b : Budget) (
 -- halved under a new one
 unfoldable pub grownStores : Geometry → Job → ℕ → List Entry → List Store
 grownStores g j l c = halfStores g j l c
-    ++ (aloneStore g j (leftPlace (j .levels) (suc l)) (suc l) (suc l)
-    (pairOf j l (next c 0) (next (drop (half g l) c) 0)) ∷ [])
+    ++ (aloneStore g j (leftPlace (j .levels) (suc l)) (suc l) (suc l) (pairOf j l (next c 0) (next (drop (half g l) c) 0)) ∷ [])
 
 unfoldable pub topStores : Geometry → Job → ℕ → List Entry → List Store
 topStores g j l c = rootStores g (pageAt j) (j .seq) (j .levels) l c
@@ -125,8 +116,7 @@ putStores g j l e i = storesUp g j (pathOf g j i l e) l ++ topStores g j (suc l)
 
 -- a delete where the root stays
 unfoldable pub stayStores : Geometry → Job → ℕ → Entry → List ℕ → List Store
-stayStores g j l e i = storesUp g j (pathOf g j i l e) l ++ (aloneStore g j (l - j .levels) (suc l) (suc l)
-    (changed g j i l e) ∷ [])
+stayStores g j l e i = storesUp g j (pathOf g j i l e) l ++ (aloneStore g j (l - j .levels) (suc l) (suc l) (changed g j i l e) ∷ [])
 
 -- and where the tree shrinks
 unfoldable pub removeStores : Geometry → Job → ℕ → Entry → List ℕ → List Store

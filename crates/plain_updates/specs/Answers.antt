@@ -1,6 +1,5 @@
--- The plain tree's calls (request 12) under demands 1 and 2, in the demands' words: which answers they give, and what
--- those say of the map. Which number is given where several apply, the definitions say: LENGTH, DAMAGED, WORN, ABSENT,
--- HEIGHT, ROOM, STOPPED, the first that applies. Assumes nothing.
+-- The plain tree's calls (request 12) under demands 1 and 2, in the demands' words: which answers they give, and what those say of the map. Which number
+-- is given where several apply, the definitions say: LENGTH, DAMAGED, WORN, ABSENT, HEIGHT, ROOM, STOPPED, the first that applies. Assumes nothing.
 use mathlib.Core.Path.{_≡_, refl, ap, sym, subst, _∙_}
 use mathlib.Core.List.{List, [], _∷_}
 use mathlib.Core.Bool.{Bool, true, false}
@@ -28,8 +27,8 @@ use Rattle.theory_demands.specs.Refusals.{Refuses, judged-refuses}
 use Rattle.plain_updates.specs.Words.{plainInsertTests, plainDeleteTests, plain-insert-rest, plain-delete-rest}
 use Rattle.plain_updates.specs.Words.{plain-insert-is, plain-delete-is, ready-held, plain-found}
 
--- ---- Demand 1, every image: LENGTH for a bad length, DAMAGED with rule and page for an image that is not sound,
--- neither otherwise. That answers 1 to 6 leave the image: `plain-insert-refused`, `plain-delete-refused` (Words)
+-- ---- Demand 1, every image: LENGTH for a bad length, DAMAGED with rule and page for an image that is not sound, neither otherwise. That answers 1 to 6
+-- leave the image: `plain-insert-refused`, `plain-delete-refused` (Words)
 module _ (img : List ℕ) (k : ℕ) where
   abbrev n : ℕ
   n = blocksOf plain img
@@ -39,15 +38,13 @@ module _ (img : List ℕ) (k : ℕ) where
 
   pub plain-insert-refuses : (a al : ℕ) → Refuses plain img (plainInsert plain img k a al)
   unfolding plainInsert
-  plain-insert-refuses a al = judged-refuses plain img (plainInsertRest plain n img k a al)
-      (rw (plain-insert-rest img k a al)
+  plain-insert-refuses a al = judged-refuses plain img (plainInsertRest plain n img k a al) (rw (plain-insert-rest img k a al)
       (tested-later img (plainInsertTests img k a al) _ (omega arith, (omega arith, (omega arith, tt)))
       (made-began plain (plainInsertStores plain n img k a) al img)))
 
   pub plain-delete-refuses : (al : ℕ) → Refuses plain img (plainDelete plain img k al)
   unfolding plainDelete
-  plain-delete-refuses al = judged-refuses plain img (plainDeleteRest plain n img k al)
-      (rw (plain-delete-rest img k 0 al)
+  plain-delete-refuses al = judged-refuses plain img (plainDeleteRest plain n img k al) (rw (plain-delete-rest img k 0 al)
       (tested-later img (plainDeleteTests img k 0 al) _ (omega arith, (omega arith, (omega arith, tt)))
       (made-began plain (plainDeleteStores plain n img k) al img)))
 
@@ -55,27 +52,21 @@ module _ (img : List ℕ) (k : ℕ) where
   module _ (ready : Ready plain img) where
     -- insert answers 0, 3, 5, 6 or 7, and 5 for an absent key only
     pub plain-insert-answers : (a al : ℕ) → OneOf (plainInsert plain img k a al .answer) (0 ∷ 3 ∷ 5 ∷ 6 ∷ 7 ∷ [])
-    plain-insert-answers a al = subst (λ (o : Outcome). OneOf (o .answer) (0 ∷ 3 ∷ 5 ∷ 6 ∷ 7 ∷ []))
-        (sym (plain-insert-is img k a al ready))
+    plain-insert-answers a al = subst (λ (o : Outcome). OneOf (o .answer) (0 ∷ 3 ∷ 5 ∷ 6 ∷ 7 ∷ [])) (sym (plain-insert-is img k a al ready))
         (tested-one img (plainInsertTests img k a al) _ (made-began plain (plainInsertStores plain n img k a) al img))
 
     -- delete answers 0, 3, 4, 6 or 7, and 4 exactly for an absent key, unless the chip is worn
     pub plain-delete-answers : (al : ℕ) → OneOf (plainDelete plain img k al .answer) (0 ∷ 3 ∷ 4 ∷ 6 ∷ 7 ∷ [])
-    plain-delete-answers al = subst (λ (o : Outcome). OneOf (o .answer) (0 ∷ 3 ∷ 4 ∷ 6 ∷ 7 ∷ []))
-        (sym (plain-delete-is img k 0 al ready))
+    plain-delete-answers al = subst (λ (o : Outcome). OneOf (o .answer) (0 ∷ 3 ∷ 4 ∷ 6 ∷ 7 ∷ [])) (sym (plain-delete-is img k 0 al ready))
         (tested-one img (plainDeleteTests img k 0 al) _ (made-began plain (plainDeleteStores plain n img k) al img))
 
     -- a refusal is the number of a test that is met
-    insert-met : (a al j : ℕ) → 1 ≤ j → j ≤ 6 → plainInsert plain img k a al .answer ≡ j
-        → Met j (plainInsertTests img k a al)
-    insert-met a al j p q h = tested-met img j (plainInsertTests img k a al) _
-        (made-began plain (plainInsertStores plain n img k a) al img) p q
+    insert-met : (a al j : ℕ) → 1 ≤ j → j ≤ 6 → plainInsert plain img k a al .answer ≡ j → Met j (plainInsertTests img k a al)
+    insert-met a al j p q h = tested-met img j (plainInsertTests img k a al) _ (made-began plain (plainInsertStores plain n img k a) al img) p q
         (sym (ap (λ (o : Outcome). o .answer) (plain-insert-is img k a al ready)) ∙ h)
 
-    delete-met : (al j : ℕ) → 1 ≤ j → j ≤ 6 → plainDelete plain img k al .answer ≡ j
-        → Met j (plainDeleteTests img k 0 al)
-    delete-met al j p q h = tested-met img j (plainDeleteTests img k 0 al) _
-        (made-began plain (plainDeleteStores plain n img k) al img) p q
+    delete-met : (al j : ℕ) → 1 ≤ j → j ≤ 6 → plainDelete plain img k al .answer ≡ j → Met j (plainDeleteTests img k 0 al)
+    delete-met al j p q h = tested-met img j (plainDeleteTests img k 0 al) _ (made-began plain (plainDeleteStores plain n img k) al img) p q
         (sym (ap (λ (o : Outcome). o .answer) (plain-delete-is img k 0 al ready)) ∙ h)
 
     module _ (k-low : k < fourBytes) where
@@ -106,8 +97,7 @@ module _ (img : List ℕ) (k : ℕ) where
           go (inr (inr (inr e))) = absurd e
 
       pub plain-delete-absent : (al : ℕ) → plainDelete plain img k al .answer ≡ 4 → find k (mapAt plain img) ≡ none
-      plain-delete-absent al h = by-sought (λ there. true-false _ (go (delete-met al 4 (omega arith) (omega arith) h))
-          there)
+      plain-delete-absent al h = by-sought (λ there. true-false _ (go (delete-met al 4 (omega arith) (omega arith) h)) there)
         where
           go : Met 4 (plainDeleteTests img k 0 al) → isNone (sought c k) ≡ true
           go (inl e) = absurd (omega (arith, e .0))
@@ -117,17 +107,14 @@ module _ (img : List ℕ) (k : ℕ) where
 
       pub plain-absent-delete : (al : ℕ) → find k (mapAt plain img) ≡ none
           → (plainDelete plain img k al .answer ≡ 3) ⊎ (plainDelete plain img k al .answer ≡ 4)
-      plain-absent-delete al h = subst (λ (o : Outcome). (o .answer ≡ 3) ⊎
-          (o .answer ≡ 4)) (sym (plain-delete-is img k 0 al ready))
+      plain-absent-delete al h = subst (λ (o : Outcome). (o .answer ≡ 3) ⊎ (o .answer ≡ 4)) (sym (plain-delete-is img k 0 al ready))
           (go (worn plain n img) (isNone (sought c k)) (ap isNone (plain-found img ready k k-low ∙ h)))
         where
           rest : Outcome
-          rest = pick (plainRoomless plain n c (plainLeaves c k)) (refused 6 img)
-              (made plain (plainDeleteStores plain n img k) al img)
+          rest = pick (plainRoomless plain n c (plainLeaves c k)) (refused 6 img) (made plain (plainDeleteStores plain n img k) al img)
 
           go : (x y : Bool) → y ≡ true
-              → (pick x (refused 3 img) (pick y (refused 4 img) rest) .answer ≡ 3) ⊎
-              (pick x (refused 3 img) (pick y (refused 4 img) rest) .answer ≡ 4)
+              → (pick x (refused 3 img) (pick y (refused 4 img) rest) .answer ≡ 3) ⊎ (pick x (refused 3 img) (pick y (refused 4 img) rest) .answer ≡ 4)
           go true y e = inl refl
           go false true e = inr refl
           go false false e = absurd (true-false false e refl)

@@ -40,48 +40,38 @@ some-needed c k = omega arith
 pub plain-insert-same : (n : ℕ) (img : List ℕ) (k a : ℕ) → Held plain n img → k < fourBytes
     → plainNeeds plain (chipOf plain n img) k ≤ count (pagesOf plain n) (chipOf plain n img .er)
     → plainInsertStores plain n img k a
-    ≡ insertStoresAt plain (chipOf plain n img) k a (pagesBy plain n img) (maxSeq plain n img)
-    (plainCuts plain (chipOf plain n img) k)
+    ≡ insertStoresAt plain (chipOf plain n img) k a (pagesBy plain n img) (maxSeq plain n img) (plainCuts plain (chipOf plain n img) k)
 unfolding plainInsertStores
 plain-insert-same n img k a held k-low free =
     let c = chipOf plain n img in
     insert-same plain plain-core n k a k-low c (held .whole) narrow some-half (plain-single .two (suc (suc (c .level))))
-    (pagesBy plain n img) (maxSeq plain n img) (λ i b. pages-right plain plain-core n img held i
-    (omega (arith, b, free)))
+    (pagesBy plain n img) (maxSeq plain n img) (λ i b. pages-right plain plain-core n img held i (omega (arith, b, free)))
   where
     some-page : 1 ≤ pagesOf plain n
-    some-page = let w = count-most (chipOf plain n img .er) (pagesOf plain n) in
-        omega (arith, w, free, some-needed (chipOf plain n img) k)
+    some-page = let w = count-most (chipOf plain n img .er) (pagesOf plain n) in omega (arith, w, free, some-needed (chipOf plain n img) k)
 
     narrow : rootMost plain (suc (chipOf plain n img .level)) ≡ 2 * half plain (suc (chipOf plain n img .level))
-    narrow = plain-single .narrow (suc (chipOf plain n img .level)) (omega arith)
-        (height-most plain plain-core n img some-page held)
+    narrow = plain-single .narrow (suc (chipOf plain n img .level)) (omega arith) (height-most plain plain-core n img some-page held)
 
     some-half : 1 ≤ half plain (suc (chipOf plain n img .level))
     some-half = let w = plain-single .two (suc (chipOf plain n img .level)) in omega (arith, w, narrow)
 
-pub plain-delete-same : (n : ℕ) (img : List ℕ) (k : ℕ) → Held plain n img → k < fourBytes
-    → isNone (sought (chipOf plain n img) k) ≡ false
+pub plain-delete-same : (n : ℕ) (img : List ℕ) (k : ℕ) → Held plain n img → k < fourBytes → isNone (sought (chipOf plain n img) k) ≡ false
     → plainLeaves (chipOf plain n img) k ≤ count (pagesOf plain n) (chipOf plain n img .er)
     → plainDeleteStores plain n img k
-    ≡ deleteStoresAt plain (chipOf plain n img) k (pagesBy plain n img) (maxSeq plain n img)
-    (emptied (chipOf plain n img) k)
+    ≡ deleteStoresAt plain (chipOf plain n img) k (pagesBy plain n img) (maxSeq plain n img) (emptied (chipOf plain n img) k)
 unfolding plainDeleteStores
-plain-delete-same n img k held k-low present free = delete-same plain plain-core n k k-low (chipOf plain n img)
-    (held .whole) present
-    (pagesBy plain n img) (maxSeq plain n img) (λ i b. pages-right plain plain-core n img held i
-    (omega (arith, b, free)))
+plain-delete-same n img k held k-low present free = delete-same plain plain-core n k k-low (chipOf plain n img) (held .whole) present
+    (pagesBy plain n img) (maxSeq plain n img) (λ i b. pages-right plain plain-core n img held i (omega (arith, b, free)))
 
 -- ---- the calls
 -- stores that program erased pages alone are all made, as far as the allowance goes
-made-same : (g : Geometry) (ss : List Store) (al : ℕ) (img : List ℕ) → Cautious g ss img
-    → madeWith g ss al img ≡ made g ss al img
+made-same : (g : Geometry) (ss : List Store) (al : ℕ) (img : List ℕ) → Cautious g ss img → madeWith g ss al img ≡ made g ss al img
 unfolding madeWith made
 made-same g ss al img h = rw (made-is g ss al img h, all-made ss al) refl
 
 -- stores each of which is legal program erased pages alone
-updated-cautious : (g : Geometry) (n : ℕ) (old new : List Entry) (img : List ℕ) (ss : List Store)
-    → PlainUpdated g n old new img ss → Cautious g ss img
+updated-cautious : (g : Geometry) (n : ℕ) (old new : List Entry) (img : List ℕ) (ss : List Store) → PlainUpdated g n old new img ss → Cautious g ss img
 updated-cautious g n old new img ss u = subst (λ (x : List Store). Cautious g x img) (sym (u .list-is))
     (along-cautious g n (PlainKeeps g n old) img (u .init) (u .last) (u .along) (u .legal))
 
@@ -93,8 +83,7 @@ tested false true z a b d e f h = refl
 tested false false true a b d e f h = refl
 tested false false false a b d e f h = h refl refl refl
 
-module _ (n : ℕ) (some : 1 ≤ n) (few : n ≤ 1024) (img : List ℕ) (held : Held plain n img)
-    (k al : ℕ) (k-low : k < fourBytes) where
+module _ (n : ℕ) (some : 1 ≤ n) (few : n ≤ 1024) (img : List ℕ) (held : Held plain n img) (k al : ℕ) (k-low : k < fourBytes) where
   abbrev c : Chip
   c = chipOf plain n img
 
@@ -103,8 +92,7 @@ module _ (n : ℕ) (some : 1 ≤ n) (few : n ≤ 1024) (img : List ℕ) (held : 
 
   pub plain-insert-by : (a : ℕ) → a < fourBytes → plainInsertBy plain n img k a al ≡ plainInsertRest plain n img k a al
   unfolding plainInsertBy plainInsertRest
-  plain-insert-by a a-low = tested (worn plain n img) (plainHigh plain c k)
-      (plainRoomless plain n c (plainNeeds plain c k)) (refused 3 img) (refused 5 img)
+  plain-insert-by a a-low = tested (worn plain n img) (plainHigh plain c k) (plainRoomless plain n c (plainNeeds plain c k)) (refused 3 img) (refused 5 img)
       (refused 6 img) _ _ (λ x y z.
       let room = ltb-false free (plainNeeds plain c k) z in
       let ss = plainInsertStores plain n img k a in
@@ -114,8 +102,7 @@ module _ (n : ℕ) (some : 1 ≤ n) (few : n ≤ 1024) (img : List ℕ) (held : 
 
   pub plain-delete-by : plainDeleteBy plain n img k al ≡ plainDeleteRest plain n img k al
   unfolding plainDeleteBy plainDeleteRest
-  plain-delete-by = tested (worn plain n img) (isNone (sought c k)) (plainRoomless plain n c (plainLeaves c k))
-      (refused 3 img) (refused 4 img)
+  plain-delete-by = tested (worn plain n img) (isNone (sought c k)) (plainRoomless plain n c (plainLeaves c k)) (refused 3 img) (refused 4 img)
       (refused 6 img) _ _ (λ x y z.
       let room = ltb-false free (plainLeaves c k) z in
       let ss = plainDeleteStores plain n img k in

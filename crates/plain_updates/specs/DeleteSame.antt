@@ -1,5 +1,4 @@
--- A deletion's stores plan by plan are those level by level, over any pages to come that agree where they are named.
--- Assumes nothing.
+-- A deletion's stores plan by plan are those level by level, over any pages to come that agree where they are named. Assumes nothing.
 use mathlib.Core.Path.{_≡_, refl, ap, sym, _∙_}
 use mathlib.Core.List.{List, [], _∷_, _++_}
 use mathlib.Core.Bool.{false}
@@ -62,8 +61,7 @@ module _ (g : Geometry) (core : Core g) (n k : ℕ) (k-low : k < fourBytes) (c :
 
   kept-needed : (j : ℕ) → 1 ≤ j → j ≤ c .level → j - 1 - v < plainLeaves c k
   kept-needed j b d = by-root g core n k k-low c good present (λ s. let w = stay-leaves s in omega (arith, w, b, d))
-      (λ i one. let w = fall-leaves i one in let x = all-emptied g core n k k-low c good present i one in
-      omega (arith, w, x, b, d))
+      (λ i one. let w = fall-leaves i one in let x = all-emptied g core n k k-low c good present i one in omega (arith, w, x, b, d))
 
   lists-same : lessAt c k page v ≡ lists
   unfolding lessAt plainLess keptPage
@@ -71,8 +69,7 @@ module _ (g : Geometry) (core : Core g) (n k : ℕ) (k-low : k < fourBytes) (c :
       (λ j b d. agree (j - 1 - v) (kept-needed j b d))
 
   abbrev storesOf : (ℕ → List Entry) → Top → List Store
-  storesOf ls t = pick (eqb (t .level) (c .level))
-      (keptStores g page seq v ls (c .level) ++ (nodeStore g page seq (c .level - v) h h (ls h) ∷ []))
+  storesOf ls t = pick (eqb (t .level) (c .level)) (keptStores g page seq v ls (c .level) ++ (nodeStore g page seq (c .level - v) h h (ls h) ∷ []))
       (nodeStore g page seq 0 (suc (t .level)) (suc (t .level)) (t .list) ∷ [])
 
   -- ---- the root stays: the levels that are left, then its list
@@ -82,11 +79,9 @@ module _ (g : Geometry) (core : Core g) (n k : ℕ) (k-low : k < fourBytes) (c :
   last-place : last ≡ c .level - v
   last-place = let w = kept-count g core n k k-low c good present in omega (arith, w)
 
-  levels-same : Stays → keptStores g page seq v lists (c .level) ≡ below g (coming g n c) seq 0
-      (keptPlans lists (c .level))
+  levels-same : Stays → keptStores g page seq v lists (c .level) ≡ below g (coming g n c) seq 0 (keptPlans lists (c .level))
   levels-same s = kept-to g page seq v lists (c .level) (empties g core n k k-low c good present)
-      ∙ below-same g page (coming g n c) seq (plainLeaves c k) agree 0 (keptPlans lists (c .level))
-      (let w = stay-leaves s in omega (arith, w, last-place))
+      ∙ below-same g page (coming g n c) seq (plainLeaves c k) agree 0 (keptPlans lists (c .level)) (let w = stay-leaves s in omega (arith, w, last-place))
 
   root-same : Stays → nodeStore g page seq (c .level - v) h h (lists h) ≡ rootStore g (coming g n c) seq last root
   root-same s = node-same g page (coming g n c) seq (c .level - v) last h h (lists h)
@@ -94,8 +89,7 @@ module _ (g : Geometry) (core : Core g) (n k : ℕ) (k-low : k < fourBytes) (c :
 
   stay-plan : Stays → deletePlans g n c k ≡ keptPlans lists (c .level) ++ (root ∷ [])
   stay-plan s = stay-plans g core n k k-low c good present s
-      ∙ ap (λ (t : Top). keptPlans lists (c .level) ++ (record { level = suc (t .level); list = t .list } ∷ []))
-      (top-stays g core n k k-low c good present s)
+      ∙ ap (λ (t : Top). keptPlans lists (c .level) ++ (record { level = suc (t .level); list = t .list } ∷ [])) (top-stays g core n k k-low c good present s)
 
   stay-same : Stays → laid g n c seq 0 (deletePlans g n c k) ≡ storesOf lists top
   stay-same s = rw (top-stays g core n k k-low c good present s, eq-eqb (c .level) (c .level) refl)

@@ -1,5 +1,5 @@
--- Request 13 of document 02, "Carry an index across": the text of a map, a text read line by line, and the calls export
--- and import on every image. Definitions alone; assumes nothing.
+-- Request 13 of document 02, "Carry an index across": the text of a map, a text read line by line, and the calls export and import on every
+-- image. Definitions alone; assumes nothing.
 use Prim.Native.Nat.{ℕ, suc, _+_, _%_}
 use mathlib.Core.Bool.{Bool}
 use mathlib.Core.List.{List, [], _∷_, _++_}
@@ -17,8 +17,7 @@ use Rattle.model.specs.Calls.{Outcome, gives, refused, damaged, judged, chosenC
 use Rattle.text_lines.specs.Lines.{lines, fields}
 use Rattle.text_decimals.specs.Decimals.{largest, numberOf, decimal}
 
--- ---- the text of a map: "one line for each record, key, tab, address, rising keys, decimal without leading zeros,
--- each line ended by byte 10"
+-- ---- the text of a map: "one line for each record, key, tab, address, rising keys, decimal without leading zeros, each line ended by byte 10"
 abbrev pub recordText : Entry → List ℕ
 recordText e = decimal (e .key) ++ (9 ∷ decimal (e .addr))
 
@@ -54,8 +53,7 @@ mostRecords = 4096
 -- a line after i others, whose key must not be below low; then the lines after it
 unfoldable pub readLine : ℕ → ℕ → Option Entry → (ℕ → Reading) → Reading
 readLine i low none after = bad (suc i)
-readLine i low (some e) after = pick (ltb i mostRecords) (pick (leb low (e .key)) (with e (after (suc (e .key))))
-    (bad (suc i))) (bad (suc i))
+readLine i low (some e) after = pick (ltb i mostRecords) (pick (leb low (e .key)) (with e (after (suc (e .key)))) (bad (suc i))) (bad (suc i))
 
 -- "so is a last line without byte 10"
 unfoldable pub readRest : ℕ → List ℕ → Reading
@@ -75,8 +73,8 @@ readText text = readLines 0 0 (lines text .ended) (lines text .rest)
 abbrev pub word : ℕ → ℕ
 word n = n % fourBytes
 
--- export: records, bytes of the whole text, bytes written; the lent text where the others have the image. All of the
--- text or none of it is written: a text of length 0 asks how long it is
+-- export: records, bytes of the whole text, bytes written; the lent text where the others have the image. All of the text or none of it
+-- is written: a text of length 0 asks how long it is
 abbrev pub fits : List ℕ → List ℕ → Bool
 fits text buffer = leb (length text) (length buffer)
 
@@ -86,8 +84,7 @@ exports es buffer =
     (pick (fits (textOf es) buffer) (textOf es ++ drop (length (textOf es)) buffer) buffer)
 
 unfoldable pub exporting : Geometry → List ℕ → List ℕ → Outcome
-exporting g img buffer = judged g img (refused 1 buffer) (damaged buffer)
-    (exports (mapOf (chipOf g (blocksOf g img) img)) buffer)
+exporting g img buffer = judged g img (refused 1 buffer) (damaged buffer) (exports (mapOf (chipOf g (blocksOf g img) img)) buffer)
 
 unfoldable pub exportOf : ℕ → List ℕ → List ℕ → Outcome
 exportOf kind img buffer = chosenCall (chosenOf kind) (λ g. exporting g img buffer) (refused 1 buffer)

@@ -20,8 +20,7 @@ digits-same zero g n h k = absurd (omega arith)
 digits-same (suc f) zero n h k = absurd (omega arith)
 digits-same (suc f) (suc g) n h k = elim (decLt n 10) [
   | yes q ↦ rw (lt-ltb n 10 q) refl
-  | no q ↦ rw (le-ltb n 10 (omega arith)) (ap (λ ds. ds ++ ((48 + n % 10) ∷ [])) (digits-same f g (n / 10) (omega arith)
-      (omega arith)))
+  | no q ↦ rw (le-ltb n 10 (omega arith)) (ap (λ ds. ds ++ ((48 + n % 10) ∷ [])) (digits-same f g (n / 10) (omega arith) (omega arith)))
 ]
 
 pub decimal-one : (n : ℕ) → n < 10 → decimal n ≡ (48 + n) ∷ []
@@ -30,8 +29,7 @@ decimal-one n h = rw (lt-ltb n 10 h) refl
 
 pub decimal-more : (n : ℕ) → 10 ≤ n → decimal n ≡ decimal (n / 10) ++ ((48 + n % 10) ∷ [])
 unfolding decimal digitsOf
-decimal-more n h = rw (le-ltb n 10 h) (ap (λ ds. ds ++ ((48 + n % 10) ∷ [])) (digits-same n
-    (suc (n / 10)) (n / 10) (omega arith) (omega arith)))
+decimal-more n h = rw (le-ltb n 10 h) (ap (λ ds. ds ++ ((48 + n % 10) ∷ [])) (digits-same n (suc (n / 10)) (n / 10) (omega arith) (omega arith)))
 
 -- by the digits, the last one first
 by-digits : (P : ℕ → Type 0) → ((n : ℕ) → n < 10 → P n) → ((n : ℕ) → 10 ≤ n → P (n / 10) → P n) → (n : ℕ) → P n
@@ -104,8 +102,7 @@ decimal-proper (suc n) = proper-first (decimal (suc n)) (decimal-some (suc n)) (
 
 pub number-read : (n : ℕ) → n ≤ largest → numberOf (decimal n) ≡ some n
 unfolding numberOf
-number-read n h = rw (and-both _ _ (and-both _ _ (decimal-digits n) (decimal-proper n))
-    (le-leb (value 0 (decimal n)) largest (rw (decimal-value n) h)))
+number-read n h = rw (and-both _ _ (and-both _ _ (decimal-digits n) (decimal-proper n)) (le-leb (value 0 (decimal n)) largest (rw (decimal-value n) h)))
     (ap some (decimal-value n))
 
 -- ---- what is read is written as it stood
@@ -141,16 +138,12 @@ module _ (ds : List ℕ) (n : ℕ) where
   unfolding numberOf
   number-is = go (allDigits ds & proper ds & leb (value 0 ds) largest) refl
     where
-      go : (t : Bool) → (allDigits ds & proper ds & leb (value 0 ds) largest) ≡ t → pick t (some (value 0 ds)) none
-          ≡ some n
+      go : (t : Bool) → (allDigits ds & proper ds & leb (value 0 ds) largest) ≡ t → pick t (some (value 0 ds)) none ≡ some n
           → (decimal n ≡ ds) × (n ≤ largest)
       go true e h =
           let q = Option·some-injective (value 0 ds) n h in
-          let l = leb-true (value 0 ds) largest (and-right _ _ e) in (
-            ap decimal (sym q) ∙ digits-back ds (and-left _ _ (and-left _ _ e)) (and-right _ _ (and-left _ _ e)),
-            subst
-                (λ m. m ≤ largest) q l,
-          )
+          let l = leb-true (value 0 ds) largest (and-right _ _ e) in
+          (ap decimal (sym q) ∙ digits-back ds (and-left _ _ (and-left _ _ e)) (and-right _ _ (and-left _ _ e)), subst (λ m. m ≤ largest) q l)
       go false e h = absurd (Option·none-ne-some n h)
 
   pub number-back : numberOf ds ≡ some n → decimal n ≡ ds
@@ -161,5 +154,4 @@ module _ (ds : List ℕ) (n : ℕ) where
 
   -- it has at most ten digits
   pub number-short : numberOf ds ≡ some n → length ds ≤ 10
-  number-short h = let m = number-most h in subst (λ l. length l ≤ 10) (number-back h)
-      (decimal-short 9 n (omega (arith, m)))
+  number-short h = let m = number-most h in subst (λ l. length l ≤ 10) (number-back h) (decimal-short 9 n (omega (arith, m)))

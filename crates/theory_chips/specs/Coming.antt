@@ -1,5 +1,5 @@
--- The page after the next one, once that is programmed: the next one of its block, or past the block's end page 0 of
--- the first wholly erased block after it, round past the end to the start. g is a block's pages. Assumes nothing.
+-- The page after the next one, once that is programmed: the next one of its block, or past the block's end page 0 of the first wholly erased
+-- block after it, round past the end to the start. g is a block's pages. Assumes nothing.
 use mathlib.Core.Path.{_≡_, refl, _∙_}
 use mathlib.Core.Bool.{Bool, true, false}
 use Prim.Native.Nat.{ℕ, suc, _+_, _-_, _*_, _/_, _<_, _≤_}
@@ -17,8 +17,7 @@ round-true : (n b : ℕ) (f : ℕ → Bool) → round n b f < n → f (round n b
 unfolding round
 round-true n b f = go (ltb (least n (λ i. ltb b i & f i)) n)
   where
-    go : (t : Bool) → pick t (least n (λ i. ltb b i & f i)) (least n f) < n
-        → f (pick t (least n (λ i. ltb b i & f i)) (least n f)) ≡ true
+    go : (t : Bool) → pick t (least n (λ i. ltb b i & f i)) (least n f) < n → f (pick t (least n (λ i. ltb b i & f i)) (least n f)) ≡ true
     go true h = and-right _ _ (least-is (λ i. ltb b i & f i) n .there h)
     go false h = least-is f n .there h
 
@@ -75,8 +74,7 @@ module _ (g n : ℕ) (w : Ahead) (g-pos : 1 ≤ g) (r2 : R2 g n (w .er)) (free :
   not-mixed : suc j ≡ g → (c : ℕ) → c < n → mixed g er′ c ≡ false
   not-mixed h c q = by-test (mixed g er′ c)
       (λ e. by-eq c b
-      (λ z. absurd (true-false (er′ (g * c + (g - 1))) (last-page c e)
-      (rw (z, (let v : g - 1 ≡ j = omega (arith, h) in v)) at-N)))
+      (λ z. absurd (true-false (er′ (g * c + (g - 1))) (last-page c e) (rw (z, (let v : g - 1 ≡ j = omega (arith, h) in v)) at-N)))
       (λ z. absurd (z (mixed-next g n w g-pos r2 c q
       (rw (← other c 0 (omega arith) (λ v _. z v), ← other c (g - 1) (omega arith) (λ v _. z v)) e)))))
       (λ e. e)
@@ -91,10 +89,5 @@ module _ (g n : ℕ) (w : Ahead) (g-pos : 1 ≤ g) (r2 : R2 g n (w .er)) (free :
       let z : nextBlock g n (onward N w) ≡ x = rw t refl in
       let k : x < n = rw (← z) (next-found g n (onward N w) g-pos r2′ some .0) in
       let f : firstIn g er′ x ≡ 0 = least-of (λ i. er′ (g * x + i)) g 0
-      (record {
-        most = omega arith;
-        before = λ i q. absurd (omega arith);
-        there = λ q. round-true n
-            (N / g) (λ c. er′ (g * c + 0)) k;
-      }) in
+      (record { most = omega arith; before = λ i q. absurd (omega arith); there = λ q. round-true n (N / g) (λ c. er′ (g * c + 0)) k }) in
       rw (z, f) (omega arith)

@@ -42,8 +42,7 @@ moveTo t c p m = record {
   root = m;
 }
 
--- what a move does: sound again, the same pairs, p dead, nothing else come alive but the new page, one page fewer
--- erased
+-- what a move does: sound again, the same pairs, p dead, nothing else come alive but the new page, one page fewer erased
 pub record MoveStep (g : Geometry) (n : ℕ) (c c′ : Chip) (p new : ℕ) : Type 0 where
   pub good : Whole g n c′
   pub pairs-are : mapOf c′ ≡ mapOf c
@@ -55,8 +54,7 @@ pub record MoveStep (g : Geometry) (n : ℕ) (c c′ : Chip) (p new : ℕ) : Typ
   pub alike : Same g c c′
   pub frees : count (g .pages * n) (c .er) ≡ suc (count (g .pages * n) (c′ .er))
 
-module _ (g : Geometry) (shape : Shape g) (n : ℕ) (c : Chip) (good : Whole g n c)
-    (p : ℕ) (alive : live (placesOf c) p ≡ true)
+module _ (g : Geometry) (shape : Shape g) (n : ℕ) (c : Chip) (good : Whole g n c) (p : ℕ) (alive : live (placesOf c) p ≡ true)
     (free : 1 ≤ count (g .pages * n) (c .er)) where
   abbrev new : ℕ
   new = nextPage (g .pages) n (ahead g n c)
@@ -64,8 +62,7 @@ module _ (g : Geometry) (shape : Shape g) (n : ℕ) (c : Chip) (good : Whole g n
   abbrev c′ : Chip
   c′ = moveTo (g .pages * n) c p new
 
-  found : (nextBlock (g .pages) n (ahead g n c) < n) ×
-      (firstIn (g .pages) (c .er) (nextBlock (g .pages) n (ahead g n c)) < g .pages) × (c .er new ≡ true)
+  found : (nextBlock (g .pages) n (ahead g n c) < n) × (firstIn (g .pages) (c .er) (nextBlock (g .pages) n (ahead g n c)) < g .pages) × (c .er new ≡ true)
   found = next-found (g .pages) n (ahead g n c) (some-page g (shape-core g shape)) (good .r2) free
 
   new-in : new < g .pages * n
@@ -85,8 +82,7 @@ module _ (g : Geometry) (shape : Shape g) (n : ℕ) (c : Chip) (good : Whole g n
   unfolding moveTo
   on-new j = rw (eq-eqb new new refl) refl
 
-  pub low : Mem (record { page = p; level = lowLevel (placesOf c) p }) (placesOf c) ×
-      All (λ x. x .page ≡ p → lowLevel (placesOf c) p ≤ x .level)
+  pub low : Mem (record { page = p; level = lowLevel (placesOf c) p }) (placesOf c) × All (λ x. x .page ≡ p → lowLevel (placesOf c) p ≤ x .level)
       (placesOf c)
   low = low-is (placesOf c) p alive
 
@@ -103,18 +99,15 @@ module _ (g : Geometry) (shape : Shape g) (n : ℕ) (c : Chip) (good : Whole g n
   fit = fitOf (g .pages * n) (c .er)
 
   pub k-low : k < fourBytes
-  k-low = all-get (λ x. next (c .nodes (x .page) (x .level)) 0 < fourBytes) (record { page = p; level = a })
-      (placesOf c)
-      (root-first fit (λ l. 2 * half g l) (rootMost g) (c .nodes) (c .level) (c .root) fourBytes (omega arith)
-      (good .sound .rooted)) (low .0)
+  k-low = all-get (λ x. next (c .nodes (x .page) (x .level)) 0 < fourBytes) (record { page = p; level = a }) (placesOf c)
+      (root-first fit (λ l. 2 * half g l) (rootMost g) (c .nodes) (c .level) (c .root) fourBytes (omega arith) (good .sound .rooted)) (low .0)
 
   some-root : 1 ≤ c .level → 0 < length es
   some-root i = let z = good .sound .rooted .least i in omega (arith, z)
 
   pub made : MoveMade (c .nodes) (c′ .nodes) k a new (c .level) (chosen k es)
   unfolding movePart
-  made = made-from fit (λ l. 2 * half g l) (c .nodes) k same (λ e. e ∷ []) (renamed a new) (same-as k)
-      (λ j d. a ≤ j → c′ .nodes new j ≡ d)
+  made = made-from fit (λ l. 2 * half g l) (c .nodes) k same (λ e. e ∷ []) (renamed a new) (same-as k) (λ j d. a ≤ j → c′ .nodes new j ≡ d)
       (c .level) fourBytes (theRoot c) k-low some-root (good .sound .rooted .rises)
       (λ j b d w. on-new j ∙ rw (le-leb a j w) refl)
 
@@ -125,24 +118,18 @@ module _ (g : Geometry) (shape : Shape g) (n : ℕ) (c : Chip) (good : Whole g n
   pub at-root : c′ .nodes new (suc (c .level)) ≡ splice (moved (c .nodes) k a new (c .level)) k es
   unfolding movePart
   at-root = on-new (suc (c .level)) ∙ rw (le-leb a (suc (c .level)) a-in)
-      (onPath-top fit (λ l. 2 * half g l) (c .nodes) k same (λ e. e ∷ []) (renamed a new) (same-as k) (c .level)
-      (theRoot c)
-      ∙ root-is fit (λ l. 2 * half g l) (c .nodes) k same (λ e. e ∷ []) (renamed a new) (same-as k) (c .level) fourBytes
-      (c .root) k-low some-root
+      (onPath-top fit (λ l. 2 * half g l) (c .nodes) k same (λ e. e ∷ []) (renamed a new) (same-as k) (c .level) (theRoot c)
+      ∙ root-is fit (λ l. 2 * half g l) (c .nodes) k same (λ e. e ∷ []) (renamed a new) (same-as k) (c .level) fourBytes (c .root) k-low some-root
       (good .sound .rooted .rises)
       ∙ same-root (c .nodes) k (renamed a new) (c .level) es)
 
   pub fit-new : (l : ℕ) → fitOf (g .pages * n) (after new (c .er)) (suc l) new
   fit-new l = (new-in, rw (eq-eqb new new refl) refl)
 
-  the-move : Moved p (lowLevel (placesOf c) p) new fourBytes (half g) (rootMost g) (c .nodes) (c′ .nodes)
-      (fitOf (g .pages * n) (c .er))
-      (fitOf (g .pages * n) (after new (c .er))) fit-new keep stays (λ l h. not-new new l h refl) (c .level) (c .root)
-      (good .sound) (low .0) (low .1)
-  the-move = move-sound p (lowLevel (placesOf c) p) new fourBytes (half g) (rootMost g) (c .nodes) (c′ .nodes)
-      (fitOf (g .pages * n) (c .er))
-      (fitOf (g .pages * n) (after new (c .er))) fit-new keep stays (λ l h. not-new new l h refl) (c .level) (c .root)
-      (good .sound) (low .0)
+  the-move : Moved p (lowLevel (placesOf c) p) new fourBytes (half g) (rootMost g) (c .nodes) (c′ .nodes) (fitOf (g .pages * n) (c .er))
+      (fitOf (g .pages * n) (after new (c .er))) fit-new keep stays (λ l h. not-new new l h refl) (c .level) (c .root) (good .sound) (low .0) (low .1)
+  the-move = move-sound p (lowLevel (placesOf c) p) new fourBytes (half g) (rootMost g) (c .nodes) (c′ .nodes) (fitOf (g .pages * n) (c .er))
+      (fitOf (g .pages * n) (after new (c .er))) fit-new keep stays (λ l h. not-new new l h refl) (c .level) (c .root) (good .sound) (low .0)
       (low .1) made at-root
 
   pub move-step : MoveStep g n c c′ p new
@@ -162,15 +149,10 @@ module _ (g : Geometry) (shape : Shape g) (n : ℕ) (c : Chip) (good : Whole g n
       }
     where
       good′ : Whole g n c′
-      good′ = record {
-        r2 = r2-next (g .pages) n (ahead g n c) (some-page g (shape-core g shape)) (good .r2) (found .0)
-            (found .1);
-        sound = the-move .sound;
-      }
+      good′ = record { r2 = r2-next (g .pages) n (ahead g n c) (some-page g (shape-core g shape)) (good .r2) (found .0) (found .1); sound = the-move .sound }
 
       alike′ : Same g c c′
-      alike′ = same-like g (g .pages * n) (c .er) (c′ .er) (c .seq) (c′ .seq) (c .nodes) (c′ .nodes) (c .level)
-          (c .root) new (good .sound .rooted)
+      alike′ = same-like g (g .pages * n) (c .er) (c′ .er) (c .seq) (c′ .seq) (c .nodes) (c′ .nodes) (c .level) (c .root) new (good .sound .rooted)
           (subst (λ m. Likes (Like (c .nodes) (c′ .nodes) (c .level)) es m) (sym at-root)
           (move-root-like k a new (λ l. 2 * half g l) (c .nodes) (c′ .nodes) fit stays (c .level) fourBytes es k-low
           (good .sound .rooted .rises) made))
@@ -179,7 +161,6 @@ module _ (g : Geometry) (shape : Shape g) (n : ℕ) (c : Chip) (good : Whole g n
       old-p : (p < g .pages * n) × (c .er p ≡ false)
       old-p = let z = all-get (λ x. (1 ≤ x .level) × fitOf (g .pages * n) (c .er) (x .level) (x .page))
           (record { page = p; level = lowLevel (placesOf c) p }) (placesOf c)
-          (root-fit (fitOf (g .pages * n) (c .er)) (λ l. 2 * half g l) (rootMost g) (c .nodes) (c .level)
-          (c .root) fourBytes (good .sound .rooted))
+          (root-fit (fitOf (g .pages * n) (c .er)) (λ l. 2 * half g l) (rootMost g) (c .nodes) (c .level) (c .root) fourBytes (good .sound .rooted))
           (low .0) in
           fit-page (g .pages * n) (c .er) (lowLevel (placesOf c) p) p (z .0) (z .1)

@@ -25,8 +25,7 @@ page-inj g b c i j p q e = go (ltb b c) (ltb c b) refl refl
     go : (t u : Bool) → ltb b c ≡ t → ltb c b ≡ u → (b ≡ c) × (i ≡ j)
     go true u x y = absurd (omega (arith, block-in g b c (ltb-true b c x)))
     go false true x y = absurd (omega (arith, block-in g c b (ltb-true c b y)))
-    go false false x y = let z : b ≡ c = omega (arith, ltb-false b c x, ltb-false c b y) in let w = ap (λ m. g * m) z in
-        (z, omega (arith, w))
+    go false false x y = let z : b ≡ c = omega (arith, ltb-false b c x, ltb-false c b y) in let w = ap (λ m. g * m) z in (z, omega (arith, w))
 
 pub in-range : (g n b j : ℕ) → b < n → j < g → g * b + j < g * n
 in-range g n b j p q = omega (arith, block-in g b n p)
@@ -64,14 +63,11 @@ round-most n b f = go (ltb (least n (λ i. ltb b i & f i)) n)
 
 pub round-found : (n b c : ℕ) (f : ℕ → Bool) → c < n → f c ≡ true → (round n b f < n) × (f (round n b f) ≡ true)
 unfolding round
-round-found n b c f q h = go (ltb (least n (λ i. ltb b i & f i)) n) refl (least-is (λ i. ltb b i & f i) n)
-    (least-is f n)
+round-found n b c f q h = go (ltb (least n (λ i. ltb b i & f i)) n) refl (least-is (λ i. ltb b i & f i) n) (least-is f n)
   where
-    go : (t : Bool) → ltb (least n (λ i. ltb b i & f i)) n ≡ t → Least (λ i. ltb b i & f i) n
-        (least n (λ i. ltb b i & f i))
+    go : (t : Bool) → ltb (least n (λ i. ltb b i & f i)) n ≡ t → Least (λ i. ltb b i & f i) n (least n (λ i. ltb b i & f i))
         → Least f n (least n f)
-        → (pick t (least n (λ i. ltb b i & f i)) (least n f) < n) ×
-        (f (pick t (least n (λ i. ltb b i & f i)) (least n f)) ≡ true)
+        → (pick t (least n (λ i. ltb b i & f i)) (least n f) < n) × (f (pick t (least n (λ i. ltb b i & f i)) (least n f)) ≡ true)
     go true e l k = let z = ltb-true (least n (λ i. ltb b i & f i)) n e in (z, and-right _ _ (l .there z))
     go false e l k = let z = inside (ltb c (least n f)) refl in (z, k .there z)
       where
@@ -86,19 +82,15 @@ steps n b x = pick (ltb b x) (x - suc b) (x + (n - suc b))
 -- it is the first one met that passes
 pub round-first : (n b i : ℕ) (f : ℕ → Bool) → b < n → i < n → f i ≡ true → steps n b (round n b f) ≤ steps n b i
 unfolding round
-round-first n b i f q h e = go (ltb (least n (λ i. ltb b i & f i)) n) refl (least-is (λ i. ltb b i & f i) n)
-    (least-is f n)
+round-first n b i f q h e = go (ltb (least n (λ i. ltb b i & f i)) n) refl (least-is (λ i. ltb b i & f i) n) (least-is f n)
   where
-    higher : Least (λ i. ltb b i & f i) n (least n (λ i. ltb b i & f i)) → ltb b i ≡ true
-        → least n (λ i. ltb b i & f i) ≤ i
-    higher l x = by-lt i (least n (λ i. ltb b i & f i)) (λ z. absurd (true-false _ (and-both _ _ x e) (l .before i z)))
-        (λ z. z)
+    higher : Least (λ i. ltb b i & f i) n (least n (λ i. ltb b i & f i)) → ltb b i ≡ true → least n (λ i. ltb b i & f i) ≤ i
+    higher l x = by-lt i (least n (λ i. ltb b i & f i)) (λ z. absurd (true-false _ (and-both _ _ x e) (l .before i z))) (λ z. z)
 
     lowest : Least f n (least n f) → least n f ≤ i
     lowest k = by-lt i (least n f) (λ z. absurd (true-false (f i) e (k .before i z))) (λ z. z)
 
-    go : (t : Bool) → ltb (least n (λ i. ltb b i & f i)) n ≡ t → Least (λ i. ltb b i & f i) n
-        (least n (λ i. ltb b i & f i))
+    go : (t : Bool) → ltb (least n (λ i. ltb b i & f i)) n ≡ t → Least (λ i. ltb b i & f i) n (least n (λ i. ltb b i & f i))
         → Least f n (least n f) → steps n b (pick t (least n (λ i. ltb b i & f i)) (least n f)) ≤ steps n b i
     go true x l k =
         let z = ltb-true (least n (λ i. ltb b i & f i)) n x in
@@ -136,8 +128,7 @@ module _ (g n : ℕ) (w : Ahead) (g-pos : 1 ≤ g) (r2 : R2 g n (w .er)) where
   mixed-first : (b : ℕ) → mixed g er b ≡ true → (er (g * b + 0) ≡ false) × (er (g * b + (g - 1)) ≡ true)
   mixed-first b h = go (er (g * b + 0)) refl h
     where
-      go : (t : Bool) → er (g * b + 0) ≡ t → pick t false (er (g * b + (g - 1))) ≡ true → (er (g * b + 0) ≡ false) ×
-          (er (g * b + (g - 1)) ≡ true)
+      go : (t : Bool) → er (g * b + 0) ≡ t → pick t false (er (g * b + (g - 1))) ≡ true → (er (g * b + 0) ≡ false) × (er (g * b + (g - 1)) ≡ true)
       go true e i = absurd (true-false false i refl)
       go false e i = (e, i)
 
@@ -176,15 +167,13 @@ module _ (g n : ℕ) (w : Ahead) (g-pos : 1 ≤ g) (r2 : R2 g n (w .er)) where
           let f = first-in b 0 (omega arith) (k .1) in
           (k .0, omega (arith, f .0), f .1)
         where
-          is-blank : (t : Bool) → er (g * c + 0) ≡ t → pick t false (er (g * c + (g - 1))) ≡ false
-              → er (g * c + (g - 1)) ≡ true
+          is-blank : (t : Bool) → er (g * c + 0) ≡ t → pick t false (er (g * c + (g - 1))) ≡ false → er (g * c + (g - 1)) ≡ true
               → er (g * c + 0) ≡ true
           is-blank true x y v = x
           is-blank false x y v = absurd (true-false (er (g * c + (g - 1))) v y)
 
   -- it is one while there is one
-  pub next-found : 1 ≤ count (g * n) er → (nextBlock g n w < n) × (firstIn g er (nextBlock g n w) < g) ×
-      (er (nextPage g n w) ≡ true)
+  pub next-found : 1 ≤ count (g * n) er → (nextBlock g n w < n) × (firstIn g er (nextBlock g n w) < g) × (er (nextPage g n w) ≡ true)
   next-found h =
       let f = some-true (g * n) er h in
       let v = by-block g n (f .0) (f .1) in
@@ -201,11 +190,10 @@ module _ (g n : ℕ) (w : Ahead) (g-pos : 1 ≤ g) (r2 : R2 g n (w .er)) where
       go : (t : Bool) → ltb (least n (mixed g er)) n ≡ t → Least (mixed g er) n (least n (mixed g er))
           → b ≡ pick t (least n (mixed g er)) (round n (w .last / g) (λ b. er (g * b + 0)))
       go true e l = let z = ltb-true (least n (mixed g er)) n e in r2 .one b (least n (mixed g er)) q z h (l .there z)
-      go false e l = let z = ltb-false (least n (mixed g er)) n e in
-          absurd (true-false (mixed g er b) h (l .before b (omega arith)))
+      go false e l = let z = ltb-false (least n (mixed g er)) n e in absurd (true-false (mixed g er b) h (l .before b (omega arith)))
 
-  -- request 2: where no block is partly programmed, the first wholly erased block met from the one after the block of
-  -- the page with the largest number on, round past the end to the start, is taken
+  -- request 2: where no block is partly programmed, the first wholly erased block met from the one after the block of the page
+  -- with the largest number on, round past the end to the start, is taken
   module _ (none : (b : ℕ) → b < n → mixed g er b ≡ false) where
     abbrev heads : ℕ → Bool
     heads b = er (g * b + 0)
@@ -216,8 +204,7 @@ module _ (g n : ℕ) (w : Ahead) (g-pos : 1 ≤ g) (r2 : R2 g n (w .er)) where
       where
         go : (t : Bool) → ltb (least n (mixed g er)) n ≡ t → Least (mixed g er) n (least n (mixed g er))
             → pick t (least n (mixed g er)) (round n (w .last / g) heads) ≡ round n (w .last / g) heads
-        go true e l = let z = ltb-true (least n (mixed g er)) n e in
-            absurd (true-false _ (l .there z) (none (least n (mixed g er)) z))
+        go true e l = let z = ltb-true (least n (mixed g er)) n e in absurd (true-false _ (l .there z) (none (least n (mixed g er)) z))
         go false e l = refl
 
     pub next-first : w .last < g * n → (c : ℕ) → c < n → Wholly g er c → First g n w c
@@ -239,16 +226,14 @@ module _ (g n : ℕ) (w : Ahead) (g-pos : 1 ≤ g) (r2 : R2 g n (w .er)) where
     abbrev er′ : ℕ → Bool
     er′ = after (nextPage g n w) er
 
-    pub elsewhere : (b j : ℕ) → j < g → ((b ≡ nextBlock g n w) → (j ≡ firstIn g er (nextBlock g n w)) → ⊥)
-        → er′ (g * b + j) ≡ er (g * b + j)
+    pub elsewhere : (b j : ℕ) → j < g → ((b ≡ nextBlock g n w) → (j ≡ firstIn g er (nextBlock g n w)) → ⊥) → er′ (g * b + j) ≡ er (g * b + j)
     elsewhere b j q d = rw (ne-eqb (g * b + j) (nextPage g n w) (λ e. let z = page-inj g b (nextBlock g n w) j
         (firstIn g er (nextBlock g n w)) q inside e in d (z .0) (z .1))) refl
 
     true-old : (q : ℕ) → er′ q ≡ true → (er q ≡ true) × (q ≡ nextPage g n w → ⊥)
     true-old q h = go (eqb q (nextPage g n w)) refl h
       where
-        go : (t : Bool) → eqb q (nextPage g n w) ≡ t → pick t false (er q) ≡ true → (er q ≡ true) ×
-            (q ≡ nextPage g n w → ⊥)
+        go : (t : Bool) → eqb q (nextPage g n w) ≡ t → pick t false (er q) ≡ true → (er q ≡ true) × (q ≡ nextPage g n w → ⊥)
         go true e i = absurd (true-false false i refl)
         go false e i = (i, eqb-false q (nextPage g n w) e)
 
@@ -261,8 +246,7 @@ module _ (g n : ℕ) (w : Ahead) (g-pos : 1 ≤ g) (r2 : R2 g n (w .er)) where
             let o = true-old (g * b + i) h in
             elsewhere b j v (λ e f. by-eq i j
             (λ z. o .1 (rw (z, e, f) refl))
-            (λ z. true-false (er (g * b + i)) (o .0) (rw e (least-is (λ j. er (g * nextBlock g n w + j)) g .before i
-            (omega arith)))))
+            (λ z. true-false (er (g * b + i)) (o .0) (rw e (least-is (λ j. er (g * nextBlock g n w + j)) g .before i (omega arith)))))
             ∙ r2 .mono b i j p q v (o .0)
 
         there : (b : ℕ) → b < n → mixed g er′ b ≡ true → b ≡ nextBlock g n w
@@ -300,19 +284,12 @@ module _ (g n : ℕ) (w : Ahead) (g-pos : 1 ≤ g) (start : R2 g n (w .er)) wher
           → (taken g n w i .er q ≡ true → (w .er q ≡ true) × ((j : ℕ) → j < i → q ≡ nth g n w j → ⊥))
           → (w .er q ≡ true) × ((j : ℕ) → j < suc i → q ≡ nth g n w j → ⊥)
       go true e k f = absurd (true-false false k refl)
-      go false e k f = (
-        f k .0,
-        λ j z. by-eq j i (λ v y. eqb-false q (nth g n w i) e (y ∙ ap (nth g n w) v))
-            (λ v. f k .1 j (omega arith)),
-      )
+      go false e k f = (f k .0, λ j z. by-eq j i (λ v y. eqb-false q (nth g n w i) e (y ∙ ap (nth g n w) v)) (λ v. f k .1 j (omega arith)))
 
   pub nth-erased : (i : ℕ) → i < count (g * n) (w .er) → (w .er (nth g n w i) ≡ true) × (nth g n w i < g * n)
   nth-erased i h =
-      let s = step i (omega arith) in (
-        earlier i (nth g n w i) (now-erased i s h .2) .0,
-        next-in g n (taken g n w i) g-pos (s .r2)
-            (omega (arith, s .left)),
-      )
+      let s = step i (omega arith) in
+      (earlier i (nth g n w i) (now-erased i s h .2) .0, next-in g n (taken g n w i) g-pos (s .r2) (omega (arith, s .left)))
 
   pub nth-apart : (i j : ℕ) → j < i → i < count (g * n) (w .er) → nth g n w i ≡ nth g n w j → ⊥
   nth-apart i j q h = earlier i (nth g n w i) (now-erased i (step i (omega arith)) h .2) .1 j q

@@ -50,8 +50,7 @@ fit-after t p er zero q h = tt
 fit-after t p er (suc l) q h = (h .0, after-false p q er (h .1))
 
 -- m pages are left
-module _ (g : Geometry) (core : Core g) (n : ℕ) (c : Chip) (r2 : R2 (g .pages) n (c .er))
-    (m : ℕ) (free : m ≤ count (g .pages * n) (c .er)) where
+module _ (g : Geometry) (core : Core g) (n : ℕ) (c : Chip) (r2 : R2 (g .pages) n (c .er)) (m : ℕ) (free : m ≤ count (g .pages * n) (c .er)) where
   abbrev side : ℕ → ℕ
   side = sidePage g n c
 
@@ -70,8 +69,7 @@ module _ (g : Geometry) (core : Core g) (n : ℕ) (c : Chip) (r2 : R2 (g .pages)
   side-inj (suc i) zero b b′ d d′ e = absurd (omega arith)
   side-inj (suc i) (suc j) b b′ d d′ e = by-le (suc i) j
       (λ z. absurd (nth-apart (g .pages) n (ahead g n c) (some-page g core) r2 j i z (omega arith) (sym e)))
-      (λ z. by-le (suc j) i (λ w. absurd (nth-apart (g .pages) n (ahead g n c) (some-page g core) r2 i j w
-      (omega arith) e)) (λ w. omega arith))
+      (λ z. by-le (suc j) i (λ w. absurd (nth-apart (g .pages) n (ahead g n c) (some-page g core) r2 i j w (omega arith) e)) (λ w. omega arith))
 
   pub keep : (l q : ℕ) → fit l q → fit′ l q
   keep zero q h = tt

@@ -1,5 +1,4 @@
--- The plain tree's insertion on an abstract chip (request 12): R2, R5, R6 hold again, and the map has K. Assumes
--- nothing.
+-- The plain tree's insertion on an abstract chip (request 12): R2, R5, R6 hold again, and the map has K. Assumes nothing.
 use mathlib.Core.Path.{_≡_, refl, ap, sym, subst, _∙_}
 use mathlib.Core.List.{List, [], _∷_}
 use mathlib.Core.Bool.{Bool, true, false}
@@ -88,10 +87,8 @@ module _ (g : Geometry) (core : Core g) (n k a : ℕ) (k-low : k < fourBytes) (c
 
   pub root-list : lists (suc (c .level)) ≡ rootList
   unfolding plainList
-  root-list = onPath-top fit roomAt r k (putIn k a) (λ e. put k a (e ∷ [])) (renewed k L R (half g)) (put-as k a)
-      (c .level) (theRoot c)
-      ∙ root-is fit roomAt r k (putIn k a) (λ e. put k a (e ∷ [])) (renewed k L R (half g)) (put-as k a)
-      (c .level) fourBytes (c .root) k-low some-root
+  root-list = onPath-top fit roomAt r k (putIn k a) (λ e. put k a (e ∷ [])) (renewed k L R (half g)) (put-as k a) (c .level) (theRoot c)
+      ∙ root-is fit roomAt r k (putIn k a) (λ e. put k a (e ∷ [])) (renewed k L R (half g)) (put-as k a) (c .level) fourBytes (c .root) k-low some-root
       (good .sound .rooted .rises)
 
   root-length : length rootList ≡ length es + bit gained
@@ -127,13 +124,11 @@ module _ (g : Geometry) (core : Core g) (n k a : ℕ) (k-low : k < fourBytes) (c
   pub cut-levels : (j : ℕ) → 1 ≤ j → j ≤ suc (c .level) → Cut g lists cuts j
   unfolding plainList plainCuts plainGrows splits gains
   cut-levels j b d = by-le j (c .level)
-      (λ q. let w = splits-are k a L (λ l _. L l) (λ l _. R l) (half g) r fit absent (c .level) fourBytes
-      (theRoot c) k-low some-root
+      (λ q. let w = splits-are k a L (λ l _. L l) (λ l _. R l) (half g) r fit absent (c .level) fourBytes (theRoot c) k-low some-root
       (good .sound .rooted .rises) absent-is j b q in (
         (λ h. let x = w .0 h in omega (arith, x)),
         (λ h. w .1 (by-test grows
-            (λ t. let x = all-below k (half g) r absent (c .level) (chosen k es) (and-right _ _ t) in
-            omega (arith, x, q))
+            (λ t. let x = all-below k (half g) r absent (c .level) (chosen k es) (and-right _ _ t) in omega (arith, x, q))
             (λ t. let x = ap bit t in omega (arith, x, h)))),
       ))
       (λ q. let e : suc (c .level) ≡ j = omega (arith, d, q) in subst (Cut g lists cuts) e top-cut)
@@ -143,11 +138,9 @@ module _ (g : Geometry) (core : Core g) (n k a : ℕ) (k-low : k < fourBytes) (c
 
       top-cut : Cut g lists cuts (suc (c .level))
       top-cut = (
-        (λ h. by-test grows (λ t. let x = grow-cuts t in omega (arith, x))
-            (λ t. absurd (let x = stay-short t in omega (arith, x, h, len)))),
+        (λ h. by-test grows (λ t. let x = grow-cuts t in omega (arith, x)) (λ t. absurd (let x = stay-short t in omega (arith, x, h, len)))),
         (λ h. by-test grows (λ t. let x = grow-long t in omega (arith, x, len))
-            (λ t. absurd (let x = splits-le k (half g) r absent (c .level) (chosen k es) in let y = ap bit t in
-            omega (arith, x, y, h)))),
+            (λ t. absurd (let x = splits-le k (half g) r absent (c .level) (chosen k es) in let y = ap bit t in omega (arith, x, y, h)))),
       )
 
   cut-level : (j : ℕ) → 1 ≤ j → j ≤ c .level → roomAt j < length (lists j) → j ≤ cuts
@@ -155,11 +148,9 @@ module _ (g : Geometry) (core : Core g) (n k a : ℕ) (k-low : k < fourBytes) (c
 
   module _ (free : m ≤ count (g .pages * n) (c .er)) (s : Nodes)
       (whole : (j : ℕ) → 1 ≤ j → j ≤ suc (c .level) → length (lists j) ≤ roomAt j → s (L j) j ≡ lists j)
-      (halves : (j : ℕ) → 1 ≤ j → j ≤ suc (c .level) → roomAt j < length (lists j)
-      → (s (L j) j ≡ take (half g j) (lists j)) ×
+      (halves : (j : ℕ) → 1 ≤ j → j ≤ suc (c .level) → roomAt j < length (lists j) → (s (L j) j ≡ take (half g j) (lists j)) ×
       (s (R j) j ≡ drop (half g j) (lists j)))
-      (crown : grows ≡ true → s (L (suc (suc (c .level)))) (suc (suc (c .level))) ≡ both (L (suc (c .level)))
-      (R (suc (c .level)))
+      (crown : grows ≡ true → s (L (suc (suc (c .level)))) (suc (suc (c .level))) ≡ both (L (suc (c .level))) (R (suc (c .level)))
       (half g (suc (c .level))) (next (lists (suc (c .level))) 0) (lists (suc (c .level))))
       (stays : (q l : ℕ) → fit (suc l) q → s q (suc l) ≡ r q (suc l)) (numbers : ℕ → ℕ) where
     abbrev er′ : ℕ → Bool
@@ -174,38 +165,19 @@ module _ (g : Geometry) (core : Core g) (n k a : ℕ) (k-low : k < fourBytes) (c
 
     -- their places among the pages to come
     abbrev At : ℕ → ℕ → Type 0
-    At l q = (i : ℕ) × (q ≡ nth (g .pages) n (ahead g n c) i) × (i < m) × (l - 1 + min (l - 1) cuts ≤ i) ×
-        (i ≤ l + min (l - 1) cuts) ×
+    At l q = (i : ℕ) × (q ≡ nth (g .pages) n (ahead g n c) i) × (i < m) × (l - 1 + min (l - 1) cuts ≤ i) × (i ≤ l + min (l - 1) cuts) ×
         (l - 1 + min (l - 1) cuts < i → l ≤ cuts)
 
     place : (l q : ℕ) → N l q → At l q
     unfolding leftPage rightPage
-    place l q (b, d, inl e) = (
-      l - 1 + min (l - 1) cuts,
-      e,
-      low,
-      omega arith,
-      omega (arith, b),
-      λ z. absurd
-          (omega (arith, z)),
-    )
+    place l q (b, d, inl e) = (l - 1 + min (l - 1) cuts, e, low, omega arith, omega (arith, b), λ z. absurd (omega (arith, z)))
       where
         low : l - 1 + min (l - 1) cuts < suc (c .level) + cuts + bit grows
-        low = by-test grows (λ t. let w = grow-cuts t in omega (arith, b, d, w, ap bit t))
-            (λ t. omega (arith, b, d, ap bit t))
-    place l q (b, d, inr e) = (
-      l - 1 + min l cuts,
-      e .1,
-      omega (arith, b, e .0, cuts-low),
-      omega (arith, b, e .0),
-      omega
-          (arith, b, e .0),
-      λ z. e .0,
-    )
+        low = by-test grows (λ t. let w = grow-cuts t in omega (arith, b, d, w, ap bit t)) (λ t. omega (arith, b, d, ap bit t))
+    place l q (b, d, inr e) = (l - 1 + min l cuts, e .1, omega (arith, b, e .0, cuts-low), omega (arith, b, e .0), omega (arith, b, e .0), λ z. e .0)
 
     apart : (i j : ℕ) → i < m → j < m → nth (g .pages) n (ahead g n c) i ≡ nth (g .pages) n (ahead g n c) j → i ≡ j
-    apart i j x y e = let w = side-inj g core n c (good .r2) m free (suc i) (suc j) (omega arith) (omega (arith, x))
-        (omega arith) (omega (arith, y)) e in
+    apart i j x y e = let w = side-inj g core n c (good .r2) m free (suc i) (suc j) (omega arith) (omega (arith, x)) (omega arith) (omega (arith, y)) e in
         omega (arith, w)
 
     alone : (i j p : ℕ) → N i p → N j p → i ≡ j
@@ -214,8 +186,7 @@ module _ (g : Geometry) (core : Core g) (n k a : ℕ) (k-low : k < fourBytes) (c
         let v = place j p y in
         let e = apart (u .0) (v .0) (u .2) (v .2) (sym (u .1) ∙ v .1) in
         by-le (suc i) j (λ z. absurd (less i j (u .0) (v .0) z (u .4) (v .3) e (x .0) (u .5))) (λ z.
-        by-le (suc j) i (λ w. absurd (less j i (v .0) (u .0) w (v .4) (u .3) (sym e) (y .0) (v .5)))
-        (λ w. omega (arith, z, w)))
+        by-le (suc j) i (λ w. absurd (less j i (v .0) (u .0) w (v .4) (u .3) (sym e) (y .0) (v .5))) (λ w. omega (arith, z, w)))
       where
         -- a lower level's pages come before
         less : (i j u v : ℕ) → i < j → u ≤ i + min (i - 1) cuts → j - 1 + min (j - 1) cuts ≤ v → u ≡ v → 1 ≤ i
@@ -225,13 +196,11 @@ module _ (g : Geometry) (core : Core g) (n k a : ℕ) (k-low : k < fourBytes) (c
 
     fresh : (i l q : ℕ) → N i q → fit (suc l) q → ⊥
     fresh i l q h f = let u = place i q h in
-        new-side g core n c (good .r2) m free (suc (u .0)) l (omega arith) (omega (arith, u .2))
-        (subst (fit (suc l)) (u .1) f)
+        new-side g core n c (good .r2) m free (suc (u .0)) l (omega arith) (omega (arith, u .2)) (subst (fit (suc l)) (u .1) f)
 
     fits : (i l q : ℕ) → N i q → fit′ l q
     fits i l q h = let u = place i q h in
-        subst (fit′ l) (sym (u .1)) (fit-side g core n c (good .r2) m free (suc (u .0)) l (omega arith)
-        (omega (arith, u .2)))
+        subst (fit′ l) (sym (u .1)) (fit-side g core n c (good .r2) m free (suc (u .0)) l (omega arith) (omega (arith, u .2)))
 
     new-left : (j : ℕ) → 1 ≤ j → j ≤ suc (c .level) + bit grows → N j (L j)
     new-left j b d = (b, d, inl refl)
@@ -239,12 +208,10 @@ module _ (g : Geometry) (core : Core g) (n k a : ℕ) (k-low : k < fourBytes) (c
     made : RenewMade r s k a L R (half g) fit′ N (c .level) (chosen k es)
     unfolding plainList
     made = made-from fit roomAt r k (putIn k a) (λ e. put k a (e ∷ [])) (renewed k L R (half g)) (put-as k a)
-        (λ j d. RenewHeld L R (half g) s fit′ N j (theRoot c) d) (c .level) fourBytes (theRoot c) k-low some-root
-        (good .sound .rooted .rises)
+        (λ j d. RenewHeld L R (half g) s fit′ N j (theRoot c) d) (c .level) fourBytes (theRoot c) k-low some-root (good .sound .rooted .rises)
         (λ j b d. let x = new-left j b (omega (arith, d)) in (
           (λ h. (whole j b (omega (arith, d)) h, fits j j (L j) x, x)),
-          (λ h. let y : N j (R j) = (b, omega (arith, d), inr (cut-level j b d h, refl)) in let z =
-              halves j b (omega (arith, d)) h in
+          (λ h. let y : N j (R j) = (b, omega (arith, d), inr (cut-level j b d h, refl)) in let z = halves j b (omega (arith, d)) h in
               ((z .0, z .1, fits j j (L j) x, fits j j (R j) y), x, y)),
         ))
 
@@ -252,19 +219,16 @@ module _ (g : Geometry) (core : Core g) (n k a : ℕ) (k-low : k < fourBytes) (c
     after-r2 = step (g .pages) n (ahead g n c) (some-page g core) (good .r2) m free .r2
 
     abbrev Done : ℕ → ℕ → Type 0
-    Done l p = Whole g n (record { er = er′; seq = numbers; nodes = s; level = l; root = p }) ×
-        (under s (suc l) (the p) ≡ put k a (mapOf c))
+    Done l p = Whole g n (record { er = er′; seq = numbers; nodes = s; level = l; root = p }) × (under s (suc l) (the p) ≡ put k a (mapOf c))
 
     pub stay : grows ≡ false → Done (c .level) (L (suc (c .level)))
     stay e =
         let l = c .level in
         let short = stay-short e in
         let nn = new-left (suc l) (omega arith) (omega arith) in
-        let here : s (L (suc l)) (suc l) ≡ rootList = whole (suc l) (omega arith) (omega arith)
-        (let w = ap length root-list in omega (arith, w, short))
+        let here : s (L (suc l)) (suc l) ≡ rootList = whole (suc l) (omega arith) (omega arith) (let w = ap length root-list in omega (arith, w, short))
         ∙ root-list in
-        let w = plain-stay k a fourBytes L R (half g) (rootMost g) r s fit fit′ N tt (keep g core n c (good .r2) m free)
-        stays k-low alone fresh l (c .root) (L (suc l)) (good .sound)
+        let w = plain-stay k a fourBytes L R (half g) (rootMost g) r s fit fit′ N tt (keep g core n c (good .r2) m free) stays k-low alone fresh l (c .root) (L (suc l)) (good .sound)
         made here (fits (suc l) (suc l) (L (suc l)) nn) nn (omega (arith, short, narrow)) in
         (record { r2 = after-r2; sound = w .0 }, w .1)
 
@@ -280,17 +244,10 @@ module _ (g : Geometry) (core : Core g) (n k a : ℕ) (k-low : k < fourBytes) (c
         let nn = new-left (suc (suc l)) (omega arith) (omega (arith, ap bit e)) in
         let cr : s (L (suc (suc l))) (suc (suc l)) ≡ both (L (suc l)) (R (suc l)) h (next rootList 0) rootList =
         crown e ∙ ap (λ x. both (L (suc l)) (R (suc l)) h (next x 0) x) root-list in
-        let w = plain-grow k a fourBytes L R (half g) (rootMost g) r s fit fit′ N tt (keep g core n c (good .r2) m free)
-        stays k-low alone fresh l (c .root) (L (suc (suc l)))
-        (L (suc l)) (R (suc l)) (good .sound) made (
-          hs .0 ∙ ap (take h) root-list,
-          hs .1 ∙ ap (drop h) root-list,
-          fits (suc l) (suc l) (L (suc l)) nx,
-          fits (suc l)
-              (suc l) (R (suc l)) ny,
-        ) nx ny
-        cr (fits (suc (suc l)) (suc (suc l)) (L (suc (suc l))) nn) nn some-half (omega (arith, long))
-        (omega (arith, long, some-half)) two-most in
+        let w = plain-grow k a fourBytes L R (half g) (rootMost g) r s fit fit′ N tt (keep g core n c (good .r2) m free) stays k-low alone fresh l (c .root) (L (suc (suc l)))
+        (L (suc l)) (R (suc l)) (good .sound) made
+        (hs .0 ∙ ap (take h) root-list, hs .1 ∙ ap (drop h) root-list, fits (suc l) (suc l) (L (suc l)) nx, fits (suc l) (suc l) (R (suc l)) ny) nx ny
+        cr (fits (suc (suc l)) (suc (suc l)) (L (suc (suc l))) nn) nn some-half (omega (arith, long)) (omega (arith, long, some-half)) two-most in
         (record { r2 = after-r2; sound = w .0 }, w .1)
 
   -- ---- the same by the plan of pages
@@ -303,21 +260,18 @@ module _ (g : Geometry) (core : Core g) (n k a : ℕ) (k-low : k < fourBytes) (c
   abbrev newRoot : Plan
   newRoot = record {
     level = suc (suc (c .level));
-    list = both (L (suc (c .level))) (R (suc (c .level))) (half g (suc (c .level))) (next (lists (suc (c .level))) 0)
-        (lists (suc (c .level)));
+    list = both (L (suc (c .level))) (R (suc (c .level))) (half g (suc (c .level))) (next (lists (suc (c .level))) 0) (lists (suc (c .level)));
   }
 
   crown-one : grows ≡ true → rootPlans ≡ newRoot ∷ []
   unfolding crownPlans
   crown-one t = let x = grow-long t in
-      rw (lt-leb (length (lists (suc (c .level)))) (roomAt (suc (c .level))) (let w = ap length root-list in
-      omega (arith, x, w))) refl
+      rw (lt-leb (length (lists (suc (c .level)))) (roomAt (suc (c .level))) (let w = ap length root-list in omega (arith, x, w))) refl
 
   pub crown-none : grows ≡ false → rootPlans ≡ []
   unfolding crownPlans
   crown-none t = let x = stay-short t in
-      rw (le-leb (length (lists (suc (c .level)))) (roomAt (suc (c .level))) (let w = ap length root-list in
-      omega (arith, x, w))) refl
+      rw (le-leb (length (lists (suc (c .level)))) (roomAt (suc (c .level))) (let w = ap length root-list in omega (arith, x, w))) refl
 
   plans-below : length (plansTo g lists (suc (c .level))) ≡ suc (c .level) + min (suc (c .level)) cuts
   plans-below = plans-length g lists cuts (suc (c .level)) cut-levels
@@ -328,27 +282,23 @@ module _ (g : Geometry) (core : Core g) (n k a : ℕ) (k-low : k < fourBytes) (c
   plans-count =
       let w = length-append (plansTo g lists (suc (c .level))) rootPlans in
       by-test grows
-      (λ t. let x = ap length (crown-one t) in let y = grow-cuts t in let z = ap bit t in
-      omega (arith, plans-below, w, x, y, z))
+      (λ t. let x = ap length (crown-one t) in let y = grow-cuts t in let z = ap bit t in omega (arith, plans-below, w, x, y, z))
       (λ t. let x = ap length (crown-none t) in let z = ap bit t in omega (arith, plans-below, w, x, z, cuts-low))
 
   inside : (l i : ℕ) → l ≤ c .level → i < length (levelPlans g (suc l) (lists (suc l)))
       → l + min l cuts + i < suc (c .level) + min (suc (c .level)) cuts
-  inside l i b d = let v = level-length g lists cuts l (cut-levels (suc l) (omega arith) (omega (arith, b))) in
-      omega (arith, v, d, b)
+  inside l i b d = let v = level-length g lists cuts l (cut-levels (suc l) (omega arith) (omega (arith, b))) in omega (arith, v, d, b)
 
   level-at : (l i : ℕ) → l ≤ c .level → i < length (levelPlans g (suc l) (lists (suc l)))
       → planAt plans (l + min l cuts + i) ≡ planAt (levelPlans g (suc l) (lists (suc l))) i
   unfolding insertPlans
   level-at l i b d =
-      List·getD-append (plansTo g lists (suc (c .level))) rootPlans noPlan (l + min l cuts + i) (let w =
-      inside l i b d in omega (arith, w, plans-below))
+      List·getD-append (plansTo g lists (suc (c .level))) rootPlans noPlan (l + min l cuts + i) (let w = inside l i b d in omega (arith, w, plans-below))
       ∙ plans-at g lists cuts (suc (c .level)) l i cut-levels (omega (arith, b)) d
 
   crown-place : grows ≡ true → planAt plans (suc (c .level) + min (suc (c .level)) cuts + 0) ≡ newRoot
   unfolding insertPlans
-  crown-place t = at-right (plansTo g lists (suc (c .level))) rootPlans (suc (c .level) + min (suc (c .level)) cuts) 0
-      plans-below
+  crown-place t = at-right (plansTo g lists (suc (c .level))) rootPlans (suc (c .level) + min (suc (c .level)) cuts) 0 plans-below
       ∙ ap (λ ps. planAt ps 0) (crown-one t)
 
   stay-cuts : grows ≡ false → cuts ≤ c .level
@@ -359,18 +309,15 @@ module _ (g : Geometry) (core : Core g) (n k a : ℕ) (k-low : k < fourBytes) (c
       omega (arith, x, y, w)))
 
   -- the last plan is the root's
-  stay-last : (i : ℕ) → m ≡ suc i → grows ≡ false → (planAt plans i .level ≡ suc (c .level)) ×
-      (L (suc (c .level)) ≡ nth (g .pages) n (ahead g n c) i)
+  stay-last : (i : ℕ) → m ≡ suc i → grows ≡ false → (planAt plans i .level ≡ suc (c .level)) × (L (suc (c .level)) ≡ nth (g .pages) n (ahead g n c) i)
   unfolding leftPage
   stay-last i e t =
       let l = c .level in
       let b = ap bit t in
-      let short : length (lists (suc l)) ≤ roomAt (suc l) = let x = stay-short t in let w = ap length root-list in
-      omega (arith, x, w) in
+      let short : length (lists (suc l)) ≤ roomAt (suc l) = let x = stay-short t in let w = ap length root-list in omega (arith, x, w) in
       let wp = whole-plan g lists cuts (suc l) short in
       let at : l + min l cuts + 0 ≡ i = let x = stay-cuts t in omega (arith, x, e, b) in (
-        ap (λ j. planAt plans j .level) (sym at) ∙ ap (λ (p : Plan). p .level)
-            (level-at l 0 (omega arith) (let x = ap length wp in omega (arith, x))
+        ap (λ j. planAt plans j .level) (sym at) ∙ ap (λ (p : Plan). p .level) (level-at l 0 (omega arith) (let x = ap length wp in omega (arith, x))
             ∙ ap (λ ps. planAt ps 0) wp),
         ap (nth (g .pages) n (ahead g n c)) (let w : suc l - 1 + min (suc l - 1) cuts ≡ i = omega (arith, at) in w),
       )
@@ -390,16 +337,13 @@ module _ (g : Geometry) (core : Core g) (n k a : ℕ) (k-low : k < fourBytes) (c
   module _ (free : m ≤ count (g .pages * n) (c .er)) (s : Nodes)
       (placed : (i : ℕ) → i < m → s (nth (g .pages) n (ahead g n c) i) (planAt plans i .level) ≡ planAt plans i .list)
       (stays : (q l : ℕ) → fit (suc l) q → s q (suc l) ≡ r q (suc l)) (numbers : ℕ → ℕ) where
-    at-plan : (q i : ℕ) (p : Plan) → i < m → q ≡ nth (g .pages) n (ahead g n c) i → planAt plans i ≡ p
-        → s q (p .level) ≡ p .list
+    at-plan : (q i : ℕ) (p : Plan) → i < m → q ≡ nth (g .pages) n (ahead g n c) i → planAt plans i ≡ p → s q (p .level) ≡ p .list
     at-plan q i p b z e = subst (λ (x : Plan). s q (x .level) ≡ x .list) e
         (subst (λ y. s y (planAt plans i .level) ≡ planAt plans i .list) (sym z) (placed i b))
 
     on-level : (q l i : ℕ) (p : Plan) → l ≤ c .level → i < length (levelPlans g (suc l) (lists (suc l)))
-        → q ≡ nth (g .pages) n (ahead g n c) (l + min l cuts + i) → planAt (levelPlans g (suc l) (lists (suc l))) i ≡ p
-        → s q (p .level) ≡ p .list
-    on-level q l i p b d z e = at-plan q (l + min l cuts + i) p (let w = inside l i b d in omega (arith, w)) z
-        (level-at l i b d ∙ e)
+        → q ≡ nth (g .pages) n (ahead g n c) (l + min l cuts + i) → planAt (levelPlans g (suc l) (lists (suc l))) i ≡ p → s q (p .level) ≡ p .list
+    on-level q l i p b d z e = at-plan q (l + min l cuts + i) p (let w = inside l i b d in omega (arith, w)) z (level-at l i b d ∙ e)
 
     whole-at : (j : ℕ) → 1 ≤ j → j ≤ suc (c .level) → length (lists j) ≤ roomAt j → s (L j) j ≡ lists j
     unfolding leftPage
@@ -408,11 +352,9 @@ module _ (g : Geometry) (core : Core g) (n k a : ℕ) (k-low : k < fourBytes) (c
         let e = whole-plan g lists cuts (suc l) h in
         let x = ap length e in
         on-level (L (suc l)) l 0 (record { level = suc l; list = lists (suc l) }) (omega (arith, d)) (omega (arith, x))
-        (ap (nth (g .pages) n (ahead g n c)) (let w : suc l - 1 + min (suc l - 1) cuts ≡ l + min l cuts + 0 =
-        omega arith in w)) (ap (λ ps. planAt ps 0) e)
+        (ap (nth (g .pages) n (ahead g n c)) (let w : suc l - 1 + min (suc l - 1) cuts ≡ l + min l cuts + 0 = omega arith in w)) (ap (λ ps. planAt ps 0) e)
 
-    halves-at : (j : ℕ) → 1 ≤ j → j ≤ suc (c .level) → roomAt j < length (lists j)
-        → (s (L j) j ≡ take (half g j) (lists j)) ×
+    halves-at : (j : ℕ) → 1 ≤ j → j ≤ suc (c .level) → roomAt j < length (lists j) → (s (L j) j ≡ take (half g j) (lists j)) ×
         (s (R j) j ≡ drop (half g j) (lists j))
     unfolding leftPage rightPage
     halves-at zero b d h = absurd (omega (arith, b))
@@ -420,15 +362,11 @@ module _ (g : Geometry) (core : Core g) (n k a : ℕ) (k-low : k < fourBytes) (c
         let e = half-plans g lists cuts (suc l) h in
         let y = cut-levels (suc l) b d .0 h in
         let x = ap length e in (
-          on-level (L (suc l)) l 0 (record { level = suc l; list = take (half g (suc l)) (lists (suc l)) })
-              (omega (arith, d)) (omega (arith, x))
-              (ap (nth (g .pages) n (ahead g n c)) (let w : suc l - 1 + min (suc l - 1) cuts ≡ l + min l cuts + 0 =
-              omega arith in w))
+          on-level (L (suc l)) l 0 (record { level = suc l; list = take (half g (suc l)) (lists (suc l)) }) (omega (arith, d)) (omega (arith, x))
+              (ap (nth (g .pages) n (ahead g n c)) (let w : suc l - 1 + min (suc l - 1) cuts ≡ l + min l cuts + 0 = omega arith in w))
               (ap (λ ps. planAt ps 0) e),
-          on-level (R (suc l)) l 1 (record { level = suc l; list = drop (half g (suc l)) (lists (suc l)) })
-              (omega (arith, d)) (omega (arith, x))
-              (ap (nth (g .pages) n (ahead g n c)) (let w : suc l - 1 + min (suc l) cuts ≡ l + min l cuts + 1 =
-              omega (arith, y) in w))
+          on-level (R (suc l)) l 1 (record { level = suc l; list = drop (half g (suc l)) (lists (suc l)) }) (omega (arith, d)) (omega (arith, x))
+              (ap (nth (g .pages) n (ahead g n c)) (let w : suc l - 1 + min (suc l) cuts ≡ l + min l cuts + 1 = omega (arith, y) in w))
               (ap (λ ps. planAt ps 1) e),
         )
 
@@ -439,19 +377,11 @@ module _ (g : Geometry) (core : Core g) (n k a : ℕ) (k-low : k < fourBytes) (c
         let y = grow-cuts t in
         let z = ap bit t in
         at-plan (L (suc l)) (l + min l cuts + 0) newRoot (omega (arith, y, z))
-        (ap (nth (g .pages) n (ahead g n c)) (let w : suc l - 1 + min (suc l - 1) cuts ≡ l + min l cuts + 0 =
-        omega arith in w))
+        (ap (nth (g .pages) n (ahead g n c)) (let w : suc l - 1 + min (suc l - 1) cuts ≡ l + min l cuts + 0 = omega arith in w))
         (crown-place t)
 
     abbrev Inserted : ℕ → ℕ → Type 0
-    Inserted l p = Whole g n (record {
-      er = taken (g .pages) n (ahead g n c) m .er;
-      seq = numbers;
-      nodes = s;
-      level =
-          l;
-      root = p;
-    }) ×
+    Inserted l p = Whole g n (record { er = taken (g .pages) n (ahead g n c) m .er; seq = numbers; nodes = s; level = l; root = p }) ×
         (under s (suc l) (the p) ≡ put k a (mapOf c))
 
     pub planned-stay : grows ≡ false → Inserted (c .level) (L (suc (c .level)))
@@ -463,14 +393,7 @@ module _ (g : Geometry) (core : Core g) (n k a : ℕ) (k-low : k < fourBytes) (c
     -- the root stands on the last page, i
     module _ (i : ℕ) (last : m ≡ suc i) where
       abbrev Final : ℕ → ℕ → ℕ → Type 0
-      Final j l p = Whole g n (record {
-        er = taken (g .pages) n (ahead g n c) j .er;
-        seq = numbers;
-        nodes = s;
-        level =
-            l;
-        root = p;
-      }) ×
+      Final j l p = Whole g n (record { er = taken (g .pages) n (ahead g n c) j .er; seq = numbers; nodes = s; level = l; root = p }) ×
           (under s (suc l) (the p) ≡ put k a (mapOf c))
 
       final : (l p : ℕ) → (planAt plans i .level ≡ suc l) × (p ≡ nth (g .pages) n (ahead g n c) i) → Final m l p
@@ -481,6 +404,5 @@ module _ (g : Geometry) (core : Core g) (n k a : ℕ) (k-low : k < fourBytes) (c
           (subst (λ q. Final m (planAt plans i .level - 1) q) (e .1) (subst (λ j. Final m j p) z h))
 
       pub planned : Final (suc i) (planAt plans i .level - 1) (nth (g .pages) n (ahead g n c) i)
-      planned = by-test grows (λ t. final (suc (c .level)) (L (suc (suc (c .level)))) (grow-last i last t)
-          (planned-grow t))
+      planned = by-test grows (λ t. final (suc (c .level)) (L (suc (suc (c .level)))) (grow-last i last t) (planned-grow t))
           (λ t. final (c .level) (L (suc (c .level))) (stay-last i last t) (planned-stay t))

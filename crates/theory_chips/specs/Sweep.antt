@@ -24,8 +24,7 @@ bit-zero false c h e = refl
 unfoldable pub sweep : Geometry → ℕ → ℕ → ℕ → Chip → Chip
 sweep g n v zero c = c
 sweep g n v (suc j) c = pick (live (placesOf c) (g .pages * v + (g .pages - suc j)))
-    (sweep g n v j (moveTo (g .pages * n) c (g .pages * v + (g .pages - suc j)) (nextPage (g .pages) n (ahead g n c))))
-    (sweep g n v j c)
+    (sweep g n v j (moveTo (g .pages * n) c (g .pages * v + (g .pages - suc j)) (nextPage (g .pages) n (ahead g n c)))) (sweep g n v j c)
 
 -- block v is full, has no more live pages than there are erased ones, and its first (g .pages) - j pages are dead
 pub record Sweeping (g : Geometry) (n : ℕ) (v j : ℕ) (c : Chip) : Type 0 where
@@ -43,26 +42,12 @@ pub record Swept (g : Geometry) (n : ℕ) (v : ℕ) (c c′ : Chip) : Type 0 whe
 
 module _ (g : Geometry) (shape : Shape g) (n : ℕ) (v : ℕ) where
   -- one move within the sweep
-  pub moved-on : (j : ℕ) (c : Chip) → suc j ≤ g .pages → Sweeping g n v (suc j) c → live (placesOf c)
-      (g .pages * v + (g .pages - suc j)) ≡ true
-      → Sweeping g n v j (moveTo (g .pages * n) c (g .pages * v + (g .pages - suc j))
-      (nextPage (g .pages) n (ahead g n c))) × MoveStep g n c
-      (moveTo (g .pages * n) c (g .pages * v + (g .pages - suc j)) (nextPage (g .pages) n (ahead g n c)))
-      (g .pages * v + (g .pages - suc j))
+  pub moved-on : (j : ℕ) (c : Chip) → suc j ≤ g .pages → Sweeping g n v (suc j) c → live (placesOf c) (g .pages * v + (g .pages - suc j)) ≡ true
+      → Sweeping g n v j (moveTo (g .pages * n) c (g .pages * v + (g .pages - suc j)) (nextPage (g .pages) n (ahead g n c))) × MoveStep g n c
+      (moveTo (g .pages * n) c (g .pages * v + (g .pages - suc j)) (nextPage (g .pages) n (ahead g n c))) (g .pages * v + (g .pages - suc j))
       (nextPage (g .pages) n (ahead g n c))
-      × (suc (livesIn (g .pages) v (moveTo (g .pages * n) c (g .pages * v + (g .pages - suc j))
-      (nextPage (g .pages) n (ahead g n c)))) ≤ livesIn (g .pages) v c)
-  moved-on j c q h a = (
-    record {
-      good = m .good;
-      full = full′;
-      few = omega (arith, m .frees, fewer, h .few);
-      dead =
-          dead′;
-    },
-    m,
-    fewer,
-  )
+      × (suc (livesIn (g .pages) v (moveTo (g .pages * n) c (g .pages * v + (g .pages - suc j)) (nextPage (g .pages) n (ahead g n c)))) ≤ livesIn (g .pages) v c)
+  moved-on j c q h a = (record { good = m .good; full = full′; few = omega (arith, m .frees, fewer, h .few); dead = dead′ }, m, fewer)
     where
       p : ℕ
       p = (g .pages) * v + (g .pages - suc j)
@@ -76,8 +61,7 @@ module _ (g : Geometry) (shape : Shape g) (n : ℕ) (v : ℕ) where
       one : 1 ≤ livesIn (g .pages) v c
       one = omega (
         arith,
-        count-drop (g .pages) (g .pages - suc j) (λ i. live (placesOf c) (g .pages * v + i)) (λ _. false)
-            (omega arith) a refl
+        count-drop (g .pages) (g .pages - suc j) (λ i. live (placesOf c) (g .pages * v + i)) (λ _. false) (omega arith) a refl
             (λ i _. omega arith),
       )
 
@@ -91,34 +75,23 @@ module _ (g : Geometry) (shape : Shape g) (n : ℕ) (v : ℕ) where
       full′ i w = m .ers (g .pages * v + i) (h .full i w)
 
       fewer : suc (livesIn (g .pages) v c′) ≤ livesIn (g .pages) v c
-      fewer = count-drop (g .pages) (g .pages - suc j) (λ i. live (placesOf c) (g .pages * v + i)) (λ i. live
-          (placesOf c′) (g .pages * v + i))
+      fewer = count-drop (g .pages) (g .pages - suc j) (λ i. live (placesOf c) (g .pages * v + i)) (λ i. live (placesOf c′) (g .pages * v + i))
           (omega arith) a (m .dead) (λ i w. m .others (g .pages * v + i) (not-new i w))
 
       dead′ : (i : ℕ) → i + j < g .pages → live (placesOf c′) (g .pages * v + i) ≡ false
-      dead′ i w = by-eq i (g .pages - suc j) (λ e. rw e (m .dead))
-          (λ e. bit-zero (live (placesOf c′) (g .pages * v + i))
-          (live (placesOf c) (g .pages * v + i)) (m .others (g .pages * v + i) (not-new i (omega arith)))
-          (h .dead i (omega arith)))
+      dead′ i w = by-eq i (g .pages - suc j) (λ e. rw e (m .dead)) (λ e. bit-zero (live (placesOf c′) (g .pages * v + i))
+          (live (placesOf c) (g .pages * v + i)) (m .others (g .pages * v + i) (not-new i (omega arith))) (h .dead i (omega arith)))
 
   pub swept : (j : ℕ) (c : Chip) → j ≤ g .pages → Sweeping g n v j c → Swept g n v c (sweep g n v j c)
   unfolding sweep
-  swept zero c q h = record {
-    done = h;
-    pairs-are = refl;
-    lives = omega arith;
-    alike = same-self g c;
-    frees =
-        omega arith;
-  }
+  swept zero c q h = record { done = h; pairs-are = refl; lives = omega arith; alike = same-self g c; frees = omega arith }
   swept (suc j) c q h = go (live (placesOf c) (g .pages * v + (g .pages - suc j))) refl (λ d. swept j d (omega arith))
     where
       c′ : Chip
       c′ = moveTo (g .pages * n) c (g .pages * v + (g .pages - suc j)) (nextPage (g .pages) n (ahead g n c))
 
       go : (t : Bool) → live (placesOf c) (g .pages * v + (g .pages - suc j)) ≡ t
-          → ((d : Chip) → Sweeping g n v j d → Swept g n v d (sweep g n v j d))
-          → Swept g n v c (pick t (sweep g n v j c′) (sweep g n v j c))
+          → ((d : Chip) → Sweeping g n v j d → Swept g n v d (sweep g n v j d)) → Swept g n v c (pick t (sweep g n v j c′) (sweep g n v j c))
       go true e ih =
           let m = moved-on j c q h e in
           let w = ih c′ (m .0) in
@@ -141,5 +114,4 @@ module _ (g : Geometry) (shape : Shape g) (n : ℕ) (v : ℕ) where
   -- the whole block: all its pages are dead afterwards
   pub emptied : (c : Chip) → Whole g n c → ((i : ℕ) → i < g .pages → c .er (g .pages * v + i) ≡ false)
       → livesIn (g .pages) v c ≤ count (g .pages * n) (c .er) → Swept g n v c (sweep g n v (g .pages) c)
-  emptied c h f e = swept (g .pages) c (omega arith)
-      (record { good = h; full = f; few = e; dead = λ i w. absurd (omega arith) })
+  emptied c h f e = swept (g .pages) c (omega arith) (record { good = h; full = f; few = e; dead = λ i w. absurd (omega arith) })

@@ -37,20 +37,13 @@ module _ (p n : ℕ) (er : ℕ → Bool) where
   unfolding inOrder
   ordered b h i j q w e =
       let l = least-is (λ j. er (p * b + j)) p in
-      let first : firstIn p er b ≤ i = by-le (firstIn p er b) i (λ z. z)
-      (λ z. absurd (true-false (er (p * b + i)) e (l .before i z))) in
+      let first : firstIn p er b ≤ i = by-le (firstIn p er b) i (λ z. z) (λ z. absurd (true-false (er (p * b + i)) e (l .before i z))) in
       by-eq (firstIn p er b) j (λ z. rw (← z) (l .there (omega (arith, z, w))))
-      (λ z. not-false (er (p * b + j)) (rw (
-        lt-ltb (firstIn p er b) j (omega (arith, z, first, q)),
-        and-true
-            (not (er (p * b + j))),
-      ) at
-      (none-passes (λ j. ltb (firstIn p er b) j & not (er (p * b + j))) p
-      (not-true (any p (λ j. ltb (firstIn p er b) j & not (er (p * b + j)))) h) j
+      (λ z. not-false (er (p * b + j)) (rw (lt-ltb (firstIn p er b) j (omega (arith, z, first, q)), and-true (not (er (p * b + j)))) at
+      (none-passes (λ j. ltb (firstIn p er b) j & not (er (p * b + j))) p (not-true (any p (λ j. ltb (firstIn p er b) j & not (er (p * b + j)))) h) j
       w)))
 
-  in-order : (b : ℕ) → ((i j : ℕ) → i ≤ j → j < p → er (p * b + i) ≡ true → er (p * b + j) ≡ true)
-      → inOrder p er b ≡ true
+  in-order : (b : ℕ) → ((i j : ℕ) → i ≤ j → j < p → er (p * b + i) ≡ true → er (p * b + j) ≡ true) → inOrder p er b ≡ true
   unfolding inOrder
   in-order b h = ap not
       (any-clear (λ j. ltb (firstIn p er b) j & not (er (p * b + j))) p (λ j w. go j w (ltb (firstIn p er b) j) refl))
@@ -74,16 +67,14 @@ module _ (p n : ℕ) (er : ℕ → Bool) where
       (none-from n (λ b. not (inOrder p er b)) (u .0) b q) in
       let one : (b : ℕ) → b < n → mixed p er b ≡ true → b ≡ least n (mixed p er) = λ b q m.
       eqb-true b (least n (mixed p er)) (not-false (eqb b (least n (mixed p er)))
-      (rw (m, and-true (not (eqb b (least n (mixed p er))))) at
-      (none-from n (λ b. mixed p er b & not (eqb b (least n (mixed p er)))) (v .0) b q))) in
+      (rw (m, and-true (not (eqb b (least n (mixed p er))))) at (none-from n (λ b. mixed p er b & not (eqb b (least n (mixed p er)))) (v .0) b q))) in
       record { mono = λ b i j q. ordered b (first b q) i j; one = λ b c q w x y. one b q x ∙ sym (one c w y) }
 
   pub holds-r2 : R2 p n er → r2 p n er ≡ Good
   unfolding r2 secondMixed
   holds-r2 h = unless-both _ _ _
       (from-none n (λ b. not (inOrder p er b)) (λ b q. rw (in-order b (λ i j. h .mono b i j q)) refl))
-      (unless-both _ _ _ (from-none n (λ b. mixed p er b & not (eqb b (least n (mixed p er))))
-      (λ b q. go b q (mixed p er b) refl)) refl)
+      (unless-both _ _ _ (from-none n (λ b. mixed p er b & not (eqb b (least n (mixed p er)))) (λ b q. go b q (mixed p er b) refl)) refl)
     where
       go : (b : ℕ) → b < n → (t : Bool) → mixed p er b ≡ t → (t & not (eqb b (least n (mixed p er)))) ≡ false
       go b q false e = and-false (not (eqb b (least n (mixed p er))))
@@ -91,11 +82,7 @@ module _ (p n : ℕ) (er : ℕ → Bool) where
           let l = least-is (mixed p er) n in
           let z : least n (mixed p er) < n = by-le (suc (least n (mixed p er))) n (λ y. y)
           (λ y. absurd (true-false (mixed p er b) e (l .before b (omega (arith, y, q))))) in
-          rw (
-            and-true (not (eqb b (least n (mixed p er)))),
-            eq-eqb b (least n (mixed p er))
-                (h .one b (least n (mixed p er)) q z e (l .there z)),
-          ) refl
+          rw (and-true (not (eqb b (least n (mixed p er)))), eq-eqb b (least n (mixed p er)) (h .one b (least n (mixed p er)) q z e (l .there z))) refl
 
 -- ---- R7
 module _ (g : Geometry) (n : ℕ) (c : Chip) where
@@ -125,10 +112,8 @@ module _ (g : Geometry) (n : ℕ) (c : Chip) where
 module _ (g : Geometry) (pos : 1 ≤ g .pages) (n : ℕ) (c : Chip) where
   pub r8-holds : r8 (g .pages) n c ≡ Good → R8 g n c
   unfolding r8 ample
-  r8-holds h = let z = leb-true (2 * g .pages) (g .pages * n - livePages (g .pages * n) c) (good-unless _ _ _ h .0) in
-      omega (arith, z, pos)
+  r8-holds h = let z = leb-true (2 * g .pages) (g .pages * n - livePages (g .pages * n) c) (good-unless _ _ _ h .0) in omega (arith, z, pos)
 
   pub holds-r8 : R8 g n c → r8 (g .pages) n c ≡ Good
   unfolding r8 ample
-  holds-r8 h = unless-both _ _ _ (le-leb (2 * g .pages) (g .pages * n - livePages (g .pages * n) c) (omega (arith, h)))
-      refl
+  holds-r8 h = unless-both _ _ _ (le-leb (2 * g .pages) (g .pages * n - livePages (g .pages * n) c) (omega (arith, h))) refl

@@ -28,19 +28,15 @@ some-page g core = let z = core .pages-low in omega (arith, z)
 
 pub record Whole (g : Geometry) (n : ℕ) (c : Chip) : Type 0 where
   pub r2 : R2 (g .pages) n (c .er)
-  pub sound : Proper (fitOf (g .pages * n) (c .er)) (λ l. 2 * half g l) (rootMost g) fourBytes (c .nodes) (c .level)
-      (c .root)
+  pub sound : Proper (fitOf (g .pages * n) (c .er)) (λ l. 2 * half g l) (rootMost g) fourBytes (c .nodes) (c .level) (c .root)
 
 -- lookup answers as the map does
-pub sought-map : (g : Geometry) (n : ℕ) (c : Chip) → Whole g n c → (k : ℕ) → k < fourBytes → sought c k ≡ find k
-    (mapOf c)
-sought-map g n c h k q = find-root (fitOf (g .pages * n) (c .er)) (λ l. 2 * half g l) (c .nodes) k
-    (rootMost g) fourBytes (c .level) (c .root) q
+pub sought-map : (g : Geometry) (n : ℕ) (c : Chip) → Whole g n c → (k : ℕ) → k < fourBytes → sought c k ≡ find k (mapOf c)
+sought-map g n c h k q = find-root (fitOf (g .pages * n) (c .er)) (λ l. 2 * half g l) (c .nodes) k (rootMost g) fourBytes (c .level) (c .root) q
     (h .sound .rooted)
 
 -- a present key: the root has entries
-pub some-entry : (g : Geometry) (n : ℕ) (c : Chip) → Whole g n c → (k : ℕ) → k < fourBytes → isNone (sought c k) ≡ false
-    → 0 < length (rootNode c)
+pub some-entry : (g : Geometry) (n : ℕ) (c : Chip) → Whole g n c → (k : ℕ) → k < fourBytes → isNone (sought c k) ≡ false → 0 < length (rootNode c)
 unfolding under gather find
 some-entry g n c h k q present = go (rootNode c) refl
   where
@@ -51,8 +47,7 @@ some-entry g n c h k q present = go (rootNode c) refl
 
 -- the keys of the map rise strictly
 pub map-rises : (g : Geometry) (n : ℕ) (c : Chip) → Whole g n c → Rises (λ y x. Unit {0}) fourBytes (mapOf c)
-map-rises g n c h = root-rises (fitOf (g .pages * n) (c .er)) (λ l. 2 * half g l) (c .nodes) 0 (rootMost g) fourBytes
-    (c .level) (c .root)
+map-rises g n c h = root-rises (fitOf (g .pages * n) (c .er)) (λ l. 2 * half g l) (c .nodes) 0 (rootMost g) fourBytes (c .level) (c .root)
     (h .sound .rooted)
 
 -- the nodes below the root, and that each is at least half full
@@ -62,8 +57,7 @@ nodesBelow c = gather (places (c .nodes) (c .level)) (rootNode c)
 abbrev pub HalfFull : Geometry → Chip → Type 0
 HalfFull g c = All (Filled (half g) (c .nodes)) (nodesBelow c)
 
--- c′ needs as many pages as c, and is too high where c is; it has as many nodes, as many levels, and is filled where c
--- is
+-- c′ needs as many pages as c, and is too high where c is; it has as many nodes, as many levels, and is filled where c is
 pub record Same (g : Geometry) (c c′ : Chip) : Type 0 where
   pub needs-is : (k : ℕ) → k < fourBytes → needs g c′ k ≡ needs g c k
   pub high-is : (k : ℕ) → k < fourBytes → tooHigh g c′ k ≡ tooHigh g c k
@@ -72,14 +66,7 @@ pub record Same (g : Geometry) (c c′ : Chip) : Type 0 where
   pub filled-is : HalfFull g c → HalfFull g c′
 
 pub same-self : (g : Geometry) (c : Chip) → Same g c c
-same-self g c = record {
-  needs-is = λ k q. refl;
-  high-is = λ k q. refl;
-  level-is = refl;
-  nodes-is = refl;
-  filled-is =
-      λ h. h;
-}
+same-self g c = record { needs-is = λ k q. refl; high-is = λ k q. refl; level-is = refl; nodes-is = refl; filled-is = λ h. h }
 
 pub same-then : (g : Geometry) (c d e : Chip) → Same g c d → Same g d e → Same g c e
 same-then g c d e h i = record {
@@ -91,8 +78,7 @@ same-then g c d e h i = record {
 }
 
 module _ (g : Geometry) (t : ℕ) (er er′ : ℕ → Bool) (numbers numbers′ : ℕ → ℕ) (r s : Nodes) (l p p′ : ℕ)
-    (root : Rooted (fitOf t er) (λ l. 2 * half g l) (rootMost g) fourBytes r l p)
-    (alike : Likes (Like r s l) (r p (suc l)) (s p′ (suc l))) where
+    (root : Rooted (fitOf t er) (λ l. 2 * half g l) (rootMost g) fourBytes r l p) (alike : Likes (Like r s l) (r p (suc l)) (s p′ (suc l))) where
   abbrev c : Chip
   c = record { er = er; seq = numbers; nodes = r; level = l; root = p }
 
@@ -102,30 +88,24 @@ module _ (g : Geometry) (t : ℕ) (er er′ : ℕ → Bool) (numbers numbers′ 
   root-gains : (k : ℕ) (absent : Bool) → k < fourBytes → (m : ℕ) → l ≡ m
       → gains r k (half g) absent l (chosen k (r p (suc l))) ≡ gains s k (half g) absent l (chosen k (s p′ (suc l)))
   unfolding gains
-  root-gains k absent q zero e = subst (λ m. gains r k (half g) absent m (chosen k (r p (suc l))) ≡ gains s k
-      (half g) absent m
+  root-gains k absent q zero e = subst (λ m. gains r k (half g) absent m (chosen k (r p (suc l))) ≡ gains s k (half g) absent m
       (chosen k (s p′ (suc l)))) (sym e) refl
   root-gains k absent q (suc m) e =
       let b = root .least (omega (arith, e)) in
-      let sp = split (Ok (fitOf t er) (λ l. 2 * half g l) r l) k fourBytes (r p (suc l)) (omega (arith, b)) q
-      (root .rises) in
-      gains-like (fitOf t er) (λ l. 2 * half g l) r s k (half g) absent l (next (sp .post) fourBytes)
-      (chosen k (r p (suc l)))
+      let sp = split (Ok (fitOf t er) (λ l. 2 * half g l) r l) k fourBytes (r p (suc l)) (omega (arith, b)) q (root .rises) in
+      gains-like (fitOf t er) (λ l. 2 * half g l) r s k (half g) absent l (next (sp .post) fourBytes) (chosen k (r p (suc l)))
       (chosen k (s p′ (suc l))) (sp .here) (sp .under)
       (likes-chosen (Like r s l) k (r p (suc l)) (s p′ (suc l)) (like-key r s l) (omega (arith, b)) alike)
 
   root-splits : (k : ℕ) (absent : Bool) → k < fourBytes → (m : ℕ) → l ≡ m
       → splits r k (half g) absent l (chosen k (r p (suc l))) ≡ splits s k (half g) absent l (chosen k (s p′ (suc l)))
   unfolding splits
-  root-splits k absent q zero e = subst (λ m. splits r k (half g) absent m (chosen k (r p (suc l))) ≡ splits s k
-      (half g) absent m
+  root-splits k absent q zero e = subst (λ m. splits r k (half g) absent m (chosen k (r p (suc l))) ≡ splits s k (half g) absent m
       (chosen k (s p′ (suc l)))) (sym e) refl
   root-splits k absent q (suc m) e =
       let b = root .least (omega (arith, e)) in
-      let sp = split (Ok (fitOf t er) (λ l. 2 * half g l) r l) k fourBytes (r p (suc l)) (omega (arith, b)) q
-      (root .rises) in
-      splits-like (fitOf t er) (λ l. 2 * half g l) r s k (half g) absent l (next (sp .post) fourBytes)
-      (chosen k (r p (suc l)))
+      let sp = split (Ok (fitOf t er) (λ l. 2 * half g l) r l) k fourBytes (r p (suc l)) (omega (arith, b)) q (root .rises) in
+      splits-like (fitOf t er) (λ l. 2 * half g l) r s k (half g) absent l (next (sp .post) fourBytes) (chosen k (r p (suc l)))
       (chosen k (s p′ (suc l))) (sp .here) (sp .under)
       (likes-chosen (Like r s l) k (r p (suc l)) (s p′ (suc l)) (like-key r s l) (omega (arith, b)) alike)
 
@@ -138,12 +118,7 @@ module _ (g : Geometry) (t : ℕ) (er er′ : ℕ → Bool) (numbers numbers′ 
       root-splits k (isNone (sought c k)) q l refl,
       root-gains k (isNone (sought c k)) q l refl,
     ) refl);
-    high-is = λ k q. sym (rw (
-      so k q,
-      likes-length (Like r s l) (r p (suc l)) (s p′ (suc l)) alike,
-      root-gains k
-          (isNone (sought c k)) q l refl,
-    )
+    high-is = λ k q. sym (rw (so k q, likes-length (Like r s l) (r p (suc l)) (s p′ (suc l)) alike, root-gains k (isNone (sought c k)) q l refl)
         refl);
     level-is = refl;
     nodes-is = sym (list-nodes-like (half g) r s l (r p (suc l)) (s p′ (suc l)) alike);

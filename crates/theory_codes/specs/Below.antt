@@ -40,21 +40,18 @@ xor-turned s t f n (suc k) h e o = ⊎-elim
     (λ (same : n ≡ k).
     let last : pick (t k) (f k) 0 ≡ pick (s k) (f k) 0 ⊕ f k = pick-not (s k) (t k) (f k) (rw same at e) in
     let rest : xorBelow (λ m. pick (t m) (f m) 0) k ≡ xorBelow (λ m. pick (s m) (f m) 0) k
-    = xor-same (λ m. pick (t m) (f m) 0) (λ m. pick (s m) (f m) 0) k (λ m l. ap (λ (b : Bool). pick b (f m) 0)
-    (o m (omega arith))) in
+    = xor-same (λ m. pick (t m) (f m) 0) (λ m. pick (s m) (f m) 0) k (λ m l. ap (λ (b : Bool). pick b (f m) 0) (o m (omega arith))) in
     rw (same, last, rest) (swap (pick (s k) (f k) 0) (f k) (xorBelow (λ m. pick (s m) (f m) 0) k)))
     (λ (less : n < k).
     let last : t k ≡ s k = o k (omega arith) in
-    rw (last, xor-turned s t f n k less e o) (sym (assoc (pick (s k) (f k) 0) (xorBelow (λ m. pick (s m) (f m) 0) k)
-    (f n))))
+    rw (last, xor-turned s t f n k less e o) (sym (assoc (pick (s k) (f k) 0) (xorBelow (λ m. pick (s m) (f m) 0) k) (f n))))
     (eq-or-lt-of-le {n = n} {m = k} (omega arith))
 
 -- first a numbers, then b more
 pub xor-more : (g : ℕ → ℕ) (a b : ℕ) → xorBelow g (a + b) ≡ xorBelow (λ j. g (a + j)) b ⊕ xorBelow g a
 unfolding xorBelow
 xor-more g a zero = rw (add-zero, none-left)
-xor-more g a (suc b) = rw (add-suc, xor-more g a b)
-    (sym (assoc (g (a + b)) (xorBelow (λ j. g (a + j)) b) (xorBelow g a)))
+xor-more g a (suc b) = rw (add-suc, xor-more g a b) (sym (assoc (g (a + b)) (xorBelow (λ j. g (a + j)) b) (xorBelow g a)))
 
 -- rows of w
 pub xor-rows : (w : ℕ) (g : ℕ → ℕ) (k : ℕ) → xorBelow g (w * k) ≡ xorBelow (λ i. xorBelow (λ j. g (w * i + j)) w) k

@@ -38,8 +38,7 @@ power-test j x i y = same (odd (2 ^ j / 2 ^ i)) (eqb j i)
 -- of the eight bits of 2 ^ j, bit j is set
 power : (j i : ℕ) → j < 8 → i < 8 → odd (2 ^ j / 2 ^ i) ≡ eqb j i
 unfolding power-test same eight
-power j i h k = agree _ _ (at (power-test j 0) eight (at (λ (m x : ℕ). every (power-test m 0) 0 eight) eight tt j h) i
-    k)
+power j i h k = agree _ _ (at (power-test j 0) eight (at (λ (m x : ℕ). every (power-test m 0) 0 eight) eight tt j h) i k)
 
 -- one bit of a byte with bit j turned
 turned-bit : (b j i : ℕ) → odd ((b ⊕ 2 ^ j) / 2 ^ i) ≡ differs (odd (b / 2 ^ i)) (odd (2 ^ j / 2 ^ i))
@@ -60,8 +59,7 @@ module _ (img : List ℕ) (at n : ℕ) where
   flip-here h =
       ap (λ (b : ℕ). odd (b / 2 ^ (n % 8))) (getD-set-same img (at + n / 8) (byteAt img (at + n / 8) ⊕ 2 ^ (n % 8)) 0 h)
       ∙ turned-bit (byteAt img (at + n / 8)) (n % 8) (n % 8)
-      ∙ ap (differs (isSet img at n)) (power (n % 8) (n % 8) (mod-lt n (lit< tt)) (mod-lt n (lit< tt)) ∙ eq-eqb (n % 8)
-      (n % 8) refl)
+      ∙ ap (differs (isSet img at n)) (power (n % 8) (n % 8) (mod-lt n (lit< tt)) (mod-lt n (lit< tt)) ∙ eq-eqb (n % 8) (n % 8) refl)
       ∙ differs-true (isSet img at n)
 
   -- a byte elsewhere
@@ -75,12 +73,10 @@ module _ (img : List ℕ) (at n : ℕ) where
   flip-there h m o = elim (ℕ-discrete (m / 8) (n / 8)) [
     | yes e ↦
         ap (λ (k : ℕ). odd (byteAt (flipBit img at n) (at + k) / 2 ^ (m % 8))) e
-        ∙ ap (λ (b : ℕ). odd (b / 2 ^ (m % 8))) (getD-set-same img (at + n / 8) (byteAt img (at + n / 8) ⊕ 2 ^ (n % 8))
-        0 h)
+        ∙ ap (λ (b : ℕ). odd (b / 2 ^ (m % 8))) (getD-set-same img (at + n / 8) (byteAt img (at + n / 8) ⊕ 2 ^ (n % 8)) 0 h)
         ∙ turned-bit (byteAt img (at + n / 8)) (n % 8) (m % 8)
         ∙ ap (differs (odd (byteAt img (at + n / 8) / 2 ^ (m % 8))))
-        (power (n % 8) (m % 8) (mod-lt n (lit< tt)) (mod-lt m (lit< tt)) ∙ ne-eqb (n % 8) (m % 8)
-        (λ f. o (omega arith)))
+        (power (n % 8) (m % 8) (mod-lt n (lit< tt)) (mod-lt m (lit< tt)) ∙ ne-eqb (n % 8) (m % 8) (λ f. o (omega arith)))
         ∙ differs-false (odd (byteAt img (at + n / 8) / 2 ^ (m % 8)))
         ∙ ap (λ (k : ℕ). odd (byteAt img (at + k) / 2 ^ (m % 8))) (sym e)
     | no e ↦ ap (λ (b : ℕ). odd (b / 2 ^ (m % 8))) (flip-apart (at + m / 8) (λ f. e (omega arith)))
@@ -94,22 +90,17 @@ module _ (img : List ℕ) (at n : ℕ) where
   pub flip-twice : at + n / 8 < length img → flipBit (flipBit img at n) at n ≡ img
   unfolding flipBit
   flip-twice h =
-      set-set img (at + n / 8) (byteAt img (at + n / 8) ⊕ 2 ^ (n % 8)) (byteAt (flipBit img at n) (at + n / 8) ⊕ 2 ^
-      (n % 8))
-      ∙ ap (λ (b : ℕ). set img (at + n / 8) (b ⊕ 2 ^ (n % 8)))
-      (getD-set-same img (at + n / 8) (byteAt img (at + n / 8) ⊕ 2 ^ (n % 8)) 0 h)
+      set-set img (at + n / 8) (byteAt img (at + n / 8) ⊕ 2 ^ (n % 8)) (byteAt (flipBit img at n) (at + n / 8) ⊕ 2 ^ (n % 8))
+      ∙ ap (λ (b : ℕ). set img (at + n / 8) (b ⊕ 2 ^ (n % 8))) (getD-set-same img (at + n / 8) (byteAt img (at + n / 8) ⊕ 2 ^ (n % 8)) 0 h)
       ∙ ap (set img (at + n / 8))
-      (assoc (byteAt img (at + n / 8)) (2 ^ (n % 8)) (2 ^ (n % 8)) ∙ ap (λ (x : ℕ). byteAt img (at + n / 8) ⊕ x)
-      (self (2 ^ (n % 8))) ∙ none-right (byteAt img (at + n / 8)))
+      (assoc (byteAt img (at + n / 8)) (2 ^ (n % 8)) (2 ^ (n % 8)) ∙ ap (λ (x : ℕ). byteAt img (at + n / 8) ⊕ x) (self (2 ^ (n % 8))) ∙ none-right (byteAt img (at + n / 8)))
       ∙ set-getD img (at + n / 8) 0
 
   -- E and G
   pub flip-E : at + 256 ≤ length img → n < 2048 → numberE (flipBit img at n) at ≡ numberE img at ⊕ n
   unfolding numberE
-  flip-E h k = xor-turned (isSet img at) (isSet (flipBit img at n) at) (λ m. m) n 2048 k (flip-here (omega arith))
-      (flip-there (omega arith))
+  flip-E h k = xor-turned (isSet img at) (isSet (flipBit img at n) at) (λ m. m) n 2048 k (flip-here (omega arith)) (flip-there (omega arith))
 
   pub flip-G : at + 256 ≤ length img → n < 2048 → numberG (flipBit img at n) at ≡ numberG img at ⊕ (2047 - n)
   unfolding numberG
-  flip-G h k = xor-turned (isSet img at) (isSet (flipBit img at n) at) (λ m. 2047 - m) n 2048 k
-      (flip-here (omega arith)) (flip-there (omega arith))
+  flip-G h k = xor-turned (isSet img at) (isSet (flipBit img at n) at) (λ m. 2047 - m) n 2048 k (flip-here (omega arith)) (flip-there (omega arith))

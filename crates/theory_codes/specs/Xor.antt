@@ -81,8 +81,7 @@ assoc a = bin-ind (λ (n : ℕ). (b c : ℕ) → (n ⊕ b) ⊕ c ≡ n ⊕ (b �
     (λ n ih b c.
     halved (n ⊕ b) c
     ∙ ap₂ (λ (x y : ℕ). (x ⊕ (c / 2)) * 2 + differ y (c % 2)) (cut n b 1) (low-bit n b)
-    ∙ ap₂ (λ (x y : ℕ). x * 2 + y) (ih (b / 2) (c / 2)) (digit-assoc (n % 2) (b % 2) (c % 2) (mod-lt n (lit< tt))
-    (mod-lt b (lit< tt)) (mod-lt c (lit< tt)))
+    ∙ ap₂ (λ (x y : ℕ). x * 2 + y) (ih (b / 2) (c / 2)) (digit-assoc (n % 2) (b % 2) (c % 2) (mod-lt n (lit< tt)) (mod-lt b (lit< tt)) (mod-lt c (lit< tt)))
     ∙ sym (halved n (b ⊕ c) ∙ ap₂ (λ (x y : ℕ). ((n / 2) ⊕ x) * 2 + differ (n % 2) y) (cut b c 1) (low-bit b c)))
     a
 
@@ -113,5 +112,4 @@ odd-digits (suc zero) (suc (suc y)) h k = absurd (omega arith)
 odd-digits (suc (suc x)) y h k = absurd (omega arith)
 
 pub odd-xor : (a b : ℕ) → odd (a ⊕ b) ≡ differs (odd a) (odd b)
-odd-xor a b = ap (λ (x : ℕ). eqb x 1) (low-bit a b) ∙ odd-digits (a % 2) (b % 2) (mod-lt a (lit< tt))
-    (mod-lt b (lit< tt))
+odd-xor a b = ap (λ (x : ℕ). eqb x 1) (low-bit a b) ∙ odd-digits (a % 2) (b % 2) (mod-lt a (lit< tt)) (mod-lt b (lit< tt))

@@ -1,5 +1,5 @@
--- Request 10's proof: after n insertions with x pages beyond them the tree has x + height − 1 nodes below its root,
--- each at least half full, and half-full nodes are few. Assumes nothing.
+-- Request 10's proof: after n insertions with x pages beyond them the tree has x + height − 1 nodes below its root, each at least
+-- half full, and half-full nodes are few. Assumes nothing.
 use mathlib.Core.Path.{_≡_, refl, ap, sym, subst, _∙_}
 use mathlib.Core.List.{List, [], _∷_}
 use mathlib.Core.Bool.{true}
@@ -41,8 +41,7 @@ module _ (g : Geometry) (shape : Shape g) where
   own-is img x h k a e =
       let o = insert-own g shape img h (x .key) k (x .addr) (x .allowance) a (inl e) in
       let p = ap programs (o .list-is) ∙ programs-append
-      (collectStores g (blocksOf g img) (needs g (chipAt g img) (x .key)) (suc (needs g (chipAt g img) (x .key))) img)
-      (o .own) in
+      (collectStores g (blocksOf g img) (needs g (chipAt g img) (x .key)) (suc (needs g (chipAt g img) (x .key))) img) (o .own) in
       omega (arith, p, o .programs-are)
 
   needs-are : (c : Chip) (k : ℕ) → needs g c k ≡ suc (splitsAt g c k + growsAt g c k)
@@ -50,8 +49,7 @@ module _ (g : Geometry) (shape : Shape g) where
   needs-are c k = refl
 
   -- X is the splits and growths together
-  pub beyond-is : (xs : List Item) (img : List ℕ) → Ready g img → Finished g xs img
-      → beyond g xs img ≡ splitsAndGrowths g xs img
+  pub beyond-is : (xs : List Item) (img : List ℕ) → Ready g img → Finished g xs img → beyond g xs img ≡ splitsAndGrowths g xs img
   unfolding Finished beyond splitsAndGrowths
   beyond-is [] img h f = refl
   beyond-is (x ∷ xs) img h f =
@@ -68,8 +66,7 @@ module _ (g : Geometry) (shape : Shape g) where
     pub nodes : length (nodesBelow (chipAt g img)) ≡ x + chipAt g img .level
     pub filled : HalfFull g (chipAt g img)
 
-  one-more : (img : List ℕ) (x : Item) (n y : ℕ) → x .key < fourBytes → x .addr < fourBytes
-      → find (x .key) (mapAt g img) ≡ none
+  one-more : (img : List ℕ) (x : Item) (n y : ℕ) → x .key < fourBytes → x .addr < fourBytes → find (x .key) (mapAt g img) ≡ none
       → done g img x .answer ≡ 0 → Stands img n y → Stands (done g img x .image) (suc n) (ownPages g img x - 1 + y)
   one-more img x n y k a none′ e h =
       let next = insert-done g shape img (h .ready) (x .key) k (x .addr) (x .allowance) a e in
@@ -94,34 +91,26 @@ module _ (g : Geometry) (shape : Shape g) where
   stands-after [] img n y h f = let a : n ≡ n + 0 = omega arith in let b : y ≡ y + 0 = omega arith in
       subst (λ m. Stands img m (y + 0)) a (subst (λ m. Stands img n m) b h)
   stands-after (x ∷ xs) img n y h f =
-      let i = stands-after xs (done g img x .image) (suc n) (ownPages g img x - 1 + y) (one-more img x n y (f .0) (f .1)
-      (f .2) (f .3) h) (f .4) in
+      let i = stands-after xs (done g img x .image) (suc n) (ownPages g img x - 1 + y) (one-more img x n y (f .0) (f .1) (f .2) (f .3) h) (f .4) in
       let a : suc n + length xs ≡ n + suc (length xs) = omega arith in
-      let b : ownPages g img x - 1 + y + beyond g xs (done g img x .image) ≡ y + (ownPages g img x - 1 + beyond g xs
-      (done g img x .image)) = omega arith in
-      subst (λ m. Stands (filledBy g xs (done g img x .image)) m
-      (y + (ownPages g img x - 1 + beyond g xs (done g img x .image)))) a
+      let b : ownPages g img x - 1 + y + beyond g xs (done g img x .image) ≡ y + (ownPages g img x - 1 + beyond g xs (done g img x .image)) = omega arith in
+      subst (λ m. Stands (filledBy g xs (done g img x .image)) m (y + (ownPages g img x - 1 + beyond g xs (done g img x .image)))) a
       (subst (λ m. Stands (filledBy g xs (done g img x .image)) (suc n + length xs) m) b i)
 
   -- a formatted image
-  pub format-stands : 1 ≤ g .worn → (img : List ℕ) → goodLength g img ≡ true → ((i : ℕ) → byteAt img i < 256)
-      → Stands (format g img .image) 0 0
+  pub format-stands : 1 ≤ g .worn → (img : List ℕ) → goodLength g img ≡ true → ((i : ℕ) → byteAt img i < 256) → Stands (format g img .image) 0 0
   format-stands some img good bytes =
       let new = format g img .image in
       let holds = format-holds g shape some img good bytes in
       let b = good-blocks g img good in
       let nb = new-blocks g shape some img good bytes in
-      let low : chipAt g new .level ≡ 0 = ap (λ m. chipOf g m new .level) nb ∙ ap (λ (x : List ℕ). chipOf g
-      (blocksOf g img) x .level)
-      (new-is g shape some img good bytes) ∙ formatted-level g (shape-core g shape) (blocksOf g img) (b .least) img
-      (b .image) bytes in
+      let low : chipAt g new .level ≡ 0 = ap (λ m. chipOf g m new .level) nb ∙ ap (λ (x : List ℕ). chipOf g (blocksOf g img) x .level)
+      (new-is g shape some img good bytes) ∙ formatted-level g (shape-core g shape) (blocksOf g img) (b .least) img (b .image) bytes in
       record {
         ready = holds .ready;
         pairs = ap length (holds .map-is);
-        nodes = (let z = bare-nodes (chipAt g new .nodes) (chipAt g new .level) (rootNode (chipAt g new)) low in
-            omega (arith, z, low));
-        filled = bare-all (Filled (half g) (chipAt g new .nodes)) (chipAt g new .nodes) (chipAt g new .level)
-            (rootNode (chipAt g new)) low;
+        nodes = (let z = bare-nodes (chipAt g new .nodes) (chipAt g new .level) (rootNode (chipAt g new)) low in omega (arith, z, low));
+        filled = bare-all (Filled (half g) (chipAt g new .nodes)) (chipAt g new .nodes) (chipAt g new .level) (rootNode (chipAt g new)) low;
       }
 
 -- the small geometry: the bound
@@ -129,9 +118,7 @@ pub small-most : (img : List ℕ) (n x : ℕ) → Stands small small-shape img n
 unfolding slotsOf under
 small-most img n x h =
     let c = chipAt small img in
-    let top = height-most small (shape-core small small-shape) (blocksOf small img) img
-    (some-pages small small-shape img (h .ready))
+    let top = height-most small (shape-core small small-shape) (blocksOf small img) img (some-pages small small-shape img (h .ready))
     (ready-keeps small small-shape img (h .ready) .held) in
-    let z = nodes-most (half small) (c .nodes) refl refl refl refl (c .level) (rootNode c) (omega (arith, top))
-    (h .filled) in
+    let z = nodes-most (half small) (c .nodes) refl refl refl refl (c .level) (rootNode c) (omega (arith, top)) (h .filled) in
     omega (arith, z, h .nodes, h .pairs)

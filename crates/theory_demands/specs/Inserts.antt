@@ -1,6 +1,5 @@
--- The words of request 10: inserts of absent keys, one after the other, accepted and finished, with nothing else
--- between; X, the pages programmed beyond one for each, the collector's moves left out; the splits and growths.
--- Definitions alone; assumes nothing.
+-- The words of request 10: inserts of absent keys, one after the other, accepted and finished, with nothing else between; X, the
+-- pages programmed beyond one for each, the collector's moves left out; the splits and growths. Definitions alone; assumes nothing.
 use mathlib.Core.Path.{_≡_}
 use mathlib.Core.List.{List, [], _∷_}
 use mathlib.Core.Option.{none}
@@ -34,8 +33,7 @@ chipAt g img = chipOf g (blocksOf g img) img
 
 -- the pages that the collector moves before the insertion's own
 abbrev pub moves : Geometry → List ℕ → ℕ → ℕ
-moves g img k = programs (collectStores g (blocksOf g img) (needs g (chipAt g img) k) (suc (needs g (chipAt g img) k))
-    img)
+moves g img k = programs (collectStores g (blocksOf g img) (needs g (chipAt g img) k) (suc (needs g (chipAt g img) k)) img)
 
 -- the pages an insertion programs, the collector's moves left out
 abbrev pub ownPages : Geometry → List ℕ → Item → ℕ
@@ -51,8 +49,7 @@ growsAt g c k = bit (fills g (suc (c .level)) (length (rootNode c) + bit (rootGa
 -- each key is absent when its turn comes, and each insertion is accepted and finished
 unfoldable pub Finished : Geometry → List Item → List ℕ → Type 0
 Finished g [] img = Unit {0}
-Finished g (x ∷ xs) img = (x .key < fourBytes) × (x .addr < fourBytes) × (find (x .key) (mapAt g img) ≡ none) ×
-    (done g img x .answer ≡ 0) ×
+Finished g (x ∷ xs) img = (x .key < fourBytes) × (x .addr < fourBytes) × (find (x .key) (mapAt g img) ≡ none) × (done g img x .answer ≡ 0) ×
     Finished g xs (done g img x .image)
 
 -- the image after them
@@ -68,5 +65,4 @@ beyond g (x ∷ xs) img = ownPages g img x - 1 + beyond g xs (done g img x .imag
 -- the splits and growths together
 unfoldable pub splitsAndGrowths : Geometry → List Item → List ℕ → ℕ
 splitsAndGrowths g [] img = 0
-splitsAndGrowths g (x ∷ xs) img = splitsAt g (chipAt g img) (x .key) + growsAt g (chipAt g img)
-    (x .key) + splitsAndGrowths g xs (done g img x .image)
+splitsAndGrowths g (x ∷ xs) img = splitsAt g (chipAt g img) (x .key) + growsAt g (chipAt g img) (x .key) + splitsAndGrowths g xs (done g img x .image)

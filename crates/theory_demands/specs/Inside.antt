@@ -26,8 +26,7 @@ use Rattle.theory_demands.specs.Named.{findings, first-broken, page-of-1
 use Rattle.theory_demands.specs.Disorder.{FirstErased, SecondMixed}
 
 -- pages below t, of each finding of a list
-bad-within : (t : ℕ) (fs : List Finding) → All (λ f. (p : ℕ) → f ≡ Bad p → p < t) fs → (i p : ℕ)
-    → getD fs i Good ≡ Bad p → p < t
+bad-within : (t : ℕ) (fs : List Finding) → All (λ f. (p : ℕ) → f ≡ Bad p → p < t) fs → (i p : ℕ) → getD fs i Good ≡ Bad p → p < t
 bad-within t [] a i p e = absurd (bad-good p (sym e))
 bad-within t (f ∷ fs) a zero p e = a .0 p e
 bad-within t (f ∷ fs) a (suc i) p e = bad-within t fs (a .1) i p e
@@ -49,12 +48,10 @@ module _ (g : Geometry) (n : ℕ) (img : List ℕ) where
     where
       go : ((ownRoot g (c .er) (c .nodes) t (suc (c .level)) (c .root) ≡ false) × (c .root ≡ p)) ⊎
           ((ownRoot g (c .er) (c .nodes) t (suc (c .level)) (c .root) ≡ true) ×
-          (judgeEntries (judgeNode g (c .er) (c .nodes) t (c .level)) (c .nodes (c .root) (suc (c .level))) fourBytes
-          ≡ Bad p)) → p < t
+          (judgeEntries (judgeNode g (c .er) (c .nodes) t (c .level)) (c .nodes (c .root) (suc (c .level))) fourBytes ≡ Bad p)) → p < t
       go (inl w) = omega (arith, w .1, root-below h)
       go (inr w) = entries-below g (c .er) (c .nodes) t (c .level) (c .nodes (c .root) (suc (c .level))) fourBytes p
-          (rising-names (names (c .er) t (suc (c .level))) (c .nodes (c .root) (suc (c .level))) 0 fourBytes
-          (and-right _ _ (w .0)))
+          (rising-names (names (c .er) t (suc (c .level))) (c .nodes (c .root) (suc (c .level))) 0 fourBytes (and-right _ _ (w .0)))
           (λ q lo y. node-below g (c .er) (c .nodes) t (c .level) q lo y p) (w .1)
 
   below-2 : (p : ℕ) → r2 (g .pages) n (erased g img) ≡ Bad p → p < t
@@ -64,17 +61,14 @@ module _ (g : Geometry) (n : ℕ) (img : List ℕ) where
       inside b i h k = omega (arith, block-in (g .pages) b n h, k)
 
       go : FirstErased (g .pages) n (erased g img) p ⊎ SecondMixed (g .pages) n (erased g img) p → p < t
-      go (inl x) = subst (λ q. q < t) (sym (x .page-is)) (inside (x .block) (x .place) (x .before .block-in)
-          (omega (arith, x .before .after, x .before .place-in)))
-      go (inr x) = subst (λ q. q < t) (sym (x .page-is)) (let w = inside (x .second) 0 (x .second-mixed .block-in)
-          (omega (arith, x .second-mixed .erased-in)) in omega (arith, w))
+      go (inl x) = subst (λ q. q < t) (sym (x .page-is)) (inside (x .block) (x .place) (x .before .block-in) (omega (arith, x .before .after, x .before .place-in)))
+      go (inr x) = subst (λ q. q < t) (sym (x .page-is)) (let w = inside (x .second) 0 (x .second-mixed .block-in) (omega (arith, x .second-mixed .erased-in)) in omega (arith, w))
 
   zero-below : 1 ≤ t → (f : Finding) → ((p : ℕ) → f ≡ Bad p → p ≡ 0) → (p : ℕ) → f ≡ Bad p → p < t
   zero-below h f z p e = omega (arith, h, z p e)
 
   below : 1 ≤ t → (rule page : ℕ) → verdict g n img ≡ Broken rule page → page < t
-  below h rule page e = bad-within t (findings g n img) within (rule - 1) page
-      (first-broken g n img rule page e .broken)
+  below h rule page e = bad-within t (findings g n img) within (rule - 1) page (first-broken g n img rule page e .broken)
     where
       within : All (λ f. (p : ℕ) → f ≡ Bad p → p < t) (findings g n img)
       within = (
@@ -87,21 +81,14 @@ module _ (g : Geometry) (n : ℕ) (img : List ℕ) where
               zero-below h _ (page-of-4 g n img),
               (
                 below-5 h,
-                (
-                  (λ p i. page-of-6 g n img p i .0),
-                  (
-                    zero-below h _ (page-of-7 g n img),
-                    (zero-below h _ (page-of-8 g n img), tt),
-                  ),
-                ),
+                ((λ p i. page-of-6 g n img p i .0), (zero-below h _ (page-of-7 g n img), (zero-below h _ (page-of-8 g n img), tt))),
               ),
             ),
           ),
         ),
       )
 
-pub page-inside : (g : Geometry) → Shape g → (img : List ℕ) → goodLength g img ≡ true → (rule page : ℕ)
-    → verdict g (blocksOf g img) img ≡ Broken rule page
+pub page-inside : (g : Geometry) → Shape g → (img : List ℕ) → goodLength g img ≡ true → (rule page : ℕ) → verdict g (blocksOf g img) img ≡ Broken rule page
     → page < pagesOf g (blocksOf g img)
 page-inside g shape img good rule page e =
     let w = block-in (g .pages) 0 (blocksOf g img) (omega (arith, good-blocks g img good .least)) in

@@ -1,6 +1,6 @@
--- Request 1, "Frames between two keys", about the definition `listing` of crate model: what it gives for every image,
--- and on a sound image. `between` is the part of a map, `lists` and `listsNone` are what a listing gives (crate model);
--- Ready, mapAt, Rising are the words of the demands. g is any geometry with `Shape g`. Assumes nothing.
+-- Request 1, "Frames between two keys", about the definition `listing` of crate model: what it gives for every image, and on a sound image.
+-- `between` is the part of a map, `lists` and `listsNone` are what a listing gives (crate model); Ready, mapAt, Rising are the words of the
+-- demands. g is any geometry with `Shape g`. Assumes nothing.
 use mathlib.Core.Path.{_≡_, ap, subst}
 use mathlib.Core.List.{List, []}
 use mathlib.Core.Bool.{true, false}
@@ -50,16 +50,13 @@ module _ (g : Geometry) (shape : Shape g) (img : List ℕ) (ready : Ready g img)
 
   -- the walk finds the map's part between the keys
   pub walk-between : rangedOf c low high ≡ part
-  walk-between = ranged-root (fitOf (pagesOf g (blocksOf g img)) (c .er)) (λ l. 2 * half g l) (c .nodes) low high
-      (c .level) fourBytes (c .root)
+  walk-between = ranged-root (fitOf (pagesOf g (blocksOf g img)) (c .er)) (λ l. 2 * half g l) (c .nodes) low high (c .level) fourBytes (c .root)
       (ready-keeps g shape img ready .held .whole .sound .rooted .rises)
 
-  -- "The list is exactly the map's part between the keys": answer 0, how many pairs of it there are, how many were
-  -- written, and the buffer
+  -- "The list is exactly the map's part between the keys": answer 0, how many pairs of it there are, how many were written, and the buffer
   pub listing-lists : (buffer : List ℕ) → listing g img low high buffer ≡ lists part buffer
   unfolding listing judged byVerdict
-  listing-lists buffer = rw (ready .length-good, ready .is-sound)
-      (ap (λ (es : List Entry). lists es buffer) walk-between)
+  listing-lists buffer = rw (ready .length-good, ready .is-sound) (ap (λ (es : List Entry). lists es buffer) walk-between)
 
   -- "each pair once", "in rising key order"
   pub part-rises : Rising fourBytes part
@@ -75,10 +72,8 @@ module _ (g : Geometry) (shape : Shape g) (img : List ℕ) (ready : Ready g img)
 
   -- the walk looks at no more nodes than two and one for each pair at each level
   pub few-looked : low < fourBytes → length (lookedOf c low high) ≤ suc (c .level) * (2 + length part)
-  few-looked h = subst (λ (es : List Entry). length (lookedOf c low high) ≤ suc (c .level) * (2 + length es))
-      walk-between
-      (looked-few (fitOf (pagesOf g (blocksOf g img)) (c .er)) (λ l. 2 * half g l) (c .nodes) low high
-      (c .level) fourBytes (c .root) h
+  few-looked h = subst (λ (es : List Entry). length (lookedOf c low high) ≤ suc (c .level) * (2 + length es)) walk-between
+      (looked-few (fitOf (pagesOf g (blocksOf g img)) (c .er)) (λ l. 2 * half g l) (c .nodes) low high (c .level) fourBytes (c .root) h
       (ready-keeps g shape img ready .held .whole .sound .rooted .rises))
 
 -- ---- the buffer, for any list of pairs: the first `writtenOf` of them, key then address; what is beyond stays

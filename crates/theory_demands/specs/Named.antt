@@ -1,5 +1,4 @@
--- Request 5, of the definitions: which rule and which page a damaged image's answer names, in the request's words.
--- Assumes nothing.
+-- Request 5, of the definitions: which rule and which page a damaged image's answer names, in the request's words. Assumes nothing.
 use mathlib.Core.Path.{_≡_, ap, sym, subst}
 use mathlib.Core.List.{List, [], _∷_}
 use mathlib.Core.Logic.{_⊎_, inl, inr}
@@ -38,8 +37,7 @@ module _ (g : Geometry) (n : ℕ) (img : List ℕ) where
   -- what each rule finds
   abbrev pub findings : List Finding
   findings =
-      r1 g n img ∷ r2 (g .pages) n (erased g img) ∷ r3 g n img ∷ r4 g n img ∷ r5 g t c ∷ r6 t c ∷ asked g
-      (r7 (g .pages) n c)
+      r1 g n img ∷ r2 (g .pages) n (erased g img) ∷ r3 g n img ∷ r4 g n img ∷ r5 g t c ∷ r6 t c ∷ asked g (r7 (g .pages) n c)
       ∷ asked g (r8 (g .pages) n c) ∷ []
 
   abbrev pub finding : ℕ → Finding
@@ -68,8 +66,7 @@ module _ (g : Geometry) (n : ℕ) (img : List ℕ) where
   unfolding r1
   page-of-1 p e = bad-lowest t (λ q. not (wellFormed g img q)) p e
 
-  -- ---- R2: "the first erased page before a programmed one, or else the first programmed page of the second mixed
-  -- block"
+  -- ---- R2: "the first erased page before a programmed one, or else the first programmed page of the second mixed block"
   pub page-of-2 : (p : ℕ) → r2 (g .pages) n (erased g img) ≡ Bad p
       → FirstErased (g .pages) n (erased g img) p ⊎ SecondMixed (g .pages) n (erased g img) p
   page-of-2 p e = r2-names (g .pages) n (erased g img) p e
@@ -104,8 +101,7 @@ module _ (g : Geometry) (n : ℕ) (img : List ℕ) where
       twin p q = not (erased g img q) & eqb (seqAt g img q) (seqAt g img p)
 
       twins : (a b : ℕ) → Pair a b → repeated (erased g img) (seqAt g img) b ≡ true
-      twins a b x = and-both _ _ (ap not (x .2))
-          (any-one b a (twin b) (x .0) (and-both _ _ (ap not (x .1)) (eq-eqb _ _ (x .3))))
+      twins a b x = and-both _ _ (ap not (x .2)) (any-one b a (twin b) (x .0) (and-both _ _ (ap not (x .1)) (eq-eqb _ _ (x .3))))
 
   -- ---- R4, R7, R8: 0
   pub page-of-4 : (p : ℕ) → r4 g n img ≡ Bad p → p ≡ 0
@@ -129,24 +125,21 @@ module _ (g : Geometry) (n : ℕ) (img : List ℕ) where
   unfolding r8
   page-of-8 p e = zero-page _ _ (asked-bad _ p e)
 
-  -- ---- R5: "the page of the first node, each before its subtrees and those left to right, whose own counts, keys or
-  -- page numbers break it". First the root
+  -- ---- R5: "the page of the first node, each before its subtrees and those left to right, whose own counts, keys or page numbers
+  -- break it". First the root
   pub page-of-5 : (p : ℕ) → r5 g t c ≡ Bad p
       → ((ownRoot g (c .er) (c .nodes) t (suc (c .level)) (c .root) ≡ false) × (c .root ≡ p)) ⊎
       ((ownRoot g (c .er) (c .nodes) t (suc (c .level)) (c .root) ≡ true) ×
       Led (judgeNode g (c .er) (c .nodes) t (c .level)) (c .nodes (c .root) (suc (c .level))) fourBytes p)
   unfolding r5
-  page-of-5 p e = or-led (bad-unless _ _ p _ e) (led (judgeNode g (c .er) (c .nodes) t (c .level))
-      (c .nodes (c .root) (suc (c .level))) fourBytes p)
+  page-of-5 p e = or-led (bad-unless _ _ p _ e) (led (judgeNode g (c .er) (c .nodes) t (c .level)) (c .nodes (c .root) (suc (c .level))) fourBytes p)
 
   -- and so below each entry: the node that it names, or else the first bad one below that
   pub page-below : (l q lo hi p : ℕ) → judgeNode g (c .er) (c .nodes) t (suc l) q lo hi ≡ Bad p
       → ((own g (c .er) (c .nodes) t (suc l) q lo hi ≡ false) × (q ≡ p)) ⊎
-      ((own g (c .er) (c .nodes) t (suc l) q lo hi ≡ true) × Led (judgeNode g (c .er) (c .nodes) t l)
-      (c .nodes q (suc l)) hi p)
+      ((own g (c .er) (c .nodes) t (suc l) q lo hi ≡ true) × Led (judgeNode g (c .er) (c .nodes) t l) (c .nodes q (suc l)) hi p)
   unfolding judgeNode
-  page-below l q lo hi p e = or-led (bad-unless _ _ p _ e) (led (judgeNode g (c .er) (c .nodes) t l)
-      (c .nodes q (suc l)) hi p)
+  page-below l q lo hi p e = or-led (bad-unless _ _ p _ e) (led (judgeNode g (c .er) (c .nodes) t l) (c .nodes q (suc l)) hi p)
 
   -- ---- R6: "the lowest page" of the live nodes above another of their page that do not name it
   abbrev pub isLoose : Place → Bool

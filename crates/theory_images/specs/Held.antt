@@ -65,8 +65,7 @@ module _ (g : Geometry) (n : ℕ) (img : List ℕ) where
     where
       go : (b : Bool)
           → pick b true
-          (leb (byteAt img (pageBase g p + g .main + 4)) (g .top) & blank img (pageBase g p + codePlace g (halves g))
-          (pageBytes g - codePlace g (halves g))
+          (leb (byteAt img (pageBase g p + g .main + 4)) (g .top) & blank img (pageBase g p + codePlace g (halves g)) (pageBytes g - codePlace g (halves g))
           & leb 1 (u32At img (pageBase g p + g .main)) & codesFit g img (pageBase g p) (halves g)) ≡ true
           → R1 (g .top)
           (record {
@@ -91,12 +90,10 @@ module _ (g : Geometry) (n : ℕ) (img : List ℕ) where
           → pick b true (tailFrom g img (pageBase g p)) ≡ true
           → (b ≡ false → 1 ≤ pick b 0 (u32At img (pageBase g p + g .main)))
           → pick b true
-          (leb (byteAt img (pageBase g p + g .main + 4)) (g .top) & blank img (pageBase g p + codePlace g (halves g))
-          (pageBytes g - codePlace g (halves g))
+          (leb (byteAt img (pageBase g p + g .main + 4)) (g .top) & blank img (pageBase g p + codePlace g (halves g)) (pageBytes g - codePlace g (halves g))
           & leb 1 (u32At img (pageBase g p + g .main)) & codesFit g img (pageBase g p) (halves g)) ≡ true
       go true i j k = refl
-      go false i j k = and-both _ _ (and-both _ _ (and-both _ _ (le-leb _ _ i) (and-left _ _ j)) (le-leb 1 _ (k refl)))
-          (and-right _ _ j)
+      go false i j k = and-both _ _ (and-both _ _ (and-both _ _ (le-leb _ _ i) (and-left _ _ j)) (le-leb 1 _ (k refl))) (and-right _ _ j)
 
   -- ---- R3
   seq-at : (p : ℕ) → v p .er ≡ false → v p .seq ≡ seqAt g img p
@@ -107,14 +104,12 @@ module _ (g : Geometry) (n : ℕ) (img : List ℕ) where
   unfolding viewFrom erased
   er-at p = refl
 
-  repeat : (p q : ℕ) → q < p → v p .er ≡ false → v q .er ≡ false → v p .seq ≡ v q .seq → repeated (erased g img)
-      (seqAt g img) p ≡ true
+  repeat : (p q : ℕ) → q < p → v p .er ≡ false → v q .er ≡ false → v p .seq ≡ v q .seq → repeated (erased g img) (seqAt g img) p ≡ true
   unfolding repeated
   repeat p q w ep eq e =
       let f : ℕ → Bool = λ q. not (erased g img q) & eqb (seqAt g img q) (seqAt g img p) in
       and-both _ _ (ap not (sym (er-at p) ∙ ep))
-      (any-one p q f w (and-both _ _ (ap not (sym (er-at q) ∙ eq)) (eq-eqb _ _
-      (sym (seq-at q eq) ∙ sym e ∙ seq-at p ep))))
+      (any-one p q f w (and-both _ _ (ap not (sym (er-at q) ∙ eq)) (eq-eqb _ _ (sym (seq-at q eq) ∙ sym e ∙ seq-at p ep))))
 
   differ : ((p : ℕ) → p < t → repeated (erased g img) (seqAt g img) p ≡ false) → R3 t v
   differ h = record {
@@ -128,15 +123,12 @@ module _ (g : Geometry) (n : ℕ) (img : List ℕ) where
   unfolding repeated
   no-repeat h p hp = go (erased g img p) refl
     where
-      inner : (q : ℕ) → q < p → erased g img p ≡ false → (b : Bool) → erased g img q ≡ b
-          → (not b & eqb (seqAt g img q) (seqAt g img p)) ≡ false
+      inner : (q : ℕ) → q < p → erased g img p ≡ false → (b : Bool) → erased g img q ≡ b → (not b & eqb (seqAt g img q) (seqAt g img p)) ≡ false
       inner q w ep true eq = and-false _
-      inner q w ep false eq = and-true _ ∙ ne-eqb _ _ (λ z. let x = h .differ p q hp (omega (arith, w, hp))
-          (er-at p ∙ ep) (er-at q ∙ eq)
+      inner q w ep false eq = and-true _ ∙ ne-eqb _ _ (λ z. let x = h .differ p q hp (omega (arith, w, hp)) (er-at p ∙ ep) (er-at q ∙ eq)
           (seq-at p (er-at p ∙ ep) ∙ sym z ∙ sym (seq-at q (er-at q ∙ eq))) in omega (arith, x, w))
 
-      go : (b : Bool) → erased g img p ≡ b → (not b & any p (λ q. not (erased g img q) & eqb (seqAt g img q)
-          (seqAt g img p))) ≡ false
+      go : (b : Bool) → erased g img p ≡ b → (not b & any p (λ q. not (erased g img q) & eqb (seqAt g img q) (seqAt g img p))) ≡ false
       go true e = and-false _
       go false e = and-true _ ∙ any-clear (λ q. not (erased g img q) & eqb (seqAt g img q) (seqAt g img p)) p
           (λ q w. inner q w e (erased g img q) refl)
@@ -184,26 +176,18 @@ module _ (g : Geometry) (core : Core g) (n : ℕ) (img : List ℕ) where
       let t = pagesOf g n in
       let chip = chipOf g n img in
       let high = leb-true 1 (heightOf g img (rootOf g n img)) (good-unless _ _ _ (h .fourth) .0) in
-      let pages : 1 ≤ t = let z = block-in (g .pages) 0 n pos in let w = some-page g core in
-      omega (arith, z, w, mul-zero (g .pages)) in
+      let pages : 1 ≤ t = let z = block-in (g .pages) 0 n pos in let w = some-page g core in omega (arith, z, w, mul-zero (g .pages)) in
       let root = r5-rooted g core t chip (root-below g n img pages, root-er g n img high) (h .fifth) in
-      let fits = root-fit (fitOf t (chip .er)) (λ l. 2 * half g l) (rootMost g) (chip .nodes) (chip .level)
-      (chip .root) fourBytes root in
-      let tied = r6-tied t chip (all-map (λ x. (1 ≤ x .level) × fitOf t (chip .er) (x .level) (x .page))
-      (λ x. x .page < t) (placesOf chip)
+      let fits = root-fit (fitOf t (chip .er)) (λ l. 2 * half g l) (rootMost g) (chip .nodes) (chip .level) (chip .root) fourBytes root in
+      let tied = r6-tied t chip (all-map (λ x. (1 ≤ x .level) × fitOf t (chip .er) (x .level) (x .page)) (λ x. x .page < t) (placesOf chip)
       (λ x i. fit-page t (chip .er) (x .level) (x .page) (i .0) (i .1) .0) fits) (h .sixth) in
       record {
         image = image;
         bytes = bytes;
-        r1 = λ p q. page-r1 g n img p (not-false (wellFormed g img p) (good-lowest (λ p. not (wellFormed g img p)) t
-            (h .first) p q));
+        r1 = λ p q. page-r1 g n img p (not-false (wellFormed g img p) (good-lowest (λ p. not (wellFormed g img p)) t (h .first) p q));
         r3 = differ g n img (good-lowest (repeated (erased g img) (seqAt g img)) t (h .third));
         r4 = subst (λ m. 1 ≤ m) (sym (root-height g n img)) high;
-        whole = record {
-          r2 = r2-holds (g .pages) n (erased g img) (h .second);
-          sound =
-              record { rooted = root; tied = tied };
-        };
+        whole = record { r2 = r2-holds (g .pages) n (erased g img) (h .second); sound = record { rooted = root; tied = tied } };
       }
 
   pub held-ruled : Held g n img → Ruled g n img
@@ -214,16 +198,14 @@ module _ (g : Geometry) (core : Core g) (n : ℕ) (img : List ℕ) where
         first = none-lowest t (λ p. not (wellFormed g img p)) (λ p q. rw (r1-page g n img p (h .r1 p q)) refl);
         second = holds-r2 (g .pages) n (erased g img) (h .whole .r2);
         third = none-lowest t (repeated (erased g img) (seqAt g img)) (no-repeat g n img (h .r3));
-        fourth = unless-both _ _ _ (le-leb 1 (heightOf g img (rootOf g n img)) (subst (λ m. 1 ≤ m) (root-height g n img)
-            (h .r4))) refl;
+        fourth = unless-both _ _ _ (le-leb 1 (heightOf g img (rootOf g n img)) (subst (λ m. 1 ≤ m) (root-height g n img) (h .r4))) refl;
         fifth = rooted-r5 g core t (chipOf g n img) (h .whole .sound .rooted);
         sixth = tied-r6 t (chipOf g n img) (h .whole .sound .tied);
       }
 
   -- a sound image is held, and R7 and R8 hold where they are asked
   sound-asked : 1 ≤ n → Image g n img → Small img → verdict g n img ≡ Sound
-      → Held g n img × (asked g (r7 (g .pages) n (chipOf g n img)) ≡ Good) ×
-      (asked g (r8 (g .pages) n (chipOf g n img)) ≡ Good)
+      → Held g n img × (asked g (r7 (g .pages) n (chipOf g n img)) ≡ Good) × (asked g (r8 (g .pages) n (chipOf g n img)) ≡ Good)
   unfolding verdict
   sound-asked pos image bytes h =
       let a = or-sound _ _ _ h in
@@ -234,27 +216,17 @@ module _ (g : Geometry) (core : Core g) (n : ℕ) (img : List ℕ) where
       let f = or-sound _ _ _ (e .1) in
       let k = or-sound _ _ _ (f .1) in
       let m = or-sound _ _ _ (k .1) in (
-        ruled-held pos image bytes (record {
-          first = a .0;
-          second = b .0;
-          third = c .0;
-          fourth = d .0;
-          fifth =
-              e .0;
-          sixth = f .0;
-        }),
+        ruled-held pos image bytes (record { first = a .0; second = b .0; third = c .0; fourth = d .0; fifth = e .0; sixth = f .0 }),
         k .0,
         m .0,
       )
 
-  asked-sound : Held g n img → asked g (r7 (g .pages) n (chipOf g n img)) ≡ Good
-      → asked g (r8 (g .pages) n (chipOf g n img)) ≡ Good
+  asked-sound : Held g n img → asked g (r7 (g .pages) n (chipOf g n img)) ≡ Good → asked g (r8 (g .pages) n (chipOf g n img)) ≡ Good
       → verdict g n img ≡ Sound
   unfolding verdict
   asked-sound h s u =
       let w = held-ruled h in
-      sound-or _ _ _ (w .first) (sound-or _ _ _ (w .second)
-      (sound-or _ _ _ (w .third) (sound-or _ _ _ (w .fourth) (sound-or _ _ _ (w .fifth)
+      sound-or _ _ _ (w .first) (sound-or _ _ _ (w .second) (sound-or _ _ _ (w .third) (sound-or _ _ _ (w .fourth) (sound-or _ _ _ (w .fifth)
       (sound-or _ _ _ (w .sixth) (sound-or _ _ _ s (sound-or _ _ _ u refl)))))))
 
   -- of the plain tree's images they are not asked
@@ -280,8 +252,7 @@ module _ (g : Geometry) (shape : Shape g) (n : ℕ) (img : List ℕ) where
   unfolding asked
   is-asked f = rw (halved g shape) refl
 
-  pub sound-held : 1 ≤ n → Image g n img → Small img → verdict g n img ≡ Sound → Held g n img ×
-      R7 g n (chipOf g n img) × R8 g n (chipOf g n img)
+  pub sound-held : 1 ≤ n → Image g n img → Small img → verdict g n img ≡ Sound → Held g n img × R7 g n (chipOf g n img) × R8 g n (chipOf g n img)
   sound-held pos image bytes h = let z = sound-asked g core n img pos image bytes h in (
     z .0,
     r7-holds g n (chipOf g n img) (sym (is-asked _) ∙ z .1),

@@ -39,8 +39,7 @@ node-fits g img s q l = entries-fit img s (nodeCount g img q l) (nodePlace g q l
 
 -- putting
 set-small : (l : List ℕ) (at x : ℕ) → Small l → x < 256 → Small (set l at x)
-set-small l at x s h i = by-eq i at (λ e. rw e (go (ltb at (length l)) refl))
-    (λ e. rw (getD-set-other l at i x 0 (λ z. e z)) (s i))
+set-small l at x s h i = by-eq i at (λ e. rw e (go (ltb at (length l)) refl)) (λ e. rw (getD-set-other l at i x 0 (λ z. e z)) (s i))
   where
     go : (t : Bool) → ltb at (length l) ≡ t → byteAt (set l at x) at < 256
     go true e = rw (getD-set-same l at x 0 (ltb-true at (length l) e)) h
@@ -61,24 +60,20 @@ four-small b i w x y z s hw hx hy hz =
 
 word-small : (b : List ℕ) (i v : ℕ) → Small b → Small (putU32 b i v)
 unfolding putU32
-word-small b i v s = four-small b i (v % 256) (v / 256 % 256) (v / 65536 % 256) (v / 16777216 % 256) s (omega arith)
-    (omega arith) (omega arith)
+word-small b i v s = four-small b i (v % 256) (v / 256 % 256) (v / 65536 % 256) (v / 16777216 % 256) s (omega arith) (omega arith) (omega arith)
     (omega arith)
 
 entries-small : (b : List ℕ) (at : ℕ) (es : List Entry) → Small b → Small (putEntries b at es)
 unfolding putEntries putEntry
 entries-small b at [] s = s
-entries-small b at (e ∷ es) s = entries-small (putEntry b at e) (at + 8) es (word-small (putU32 b at (e .key))
-    (at + 4) (e .addr)
+entries-small b at (e ∷ es) s = entries-small (putEntry b at e) (at + 8) es (word-small (putU32 b at (e .key)) (at + 4) (e .addr)
     (word-small b at (e .key) s))
 
 levels-small : (g : Geometry) (parts : ℕ → List Entry) (n : ℕ) (b : List ℕ) → Small b → Small (putLevels g parts n b)
 unfolding putLevels putLevel
 levels-small g parts zero b s = s
-levels-small g parts (suc n) b s = set-small (putEntries (putLevels g parts n b) (8 * firstSlot g (suc n))
-    (parts (suc n))) (g .main + 4 + suc n)
-    (length (parts (suc n)) % 256) (entries-small (putLevels g parts n b) (8 * firstSlot g (suc n)) (parts (suc n))
-    (levels-small g parts n b s))
+levels-small g parts (suc n) b s = set-small (putEntries (putLevels g parts n b) (8 * firstSlot g (suc n)) (parts (suc n))) (g .main + 4 + suc n)
+    (length (parts (suc n)) % 256) (entries-small (putLevels g parts n b) (8 * firstSlot g (suc n)) (parts (suc n)) (levels-small g parts n b s))
     (omega arith)
 
 blank-small : (n : ℕ) → Small (replicate n 255)
@@ -99,15 +94,13 @@ coded-small g (suc k) b s =
     let v = freshCode old (256 * k) in
     let c = codePlace g k in
     set-small (set (set old c (v % 256)) (c + 1) (v / 256 % 256)) (c + 2) (v / 65536 % 256)
-    (set-small (set old c (v % 256)) (c + 1) (v / 256 % 256) (set-small old c (v % 256) (coded-small g k b s)
-    (omega arith)) (omega arith)) (omega arith)
+    (set-small (set old c (v % 256)) (c + 1) (v / 256 % 256) (set-small old c (v % 256) (coded-small g k b s) (omega arith)) (omega arith)) (omega arith)
 
 pub built-small : (g : Geometry) (seq h : ℕ) (parts : ℕ → List Entry) → Small (built g seq h parts)
 unfolding built sealed numbered
 built-small g seq h parts =
     let laidLevels = putLevels g parts (g .top) (replicate (pageBytes g) 255) in
-    coded-small g (halves g) (numbered g laidLevels seq h) (set-small (putU32 laidLevels (g .main) seq)
-    (g .main + 4) (h % 256) (word-small laidLevels (g .main) seq
+    coded-small g (halves g) (numbered g laidLevels seq h) (set-small (putU32 laidLevels (g .main) seq) (g .main + 4) (h % 256) (word-small laidLevels (g .main) seq
     (levels-small g parts (g .top) (replicate (pageBytes g) 255) (blank-small (pageBytes g)))) (omega arith))
 
 abbrev pub SmallStore : Store → Type 0
@@ -117,5 +110,4 @@ SmallStore (erase b) = Unit {0}
 pub store-small : (g : Geometry) (s : Store) (img : List ℕ) → SmallStore s → Small img → Small (applyStore g s img)
 unfolding applyStore
 store-small g (program p bs) img h s = written-small img (pageBase g p) (byteAt bs) (pageBytes g) s h
-store-small g (erase b) img h s = written-small img (pageBase g (g .pages * b)) (λ k. 255) (pageBase g (g .pages)) s
-    (λ k. omega arith)
+store-small g (erase b) img h s = written-small img (pageBase g (g .pages * b)) (λ k. 255) (pageBase g (g .pages)) s (λ k. omega arith)

@@ -36,12 +36,10 @@ use Rattle.theory_images.specs.Held.{Held, er-at}
 
 -- the store at the next page, with the next number
 unfoldable pub nextStore : Geometry → ℕ → ℕ → (ℕ → List Entry) → List ℕ → Store
-nextStore g n h parts img = program (nextPage (g .pages) n (ahead g n (chipOf g n img)))
-    (built g (suc (maxSeq g n img)) h parts)
+nextStore g n h parts img = program (nextPage (g .pages) n (ahead g n (chipOf g n img))) (built g (suc (maxSeq g n img)) h parts)
 
 -- the largest number after a page with the next one
-pub max-new : (t : ℕ) (v : Views) (p : ℕ) (w : View) → p < t → w .seq ≡ suc (topOf t v)
-    → topOf t (laid v p w) ≡ suc (topOf t v)
+pub max-new : (t : ℕ) (v : Views) (p : ℕ) (w : View) → p < t → w .seq ≡ suc (topOf t v) → topOf t (laid v p w) ≡ suc (topOf t v)
 unfolding topOf
 max-new t v p w h s =
     let up = max-put t v p w (omega (arith, s)) in
@@ -71,8 +69,7 @@ module _ (g : Geometry) (core : Core g) (n : ℕ) (img : List ℕ) (held : Held 
     abbrev N : ℕ
     N = nextPage (g .pages) n (ahead g n c)
 
-    found : (nextBlock (g .pages) n (ahead g n c) < n) ×
-        (firstIn (g .pages) (c .er) (nextBlock (g .pages) n (ahead g n c)) < g .pages) × (c .er N ≡ true)
+    found : (nextBlock (g .pages) n (ahead g n c) < n) × (firstIn (g .pages) (c .er) (nextBlock (g .pages) n (ahead g n c)) < g .pages) × (c .er N ≡ true)
     found = next-found (g .pages) n (ahead g n c) (some-page g core) (held .whole .r2) free
 
     N-in : N < t
@@ -84,8 +81,7 @@ module _ (g : Geometry) (core : Core g) (n : ℕ) (img : List ℕ) (held : Held 
     view-free : views g img N .er ≡ true
     view-free = er-at g n img N ∙ next-free
 
-    module _ (parts : ℕ → List Entry) (ok : Parts g parts)
-        (low : suc (maxSeq g n img) < 4294967295) (h : ℕ) (high : h ≤ g .top) where
+    module _ (parts : ℕ → List Entry) (ok : Parts g parts) (low : suc (maxSeq g n img) < 4294967295) (h : ℕ) (high : h ≤ g .top) where
       abbrev next : List ℕ
       next = applyStore g (nextStore g n h parts img) img
 
@@ -108,8 +104,7 @@ module _ (g : Geometry) (core : Core g) (n : ℕ) (img : List ℕ) (held : Held 
 
       pub put-max : maxSeq g n next ≡ suc (maxSeq g n img)
       unfolding nextStore
-      put-max = sym (view-max g n next) ∙ ap (topOf t) (views-built g core img n (held .image) N N-in
-          (suc (maxSeq g n img)) h parts ok low h-low)
+      put-max = sym (view-max g n next) ∙ ap (topOf t) (views-built g core img n (held .image) N N-in (suc (maxSeq g n img)) h parts ok low h-low)
           ∙ max-new t (views g img) N (builtView g (suc (maxSeq g n img)) h parts) N-in seq-is ∙ sym seq-is
 
       put-image : Image g n next
@@ -117,25 +112,21 @@ module _ (g : Geometry) (core : Core g) (n : ℕ) (img : List ℕ) (held : Held 
 
       put-small : Small next
       unfolding nextStore
-      put-small = store-small g (nextStore g n h parts img) img (built-small g (suc (maxSeq g n img)) h parts)
-          (held .bytes)
+      put-small = store-small g (nextStore g n h parts img) img (built-small g (suc (maxSeq g n img)) h parts) (held .bytes)
 
       put-r1 : AllR1 (g .top) t (views g next)
       unfolding nextStore
-      put-r1 = program-r1 g core img n (held .image) N N-in (suc (maxSeq g n img)) h parts ok low h-low high
-          (omega arith) (held .r1)
+      put-r1 = program-r1 g core img n (held .image) N N-in (suc (maxSeq g n img)) h parts ok low h-low high (omega arith) (held .r1)
 
       put-r3 : R3 t (views g next)
       unfolding nextStore
-      put-r3 = program-r3 g core img n (held .image) N N-in (suc (maxSeq g n img)) h parts ok low h-low seq-is
-          (held .r3)
+      put-r3 = program-r3 g core img n (held .image) N N-in (suc (maxSeq g n img)) h parts ok low h-low seq-is (held .r3)
 
       -- with a root: what is to be shown is that the abstract chip is whole
       module _ (some-h : 1 ≤ h) where
         pub root-chip : chipOf g n next ≡ rooted c N (builtView g (suc (maxSeq g n img)) h parts)
         unfolding nextStore
-        root-chip = program-root g core img n (held .image) N N-in (suc (maxSeq g n img)) h parts ok low h-low some-h
-            seq-is
+        root-chip = program-root g core img n (held .image) N N-in (suc (maxSeq g n img)) h parts ok low h-low some-h seq-is
 
         pub root-held : Whole g n (rooted c N (builtView g (suc (maxSeq g n img)) h parts)) → Held g n next
         unfolding nextStore
@@ -150,8 +141,7 @@ module _ (g : Geometry) (core : Core g) (n : ℕ) (img : List ℕ) (held : Held 
 
         pub root-frees : count t (c .er) ≡ suc (count t (chipOf g n next .er))
         unfolding rooted
-        root-frees = let e = ap (λ (x : Chip). count t (x .er)) root-chip in
-            omega (arith, count-gone t N (c .er) N-in next-free, e)
+        root-frees = let e = ap (λ (x : Chip). count t (x .er)) root-chip in omega (arith, count-gone t N (c .er) N-in next-free, e)
 
       -- without: all is as before, whatever the page holds
       module _ (no-h : h ≡ 0) where
@@ -160,8 +150,7 @@ module _ (g : Geometry) (core : Core g) (n : ℕ) (img : List ℕ) (held : Held 
 
         pub side-chip : chipOf g n next ≡ beside c N w
         unfolding nextStore
-        side-chip = program-beside g core img n (held .image) N N-in (suc (maxSeq g n img)) h parts ok low h-low no-h
-            view-free
+        side-chip = program-beside g core img n (held .image) N N-in (suc (maxSeq g n img)) h parts ok low h-low no-h view-free
 
         stays : (q l : ℕ) → fitOf t (c .er) (suc l) q → beside c N w .nodes q (suc l) ≡ c .nodes q (suc l)
         unfolding beside
@@ -171,8 +160,7 @@ module _ (g : Geometry) (core : Core g) (n : ℕ) (img : List ℕ) (held : Held 
         unfolding beside
         side-whole = record {
           r2 = r2-next (g .pages) n (ahead g n c) (some-page g core) (held .whole .r2) (found .0) (found .1);
-          sound = sound-same fourBytes (λ l. 2 * half g l) (rootMost g) (c .nodes) (beside c N w .nodes)
-              (fitOf t (c .er))
+          sound = sound-same fourBytes (λ l. 2 * half g l) (rootMost g) (c .nodes) (beside c N w .nodes) (fitOf t (c .er))
               (fitOf t (after N (c .er))) (fit-after t N (c .er)) stays (c .level) (c .root) (held .whole .sound);
         }
 
@@ -183,28 +171,23 @@ module _ (g : Geometry) (core : Core g) (n : ℕ) (img : List ℕ) (held : Held 
           bytes = put-small;
           r1 = put-r1;
           r3 = put-r3;
-          r4 = beside-r4 g core img n (held .image) N N-in (suc (maxSeq g n img)) h parts ok low h-low no-h view-free
-              (held .r4);
+          r4 = beside-r4 g core img n (held .image) N N-in (suc (maxSeq g n img)) h parts ok low h-low no-h view-free (held .r4);
           whole = subst (Whole g n) (sym side-chip) side-whole;
         }
 
         pub side-map : mapOf (chipOf g n next) ≡ mapOf c
         unfolding beside
-        side-map = ap mapOf side-chip ∙ pairs-same fourBytes (λ l. 2 * half g l) (rootMost g) (c .nodes)
-            (beside c N w .nodes) (fitOf t (c .er))
+        side-map = ap mapOf side-chip ∙ pairs-same fourBytes (λ l. 2 * half g l) (rootMost g) (c .nodes) (beside c N w .nodes) (fitOf t (c .er))
             (fitOf t (after N (c .er))) (fit-after t N (c .er)) stays (c .level) (c .root) (held .whole .sound .rooted)
 
         pub side-lives : placesOf (chipOf g n next) ≡ placesOf c
         unfolding beside
-        side-lives = ap placesOf side-chip ∙ root-places-same fourBytes (λ l. 2 * half g l) (rootMost g) (c .nodes)
-            (beside c N w .nodes)
-            (fitOf t (c .er)) (fitOf t (after N (c .er))) (fit-after t N (c .er)) stays (c .level) (c .root)
-            (held .whole .sound .rooted)
+        side-lives = ap placesOf side-chip ∙ root-places-same fourBytes (λ l. 2 * half g l) (rootMost g) (c .nodes) (beside c N w .nodes)
+            (fitOf t (c .er)) (fitOf t (after N (c .er))) (fit-after t N (c .er)) stays (c .level) (c .root) (held .whole .sound .rooted)
 
         pub side-frees : count t (c .er) ≡ suc (count t (chipOf g n next .er))
         unfolding beside
-        side-frees = let e = ap (λ (x : Chip). count t (x .er)) side-chip in
-            omega (arith, count-gone t N (c .er) N-in next-free, e)
+        side-frees = let e = ap (λ (x : Chip). count t (x .er)) side-chip in omega (arith, count-gone t N (c .er) N-in next-free, e)
 
   -- ---- the erase of a block without live pages
   root-live : live (placesOf c) (c .root) ≡ true
@@ -239,6 +222,5 @@ module _ (g : Geometry) (core : Core g) (n : ℕ) (img : List ℕ) (held : Held 
     }
 
     pub wipe-max : maxSeq g n wiped ≤ maxSeq g n img
-    wipe-max = let z = erase-max g core img n (held .image) b b-in in let x = view-max g n wiped in let y =
-        view-max g n img in
+    wipe-max = let z = erase-max g core img n (held .image) b b-in in let x = view-max g n wiped in let y = view-max g n img in
         omega (arith, x, y, z)

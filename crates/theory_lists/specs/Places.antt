@@ -28,11 +28,7 @@ length-mapped X Y f l n e = sym (length-map l f) ∙ e
 
 -- a number is below another, it, or above
 pub three : {P : Type 0} (k i : ℕ) → (k < i → P) → (k ≡ i → P) → (i < k → P) → P
-three k i below same above = elim (decLt k i) [
-  | yes h ↦ below h
-  | no h ↦ ⊎-elim (λ e. same (sym e)) above
-      (eq-or-lt-of-le {n = i} {m = k} (omega arith))
-]
+three k i below same above = elim (decLt k i) [ yes h ↦ below h | no h ↦ ⊎-elim (λ e. same (sym e)) above (eq-or-lt-of-le {n = i} {m = k} (omega arith)) ]
 
 -- a list cut short, and a place of it changed
 pub take-set : {A : Type 0} (c i : ℕ) (x : A) (l : List A) → take c (set l i x) ≡ set (take c l) i x
@@ -84,8 +80,7 @@ module _ {A : Type 0} (d : A) where
 
     pub remove-before : (k : ℕ) → k < i → getD (removeAt i es) k d ≡ getD es k d
     unfolding removeAt
-    remove-before k p = List·getD-append (take i es) (drop (i + 1) es) d k (rw (length-take-le i es (omega arith)) p)
-        ∙ getD-take i es k d p
+    remove-before k p = List·getD-append (take i es) (drop (i + 1) es) d k (rw (length-take-le i es (omega arith)) p) ∙ getD-take i es k d p
 
     pub remove-after : (k : ℕ) → i ≤ k → getD (removeAt i es) k d ≡ getD es (k + 1) d
     unfolding removeAt
@@ -112,8 +107,7 @@ module _ {A : Type 0} (d : A) where
         getD-take (c + 1) (set w i x) k d p′
         ∙ three k i
         (λ (b : k < i).
-        getD-set-other w i k x d (omega arith) ∙ written-before e (i + 1) (λ k. getD e (i + k) d) (c - i) k d
-        (omega arith)
+        getD-set-other w i k x d (omega arith) ∙ written-before e (i + 1) (λ k. getD e (i + k) d) (c - i) k d (omega arith)
         ∙ sym (insert-before i x (take c e) hi′ k b ∙ getD-take c e k d (omega arith)))
         (λ (q : k ≡ i). rw q (getD-set-same w i x d (rw lw (omega arith)) ∙ sym (insert-same i x (take c e) hi′)))
         (λ (a : i < k).
@@ -125,8 +119,7 @@ module _ {A : Type 0} (d : A) where
         ∙ (rw q₂ (sym (getD-take c e (k - 1) d (omega arith))))
         ∙ sym (rw q₃ at (insert-after i x (take c e) hi′ (k - 1) (omega arith)))))
 
-    pub removed : (i : ℕ) → i < c → take (c - 1) (written e i (λ k. getD e (i + 1 + k) d) (c - 1 - i)) ≡ removeAt i
-        (take c e)
+    pub removed : (i : ℕ) → i < c → take (c - 1) (written e i (λ k. getD e (i + 1 + k) d) (c - 1 - i)) ≡ removeAt i (take c e)
     removed i hi =
         let f : ℕ → A = λ k. getD e (i + 1 + k) d in
         let w : List A = written e i f (c - 1 - i) in
@@ -139,8 +132,7 @@ module _ {A : Type 0} (d : A) where
         let p′ : k < c - 1 = rw lt at p in
         getD-take (c - 1) w k d p′
         ∙ elim (decLt k i) [
-          | yes b ↦ written-before e i f (c - 1 - i) k d b ∙ sym (remove-before i (take c e) hi′ k b ∙ getD-take c e k d
-              (omega arith))
+          | yes b ↦ written-before e i f (c - 1 - i) k d b ∙ sym (remove-before i (take c e) hi′ k b ∙ getD-take c e k d (omega arith))
           | no nb ↦
               (let q : i + (k - i) ≡ k = omega arith in
               let q₂ : i + 1 + (k - i) ≡ k + 1 = omega arith in

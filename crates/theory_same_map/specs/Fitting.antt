@@ -48,16 +48,14 @@ form-fits (w ∷ x ∷ []) =
 form-fits (w ∷ x ∷ y ∷ []) =
     pick-fits (isLetter 73 w) _ _ (given-fits x _ (λ k p. given-fits y (λ a. Of (Insert k a)) (λ a q. (p, q)))) tt
 form-fits (w ∷ x ∷ y ∷ z ∷ []) =
-    pick-fits (isLetter 83 w) _ _ (given-fits x _ (λ k p. given-fits y _ (λ a q. given-fits z (λ m. Of (Limited k a m))
-    (λ m r. (p, q))))) tt
+    pick-fits (isLetter 83 w) _ _ (given-fits x _ (λ k p. given-fits y _ (λ a q. given-fits z (λ m. Of (Limited k a m)) (λ m r. (p, q))))) tt
 form-fits (w ∷ x ∷ y ∷ z ∷ u ∷ us) = tt
 
 pub parsed-fits : (line : List ℕ) (order : Order) → parsed line ≡ Of order → Fits order
 parsed-fits line order e = subst LineFits e (form-fits (fields line))
 
 -- the program's forms: a line's own, among the first 1,000,000
-pub form-after : (count : ℕ) (line : List ℕ) (order : Order) → formAfter count line ≡ Of order → (count < mostLines) ×
-    Fits order
+pub form-after : (count : ℕ) (line : List ℕ) (order : Order) → formAfter count line ≡ Of order → (count < mostLines) × Fits order
 unfolding formAfter
 form-after count line order e = go (ltb count mostLines) refl e
   where
@@ -72,7 +70,6 @@ orders-fit zero ls = tt
 orders-fit (suc j) [] = tt
 orders-fit (suc j) (l ∷ ls) = go (parsed l) refl (orders-fit j ls)
   where
-    go : (line : Line) → parsed l ≡ line → All Fits (take j (ordersIn ls))
-        → All Fits (take (suc j) (followedBy line (ordersIn ls)))
+    go : (line : Line) → parsed l ≡ line → All Fits (take j (ordersIn ls)) → All Fits (take (suc j) (followedBy line (ordersIn ls)))
     go Other e h = tt
     go (Of order) e h = (parsed-fits l order e, h)

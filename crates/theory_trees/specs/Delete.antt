@@ -19,21 +19,17 @@ use Rattle.theory_trees.specs.Edit.{Local, splice-op, splice-length, spl
 
 remove-after : (k lo : ℕ) (xs ys : List Entry) → All (In lo k) xs → remove k (xs ++ ys) ≡ xs ++ remove k ys
 remove-after k lo [] ys h = refl
-remove-after k lo (e ∷ xs) ys h = rw (ne-eqb (e .key) k (λ p. omega (arith, h .0 .1)))
-    (ap (λ l. e ∷ l) (remove-after k lo xs ys (h .1)))
+remove-after k lo (e ∷ xs) ys h = rw (ne-eqb (e .key) k (λ p. omega (arith, h .0 .1))) (ap (λ l. e ∷ l) (remove-after k lo xs ys (h .1)))
 
 remove-none : (k lo hi : ℕ) (zs : List Entry) → k < lo → All (In lo hi) zs → remove k zs ≡ zs
 remove-none k lo hi [] q h = refl
-remove-none k lo hi (e ∷ zs) q h = rw (ne-eqb (e .key) k (λ p. omega (arith, h .0 .0)))
-    (ap (λ l. e ∷ l) (remove-none k lo hi zs q (h .1)))
+remove-none k lo hi (e ∷ zs) q h = rw (ne-eqb (e .key) k (λ p. omega (arith, h .0 .0))) (ap (λ l. e ∷ l) (remove-none k lo hi zs q (h .1)))
 
-remove-before : (k lo hi : ℕ) (ys zs : List Entry) → k < lo → All (In lo hi) zs
-    → remove k (ys ++ zs) ≡ remove k ys ++ zs
+remove-before : (k lo hi : ℕ) (ys zs : List Entry) → k < lo → All (In lo hi) zs → remove k (ys ++ zs) ≡ remove k ys ++ zs
 remove-before k lo hi [] zs q h = remove-none k lo hi zs q h
 remove-before k lo hi (e ∷ ys) zs q h = go (eqb (e .key) k) (remove-before k lo hi ys zs q h)
   where
-    go : (t : Bool) → remove k (ys ++ zs) ≡ remove k ys ++ zs → pick t (ys ++ zs) (e ∷ remove k (ys ++ zs)) ≡ pick t ys
-        (e ∷ remove k ys) ++ zs
+    go : (t : Bool) → remove k (ys ++ zs) ≡ remove k ys ++ zs → pick t (ys ++ zs) (e ∷ remove k (ys ++ zs)) ≡ pick t ys (e ∷ remove k ys) ++ zs
     go true i = refl
     go false i = ap (λ l. e ∷ l) i
 
@@ -44,8 +40,7 @@ pub remove-splice : (k hi : ℕ) (es : List Entry) → 0 < length es → k < hi 
     → splice (λ e. remove k (e ∷ [])) k es ≡ remove k es
 remove-splice k hi es n q h =
     sym (gather-one (splice (λ e. remove k (e ∷ [])) k es))
-    ∙ splice-op k (remove k) (remove-local k) (λ y x. Unit {0}) (λ e. e ∷ []) (λ e. e ∷ []) (λ e. remove k
-    (e ∷ [])) (λ y x b i. (omega arith, tt))
+    ∙ splice-op k (remove k) (remove-local k) (λ y x. Unit {0}) (λ e. e ∷ []) (λ e. e ∷ []) (λ e. remove k (e ∷ [])) (λ y x b i. (omega arith, tt))
     (λ y x i. refl) hi es n q h (λ y _ _ _. gather-one (remove k (chosen k es ∷ [])))
     ∙ ap (remove k) (gather-one es)
 
@@ -74,20 +69,16 @@ DeleteHeld n s l e c = 1 ≤ length c → s n l ≡ c
 abbrev pub DeleteMade : Nodes → Nodes → ℕ → ℕ → ℕ → Entry → Type 0
 DeleteMade r s k n l e = Made r k (λ e. remove k (e ∷ [])) (kept n) (DeleteHeld n s) l e
 
-pub delete-made : (r s : Nodes) (k n : ℕ) (fit : ℕ → ℕ → Type 0) → ((l : ℕ) → fit (suc l) n) → (l : ℕ) (e : Entry)
-    → DeleteMade r s k n l e
+pub delete-made : (r s : Nodes) (k n : ℕ) (fit : ℕ → ℕ → Type 0) → ((l : ℕ) → fit (suc l) n) → (l : ℕ) (e : Entry) → DeleteMade r s k n l e
     → DeleteMadeOn r s k (λ _. n) fit l e
-delete-made r s k n fit fn = made-map r k (λ e. remove k (e ∷ [])) (kept n) (DeleteHeld n s)
-    (DeleteHeldOn (λ _. n) s fit) (λ l e c h b. (h b, fn l))
+delete-made r s k n fit fn = made-map r k (λ e. remove k (e ∷ [])) (kept n) (DeleteHeld n s) (DeleteHeldOn (λ _. n) s fit) (λ l e c h b. (h b, fn l))
 
 pub none-left : (es : List Entry) → length es ≤ 0 → es ≡ []
 none-left [] h = refl
 none-left (e ∷ es) h = absurd (omega arith)
 
--- where nothing is left of an entry, nothing is left of the path below it: what asks for something of a node that is
--- left is so
-pub none-held : (k : ℕ) (n : ℕ → ℕ) (half : ℕ → ℕ) (r : Nodes) (fit : ℕ → ℕ → Type 0) (H : ℕ → Entry → List Entry
-    → Type 0)
+-- where nothing is left of an entry, nothing is left of the path below it: what asks for something of a node that is left is so
+pub none-held : (k : ℕ) (n : ℕ → ℕ) (half : ℕ → ℕ) (r : Nodes) (fit : ℕ → ℕ → Type 0) (H : ℕ → Entry → List Entry → Type 0)
     → ((l : ℕ) (e : Entry) (c : List Entry) → length c ≡ 0 → H l e c)
     → (l hi : ℕ) (e : Entry) → k < hi → Ok fit (λ l. 2 * half l) r l hi e → deletedOn r k n l e ≡ []
     → Made r k (λ e. remove k (e ∷ [])) (keptOn n) H l e
@@ -108,8 +99,7 @@ none-held k n half r fit H f (suc l) hi e q h d =
     emptied (x ∷ c) i = absurd (omega (arith, ap length i))
 
 module _ (k : ℕ) (n : ℕ → ℕ) (top : ℕ) (half most : ℕ → ℕ) (r s : Nodes) (fit fit′ : ℕ → ℕ → Type 0)
-    (keep : (l a : ℕ) → fit l a → fit′ l a) (same : (p l : ℕ) → fit (suc l) p → s p (suc l) ≡ r p (suc l))
-    (k-top : k < top) where
+    (keep : (l a : ℕ) → fit l a → fit′ l a) (same : (p l : ℕ) → fit (suc l) p → s p (suc l) ≡ r p (suc l)) (k-top : k < top) where
   abbrev roomAt : ℕ → ℕ
   roomAt l = 2 * half l
 
@@ -125,8 +115,7 @@ module _ (k : ℕ) (n : ℕ → ℕ) (top : ℕ) (half most : ℕ → ℕ) (r s 
   kept-under l e [] h = refl
   kept-under l e (x ∷ c) h = rw (h (omega arith) .0) (append-nil (gather (under s l) (x ∷ c)))
 
-  pub kept-ok : (l y i : ℕ) (e : Entry) (c : List Entry) → DeleteHeldOn n s fit′ (suc l) e c → k < y → e .key < y
-      → Rises (Ok fit′ roomAt s l) y c
+  pub kept-ok : (l y i : ℕ) (e : Entry) (c : List Entry) → DeleteHeldOn n s fit′ (suc l) e c → k < y → e .key < y → Rises (Ok fit′ roomAt s l) y c
       → e .key ≤ next c y
       → 1 ≤ i → i ≤ roomAt (suc l) → i + 0 ≤ suc (length c) → suc (length c) ≤ i + 1
       → Out (Ok fit′ roomAt s (suc l)) (λ z. z) 0 1 y (e .key) (keptOn n (suc l) e c)
@@ -139,8 +128,7 @@ module _ (k : ℕ) (n : ℕ → ℕ) (top : ℕ) (half most : ℕ → ℕ) (r s 
     omega arith,
   )
 
-  pub remove-ok : (y : ℕ) (e : Entry) → k < y → e .key < y → fit 0 (e .addr) → Out (Ok fit′ roomAt s 0) (λ z. z) 0 1 y
-      (e .key) (remove k (e ∷ []))
+  pub remove-ok : (y : ℕ) (e : Entry) → k < y → e .key < y → fit 0 (e .addr) → Out (Ok fit′ roomAt s 0) (λ z. z) 0 1 y (e .key) (remove k (e ∷ []))
   unfolding Ok
   remove-ok y e q b h = go (eqb (e .key) k)
     where
@@ -157,25 +145,16 @@ module _ (k : ℕ) (n : ℕ → ℕ) (top : ℕ) (half most : ℕ → ℕ) (r s 
   gone-some : (l : ℕ) (es : List Entry) → 0 < length es → Rises (Ok fit roomAt r l) top es → Making l (chosen k es)
       → Gone l es (splice (deletes l) k es)
   gone-some l es e h m =
-      let p = edit-list fit fit′ roomAt r s keep same k (λ e. remove k (e ∷ [])) (keptOn n) (DeleteHeldOn n s fit′)
-      (remove k) (remove-local k) (λ e. refl)
+      let p = edit-list fit fit′ roomAt r s keep same k (λ e. remove k (e ∷ [])) (keptOn n) (DeleteHeldOn n s fit′) (remove k) (remove-local k) (λ e. refl)
       (λ l hi e c _ h i. kept-under l e c h ∙ i) l top es e k-top h m in
-      let o = edit-list-ok fit fit′ roomAt r s keep same k (λ e. remove k (e ∷ [])) (keptOn n) (DeleteHeldOn n s fit′)
-      (λ z. z) 0 1 (λ z. omega arith)
+      let o = edit-list-ok fit fit′ roomAt r s keep same k (λ e. remove k (e ∷ [])) (keptOn n) (DeleteHeldOn n s fit′) (λ z. z) 0 1 (λ z. omega arith)
       (λ z i. omega arith) (λ y z i. omega arith) remove-ok (λ l y i e c _. kept-ok l y i e c) l top es e k-top h m in
       record { pairs-are = p; rises = o .up; few = omega (arith, o .few); many = omega (arith, o .many) }
 
-  pub gone : (l : ℕ) (es : List Entry) → (1 ≤ l → 2 ≤ length es) → Rises (Ok fit roomAt r l) top es
-      → Making l (chosen k es)
+  pub gone : (l : ℕ) (es : List Entry) → (1 ≤ l → 2 ≤ length es) → Rises (Ok fit roomAt r l) top es → Making l (chosen k es)
       → Gone l es (atRoot (removeIn k) (deletes l) k l es)
   unfolding atRoot edit under Ok removeIn splice
-  gone zero [] g h m = record {
-    pairs-are = gather-one [] ∙ ap (remove k) (sym (gather-one []));
-    rises = tt;
-    few =
-        omega arith;
-    many = omega arith;
-  }
+  gone zero [] g h m = record { pairs-are = gather-one [] ∙ ap (remove k) (sym (gather-one [])); rises = tt; few = omega arith; many = omega arith }
   gone zero (e ∷ es) g h m = gone-some zero (e ∷ es) (omega arith) h m
   gone (suc l) es g h m = gone-some (suc l) es (omega (arith, g (omega arith))) h m
 
@@ -183,37 +162,27 @@ module _ (k : ℕ) (n : ℕ → ℕ) (top : ℕ) (half most : ℕ → ℕ) (r s 
   rootLess l p = atRoot (removeIn k) (deletes l) k l (r p (suc l))
 
   -- the root stays at its level
-  pub less-pairs : (l p : ℕ) → Rooted fit roomAt most top r l p → Making l (chosen k (r p (suc l)))
-      → s (n (suc l)) (suc l) ≡ rootLess l p
+  pub less-pairs : (l p : ℕ) → Rooted fit roomAt most top r l p → Making l (chosen k (r p (suc l))) → s (n (suc l)) (suc l) ≡ rootLess l p
       → under s (suc l) (the (n (suc l))) ≡ remove k (under r (suc l) (the p))
   unfolding under
   less-pairs l p h m e = rw e (gone l (r p (suc l)) (h .least) (h .rises) m .pairs-are)
 
-  pub less-ok : (l p : ℕ) → Rooted fit roomAt most top r l p → Making l (chosen k (r p (suc l)))
-      → s (n (suc l)) (suc l) ≡ rootLess l p
+  pub less-ok : (l p : ℕ) → Rooted fit roomAt most top r l p → Making l (chosen k (r p (suc l))) → s (n (suc l)) (suc l) ≡ rootLess l p
       → fit′ (suc l) (n (suc l)) → (1 ≤ l → 2 ≤ length (rootLess l p))
       → Rooted fit′ roomAt most top s l (n (suc l))
   less-ok l p h m e fn b =
       let f = gone l (r p (suc l)) (h .least) (h .rises) m in
-      record {
-        fits = fn;
-        least = λ z. rw e (b z);
-        atmost = rw e (omega (arith, f .many, h .atmost));
-        rises =
-            rw e (f .rises);
-      }
+      record { fits = fn; least = λ z. rw e (b z); atmost = rw e (omega (arith, f .many, h .atmost)); rises = rw e (f .rises) }
 
   -- one entry is left: the path is gone and the entry is an old one
-  pub left-old : (l : ℕ) (es : List Entry) → 2 ≤ length es → Rises (Ok fit roomAt r l) top es
-      → length (splice (deletes l) k es) ≡ 1
+  pub left-old : (l : ℕ) (es : List Entry) → 2 ≤ length es → Rises (Ok fit roomAt r l) top es → length (splice (deletes l) k es) ≡ 1
       → Rises (Ok fit roomAt r l) top (splice (deletes l) k es)
   left-old l es g h e =
       let a = splice-length (Ok fit roomAt r l) (deletes l) k top es (omega arith) k-top h in
       let b = none-left (deletes l (chosen k es)) (omega arith) in
       rw (splice-cong (Ok fit roomAt r l) (deletes l) (λ _. []) k top es (omega arith) k-top h b)
       (splice-rises k (Ok fit roomAt r l) (Ok fit roomAt r l) (λ _. []) (λ z. z) (λ z. omega arith) (λ z i. omega arith)
-      (λ y y′ x _ z i. ok-more fit roomAt r l y y′ x z i) top es (omega arith) k-top h
-      (λ y a b i. (tt, omega arith)) .0)
+      (λ y y′ x _ z i. ok-more fit roomAt r l y y′ x z i) top es (omega arith) k-top h (λ y a b i. (tt, omega arith)) .0)
 
   -- the collapse
   pub record Topped (l : ℕ) (c : List Entry) (t : Top) : Type 0 where
@@ -222,8 +191,7 @@ module _ (k : ℕ) (n : ℕ → ℕ) (top : ℕ) (half most : ℕ → ℕ) (r s 
     pub least : 1 ≤ t .level → 2 ≤ length (t .list)
     pub atmost : length (t .list) ≤ most (suc (t .level))
 
-  pub topped : ((j : ℕ) → roomAt j ≤ most j) → (l : ℕ) (c : List Entry) → 1 ≤ length c → length c ≤ most (suc l)
-      → Rises (Ok fit roomAt r l) top c
+  pub topped : ((j : ℕ) → roomAt j ≤ most j) → (l : ℕ) (c : List Entry) → 1 ≤ length c → length c ≤ most (suc l) → Rises (Ok fit roomAt r l) top c
       → Topped l c (collapse r l c)
   unfolding collapse gather under Ok
   topped w zero c g b h = record { pairs-are = refl; rises = h; least = λ z. absurd (omega arith); atmost = b }
@@ -256,12 +224,10 @@ module _ (k : ℕ) (n : ℕ → ℕ) (top : ℕ) (half most : ℕ → ℕ) (r s 
     old-list = left-old (suc l) (r p (suc (suc l))) (h .least (omega arith)) (h .rises) one
 
     pub the-top : Topped (suc l) (rootLess (suc l) p) (topAt l p)
-    the-top = topped wide (suc l) (rootLess (suc l) p) (omega arith) (omega (arith, h .atmost, h .least (omega arith)))
-        old-list
+    the-top = topped wide (suc l) (rootLess (suc l) p) (omega arith) (omega (arith, h .atmost, h .least (omega arith))) old-list
 
     as-old : (j : ℕ) (c : List Entry) → Rises (Ok fit roomAt r j) top c → gather (under s j) c ≡ gather (under r j) c
-    as-old j c i = gather-eq (under r j) (under s j) c (rises-all (Ok fit roomAt r j) (λ x. under s j x ≡ under r j x)
-        top c
+    as-old j c i = gather-eq (under r j) (under s j) c (rises-all (Ok fit roomAt r j) (λ x. under s j x ≡ under r j x) top c
         (λ y x _ _ i. under-same fit roomAt fit′ r s keep same j y x i) i)
 
     pub collapse-pairs : under s (suc (topAt l p .level)) (the (topPage l p)) ≡ remove k (under r (suc (suc l)) (the p))
@@ -269,11 +235,9 @@ module _ (k : ℕ) (n : ℕ → ℕ) (top : ℕ) (half most : ℕ → ℕ) (r s 
     collapse-pairs =
         let t = topAt l p in
         ap (gather (under s (t .level))) e ∙ as-old (t .level) (t .list) (the-top .rises) ∙ the-top .pairs-are
-        ∙ sym (as-old (suc l) (rootLess (suc l) p) old-list) ∙ gone (suc l) (r p (suc (suc l))) (h .least)
-        (h .rises) m .pairs-are
+        ∙ sym (as-old (suc l) (rootLess (suc l) p) old-list) ∙ gone (suc l) (r p (suc (suc l))) (h .least) (h .rises) m .pairs-are
 
-    pub collapse-ok : fit′ (suc (topAt l p .level)) (topPage l p) → Rooted fit′ roomAt most top s (topAt l p .level)
-        (topPage l p)
+    pub collapse-ok : fit′ (suc (topAt l p .level)) (topPage l p) → Rooted fit′ roomAt most top s (topAt l p .level) (topPage l p)
     collapse-ok fn =
         let t = topAt l p in
         record {
@@ -285,9 +249,7 @@ module _ (k : ℕ) (n : ℕ → ℕ) (top : ℕ) (half most : ℕ → ℕ) (r s 
         }
 
 module _ (k n top : ℕ) (half most : ℕ → ℕ) (r s : Nodes) (fit fit′ : ℕ → ℕ → Type 0) (fit-n : (l : ℕ) → fit′ (suc l) n)
-    (keep : (l a : ℕ) → fit l a → fit′ l a) (same : (p l : ℕ) → fit (suc l) p → s p (suc l) ≡ r p (suc l))
-    (k-top : k < top) where
+    (keep : (l a : ℕ) → fit l a → fit′ l a) (same : (p l : ℕ) → fit (suc l) p → s p (suc l) ≡ r p (suc l)) (k-top : k < top) where
   -- all on N
-  pub none-made : (l hi : ℕ) (e : Entry) → k < hi → Ok fit (λ l. 2 * half l) r l hi e → deleted r k n l e ≡ []
-      → DeleteMade r s k n l e
+  pub none-made : (l hi : ℕ) (e : Entry) → k < hi → Ok fit (λ l. 2 * half l) r l hi e → deleted r k n l e ≡ [] → DeleteMade r s k n l e
   none-made = none-held k (λ _. n) half r fit (DeleteHeld n s) (λ l e c i j. absurd (omega (arith, i, j)))

@@ -18,31 +18,26 @@ module _ (top : ℕ) (room most : ℕ → ℕ) (r s : Nodes) (fit fit′ : ℕ �
         fits = keep (suc l) p (h .fits);
         least = λ z. rw e (h .least z);
         atmost = rw e (h .atmost);
-        rises = rw e (rises-map (Ok fit room r l) (Ok fit′ room s l) top (r p (suc l))
-            (λ y x _ _ i. ok-same fit room fit′ r s keep same l y x i)
+        rises = rw e (rises-map (Ok fit room r l) (Ok fit′ room s l) top (r p (suc l)) (λ y x _ _ i. ok-same fit room fit′ r s keep same l y x i)
             (h .rises));
       }
 
   list-same : (B : Type 0) (d d′ : Entry → List B) (es : List Entry) → Rises (Ok fit room r l) top es
       → ((y : ℕ) (x : Entry) → Ok fit room r l y x → d′ x ≡ d x) → gather d′ es ≡ gather d es
-  list-same B d d′ es h f = gather-eq d d′ es (rises-all (Ok fit room r l) (λ x. d′ x ≡ d x) top es
-      (λ y x _ _ i. f y x i) h)
+  list-same B d d′ es h f = gather-eq d d′ es (rises-all (Ok fit room r l) (λ x. d′ x ≡ d x) top es (λ y x _ _ i. f y x i) h)
 
   pub pairs-same : Rooted fit room most top r l p → under s (suc l) (the p) ≡ under r (suc l) (the p)
   unfolding under
-  pairs-same h = rw (same p l (h .fits)) (list-same Entry (under r l) (under s l) (r p (suc l)) (h .rises)
-      (under-same fit room fit′ r s keep same l))
+  pairs-same h = rw (same p l (h .fits)) (list-same Entry (under r l) (under s l) (r p (suc l)) (h .rises) (under-same fit room fit′ r s keep same l))
 
   pub root-places-same : Rooted fit room most top r l p → places s (suc l) (the p) ≡ places r (suc l) (the p)
   unfolding places
   root-places-same h = rw (same p l (h .fits)) (ap (λ m. record { page = p; level = suc l } ∷ m)
       (list-same Place (places r l) (places s l) (r p (suc l)) (h .rises) (places-same fit room fit′ r s keep same l)))
 
-  tied-same : (spots : List Place) → All (λ x. (1 ≤ x .level) × fit (x .level) (x .page)) spots → Tied r spots
-      → Tied s spots
+  tied-same : (spots : List Place) → All (λ x. (1 ≤ x .level) × fit (x .level) (x .page)) spots → Tied r spots → Tied s spots
   tied-same spots f t =
-      all-map (λ x. ((1 ≤ x .level) × fit (x .level) (x .page)) × All (TiedTo r x) spots) (λ x. All (TiedTo s x) spots)
-      spots
+      all-map (λ x. ((1 ≤ x .level) × fit (x .level) (x .page)) × All (TiedTo r x) spots) (λ x. All (TiedTo s x) spots) spots
       (λ x h. all-map (TiedTo r x) (TiedTo s x) spots
       (λ y i e b. rw (node-same fit r s same (x .page) (x .level) (h .0 .0) (h .0 .1)) (i e b)) (h .1))
       (all-both (λ x. (1 ≤ x .level) × fit (x .level) (x .page)) (λ x. All (TiedTo r x) spots) spots f t)

@@ -51,33 +51,27 @@ names-fit er t (suc l) a h =
 fit-names : (er : ℕ → Bool) (t l a : ℕ) → fitOf t er l a → names er t (suc l) a ≡ true
 unfolding names
 fit-names er t zero a h = rw (eq-eqb 1 1 refl) refl
-fit-names er t (suc l) a h = rw (ne-eqb (suc (suc l)) 1 (λ z. omega (arith, z)))
-    (and-both _ _ (lt-ltb a t (h .0)) (ap not (h .1)))
+fit-names er t (suc l) a h = rw (ne-eqb (suc (suc l)) 1 (λ z. omega (arith, z))) (and-both _ _ (lt-ltb a t (h .0)) (ap not (h .1)))
 
 -- ---- keys that rise
 module _ (ok : ℕ → Bool) where
   abbrev May : ℕ → Entry → Type 0
   May y x = ok (x .addr) ≡ true
 
-  rising-up : (es : List Entry) (lo hi : ℕ) → rising ok es lo hi ≡ true → Rises May hi es ×
-      (1 ≤ length es → lo ≤ next es hi)
+  rising-up : (es : List Entry) (lo hi : ℕ) → rising ok es lo hi ≡ true → Rises May hi es × (1 ≤ length es → lo ≤ next es hi)
   unfolding rising
   rising-up [] lo hi h = (tt, λ z. absurd (omega arith))
   rising-up (e ∷ es) lo hi h =
       let a = and-left _ _ h in
       let b = and-left _ _ a in
-      let i = rising-up es (e .key + 1) hi (and-right _ _ h) in (
-        (below es (ltb-true (e .key) hi (and-right _ _ b)) (i .1), and-right _ _ a, i .0),
-        λ _. leb-true lo (e .key)
-            (and-left _ _ b),
-      )
+      let i = rising-up es (e .key + 1) hi (and-right _ _ h) in
+      ((below es (ltb-true (e .key) hi (and-right _ _ b)) (i .1), and-right _ _ a, i .0), λ _. leb-true lo (e .key) (and-left _ _ b))
     where
       below : (es : List Entry) → e .key < hi → (1 ≤ length es → e .key + 1 ≤ next es hi) → e .key < next es hi
       below [] q f = q
       below (x ∷ es) q f = omega (arith, f (omega arith))
 
-  up-rising : (es : List Entry) (lo hi : ℕ) → Rises May hi es → (1 ≤ length es → lo ≤ next es hi)
-      → rising ok es lo hi ≡ true
+  up-rising : (es : List Entry) (lo hi : ℕ) → Rises May hi es → (1 ≤ length es → lo ≤ next es hi) → rising ok es lo hi ≡ true
   unfolding rising
   up-rising [] lo hi h f = refl
   up-rising (e ∷ es) lo hi h f =
@@ -85,21 +79,14 @@ module _ (ok : ℕ → Bool) where
       (lt-ltb (e .key) hi (omega (arith, h .0, next-le May hi es (h .2))))) (h .1))
       (up-rising es (e .key + 1) hi (h .2) (λ _. omega (arith, h .0)))
 
-entries-good : (ok : ℕ → Bool) (sub : ℕ → ℕ → ℕ → Finding) (es : List Entry) (hi : ℕ)
-    → Rises (λ y x. ok (x .addr) ≡ true) hi es
+entries-good : (ok : ℕ → Bool) (sub : ℕ → ℕ → ℕ → Finding) (es : List Entry) (hi : ℕ) → Rises (λ y x. ok (x .addr) ≡ true) hi es
     → judgeEntries sub es hi ≡ Good
     → Rises (λ y x. (ok (x .addr) ≡ true) × (sub (x .addr) (x .key) y ≡ Good)) hi es
 unfolding judgeEntries
 entries-good ok sub [] hi h j = tt
-entries-good ok sub (e ∷ es) hi h j = (
-  h .0,
-  (h .1, first-left _ _ j),
-  entries-good ok sub es hi (h .2)
-      (first-right _ _ j),
-)
+entries-good ok sub (e ∷ es) hi h j = (h .0, (h .1, first-left _ _ j), entries-good ok sub es hi (h .2) (first-right _ _ j))
 
-good-entries : (sub : ℕ → ℕ → ℕ → Finding) (es : List Entry) (hi : ℕ)
-    → Rises (λ y x. sub (x .addr) (x .key) y ≡ Good) hi es
+good-entries : (sub : ℕ → ℕ → ℕ → Finding) (es : List Entry) (hi : ℕ) → Rises (λ y x. sub (x .addr) (x .key) y ≡ Good) hi es
     → judgeEntries sub es hi ≡ Good
 unfolding judgeEntries first
 good-entries sub [] hi h = refl
@@ -135,8 +122,7 @@ module _ (g : Geometry) (core : Core g) (er : ℕ → Bool) (r : Nodes) (t : ℕ
             (entries-good (names er t (suc l)) (judge l) es y (up .0) (u .1)),
       )
 
-  may-all : (l hi : ℕ) (es : List Entry) → Rises (Fine l) hi es → Rises (λ y x. names er t (suc l) (x .addr) ≡ true) hi
-      es
+  may-all : (l hi : ℕ) (es : List Entry) → Rises (Fine l) hi es → Rises (λ y x. names er t (suc l) (x .addr) ≡ true) hi es
   may-all l hi es h = rises-map (Fine l) (λ y x. names er t (suc l) (x .addr) ≡ true) hi es
       (λ y x _ _ i. fit-names er t l (x .addr) (ok-fit (fitOf t er) room r l y x i)) h
 
@@ -146,11 +132,9 @@ module _ (g : Geometry) (core : Core g) (er : ℕ → Bool) (r : Nodes) (t : ℕ
   ok-entry (suc l) y x h =
       let es = r (x .addr) (suc l) in
       unless-both _ _ _
-      (and-both _ _ (and-both _ _ (le-leb 1 (length es) (h .1)) (le-leb (length es) (slotsOf g (suc l))
-      (omega (arith, h .2, core .even (suc l)))))
+      (and-both _ _ (and-both _ _ (le-leb 1 (length es) (h .1)) (le-leb (length es) (slotsOf g (suc l)) (omega (arith, h .2, core .even (suc l)))))
       (up-rising (names er t (suc l)) es (x .key) y (may-all l y es (h .4)) (λ _. h .3)))
-      (good-entries (judge l) es y (rises-map (Fine l) (λ y x. judge l (x .addr) (x .key) y ≡ Good) y es
-      (λ y x _ _ i. ok-entry l y x i) (h .4)))
+      (good-entries (judge l) es y (rises-map (Fine l) (λ y x. judge l (x .addr) (x .key) y ≡ Good) y es (λ y x _ _ i. ok-entry l y x i) (h .4)))
 
 -- ---- R5
 module _ (g : Geometry) (core : Core g) (t : ℕ) (c : Chip) where
@@ -169,8 +153,7 @@ module _ (g : Geometry) (core : Core g) (t : ℕ) (c : Chip) where
 
   -- the root's own count, keys and page numbers, and R5 below it
   r5-own : r5 g t c ≡ Good → (ownRoot g (c .er) (c .nodes) t (suc (c .level)) (c .root) ≡ true) ×
-      (judgeEntries (judgeNode g (c .er) (c .nodes) t (c .level)) (c .nodes (c .root) (suc (c .level))) fourBytes
-      ≡ Good)
+      (judgeEntries (judgeNode g (c .er) (c .nodes) t (c .level)) (c .nodes (c .root) (suc (c .level))) fourBytes ≡ Good)
   unfolding r5
   r5-own h = good-unless _ _ _ h
 
@@ -178,16 +161,14 @@ module _ (g : Geometry) (core : Core g) (t : ℕ) (c : Chip) where
   unfolding ownRoot
   r5-most h = leb-true _ (rootMost g (suc (c .level))) (and-right _ _ (and-left _ _ (r5-own h .0)))
 
-  pub r5-rises : r5 g t c ≡ Good → Rises (Ok (fitOf t (c .er)) (λ l. 2 * half g l) (c .nodes) (c .level)) fourBytes
-      (c .nodes (c .root) (suc (c .level)))
+  pub r5-rises : r5 g t c ≡ Good → Rises (Ok (fitOf t (c .er)) (λ l. 2 * half g l) (c .nodes) (c .level)) fourBytes (c .nodes (c .root) (suc (c .level)))
   unfolding ownRoot
   r5-rises h =
       let u = r5-own h in
       let l = c .level in
       let es = c .nodes (c .root) (suc l) in
       let up = rising-up (names (c .er) t (suc l)) es 0 fourBytes (and-right _ _ (u .0)) in
-      rises-map (λ y x. (names (c .er) t (suc l) (x .addr) ≡ true) ×
-      (judgeNode g (c .er) (c .nodes) t l (x .addr) (x .key) y ≡ Good))
+      rises-map (λ y x. (names (c .er) t (suc l) (x .addr) ≡ true) × (judgeNode g (c .er) (c .nodes) t l (x .addr) (x .key) y ≡ Good))
       (Ok (fitOf t (c .er)) (λ l. 2 * half g l) (c .nodes) l) fourBytes es
       (λ y x _ _ i. entry-ok g core (c .er) (c .nodes) t l y x (names-fit (c .er) t l (x .addr) (i .0)) (i .1))
       (entries-good (names (c .er) t (suc l)) (judgeNode g (c .er) (c .nodes) t l) es fourBytes (up .0) (u .1))
@@ -196,8 +177,7 @@ module _ (g : Geometry) (core : Core g) (t : ℕ) (c : Chip) where
   unfolding ownRoot
   r5-rooted f h = record {
     fits = f;
-    least = least-of (c .level) (length (c .nodes (c .root) (suc (c .level))))
-        (and-left _ _ (and-left _ _ (r5-own h .0)));
+    least = least-of (c .level) (length (c .nodes (c .root) (suc (c .level)))) (and-left _ _ (and-left _ _ (r5-own h .0)));
     atmost = r5-most h;
     rises = r5-rises h;
   }
@@ -208,13 +188,10 @@ module _ (g : Geometry) (core : Core g) (t : ℕ) (c : Chip) where
       let l = c .level in
       let es = c .nodes (c .root) (suc l) in
       unless-both _ _ _
-      (and-both _ _ (and-both _ _ (of-least l (length es) (h .least)) (le-leb (length es) (rootMost g (suc l))
-      (h .atmost)))
-      (up-rising (names (c .er) t (suc l)) es 0 fourBytes (may-all g core (c .er) (c .nodes) t l fourBytes es
-      (h .rises)) (λ _. omega arith)))
+      (and-both _ _ (and-both _ _ (of-least l (length es) (h .least)) (le-leb (length es) (rootMost g (suc l)) (h .atmost)))
+      (up-rising (names (c .er) t (suc l)) es 0 fourBytes (may-all g core (c .er) (c .nodes) t l fourBytes es (h .rises)) (λ _. omega arith)))
       (good-entries (judgeNode g (c .er) (c .nodes) t l) es fourBytes
-      (rises-map (Ok (fitOf t (c .er)) (λ l. 2 * half g l) (c .nodes) l) (λ y x. judgeNode g (c .er) (c .nodes) t l
-      (x .addr) (x .key) y ≡ Good)
+      (rises-map (Ok (fitOf t (c .er)) (λ l. 2 * half g l) (c .nodes) l) (λ y x. judgeNode g (c .er) (c .nodes) t l (x .addr) (x .key) y ≡ Good)
       fourBytes es (λ y x _ _ i. ok-entry g core (c .er) (c .nodes) t l y x i) (h .rises)))
 
 -- ---- R6
@@ -223,8 +200,7 @@ unfolding namesPage
 names-some p [] h = true-false false h refl
 names-some p (e ∷ es) h = go (eqb (e .addr) p) refl h (names-some p es)
   where
-    go : (b : Bool) → eqb (e .addr) p ≡ b → pick b true (namesPage p es) ≡ true
-        → (namesPage p es ≡ true → Some (λ e. e .addr ≡ p) es)
+    go : (b : Bool) → eqb (e .addr) p ≡ b → pick b true (namesPage p es) ≡ true → (namesPage p es ≡ true → Some (λ e. e .addr ≡ p) es)
         → Some (λ e. e .addr ≡ p) (e ∷ es)
     go true z i f = inl (eqb-true (e .addr) p z)
     go false z i f = inr (f i)
@@ -244,21 +220,18 @@ unfolding lowestPage
 lowest-le f [] t = omega arith
 lowest-le f (x ∷ xs) t = go (f x & ltb (x .page) t) refl (lowest-le f xs)
   where
-    go : (b : Bool) → (f x & ltb (x .page) t) ≡ b → ((u : ℕ) → lowestPage f xs u ≤ u) → lowestPage f xs
-        (pick b (x .page) t) ≤ t
+    go : (b : Bool) → (f x & ltb (x .page) t) ≡ b → ((u : ℕ) → lowestPage f xs u ≤ u) → lowestPage f xs (pick b (x .page) t) ≤ t
     go true e i = omega (arith, i (x .page), ltb-true (x .page) t (and-right _ _ e))
     go false e i = i t
 
-none-lower : (f : Place → Bool) (xs : List Place) (t : ℕ) → t ≤ lowestPage f xs t
-    → All (λ x. x .page < t → f x ≡ false) xs
+none-lower : (f : Place → Bool) (xs : List Place) (t : ℕ) → t ≤ lowestPage f xs t → All (λ x. x .page < t → f x ≡ false) xs
 unfolding lowestPage
 none-lower f [] t h = tt
 none-lower f (x ∷ xs) t h = go (f x) (ltb (x .page) t) refl refl (and-pick (f x) (ltb (x .page) t)) h (none-lower f xs)
   where
     go : (a b : Bool) → f x ≡ a → ltb (x .page) t ≡ b → (f x & ltb (x .page) t) ≡ pick (f x) (ltb (x .page) t) false
         → t ≤ lowestPage f xs (pick (f x & ltb (x .page) t) (x .page) t)
-        → ((u : ℕ) → u ≤ lowestPage f xs u → All (λ x. x .page < u → f x ≡ false) xs)
-        → All (λ x. x .page < t → f x ≡ false) (x ∷ xs)
+        → ((u : ℕ) → u ≤ lowestPage f xs u → All (λ x. x .page < u → f x ≡ false) xs) → All (λ x. x .page < t → f x ≡ false) (x ∷ xs)
     go false b d e w i k = ((λ _. d), k t (rw (w, d) at i))
     go true true d e w i k = let z : t ≤ lowestPage f xs (x .page) = rw (w, d, e) at i in
         absurd (omega (arith, z, lowest-le f xs (x .page), ltb-true (x .page) t e))
@@ -279,48 +252,33 @@ module _ (t : ℕ) (c : Chip) where
   strict x y m e b h =
       let w = low-is spots (x .page) (rw e (mem-live y spots m)) in
       let v = all-get (λ z. z .page ≡ x .page → lowLevel spots (x .page) ≤ z .level) y spots (w .1) m (sym e) in
-      names-some (x .page) (c .nodes (x .page) (x .level))
-      (not-false (namesPage (x .page) (c .nodes (x .page) (x .level)))
-      (rw (
-        lt-ltb (lowLevel spots (x .page)) (x .level) (omega (arith, v, b)),
-        and-true
-            (not (namesPage (x .page) (c .nodes (x .page) (x .level)))),
-      )
+      names-some (x .page) (c .nodes (x .page) (x .level)) (not-false (namesPage (x .page) (c .nodes (x .page) (x .level)))
+      (rw (lt-ltb (lowLevel spots (x .page)) (x .level) (omega (arith, v, b)), and-true (not (namesPage (x .page) (c .nodes (x .page) (x .level)))))
       at h))
 
   pub r6-tied : All (λ x. x .page < t) spots → r6 t c ≡ Good → Tied (c .nodes) spots
   unfolding r6
   r6-tied in-t h =
       let u = good-unless _ _ _ h in
-      let a = none-lower (loose (c .nodes) spots) spots t (leb-true t (lowestPage (loose (c .nodes) spots) spots t)
-      (u .0)) in
-      all-map (λ x. (x .page < t → loose (c .nodes) spots x ≡ false) × (x .page < t)) (λ x. All
-      (TiedTo (c .nodes) x) spots) spots
-      (λ x i. all-map (λ y. Mem y spots) (TiedTo (c .nodes) x) spots (λ y m e b. strict x y m e b (i .0 (i .1)))
-      (all-mem spots))
+      let a = none-lower (loose (c .nodes) spots) spots t (leb-true t (lowestPage (loose (c .nodes) spots) spots t) (u .0)) in
+      all-map (λ x. (x .page < t → loose (c .nodes) spots x ≡ false) × (x .page < t)) (λ x. All (TiedTo (c .nodes) x) spots) spots
+      (λ x i. all-map (λ y. Mem y spots) (TiedTo (c .nodes) x) spots (λ y m e b. strict x y m e b (i .0 (i .1))) (all-mem spots))
       (all-both (λ x. x .page < t → loose (c .nodes) spots x ≡ false) (λ x. x .page < t) spots a in-t)
 
   pub tied-r6 : Tied (c .nodes) spots → r6 t c ≡ Good
   unfolding r6 loose
   tied-r6 h =
       let z : lowestPage (loose (c .nodes) spots) spots t ≡ t = lower-none (loose (c .nodes) spots) spots t
-      (all-map (λ x. All (TiedTo (c .nodes) x) spots × Mem x spots) (λ x. loose (c .nodes) spots x ≡ false) spots
-      (λ x i. fast x (i .0) (i .1))
+      (all-map (λ x. All (TiedTo (c .nodes) x) spots × Mem x spots) (λ x. loose (c .nodes) spots x ≡ false) spots (λ x i. fast x (i .0) (i .1))
       (all-both (λ x. All (TiedTo (c .nodes) x) spots) (λ x. Mem x spots) spots h (all-mem spots))) in
       unless-both _ _ _ (rw z (le-leb t t (omega arith))) refl
     where
       fast : (x : Place) → All (TiedTo (c .nodes) x) spots → Mem x spots → loose (c .nodes) spots x ≡ false
       fast x i m = go (ltb (lowLevel spots (x .page)) (x .level)) refl
         where
-          go : (u : Bool) → ltb (lowLevel spots (x .page)) (x .level) ≡ u
-              → (u & not (namesPage (x .page) (c .nodes (x .page) (x .level)))) ≡ false
+          go : (u : Bool) → ltb (lowLevel spots (x .page)) (x .level) ≡ u → (u & not (namesPage (x .page) (c .nodes (x .page) (x .level)))) ≡ false
           go false e = and-false (not (namesPage (x .page) (c .nodes (x .page) (x .level))))
           go true e =
               let w = low-is spots (x .page) (mem-live x spots m) in
-              let s = all-get (TiedTo (c .nodes) x) (record { page = x .page; level = lowLevel spots (x .page) }) spots
-              i (w .0) refl (ltb-true (lowLevel spots (x .page)) (x .level) e) in
-              rw (
-                and-true (not (namesPage (x .page) (c .nodes (x .page) (x .level)))),
-                some-names (x .page)
-                    (c .nodes (x .page) (x .level)) s,
-              ) refl
+              let s = all-get (TiedTo (c .nodes) x) (record { page = x .page; level = lowLevel spots (x .page) }) spots i (w .0) refl (ltb-true (lowLevel spots (x .page)) (x .level) e) in
+              rw (and-true (not (namesPage (x .page) (c .nodes (x .page) (x .level)))), some-names (x .page) (c .nodes (x .page) (x .level)) s) refl

@@ -15,8 +15,7 @@ use Rattle.theory_trees.specs.Edit.{edit, atRoot, Made}
 
 -- a leaf's operation is the splice of what it makes of one pair
 abbrev pub AsSplice : ℕ → (List Entry → List Entry) → (Entry → List Entry) → Type 0
-AsSplice k leaf base = (hi : ℕ) (es : List Entry) → 0 < length es → k < hi → Rises (λ y x. Unit {0}) hi es
-    → leaf es ≡ splice base k es
+AsSplice k leaf base = (hi : ℕ) (es : List Entry) → 0 < length es → k < hi → Rises (λ y x. Unit {0}) hi es → leaf es ≡ splice base k es
 
 same-swap : (i : ℕ) (es : List Entry) → swap (λ e. e ∷ []) i es ≡ es
 same-swap i [] = refl
@@ -46,36 +45,30 @@ unfolding atRoot edit
 same-root r k name zero es = sym (same-splice k es)
 same-root r k name (suc l) es = refl
 
-module _ (fit : ℕ → ℕ → Type 0) (room : ℕ → ℕ) (r : Nodes) (k : ℕ) (leaf : List Entry → List Entry)
-    (base : Entry → List Entry)
+module _ (fit : ℕ → ℕ → Type 0) (room : ℕ → ℕ) (r : Nodes) (k : ℕ) (leaf : List Entry → List Entry) (base : Entry → List Entry)
     (name : ℕ → Entry → List Entry → List Entry) (law : AsSplice k leaf base) where
   mutual-step : (l hi : ℕ) (es : List Entry) → 0 < length es → k < hi → Rises (Ok fit room r (suc l)) hi es
-      → ((y : ℕ) (x : Entry) → k < y → Ok fit room r (suc l) y x
-      → edited r k leaf name l x ≡ splice (edit r k base name l) k (r (x .addr) (suc l)))
+      → ((y : ℕ) (x : Entry) → k < y → Ok fit room r (suc l) y x → edited r k leaf name l x ≡ splice (edit r k base name l) k (r (x .addr) (suc l)))
       → splice (λ x. name (suc l) x (edited r k leaf name l x)) k es ≡ splice (edit r k base name (suc l)) k es
   unfolding edit
   mutual-step l hi es n q h step =
       let s = split (Ok fit room r (suc l)) k hi es n q h in
-      splice-cong (Ok fit room r (suc l)) (λ x. name (suc l) x (edited r k leaf name l x)) (edit r k base name (suc l))
-      k hi es n q h
+      splice-cong (Ok fit room r (suc l)) (λ x. name (suc l) x (edited r k leaf name l x)) (edit r k base name (suc l)) k hi es n q h
       (ap (name (suc l) (chosen k es)) (step (next (s .post) hi) (chosen k es) (s .under) (s .here)))
 
   -- below the root
   pub below-is : (l hi : ℕ) (e : Entry) → k < hi → Ok fit room r (suc l) hi e
       → edited r k leaf name l e ≡ splice (edit r k base name l) k (r (e .addr) (suc l))
   unfolding edited edit Ok
-  below-is zero hi e q h = law hi (r (e .addr) 1) (h .1) q (rises-map (Ok fit room r 0) (λ y x. Unit {0}) hi
-      (r (e .addr) 1) (λ y x _ _ _. tt) (h .4))
-  below-is (suc l) hi e q h = mutual-step l hi (r (e .addr) (suc (suc l))) (h .1) q (h .4)
-      (λ y x z i. below-is l y x z i)
+  below-is zero hi e q h = law hi (r (e .addr) 1) (h .1) q (rises-map (Ok fit room r 0) (λ y x. Unit {0}) hi (r (e .addr) 1) (λ y x _ _ _. tt) (h .4))
+  below-is (suc l) hi e q h = mutual-step l hi (r (e .addr) (suc (suc l))) (h .1) q (h .4) (λ y x z i. below-is l y x z i)
 
   -- at the root, whose leaf may be empty
   pub root-is : (l hi p : ℕ) → k < hi → (1 ≤ l → 0 < length (r p (suc l))) → Rises (Ok fit room r l) hi (r p (suc l))
       → edited r k leaf name l (the p) ≡ atRoot leaf (edit r k base name l) k l (r p (suc l))
   unfolding edited atRoot
   root-is zero hi p q n h = refl
-  root-is (suc l) hi p q n h = mutual-step l hi (r p (suc (suc l))) (n (omega arith)) q h
-      (λ y x z i. below-is l y x z i)
+  root-is (suc l) hi p q n h = mutual-step l hi (r p (suc (suc l))) (n (omega arith)) q h (λ y x z i. below-is l y x z i)
 
   pub onPath-top : (l : ℕ) (e : Entry) → onPath r k leaf name l e (suc l) ≡ edited r k leaf name l e
   unfolding onPath
@@ -88,19 +81,16 @@ module _ (fit : ℕ → ℕ → Type 0) (room : ℕ → ℕ) (r : Nodes) (k : �
   onPath-below l j e h = rw (ne-eqb j (suc (suc l)) (λ z. omega arith)) refl
 
   -- what holds of every edited list of the path holds as `Made` has it
-  pub made-from : (H : ℕ → List Entry → Type 0) (l hi : ℕ) (e : Entry) → k < hi
-      → (1 ≤ l → 0 < length (r (e .addr) (suc l)))
+  pub made-from : (H : ℕ → List Entry → Type 0) (l hi : ℕ) (e : Entry) → k < hi → (1 ≤ l → 0 < length (r (e .addr) (suc l)))
       → Rises (Ok fit room r l) hi (r (e .addr) (suc l))
-      → ((j : ℕ) → 1 ≤ j → j ≤ l → H j (onPath r k leaf name l e j)) → Made r k base name (λ j _ c. H j c) l
-      (chosen k (r (e .addr) (suc l)))
+      → ((j : ℕ) → 1 ≤ j → j ≤ l → H j (onPath r k leaf name l e j)) → Made r k base name (λ j _ c. H j c) l (chosen k (r (e .addr) (suc l)))
   unfolding Made Ok
   made-from H zero hi e q n h f = tt
   made-from H (suc l) hi e q n h f =
       let es = r (e .addr) (suc (suc l)) in
       let s = split (Ok fit room r (suc l)) k hi es (n (omega arith)) q h in
       let o = s .here in (
-        subst (H (suc l)) (onPath-below l (suc l) e (omega arith) ∙ onPath-top l (chosen k es) ∙ below-is l
-            (next (s .post) hi) (chosen k es)
+        subst (H (suc l)) (onPath-below l (suc l) e (omega arith) ∙ onPath-top l (chosen k es) ∙ below-is l (next (s .post) hi) (chosen k es)
             (s .under) o) (f (suc l) (omega arith) (omega arith)),
         made-from H l (next (s .post) hi) (chosen k es) (s .under) (λ _. o .1) (o .4)
             (λ j b d. subst (H j) (onPath-below l j e (omega arith)) (f j b (omega arith))),

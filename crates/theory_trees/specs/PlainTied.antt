@@ -1,5 +1,4 @@
--- R6 in the plain tree: every new node has a page of its own, and an old node keeps its page's content. Assumes
--- nothing.
+-- R6 in the plain tree: every new node has a page of its own, and an old node keeps its page's content. Assumes nothing.
 use mathlib.Core.Path.{_≡_, sym, subst}
 use mathlib.Core.List.{List}
 use mathlib.Core.Logic.{_⊎_, inl, inr}
@@ -34,18 +33,8 @@ module _ (r s : Nodes) (fit N : ℕ → ℕ → Type 0) (same : (q l : ℕ) → 
       (λ x i. all-map (PlainWhere fit N spots) (TiedTo s x) new (λ y j. pair x y i j) h) h
     where
       pair : (x y : Place) → PlainWhere fit N spots x → PlainWhere fit N spots y → TiedTo s x y
-      pair x y (inl i) (inl j) e b = absurd (omega (
-        arith,
-        alone (x .level) (y .level) (y .page)
-            (subst (N (x .level)) e i) j,
-        b,
-      ))
+      pair x y (inl i) (inl j) e b = absurd (omega (arith, alone (x .level) (y .level) (y .page) (subst (N (x .level)) e i) j, b))
       pair x y (inl i) (inr j) e b = absurd (not-old (x .level) (y .level) (x .page) (y .page) (j .0) i (j .1 .0) e)
-      pair x y (inr i) (inl j) e b = absurd (not-old (y .level) (x .level) (y .page) (x .page) (i .0) j (i .1 .0)
-          (sym e))
-      pair x y (inr i) (inr j) e b = live-tied r s spots t fit same x y (
-        at-mem spots (x .page) (x .level) (i .0)
-            (i .1 .1),
-        i .1 .0,
-      )
+      pair x y (inr i) (inl j) e b = absurd (not-old (y .level) (x .level) (y .page) (x .page) (i .0) j (i .1 .0) (sym e))
+      pair x y (inr i) (inr j) e b = live-tied r s spots t fit same x y (at-mem spots (x .page) (x .level) (i .0) (i .1 .1), i .1 .0)
           (at-mem spots (y .page) (y .level) (j .0) (j .1 .1), j .1 .0) e b

@@ -37,24 +37,20 @@ pub at-mem : (spots : List Place) (q j : ℕ) → 1 ≤ j → LiveAt spots j q �
 at-mem spots q zero b m = absurd (omega arith)
 at-mem spots q (suc j) b m = m
 
-pub with-live : (fit : ℕ → ℕ → Type 0) (room most : ℕ → ℕ) (top : ℕ) (r : Nodes) (l p : ℕ)
-    → Rooted fit room most top r l p
+pub with-live : (fit : ℕ → ℕ → Type 0) (room most : ℕ → ℕ) (top : ℕ) (r : Nodes) (l p : ℕ) → Rooted fit room most top r l p
     → Rooted (λ j q. fit j q × LiveAt (places r (suc l) (the p)) j q) room most top r l p
 with-live fit room most top r l p h = let spots = places r (suc l) (the p) in
-    rooted-with fit room most top r (LiveAt spots) l p (λ _. tt)
-    (all-map (λ x. Mem x spots) (λ x. LiveAt spots (x .level) (x .page)) spots
+    rooted-with fit room most top r (LiveAt spots) l p (λ _. tt) (all-map (λ x. Mem x spots) (λ x. LiveAt spots (x .level) (x .page)) spots
     (λ x m. mem-at spots (x .page) (x .level) m) (all-mem spots)) h
 
 module _ (n top : ℕ) (half most : ℕ → ℕ) (r s : Nodes) (fit fit′ : ℕ → ℕ → Type 0) (fit-n : (l : ℕ) → fit′ (suc l) n)
-    (keep : (l b : ℕ) → fit l b → fit′ l b) (same : (q l : ℕ) → fit (suc l) q → s q (suc l) ≡ r q (suc l))
-    (new-n : (l : ℕ) → fit (suc l) n → ⊥) where
+    (keep : (l b : ℕ) → fit l b → fit′ l b) (same : (q l : ℕ) → fit (suc l) q → s q (suc l) ≡ r q (suc l)) (new-n : (l : ℕ) → fit (suc l) n → ⊥) where
   abbrev roomAt : ℕ → ℕ
   roomAt l = 2 * half l
 
   -- the new tree keeps R6
   retied : (side : ℕ → ℕ) (Cut : ℕ → Type 0) (side-n : (l : ℕ) → Cut l → side l ≡ n → ⊥)
-      (side-inj : (i j : ℕ) → Cut i → Cut j → side i ≡ side j → i ≡ j) (new-side : (l j : ℕ) → Cut l
-      → fit (suc j) (side l) → ⊥)
+      (side-inj : (i j : ℕ) → Cut i → Cut j → side i ≡ side j → i ≡ j) (new-side : (l j : ℕ) → Cut l → fit (suc j) (side l) → ⊥)
       (spots : List Place) → Tied r spots → (low : ℕ) (new : List Place) → All (Where s n low side Cut
       (λ x. (1 ≤ x .level) × (fit (x .level) (x .page) × LiveAt spots (x .level) (x .page)))) new → Tied s new
   retied side Cut side-n side-inj new-side spots t low new h =
@@ -80,25 +76,21 @@ module _ (n top : ℕ) (half most : ℕ → ℕ) (r s : Nodes) (fit fit′ : ℕ
     abbrev rootList : ℕ → ℕ → List Entry
     rootList l p = atRoot (putIn k a) (inserted r k a n side half l) k l (r p (suc l))
 
-    pub insert-stay : (l p : ℕ) → Proper fit roomAt most top r l p → InsertMade r s k a n side half fit′ Cut l
-        (chosen k (r p (suc l)))
+    pub insert-stay : (l p : ℕ) → Proper fit roomAt most top r l p → InsertMade r s k a n side half fit′ Cut l (chosen k (r p (suc l)))
         → s n (suc l) ≡ rootList l p → length (rootList l p) ≤ most (suc l)
         → Proper fit′ roomAt most top s l n × (under s (suc l) (the n) ≡ put k a (under r (suc l) (the p)))
     insert-stay l p h m e b =
         let spots = places r (suc l) (the p) in (
           record {
-            rooted = stay-ok k a n top side half most r s fit fit′ Cut fit-n fit-a keep same k-top l p
-                (h .rooted) m e b;
+            rooted = stay-ok k a n top side half most r s fit fit′ Cut fit-n fit-a keep same k-top l p (h .rooted) m e b;
             tied = retied side Cut side-n side-inj new-side spots (h .tied) 1 (places s (suc l) (the n))
-                (stay-where k a n top side half most r s (λ j q. fit j q × LiveAt spots j q) fit′ Cut fit-n fit-a
-                (λ l b i. keep l b (i .0))
+                (stay-where k a n top side half most r s (λ j q. fit j q × LiveAt spots j q) fit′ Cut fit-n fit-a (λ l b i. keep l b (i .0))
                 (λ q l i. same q l (i .0)) k-top l p (with-live fit roomAt most top r l p (h .rooted)) m e);
           },
           stay-pairs k a n top side half most r s fit fit′ Cut fit-n fit-a keep same k-top l p (h .rooted) m e,
         )
 
-    pub insert-grow : (l p : ℕ) → Proper fit roomAt most top r l p → InsertMade r s k a n side half fit′ Cut l
-        (chosen k (r p (suc l)))
+    pub insert-grow : (l p : ℕ) → Proper fit roomAt most top r l p → InsertMade r s k a n side half fit′ Cut l (chosen k (r p (suc l)))
         → Halves k n side s fit′ (suc l) (2 * half (suc l)) (rootList l p) → Cut (suc l)
         → s n (suc (suc l)) ≡ two k n (side (suc l)) (2 * half (suc l)) (next (rootList l p) 0) (rootList l p)
         → length (rootList l p) ≡ 4 * half (suc l) → 2 ≤ most (suc (suc l))
@@ -109,12 +101,10 @@ module _ (n top : ℕ) (half most : ℕ → ℕ) (r s : Nodes) (fit fit′ : ℕ
             rooted = grow-ok k a n top side half most r s fit fit′ Cut fit-n fit-a keep same k-top l p (h .rooted) m
                 (record { halves = hs; top-list = e }) len w;
             tied = retied side Cut side-n side-inj new-side spots (h .tied) 1 (places s (suc (suc l)) (the n))
-                (grow-where k a n top side half most r s (λ j q. fit j q × LiveAt spots j q) fit′ Cut fit-n fit-a
-                (λ l b i. keep l b (i .0))
+                (grow-where k a n top side half most r s (λ j q. fit j q × LiveAt spots j q) fit′ Cut fit-n fit-a (λ l b i. keep l b (i .0))
                 (λ q l i. same q l (i .0)) k-top l p (with-live fit roomAt most top r l p (h .rooted)) m hs cut len e);
           },
-          grow-pairs k a n top side half most r s fit fit′ Cut fit-n fit-a keep same k-top l p (h .rooted) m
-              (record { halves = hs; top-list = e }),
+          grow-pairs k a n top side half most r s fit fit′ Cut fit-n fit-a keep same k-top l p (h .rooted) m (record { halves = hs; top-list = e }),
         )
 
   module _ (k : ℕ) (k-top : k < top) where
@@ -127,8 +117,7 @@ module _ (n top : ℕ) (half most : ℕ → ℕ) (r s : Nodes) (fit fit′ : ℕ
     less-is zero es c h = refl
     less-is (suc l) es c h = refl
 
-    pub delete-stay : (l p : ℕ) → Proper fit roomAt most top r l p → 0 < length (r p (suc l)) → DeleteMade r s k n l
-        (chosen k (r p (suc l)))
+    pub delete-stay : (l p : ℕ) → Proper fit roomAt most top r l p → 0 < length (r p (suc l)) → DeleteMade r s k n l (chosen k (r p (suc l)))
         → s n (suc l) ≡ rootLess l p → (1 ≤ l → 2 ≤ length (rootLess l p))
         → Proper fit′ roomAt most top s l n × (under s (suc l) (the n) ≡ remove k (under r (suc l) (the p)))
     delete-stay l p h c m e b =
@@ -136,8 +125,7 @@ module _ (n top : ℕ) (half most : ℕ → ℕ) (r s : Nodes) (fit fit′ : ℕ
         let laid = delete-made r s k n fit′ fit-n l (chosen k (r p (suc l))) m in (
           record {
             rooted = less-ok k (λ _. n) top half most r s fit fit′ keep same k-top l p (h .rooted) laid e (fit-n l) b;
-            tied = retied (λ _. 0) (λ _. ⊥) (λ l z _. z) (λ i j z _ _. absurd z) (λ l j z _. z) spots (h .tied)
-                (leftLowOf r k n l (r p (suc l)))
+            tied = retied (λ _. 0) (λ _. ⊥) (λ l z _. z) (λ i j z _ _. absurd z) (λ l j z _. z) spots (h .tied) (leftLowOf r k n l (r p (suc l)))
                 (places s (suc l) (the n))
                 (less-where k n top half most r s (λ j q. fit j q × LiveAt spots j q) fit′ (λ l b i. keep l b (i .0))
                 (λ q l i. same q l (i .0)) k-top l p (with-live fit roomAt most top r l p (h .rooted)) c m
@@ -150,8 +138,7 @@ module _ (n top : ℕ) (half most : ℕ → ℕ) (r s : Nodes) (fit fit′ : ℕ
         → DeleteMade r s k n (suc l) (chosen k (r p (suc (suc l)))) → length (rootLess (suc l) p) ≡ 1
         → s n (suc (collapse r (suc l) (rootLess (suc l) p) .level)) ≡ collapse r (suc l) (rootLess (suc l) p) .list
         → Proper fit′ roomAt most top s (collapse r (suc l) (rootLess (suc l) p) .level) n ×
-        (under s (suc (collapse r (suc l) (rootLess (suc l) p) .level)) (the n) ≡ remove k
-        (under r (suc (suc l)) (the p)))
+        (under s (suc (collapse r (suc l) (rootLess (suc l) p) .level)) (the n) ≡ remove k (under r (suc (suc l)) (the p)))
     delete-collapse wide l p h m one e =
         let spots = places r (suc (suc l)) (the p) in
         let t = collapse r (suc l) (rootLess (suc l) p) in
@@ -160,13 +147,10 @@ module _ (n top : ℕ) (half most : ℕ → ℕ) (r s : Nodes) (fit fit′ : ℕ
           record {
             rooted = collapse-ok k (λ _. n) top half most r s fit fit′ keep same k-top wide l p (h .rooted) laid one e
                 (fit-n (t .level));
-            tied = retied (λ _. 0) (λ _. ⊥) (λ l z _. z) (λ i j z _ _. absurd z) (λ l j z _. z) spots (h .tied)
-                (suc (t .level))
+            tied = retied (λ _. 0) (λ _. ⊥) (λ l z _. z) (λ i j z _ _. absurd z) (λ l j z _. z) spots (h .tied) (suc (t .level))
                 (places s (suc (t .level)) (the n))
-                (collapse-where k n top half most r s fitLive fit′ (λ l b i. keep l b (i .0)) (λ q l i. same q l (i .0))
-                k-top (t .level) (t .list)
-                (the-top k (λ _. n) top half most r s fitLive fit′ (λ l b i. keep l b (i .0)) (λ q l i. same q l (i .0))
-                k-top wide l p
+                (collapse-where k n top half most r s fitLive fit′ (λ l b i. keep l b (i .0)) (λ q l i. same q l (i .0)) k-top (t .level) (t .list)
+                (the-top k (λ _. n) top half most r s fitLive fit′ (λ l b i. keep l b (i .0)) (λ q l i. same q l (i .0)) k-top wide l p
                 (with-live fit roomAt most top r (suc l) p (h .rooted)) laid one e .rises) e);
           },
           collapse-pairs k (λ _. n) top half most r s fit fit′ keep same k-top wide l p (h .rooted) laid one e,
@@ -184,21 +168,18 @@ places-level r (suc l) e = (
   omega arith,
   gather-all (λ x. (1 ≤ x .level) × (x .level ≤ suc l)) (places r l) (r (e .addr) (suc l))
       (all-any (λ x. All (λ x. (1 ≤ x .level) × (x .level ≤ suc l)) (places r l x)) (r (e .addr) (suc l))
-      (λ x. all-map (λ x. (1 ≤ x .level) × (x .level ≤ l)) (λ x. (1 ≤ x .level) × (x .level ≤ suc l)) (places r l x)
-      (λ x i. omega (arith, i))
+      (λ x. all-map (λ x. (1 ≤ x .level) × (x .level ≤ l)) (λ x. (1 ≤ x .level) × (x .level ≤ suc l)) (places r l x) (λ x i. omega (arith, i))
       (places-level r l x))),
 )
 
-places-first : (fit : ℕ → ℕ → Type 0) (room : ℕ → ℕ) (r : Nodes) (l y top : ℕ) (e : Entry) → y ≤ top
-    → Ok fit room r l y e
+places-first : (fit : ℕ → ℕ → Type 0) (room : ℕ → ℕ) (r : Nodes) (l y top : ℕ) (e : Entry) → y ≤ top → Ok fit room r l y e
     → All (λ x. next (r (x .page) (x .level)) 0 < top) (places r l e)
 unfolding places Ok
 places-first fit room r zero y top e q h = tt
 places-first fit room r (suc l) y top e q h = (
   omega (arith, first-below (Ok fit room r l) y (r (e .addr) (suc l)) (h .1) (h .4), q),
   gather-all (λ x. next (r (x .page) (x .level)) 0 < top) (places r l) (r (e .addr) (suc l))
-      (rises-all (Ok fit room r l) (λ x. All (λ x. next (r (x .page) (x .level)) 0 < top) (places r l x)) y
-      (r (e .addr) (suc l))
+      (rises-all (Ok fit room r l) (λ x. All (λ x. next (r (x .page) (x .level)) 0 < top) (places r l x)) y (r (e .addr) (suc l))
       (λ y′ x _ b i. places-first fit room r l y′ top x (omega arith) i) (h .4)),
 )
 
@@ -206,15 +187,13 @@ first-any : (P : ℕ → Entry → Type 0) (y : ℕ) (es : List Entry) → 0 < y
 first-any P y [] q h = q
 first-any P y (e ∷ es) q h = first-below P y (e ∷ es) (omega arith) h
 
-pub root-first : (fit : ℕ → ℕ → Type 0) (room most : ℕ → ℕ) (r : Nodes) (l p top : ℕ) → 0 < top
-    → Rooted fit room most top r l p
+pub root-first : (fit : ℕ → ℕ → Type 0) (room most : ℕ → ℕ) (r : Nodes) (l p top : ℕ) → 0 < top → Rooted fit room most top r l p
     → All (λ x. next (r (x .page) (x .level)) 0 < top) (places r (suc l) (the p))
 unfolding places
 root-first fit room most r l p top q h = (
   first-any (Ok fit room r l) top (r p (suc l)) q (h .rises),
   gather-all (λ x. next (r (x .page) (x .level)) 0 < top) (places r l) (r p (suc l))
-      (rises-all (Ok fit room r l) (λ x. All (λ x. next (r (x .page) (x .level)) 0 < top) (places r l x)) top
-      (r p (suc l))
+      (rises-all (Ok fit room r l) (λ x. All (λ x. next (r (x .page) (x .level)) 0 < top) (places r l x)) top (r p (suc l))
       (λ y′ x _ b i. places-first fit room r l y′ top x b i) (h .rises)),
 )
 
@@ -224,18 +203,14 @@ unfolding places
 root-fit fit room most r l p top h = (
   (omega arith, h .fits),
   gather-all (λ x. (1 ≤ x .level) × fit (x .level) (x .page)) (places r l) (r p (suc l))
-      (rises-all (Ok fit room r l) (λ x. All (λ x. (1 ≤ x .level) × fit (x .level) (x .page)) (places r l x)) top
-      (r p (suc l))
+      (rises-all (Ok fit room r l) (λ x. All (λ x. (1 ≤ x .level) × fit (x .level) (x .page)) (places r l x)) top (r p (suc l))
       (λ y′ x _ b i. places-fit fit room r l y′ x i) (h .rises)),
 )
 
 -- a move of page p, whose leftLow live level is a
-module _ (p a n top : ℕ) (half most : ℕ → ℕ) (r s : Nodes) (fit fit′ : ℕ → ℕ → Type 0)
-    (fit-n : (l : ℕ) → fit′ (suc l) n)
-    (keep : (l b : ℕ) → fit l b → fit′ l b) (same : (q l : ℕ) → fit (suc l) q → s q (suc l) ≡ r q (suc l))
-    (new-n : (l : ℕ) → fit (suc l) n → ⊥)
-    (l p₀ : ℕ) (h : Proper fit (λ l. 2 * half l) most top r l p₀) (m : Mem (record { page = p; level = a })
-    (places r (suc l) (the p₀)))
+module _ (p a n top : ℕ) (half most : ℕ → ℕ) (r s : Nodes) (fit fit′ : ℕ → ℕ → Type 0) (fit-n : (l : ℕ) → fit′ (suc l) n)
+    (keep : (l b : ℕ) → fit l b → fit′ l b) (same : (q l : ℕ) → fit (suc l) q → s q (suc l) ≡ r q (suc l)) (new-n : (l : ℕ) → fit (suc l) n → ⊥)
+    (l p₀ : ℕ) (h : Proper fit (λ l. 2 * half l) most top r l p₀) (m : Mem (record { page = p; level = a }) (places r (suc l) (the p₀)))
     (low : All (λ x. x .page ≡ p → a ≤ x .level) (places r (suc l) (the p₀))) where
   abbrev roomAt′ : ℕ → ℕ
   roomAt′ l = 2 * half l
@@ -247,13 +222,11 @@ module _ (p a n top : ℕ) (half most : ℕ → ℕ) (r s : Nodes) (fit fit′ :
   k₁ = next (r p a) 0
 
   a-in : (1 ≤ a) × (a ≤ suc l)
-  a-in = all-get (λ x. (1 ≤ x .level) × (x .level ≤ suc l)) (record { page = p; level = a }) spots
-      (places-level r (suc l) (the p₀)) m
+  a-in = all-get (λ x. (1 ≤ x .level) × (x .level ≤ suc l)) (record { page = p; level = a }) spots (places-level r (suc l) (the p₀)) m
 
   k-top : 0 < length (r p₀ (suc l)) → k₁ < top
   k-top c = all-get (λ x. next (r (x .page) (x .level)) 0 < top) (record { page = p; level = a }) spots
-      (root-first fit roomAt′ most r l p₀ top (let z = first-below (Ok fit roomAt′ r l) top (r p₀ (suc l)) c
-      (h .rooted .rises) in omega (arith, z))
+      (root-first fit roomAt′ most r l p₀ top (let z = first-below (Ok fit roomAt′ r l) top (r p₀ (suc l)) c (h .rooted .rises) in omega (arith, z))
       (h .rooted)) m
 
   not-same : (a : ℕ) → 1 ≤ a → fit a p → n ≡ p → ⊥
@@ -277,24 +250,19 @@ module _ (p a n top : ℕ) (half most : ℕ → ℕ) (r s : Nodes) (fit fit′ :
     pub dead : All (λ x. x .page ≡ p → ⊥) (places s (suc l) (the n))
     pub within : All (λ x. (x .page ≡ n) ⊎ Mem x spots) (places s (suc l) (the n))
 
-  pub move-sound : MoveMade r s k₁ a n l (chosen k₁ (r p₀ (suc l))) → s n (suc l) ≡ splice (moved r k₁ a n l) k₁
-      (r p₀ (suc l)) → Moved
+  pub move-sound : MoveMade r s k₁ a n l (chosen k₁ (r p₀ (suc l))) → s n (suc l) ≡ splice (moved r k₁ a n l) k₁ (r p₀ (suc l)) → Moved
   move-sound made e =
       record {
         sound = record {
           rooted = move-ok k₁ a n top half most r s fit fit′ fit-n keep same l p₀ (h .rooted) k-top made e;
-          tied = retied n top half most r s fit fit′ fit-n keep same new-n (λ _. 0) (λ _. ⊥) (λ l z _. z)
-              (λ i j z _ _. absurd z) (λ l j z _. z) spots
+          tied = retied n top half most r s fit fit′ fit-n keep same new-n (λ _. 0) (λ _. ⊥) (λ l z _. z) (λ i j z _ _. absurd z) (λ l j z _. z) spots
               (h .tied) a (places s (suc l) (the n))
               (all-map (MoveWhere p a n top half most r s fitLive fit′ (a-in .0) keep′ same′)
-              (Where s n a (λ _. 0) (λ _. ⊥) (λ x. (1 ≤ x .level) × fitLive (x .level) (x .page)))
-              (places s (suc l) (the n)) tag wh);
+              (Where s n a (λ _. 0) (λ _. ⊥) (λ x. (1 ≤ x .level) × fitLive (x .level) (x .page))) (places s (suc l) (the n)) tag wh);
         };
         pairs-are = move-pairs k₁ a n top half most r s fit fit′ fit-n keep same l p₀ (h .rooted) k-top made e;
-        dead = moved-dead p a n top half most r s fitLive fit′ (a-in .0) keep′ same′ l p₀ n-p tied-root k-top
-            (a-in .1) made e;
-        within = all-map (MoveWhere p a n top half most r s fitLive fit′ (a-in .0) keep′ same′) (λ x. (x .page ≡ n) ⊎
-            Mem x spots)
+        dead = moved-dead p a n top half most r s fitLive fit′ (a-in .0) keep′ same′ l p₀ n-p tied-root k-top (a-in .1) made e;
+        within = all-map (MoveWhere p a n top half most r s fitLive fit′ (a-in .0) keep′ same′) (λ x. (x .page ≡ n) ⊎ Mem x spots)
             (places s (suc l) (the n)) old wh;
       }
     where
@@ -312,7 +280,6 @@ module _ (p a n top : ℕ) (half most : ℕ → ℕ) (r s : Nodes) (fit fit′ :
       tag x (inl i) = inl i
       tag x (inr i) = inr (inr (i .1, i .2))
 
-      old : (x : Place) → MoveWhere p a n top half most r s fitLive fit′ (a-in .0) keep′ same′ x → (x .page ≡ n) ⊎
-          Mem x spots
+      old : (x : Place) → MoveWhere p a n top half most r s fitLive fit′ (a-in .0) keep′ same′ x → (x .page ≡ n) ⊎ Mem x spots
       old x (inl i) = inl (i .0)
       old x (inr i) = inr (at-mem spots (x .page) (x .level) (i .1) (i .2 .1))

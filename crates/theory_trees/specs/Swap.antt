@@ -1,5 +1,5 @@
--- The places of a moved tree, exactly: those of the path from level a up are gone, the new page has one at each of
--- their levels, every other place stays. Assumes nothing.
+-- The places of a moved tree, exactly: those of the path from level a up are gone, the new page has one at each of their levels, every other
+-- place stays. Assumes nothing.
 use mathlib.Core.Path.{_≡_, refl, sym, ap, subst, _∙_}
 use mathlib.Core.List.{List, [], _∷_, _++_, append-nil}
 use mathlib.Core.Bool.{Bool, true, false}
@@ -39,11 +39,10 @@ same-swap n a xs = record {
   put = tt;
 }
 
--- a node at level suc l on page q gives way to one on page n: pre and post are off the path, w is what became of the
--- chosen entry's places o with the path p
+-- a node at level suc l on page q gives way to one on page n: pre and post are off the path, w is what became of the chosen entry's places o
+-- with the path p
 module _ (n a l q : ℕ) (pre post o p w : List Place) (high : a ≤ suc l) (sw : Swapped n a o p w)
-    (low : All (λ x. x .level ≤ l) (pre ++ (o ++ post))) (off-pre : All (λ x. Mem x p → ⊥) pre)
-    (off-post : All (λ x. Mem x p → ⊥) post) where
+    (low : All (λ x. x .level ≤ l) (pre ++ (o ++ post))) (off-pre : All (λ x. Mem x p → ⊥) pre) (off-post : All (λ x. Mem x p → ⊥) post) where
   abbrev Old : List Place
   Old = spot q (suc l) ∷ (pre ++ (o ++ post))
 
@@ -57,8 +56,7 @@ module _ (n a l q : ℕ) (pre post o p w : List Place) (high : a ≤ suc l) (sw 
   node-gone = all-append Gone pre (o ++ post)
       (all-map (λ x. Mem x pre) Gone pre (λ x i. inr (inr (mem-left x pre (w ++ post) i))) (all-mem pre))
       (all-append Gone o post (all-map (λ x. Mem x p ⊎ Mem x w) Gone o step (sw .gone))
-      (all-map (λ x. Mem x post) Gone post (λ x i. inr (inr (mem-right x pre (w ++ post) (mem-right x w post i))))
-      (all-mem post)))
+      (all-map (λ x. Mem x post) Gone post (λ x i. inr (inr (mem-right x pre (w ++ post) (mem-right x w post i)))) (all-mem post)))
     where
       Gone : Place → Type 0
       Gone x = Mem x Path ⊎ Mem x New
@@ -88,10 +86,8 @@ module _ (n a l q : ℕ) (pre post o p w : List Place) (high : a ≤ suc l) (sw 
       step x (inl i) = inl i
       step x (inr i) = old-come x (mem-middle x pre o post (i .0)) (i .1)
 
-      aside : (xs : List Place) → ((x : Place) → Mem x xs → Mem x (pre ++ (o ++ post))) → All (λ x. Mem x p → ⊥) xs
-          → All (Come n a Old Path) xs
-      aside xs f d = all-map (λ x. Mem x xs × (Mem x p → ⊥)) (Come n a Old Path) xs
-          (λ x i. old-come x (f x (i .0)) (i .1))
+      aside : (xs : List Place) → ((x : Place) → Mem x xs → Mem x (pre ++ (o ++ post))) → All (λ x. Mem x p → ⊥) xs → All (Come n a Old Path) xs
+      aside xs f d = all-map (λ x. Mem x xs × (Mem x p → ⊥)) (Come n a Old Path) xs (λ x i. old-come x (f x (i .0)) (i .1))
           (all-both (λ x. Mem x xs) (λ x. Mem x p → ⊥) xs (all-mem xs) d)
 
   node-swap : Swapped n a Old Path New
@@ -107,10 +103,8 @@ module _ (n a l q : ℕ) (pre post o p w : List Place) (high : a ≤ suc l) (sw 
 
 -- ---- the tree
 levels-of : (r : Nodes) (l : ℕ) (es : List Entry) → All (λ x. x .level ≤ l) (gather (places r l) es)
-levels-of r l es = gather-all (λ x. x .level ≤ l) (places r l) es
-    (all-any (λ e. All (λ x. x .level ≤ l) (places r l e)) es
-    (λ e. all-map (λ x. (1 ≤ x .level) × (x .level ≤ l)) (λ x. x .level ≤ l) (places r l e) (λ x i. i .1)
-    (places-level r l e)))
+levels-of r l es = gather-all (λ x. x .level ≤ l) (places r l) es (all-any (λ e. All (λ x. x .level ≤ l) (places r l e)) es
+    (λ e. all-map (λ x. (1 ≤ x .level) × (x .level ≤ l)) (λ x. x .level ≤ l) (places r l e) (λ x i. i .1) (places-level r l e)))
 
 module _ (k a n : ℕ) (room : ℕ → ℕ) (r s : Nodes) (fit fit′ : ℕ → ℕ → Type 0)
     (keep : (l b : ℕ) → fit l b → fit′ l b) (same : (q l : ℕ) → fit (suc l) q → s q (suc l) ≡ r q (suc l)) where
@@ -123,27 +117,23 @@ module _ (k a n : ℕ) (room : ℕ → ℕ) (r s : Nodes) (fit fit′ : ℕ → 
   -- entries off the path have the places they had
   same-list : (l hi : ℕ) (es : List Entry) → Rises (Ok fit room r l) hi es → H l es ≡ G l es
   same-list l hi es h = gather-eq (places r l) (places s l) es
-      (rises-all (Ok fit room r l) (λ x. places s l x ≡ places r l x) hi es
-      (λ y x _ _ i. places-same fit room fit′ r s keep same l y x i) h)
+      (rises-all (Ok fit room r l) (λ x. places s l x ≡ places r l x) hi es (λ y x _ _ i. places-same fit room fit′ r s keep same l y x i) h)
 
   -- no other entry's places are on the chosen one's path
   apart : (l lo hi lo′ hi′ : ℕ) (x : Entry) (es : List Entry) → (hi ≤ lo′) ⊎ (hi′ ≤ lo) → All (Within r lo hi) (G l es)
       → All (Within r lo′ hi′) (pathPlaces r k a l x) → All (λ z. Mem z (pathPlaces r k a l x) → ⊥) (G l es)
   apart l lo hi lo′ hi′ x es side h mine = all-map (Within r lo hi) (λ z. Mem z (pathPlaces r k a l x) → ⊥) (G l es)
-      (λ z i j. clash side (next (r (z .page) (z .level)) 0) i (all-get (Within r lo′ hi′) z (pathPlaces r k a l x) mine
-      j)) h
+      (λ z i j. clash side (next (r (z .page) (z .level)) 0) i (all-get (Within r lo′ hi′) z (pathPlaces r k a l x) mine j)) h
     where
       clash : (hi ≤ lo′) ⊎ (hi′ ≤ lo) → (first : ℕ) → (lo ≤ first) × (first < hi) → (lo′ ≤ first) × (first < hi′) → ⊥
       clash (inl b) first i j = omega (arith, i, j)
       clash (inr b) first i j = omega (arith, i, j)
 
   -- a node whose chosen entry's places were swapped
-  list-swap : (l hi q : ℕ) (es : List Entry) (f : Entry → List Entry) → a ≤ suc l → 0 < length es → k < hi
-      → Rises (Ok fit room r l) hi es
+  list-swap : (l hi q : ℕ) (es : List Entry) (f : Entry → List Entry) → a ≤ suc l → 0 < length es → k < hi → Rises (Ok fit room r l) hi es
       → ((y : ℕ) → k < y → Ok fit room r l y (chosen k es)
       → Swapped n a (places r l (chosen k es)) (pathPlaces r k a l (chosen k es)) (H l (f (chosen k es))))
-      → Swapped n a (spot q (suc l) ∷ G l es) (spot q (suc l) ∷ pathPlaces r k a l (chosen k es))
-      (spot n (suc l) ∷ H l (splice f k es))
+      → Swapped n a (spot q (suc l) ∷ G l es) (spot q (suc l) ∷ pathPlaces r k a l (chosen k es)) (spot n (suc l) ∷ H l (splice f k es))
   unfolding gather
   list-swap l hi q es f high c kh h step = go (split (Ok fit room r l) k hi es c kh h)
     where
@@ -161,34 +151,23 @@ module _ (k a n : ℕ) (room : ℕ → ℕ) (r s : Nodes) (fit fit′ : ℕ → 
           ap (G l) (sp .whole) ∙ gather-append (places r l) (sp .pre) (x ∷ sp .post) in
           let new : H l (splice f k es) ≡ G l (sp .pre) ++ (H l (f x) ++ G l (sp .post)) =
           ap (H l) (sp .spliced f) ∙ gather-append (places s l) (sp .pre) (f x ++ sp .post)
-          ∙ rw (
-            gather-append (places s l) (f x) (sp .post),
-            same-list l (x .key) (sp .pre) (sp .before),
-            same-list l hi
-                (sp .post) (sp .rest),
-          ) in
+          ∙ rw (gather-append (places s l) (f x) (sp .post), same-list l (x .key) (sp .pre) (sp .before), same-list l hi (sp .post) (sp .rest)) in
           let mine : All (Within r (x .key) y) P = all-map (λ z. Mem z (places r l x)) (Within r (x .key) y) P
           (λ z i. all-get (Within r (x .key) y) z (places r l x) (in-range fit room r l y x (sp .up) (sp .here)) i)
           (path-in fit room r k a l y x (sp .under) (sp .here)) in
-          subst (λ m. Swapped n a (spot q (suc l) ∷ m) (spot q (suc l) ∷ P) (spot n (suc l) ∷ H l (splice f k es)))
-          (sym whole)
-          (subst (λ m. Swapped n a (spot q (suc l) ∷ (G l (sp .pre) ++ (places r l x ++ G l (sp .post))))
-          (spot q (suc l) ∷ P) (spot n (suc l) ∷ m))
+          subst (λ m. Swapped n a (spot q (suc l) ∷ m) (spot q (suc l) ∷ P) (spot n (suc l) ∷ H l (splice f k es))) (sym whole)
+          (subst (λ m. Swapped n a (spot q (suc l) ∷ (G l (sp .pre) ++ (places r l x ++ G l (sp .post)))) (spot q (suc l) ∷ P) (spot n (suc l) ∷ m))
           (sym new)
-          (node-swap n a l q (G l (sp .pre)) (G l (sp .post)) (places r l x) P (H l (f x)) high
-          (step y (sp .under) (sp .here))
+          (node-swap n a l q (G l (sp .pre)) (G l (sp .post)) (places r l x) P (H l (f x)) high (step y (sp .under) (sp .here))
           (subst (λ m. All (λ z. z .level ≤ l) m) whole (levels-of r l es))
-          (apart l 0 (x .key) (x .key) y x (sp .pre) (inl (omega arith)) (in-list fit room r l 0 (x .key) (sp .pre)
-          (omega arith) (sp .before)) mine)
-          (apart l y hi (x .key) y x (sp .post) (inr (omega arith)) (in-list fit room r l y hi (sp .post) (omega arith)
-          (sp .rest)) mine)))
+          (apart l 0 (x .key) (x .key) y x (sp .pre) (inl (omega arith)) (in-list fit room r l 0 (x .key) (sp .pre) (omega arith) (sp .before)) mine)
+          (apart l y hi (x .key) y x (sp .post) (inr (omega arith)) (in-list fit room r l y hi (sp .post) (omega arith) (sp .rest)) mine)))
 
   entry-swap : (l y : ℕ) (e : Entry) → k < y → Ok fit room r l y e → MoveMade r s k a n l e
       → Swapped n a (places r l e) (pathPlaces r k a l e) (H l (moved r k a n l e))
   unfolding pathPlaces places Ok gather edit Made
   entry-swap zero y e q h m = record { gone = tt; come = tt; put = tt }
-  entry-swap (suc l) y e q h m = go (leb a (suc l)) refl (λ y′ kh ok. entry-swap l y′ (chosen k (r (e .addr) (suc l)))
-      kh ok (m .1))
+  entry-swap (suc l) y e q h m = go (leb a (suc l)) refl (λ y′ kh ok. entry-swap l y′ (chosen k (r (e .addr) (suc l))) kh ok (m .1))
     where
       es : List Entry
       es = r (e .addr) (suc l)
@@ -200,10 +179,8 @@ module _ (k a n : ℕ) (room : ℕ → ℕ) (r s : Nodes) (fit fit′ : ℕ → 
       P = pathPlaces r k a l (chosen k es)
 
       go : (t : Bool) → leb a (suc l) ≡ t
-          → ((y : ℕ) → k < y → Ok fit room r l y (chosen k es) → Swapped n a (places r l (chosen k es)) P
-          (H l (moved r k a n l (chosen k es))))
-          → Swapped n a (here ∷ G l es) (pick t (here ∷ P) []) (H (suc l)
-          (pick t (record { key = e .key; addr = n } ∷ []) (e ∷ [])))
+          → ((y : ℕ) → k < y → Ok fit room r l y (chosen k es) → Swapped n a (places r l (chosen k es)) P (H l (moved r k a n l (chosen k es))))
+          → Swapped n a (here ∷ G l es) (pick t (here ∷ P) []) (H (suc l) (pick t (record { key = e .key; addr = n } ∷ []) (e ∷ [])))
       go true d ih =
           let i = leb-true a (suc l) d in
           subst (λ w. Swapped n a (here ∷ G l es) (here ∷ P) w)
@@ -211,12 +188,10 @@ module _ (k a n : ℕ) (room : ℕ → ℕ) (r s : Nodes) (fit fit′ : ℕ → 
           (list-swap l y (e .addr) es (moved r k a n l) i (h .1) q (h .4) ih)
       go false d ih =
           subst (λ w. Swapped n a (here ∷ G l es) [] w)
-          (sym (append-nil (places s (suc l) e) ∙ places-same fit room fit′ r s keep same (suc l) y e h))
-          (same-swap n a (here ∷ G l es))
+          (sym (append-nil (places s (suc l) e) ∙ places-same fit room fit′ r s keep same (suc l) y e h)) (same-swap n a (here ∷ G l es))
 
   -- the whole tree
-  pub root-swap : (most : ℕ → ℕ) (top l p₀ : ℕ) → Rooted fit room most top r l p₀
-      → (0 < length (r p₀ (suc l)) → k < top) → a ≤ suc l
+  pub root-swap : (most : ℕ → ℕ) (top l p₀ : ℕ) → Rooted fit room most top r l p₀ → (0 < length (r p₀ (suc l)) → k < top) → a ≤ suc l
       → MoveMade r s k a n l (chosen k (r p₀ (suc l))) → s n (suc l) ≡ splice (moved r k a n l) k (r p₀ (suc l))
       → Swapped n a (places r (suc l) (the p₀)) (pathPlaces r k a (suc l) (the p₀)) (places s (suc l) (the n))
   unfolding places pathPlaces
@@ -228,6 +203,5 @@ module _ (k a n : ℕ) (room : ℕ → ℕ) (r s : Nodes) (fit fit′ : ℕ → 
   root-swap most top (suc l) p₀ h q b m e =
       let es = r p₀ (suc (suc l)) in
       let z = h .least (omega arith) in
-      rw (le-leb a (suc (suc l)) b, e) (list-swap (suc l) top p₀ es (moved r k a n (suc l)) b (omega (arith, z))
-      (q (omega (arith, z))) (h .rises)
+      rw (le-leb a (suc (suc l)) b, e) (list-swap (suc l) top p₀ es (moved r k a n (suc l)) b (omega (arith, z)) (q (omega (arith, z))) (h .rises)
       (λ y kh ok. entry-swap (suc l) y (chosen k es) kh ok m))

@@ -32,23 +32,19 @@ tie-all r p a spots t m low =
 
 -- where a place of a new tree is: on the path's page n, its lowest level there low; alone on a side page; or an old one
 abbrev pub Where : Nodes → ℕ → ℕ → (ℕ → ℕ) → (ℕ → Type 0) → (Place → Type 0) → Place → Type 0
-Where s n low side Cut Old x = ((x .page ≡ n) × (low ≤ x .level) ×
-    (low < x .level → Some (λ e. e .addr ≡ n) (s n (x .level)))) ⊎
+Where s n low side Cut Old x = ((x .page ≡ n) × (low ≤ x .level) × (low < x .level → Some (λ e. e .addr ≡ n) (s n (x .level)))) ⊎
     ((Cut (x .level) × (x .page ≡ side (x .level))) ⊎ Old x)
 
 module _ (s : Nodes) (n low : ℕ) (side : ℕ → ℕ) (Cut : ℕ → Type 0) (Old : Place → Type 0)
-    (old-n : (x : Place) → Old x → x .page ≡ n → ⊥) (old-side : (x : Place) (l : ℕ) → Old x → Cut l → x .page ≡ side l
-    → ⊥)
+    (old-n : (x : Place) → Old x → x .page ≡ n → ⊥) (old-side : (x : Place) (l : ℕ) → Old x → Cut l → x .page ≡ side l → ⊥)
     (side-n : (l : ℕ) → Cut l → side l ≡ n → ⊥) (side-inj : (i j : ℕ) → Cut i → Cut j → side i ≡ side j → i ≡ j)
     (old-tied : (x y : Place) → Old x → Old y → TiedTo s x y) where
   pair : (x y : Place) → Where s n low side Cut Old x → Where s n low side Cut Old y → TiedTo s x y
-  pair x y (inl h) (inl i) e b = subst (λ q. Some (λ e. e .addr ≡ q) (s q (x .level))) (sym (h .0))
-      (h .2 (omega (arith, i .1)))
+  pair x y (inl h) (inl i) e b = subst (λ q. Some (λ e. e .addr ≡ q) (s q (x .level))) (sym (h .0)) (h .2 (omega (arith, i .1)))
   pair x y (inl h) (inr (inl i)) e b = absurd (side-n (y .level) (i .0) (sym (i .1) ∙ sym e ∙ h .0))
   pair x y (inl h) (inr (inr i)) e b = absurd (old-n y i (sym e ∙ h .0))
   pair x y (inr (inl h)) (inl i) e b = absurd (side-n (x .level) (h .0) (sym (h .1) ∙ e ∙ i .0))
-  pair x y (inr (inl h)) (inr (inl i)) e b =
-      absurd (omega (arith, side-inj (x .level) (y .level) (h .0) (i .0) (sym (h .1) ∙ e ∙ i .1)))
+  pair x y (inr (inl h)) (inr (inl i)) e b = absurd (omega (arith, side-inj (x .level) (y .level) (h .0) (i .0) (sym (h .1) ∙ e ∙ i .1)))
   pair x y (inr (inl h)) (inr (inr i)) e b = absurd (old-side y (x .level) i (h .0) (sym e ∙ h .1))
   pair x y (inr (inr h)) (inl i) e b = absurd (old-n x h (e ∙ i .0))
   pair x y (inr (inr h)) (inr (inl i)) e b = absurd (old-side x (y .level) h (i .0) (e ∙ i .1))

@@ -43,8 +43,7 @@ half-fits k m c h = go (turn k m c)
     go false = (all-take Fits m c h, all-drop Fits m c h)
 
 -- each half has m entries or what is left
-pub half-most : (k m r : ℕ) (c : List Entry) → m ≤ r → length c ≤ m + r → (length (pathHalf k m c) ≤ r) ×
-    (length (sideHalf k m c) ≤ r)
+pub half-most : (k m r : ℕ) (c : List Entry) → m ≤ r → length c ≤ m + r → (length (pathHalf k m c) ≤ r) × (length (sideHalf k m c) ≤ r)
 half-most k m r c a b = go (turn k m c)
   where
     lt : length (take m c) ≤ r
@@ -61,11 +60,7 @@ module _ (k a : ℕ) (k-fits : k < fourBytes) (a-fits : a < fourBytes) where
   one-fits : (e : Entry) → Fits e → All Fits (put k a (e ∷ []))
   one-fits e h = go (ltb (e .key) k) (eqb (e .key) k)
     where
-      go : (t u : Bool) → All Fits (pick t (e ∷ record { key = k; addr = a } ∷ []) (record {
-        key = k;
-        addr =
-            a;
-      } ∷ pick u [] (e ∷ [])))
+      go : (t u : Bool) → All Fits (pick t (e ∷ record { key = k; addr = a } ∷ []) (record { key = k; addr = a } ∷ pick u [] (e ∷ [])))
       go true u = (h, ((k-fits, a-fits), tt))
       go false true = ((k-fits, a-fits), tt)
       go false false = ((k-fits, a-fits), (h, tt))
@@ -78,8 +73,7 @@ module _ (k a : ℕ) (k-fits : k < fourBytes) (a-fits : a < fourBytes) where
   one-most : (e : Entry) → length (put k a (e ∷ [])) ≤ 2
   one-most e = go (ltb (e .key) k) (eqb (e .key) k)
     where
-      go : (t u : Bool) → length (pick t (e ∷ record { key = k; addr = a } ∷ []) (record { key = k; addr = a } ∷ pick u
-          [] (e ∷ []))) ≤ 2
+      go : (t u : Bool) → length (pick t (e ∷ record { key = k; addr = a } ∷ []) (record { key = k; addr = a } ∷ pick u [] (e ∷ []))) ≤ 2
       go true u = omega arith
       go false true = omega arith
       go false false = omega arith
@@ -96,11 +90,7 @@ module _ (k a : ℕ) (k-fits : k < fourBytes) (a-fits : a < fourBytes) where
         next-low : next (drop m c) 0 < fourBytes
         next-low = next-fits (drop m c) (all-drop Fits m c h)
 
-        go : (t : Bool) → All Fits (record { key = z; addr = pick t (side l) n } ∷ record {
-          key =
-              next (drop m c) 0;
-          addr = pick t n (side l);
-        } ∷ [])
+        go : (t : Bool) → All Fits (record { key = z; addr = pick t (side l) n } ∷ record { key = next (drop m c) 0; addr = pick t n (side l) } ∷ [])
         go true = ((f, side-fits l), ((next-low, n-fits), tt))
         go false = ((f, n-fits), ((next-low, side-fits l), tt))
 
@@ -110,21 +100,18 @@ module _ (k a : ℕ) (k-fits : k < fourBytes) (a-fits : a < fourBytes) where
         low : min (e .key) k < fourBytes
         low = let z = f .0 in omega (arith, z)
 
-        go : (t : Bool) → All Fits (pick t (record { key = min (e .key) k; addr = n } ∷ []) (two k n (side l) (half l)
-            (min (e .key) k) c))
+        go : (t : Bool) → All Fits (pick t (record { key = min (e .key) k; addr = n } ∷ []) (two k n (side l) (half l) (min (e .key) k) c))
         go true = ((low, n-fits), tt)
         go false = two-fits l (half l) (min (e .key) k) c low h
 
     named-most : (l : ℕ) (e : Entry) (c : List Entry) → length (named k n side half l e c) ≤ 2
     named-most l e c = go (leb (length c) (2 * half l))
       where
-        go : (t : Bool) → length (pick t (record { key = min (e .key) k; addr = n } ∷ []) (two k n (side l) (half l)
-            (min (e .key) k) c)) ≤ 2
+        go : (t : Bool) → length (pick t (record { key = min (e .key) k; addr = n } ∷ []) (two k n (side l) (half l) (min (e .key) k) c)) ≤ 2
         go true = omega arith
         go false = omega arith
 
-module _ (g : Geometry) (shape : Shape g) (n : ℕ) (few : pagesOf g n + g .pages < fourBytes) (k a : ℕ)
-    (k-low : k < fourBytes)
+module _ (g : Geometry) (shape : Shape g) (n : ℕ) (few : pagesOf g n + g .pages < fourBytes) (k a : ℕ) (k-low : k < fourBytes)
     (a-low : a < fourBytes)
     (c : Chip) (whole : Whole g n c) (all-fit : (q l : ℕ) → All Fits (c .nodes q l)) (high : suc (c .level) ≤ g .top)
     (not-high : tooHigh g c k ≡ false) where
@@ -157,24 +144,20 @@ module _ (g : Geometry) (shape : Shape g) (n : ℕ) (few : pagesOf g n + g .page
   lists-most : (j : ℕ) → 1 ≤ j → j ≤ c .level → length (lists j) ≤ 2 * half g j + 1
   unfolding insertList
   lists-most j b d = path-most (c .nodes) k (putIn k a) (named k N side (half g)) 1 (put-most k a k-low a-low)
-      (named-most k a k-low a-low N side (half g) (side-low m) side-low) (fitOf (pagesOf g n) (c .er))
-      (λ l. 2 * half g l) (c .level) fourBytes
+      (named-most k a k-low a-low N side (half g) (side-low m) side-low) (fitOf (pagesOf g n) (c .er)) (λ l. 2 * half g l) (c .level) fourBytes
       (theRoot c)
       (λ i. let z = whole .sound .rooted .least i in omega (arith, z)) (whole .sound .rooted .rises) j b d
 
   -- the halves of a level below the root
   cut-most : (j : ℕ) → 1 ≤ j → j ≤ c .level
-      → (length (pathHalf k (half g j) (lists j)) ≤ 2 * half g j) ×
-      (length (sideHalf k (half g j) (lists j)) ≤ 2 * half g j)
-  cut-most j b d = let s = shape .some j b (omega (arith, d, high)) in let w = lists-most j b d in
-      half-most k (half g j) (2 * half g j) (lists j)
+      → (length (pathHalf k (half g j) (lists j)) ≤ 2 * half g j) × (length (sideHalf k (half g j) (lists j)) ≤ 2 * half g j)
+  cut-most j b d = let s = shape .some j b (omega (arith, d, high)) in let w = lists-most j b d in half-most k (half g j) (2 * half g j) (lists j)
       (omega arith) (omega (arith, w, s))
 
   crown-most : grows ≡ true
       → (length (pathHalf k (2 * half g (suc (c .level))) (lists (suc (c .level)))) ≤ 2 * half g (suc (c .level))) ×
       (length (sideHalf k (2 * half g (suc (c .level))) (lists (suc (c .level)))) ≤ 2 * half g (suc (c .level)))
-  crown-most e = let u = grow-all g shape n k a k-low c whole e in half-most k (2 * half g (suc (c .level)))
-      (2 * half g (suc (c .level)))
+  crown-most e = let u = grow-all g shape n k a k-low c whole e in half-most k (2 * half g (suc (c .level))) (2 * half g (suc (c .level)))
       (lists (suc (c .level))) (omega arith) (omega (arith, u .1))
 
   path-part-most : (j : ℕ) → 1 ≤ j → j ≤ c .level → length (pathPart k (half g) j (lists j)) ≤ slotsOf g j
@@ -194,8 +177,7 @@ module _ (g : Geometry) (shape : Shape g) (n : ℕ) (few : pagesOf g n + g .page
   unfolding sideList
   side-parts j b d = parts-most g shape j (only j X) b top
       (λ l _ _. all (eqb l j)) (λ l _ q. rw (ne-eqb l j (λ z. omega (arith, z, q))) (omega arith))
-      (rw (eq-eqb j j refl) (omega (arith, len, shape .even j, shape .fits j)))
-      (λ l q. rw (ne-eqb l j (λ z. omega (arith, z, q))) refl)
+      (rw (eq-eqb j j refl) (omega (arith, len, shape .even j, shape .fits j))) (λ l q. rw (ne-eqb l j (λ z. omega (arith, z, q))) refl)
     where
       X : List Entry
       X = pick (leb j (c .level)) (sideHalf k (half g j) (lists j)) (sideHalf k (2 * half g j) (lists j))
@@ -215,8 +197,7 @@ module _ (g : Geometry) (shape : Shape g) (n : ℕ) (few : pagesOf g n + g .page
       top = cases (λ z. omega (arith, z, high)) (λ z e. omega (arith, z, high))
 
       len : length X ≤ 2 * half g j
-      len = cases (λ z. rw (le-leb j (c .level) z) (cut-most j b z .1))
-          (λ z e. rw (lt-leb j (c .level) (omega (arith, z)), z) (crown-most e .1))
+      len = cases (λ z. rw (le-leb j (c .level) z) (cut-most j b z .1)) (λ z e. rw (lt-leb j (c .level) (omega (arith, z)), z) (crown-most e .1))
 
       fit : (t : Bool) → All Fits (pick t (sideHalf k (half g j) (lists j)) (sideHalf k (2 * half g j) (lists j)))
       fit true = half-fits k (half g j) (lists j) (lists-fit j) .1
@@ -242,18 +223,13 @@ module _ (g : Geometry) (shape : Shape g) (n : ℕ) (few : pagesOf g n + g .page
 
       crown-fits : (j : ℕ) (t u v w : Bool)
           → All Fits
-          (pick t (pathPart k (half g) j (lists j))
-          (pick u (pick v (pathHalf k (2 * half g (suc (c .level))) (lists (suc (c .level))))
-          (pick w (two k N (side (suc (c .level))) (2 * half g (suc (c .level))) (next (lists (suc (c .level))) 0)
-          (lists (suc (c .level))))
+          (pick t (pathPart k (half g) j (lists j)) (pick u (pick v (pathHalf k (2 * half g (suc (c .level))) (lists (suc (c .level))))
+          (pick w (two k N (side (suc (c .level))) (2 * half g (suc (c .level))) (next (lists (suc (c .level))) 0) (lists (suc (c .level))))
           [])) (pick v (lists (suc (c .level))) [])))
       crown-fits j true u v w = path-part-fits j
-      crown-fits j false true true w = half-fits k (2 * half g (suc (c .level))) (lists (suc (c .level)))
-          (lists-fit (suc (c .level))) .0
-      crown-fits j false true false true = two-fits k a k-low a-low N side (half g) (side-low m) side-low
-          (suc (c .level))
-          (2 * half g (suc (c .level))) (next (lists (suc (c .level))) 0) (lists (suc (c .level))) first-low
-          (lists-fit (suc (c .level)))
+      crown-fits j false true true w = half-fits k (2 * half g (suc (c .level))) (lists (suc (c .level))) (lists-fit (suc (c .level))) .0
+      crown-fits j false true false true = two-fits k a k-low a-low N side (half g) (side-low m) side-low (suc (c .level))
+          (2 * half g (suc (c .level))) (next (lists (suc (c .level))) 0) (lists (suc (c .level))) first-low (lists-fit (suc (c .level)))
       crown-fits j false true false false = tt
       crown-fits j false false true w = lists-fit (suc (c .level))
       crown-fits j false false false w = tt
@@ -266,8 +242,7 @@ module _ (g : Geometry) (shape : Shape g) (n : ℕ) (few : pagesOf g n + g .page
           let u = grow-all g shape n k a k-low c whole e in
           parts-most g shape (suc (suc (c .level))) (mainList g n c k a) (omega arith) (omega (arith, u .0)) fits
           (λ j b q. by-le j (c .level) (λ z. rw (le-leb j (c .level) z) (path-part-most j b z))
-          (λ z. let y : j ≡ suc (c .level) = omega (arith, z, q) in
-          rw (lt-leb j (c .level) z, e, eq-eqb j (suc (c .level)) y, y)
+          (λ z. let y : j ≡ suc (c .level) = omega (arith, z, q) in rw (lt-leb j (c .level) z, e, eq-eqb j (suc (c .level)) y, y)
           (let w = crown-most e .0 in let s = shape .even (suc (c .level)) in omega (arith, w, s))))
           (rw (
             lt-leb (suc (suc (c .level))) (c .level) (omega arith),
@@ -289,5 +264,4 @@ module _ (g : Geometry) (shape : Shape g) (n : ℕ) (few : pagesOf g n + g .page
           (λ j b q. rw (le-leb j (c .level) (omega (arith, q))) (path-part-most j b (omega (arith, q))))
           (rw (lt-leb (suc (c .level)) (c .level) (omega arith), e, eq-eqb (suc (c .level)) (suc (c .level)) refl)
           (stay-most g shape n k a k-low c whole high not-high e))
-          (λ j q. rw (lt-leb j (c .level) (omega (arith, q)), e, ne-eqb j (suc (c .level)) (λ z. omega (arith, z, q)))
-          refl)
+          (λ j q. rw (lt-leb j (c .level) (omega (arith, q)), e, ne-eqb j (suc (c .level)) (λ z. omega (arith, z, q))) refl)

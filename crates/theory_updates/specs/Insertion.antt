@@ -61,8 +61,7 @@ pub record Inserted (g : Geometry) (n : ℕ) (c : Chip) (m k a : ℕ) (e : Chip)
   pub fuller : Fuller g m c e
   pub stands : Stands g n c m (insertCrest g c (sidePage g n c) m k a) e
 
-module _ (g : Geometry) (shape : Shape g) (n : ℕ) (few : pagesOf g n + g .pages < fourBytes) (k a : ℕ)
-    (k-low : k < fourBytes)
+module _ (g : Geometry) (shape : Shape g) (n : ℕ) (few : pagesOf g n + g .pages < fourBytes) (k a : ℕ) (k-low : k < fourBytes)
     (a-low : a < fourBytes)
     (base : List Entry) (img : List ℕ) (keeps : Keeps g n base img) (not-high : tooHigh g (chipOf g n img) k ≡ false)
     (room : g .pages + needs g (chipOf g n img) k ≤ count (pagesOf g n) (chipOf g n img .er))
@@ -108,8 +107,7 @@ module _ (g : Geometry) (shape : Shape g) (n : ℕ) (few : pagesOf g n + g .page
   free = omega (arith, room)
 
   high : suc (c .level) ≤ g .top
-  high = height-most g (shape-core g shape) n img (let z = side-erased g (shape-core g shape) n c (whole .r2) m free m
-      (omega (arith, m-is)) (omega arith) .1 in omega (arith, z))
+  high = height-most g (shape-core g shape) n img (let z = side-erased g (shape-core g shape) n c (whole .r2) m free m (omega (arith, m-is)) (omega arith) .1 in omega (arith, z))
       (keeps .held)
 
   all-fit : (q l : ℕ) → All Fits (c .nodes q l)
@@ -127,8 +125,7 @@ module _ (g : Geometry) (shape : Shape g) (n : ℕ) (few : pagesOf g n + g .page
     next-side = ap (nextPage (g .pages) n) (laid .ahead-is)
 
     top : suc i ≤ g .top
-    top = by-test grows (λ e. let u = grow-all g shape n k a k-low c whole e in
-        omega (arith, lt, m-is, cut-le, u .0, bit-most grows))
+    top = by-test grows (λ e. let u = grow-all g shape n k a k-low c whole e in omega (arith, lt, m-is, cut-le, u .0, bit-most grows))
         (λ e. omega (arith, lt, m-is, cut-le, high, ap bit e))
 
     here : (q : ℕ) → q ≡ side (suc i) → d′ .nodes q (suc i) ≡ sideList g n c k a (suc i)
@@ -145,8 +142,7 @@ module _ (g : Geometry) (shape : Shape g) (n : ℕ) (few : pagesOf g n + g .page
     there q j e = rw (ne-eqb q (nextPage (g .pages) n (ahead g n d)) (λ z. e (z ∙ next-side))) refl
 
     next-in : nextPage (g .pages) n (ahead g n d) < t
-    next-in = let z = side-erased g (shape-core g shape) n c (whole .r2) m free (suc i) (omega arith)
-        (omega (arith, lt)) .1 in omega (arith, z, next-side)
+    next-in = let z = side-erased g (shape-core g shape) n c (whole .r2) m free (suc i) (omega arith) (omega (arith, lt)) .1 in omega (arith, z, next-side)
 
     pub laid-more : s ≡ suc (peak t (d .seq)) → Laid g n c k a (suc i) d′
     unfolding taken
@@ -154,21 +150,17 @@ module _ (g : Geometry) (shape : Shape g) (n : ℕ) (few : pagesOf g n + g .page
       ahead-is = ahead-beside g n d (nextPage (g .pages) n (ahead g n d)) (builtView g s 0 parts) next-in num
           ∙ ap (λ (x : Ahead). onward (nextPage (g .pages) n x) x) (laid .ahead-is);
       sides = λ j b q. by-eq j (suc i) (λ e. rw e (here (side (suc i)) refl))
-          (λ e. there (side j) j (λ z. e (side-inj g (shape-core g shape) n c (whole .r2) m free j (suc i) b
-          (omega (arith, q, lt)) (omega arith)
+          (λ e. there (side j) j (λ z. e (side-inj g (shape-core g shape) n c (whole .r2) m free j (suc i) b (omega (arith, q, lt)) (omega arith)
           (omega (arith, lt)) z)) ∙ laid .sides j b (omega (arith, q, e)));
-      stays = λ q l h. there q (suc l) (λ z. new-side g (shape-core g shape) n c (whole .r2) m free (suc i) l
-          (omega arith) (omega (arith, lt))
+      stays = λ q l h. there q (suc l) (λ z. new-side g (shape-core g shape) n c (whole .r2) m free (suc i) l (omega arith) (omega (arith, lt))
           (subst (fitOf (g .pages * n) (c .er) (suc l)) z h)) ∙ laid .stays q l h;
     }
 
   -- the pages left after i are taken
   left : (i : ℕ) → i ≤ m → count t (taken (g .pages) n (ahead g n c) i .er) + i ≡ count t (c .er)
-  left i q = let z = step (g .pages) n (ahead g n c) (some-page g (shape-core g shape)) (whole .r2) i
-      (omega (arith, q, free)) .left in omega (arith, z)
+  left i q = let z = step (g .pages) n (ahead g n c) (some-page g (shape-core g shape)) (whole .r2) i (omega (arith, q, free)) .left in omega (arith, z)
 
-  next-is : (h l : ℕ) (parts : ℕ → List Entry) (x : List ℕ) → nextPage (g .pages) n (ahead g n (chipOf g n x)) ≡ side l
-      → suc (maxSeq g n x) ≡ seq + l
+  next-is : (h l : ℕ) (parts : ℕ → List Entry) (x : List ℕ) → nextPage (g .pages) n (ahead g n (chipOf g n x)) ≡ side l → suc (maxSeq g n x) ≡ seq + l
       → program (side l) (built g (seq + l) h parts) ≡ nextStore g n h parts x
   unfolding nextStore
   next-is h l parts x e f = ap (λ p. program p (built g (seq + l) h parts)) (sym e)
@@ -187,37 +179,29 @@ module _ (g : Geometry) (shape : Shape g) (n : ℕ) (few : pagesOf g n + g .page
       let z = runs-end g n base img ss (s .chip) i 0 (s .runs) in
       let ci = s .runs .chip-is in
       let ok = side-parts g shape n few k a k-low a-low c whole all-fit high not-high (suc i) (omega arith) lt in
-      let cnt : count t (chipOf g n x .er) ≡ count t (taken (g .pages) n (ahead g n c) i .er) =
-      ap (λ (y : Chip). count t (y .er)) ci ∙ ap (λ (y : Ahead). count t (y .er))
+      let cnt : count t (chipOf g n x .er) ≡ count t (taken (g .pages) n (ahead g n c) i .er) = ap (λ (y : Chip). count t (y .er)) ci ∙ ap (λ (y : Ahead). count t (y .er))
       (s .laid .ahead-is) in
       let l = left i (omega (arith, lt)) in
       let few′ : g .pages + 1 ≤ count t (chipOf g n x .er) = omega (arith, cnt, l, room, lt) in
       let low′ : suc (maxSeq g n x) < 4294967295 = omega (arith, s .max-is, low, lt) in
-      let page : nextPage (g .pages) n (ahead g n (chipOf g n x)) ≡ side (suc i) =
-      ap (λ (y : Chip). nextPage (g .pages) n (ahead g n y)) ci ∙ next-side i lt
+      let page : nextPage (g .pages) n (ahead g n (chipOf g n x)) ≡ side (suc i) = ap (λ (y : Chip). nextPage (g .pages) n (ahead g n y)) ci ∙ next-side i lt
       (s .chip) (s .laid) 0 in
       let e = next-is 0 (suc i) p x page (omega (arith, s .max-is)) in
       let r = side-runs g n base shape x z p ok few′ low′ in
       let mx = put-max g (shape-core g shape) n x (z .held) (omega (arith, few′)) p ok low′ 0 (omega arith) in
       let q = suc (maxSeq g n x) in
       let st = program (side (suc i)) (built g (seq + suc i) 0 p) in
-      let r′ = subst (λ (u : Store). Runs g n base x
-      (u ∷ []) (beside (chipOf g n x) (nextPage (g .pages) n (ahead g n (chipOf g n x))) (builtView g q 0 p)) 1
+      let r′ = subst (λ (u : Store). Runs g n base x (u ∷ []) (beside (chipOf g n x) (nextPage (g .pages) n (ahead g n (chipOf g n x))) (builtView g q 0 p)) 1
       0) (sym e) r in
-      let all = runs-then g n base img ss (st ∷ []) (s .chip)
-      (beside (chipOf g n x) (nextPage (g .pages) n (ahead g n (chipOf g n x)))
+      let all = runs-then g n base img ss (st ∷ []) (s .chip) (beside (chipOf g n x) (nextPage (g .pages) n (ahead g n (chipOf g n x)))
       (builtView g q 0 p)) i 1 0 0 (s .runs) r′ in
       record {
         chip = beside (s .chip) (nextPage (g .pages) n (ahead g n (s .chip))) (builtView g q 0 p);
-        runs = runs-as g n base img (ss ++ (st ∷ [])) (beside (chipOf g n x)
-            (nextPage (g .pages) n (ahead g n (chipOf g n x))) (builtView g q 0 p))
-            (beside (s .chip) (nextPage (g .pages) n (ahead g n (s .chip))) (builtView g q 0 p)) (i + 1) (suc i)
-            (0 + 0) 0
-            (ap (λ (y : Chip). beside y (nextPage (g .pages) n (ahead g n y)) (builtView g q 0 p)) ci) (omega arith)
-            (omega arith) all;
+        runs = runs-as g n base img (ss ++ (st ∷ [])) (beside (chipOf g n x) (nextPage (g .pages) n (ahead g n (chipOf g n x))) (builtView g q 0 p))
+            (beside (s .chip) (nextPage (g .pages) n (ahead g n (s .chip))) (builtView g q 0 p)) (i + 1) (suc i) (0 + 0) 0
+            (ap (λ (y : Chip). beside y (nextPage (g .pages) n (ahead g n y)) (builtView g q 0 p)) ci) (omega arith) (omega arith) all;
         laid = laid-more i lt (s .chip) (s .laid) q (number x ∙ ap (λ (y : Chip). suc (peak t (y .seq))) ci);
-        max-is = ap (maxSeq g n) (all-append g ss (st ∷ []) img) ∙ ap (λ (u : Store). maxSeq g n (applyStore g u x)) e
-            ∙ mx ∙
+        max-is = ap (maxSeq g n) (all-append g ss (st ∷ []) img) ∙ ap (λ (u : Store). maxSeq g n (applyStore g u x)) e ∙ mx ∙
             (let w : suc (maxSeq g n x) ≡ seq + suc i = omega (arith, s .max-is) in w);
       }
 
@@ -237,8 +221,7 @@ module _ (g : Geometry) (shape : Shape g) (n : ℕ) (few : pagesOf g n + g .page
   below-sided (suc i) b = by-le (suc i) cuts (more (below-sided i (omega arith))) (stop (below-sided i (omega arith)))
     where
       Goal : Type 0
-      Goal = Sided g n base img k a (min (suc i) cuts)
-          (sideStores g seq k side lists i ++ pick (leb (length (lists (suc i))) (2 * half g (suc i))) []
+      Goal = Sided g n base img k a (min (suc i) cuts) (sideStores g seq k side lists i ++ pick (leb (length (lists (suc i))) (2 * half g (suc i))) []
           (sideStore g seq side (suc i) (sideHalf k (half g (suc i)) (lists (suc i))) ∷ []))
 
       more : Sided g n base img k a (min i cuts) (sideStores g seq k side lists i) → suc i ≤ cuts → Goal
@@ -246,20 +229,17 @@ module _ (g : Geometry) (shape : Shape g) (n : ℕ) (few : pagesOf g n + g .page
           let long = cut-levels g shape n k a k-low c whole (suc i) (omega arith) b .1 q in
           let e : min i cuts ≡ i = omega (arith, q) in
           let f : suc i ≡ min (suc i) cuts = omega (arith, q) in
-          let z : sideList g n c k a (suc i) ≡ sideHalf k (half g (suc i)) (lists (suc i)) =
-          rw (le-leb (suc i) (c .level) b) refl in
+          let z : sideList g n c k a (suc i) ≡ sideHalf k (half g (suc i)) (lists (suc i)) = rw (le-leb (suc i) (c .level) b) refl in
           rw (lt-leb (length (lists (suc i))) (2 * half g (suc i)) long)
           (subst (λ j. Sided g n base img k a j (sideStores g seq k side lists i ++
           (sideStore g seq side (suc i) (sideHalf k (half g (suc i)) (lists (suc i))) ∷ []))) f
-          (subst (λ (x : List Entry). Sided g n base img k a (suc i)
-          (sideStores g seq k side lists i ++ (sideStore g seq side (suc i) x ∷ []))) z
+          (subst (λ (x : List Entry). Sided g n base img k a (suc i) (sideStores g seq k side lists i ++ (sideStore g seq side (suc i) x ∷ []))) z
           (side-step i (sideStores g seq k side lists i) (omega (arith, m-is, q))
           (subst (λ j. Sided g n base img k a j (sideStores g seq k side lists i)) e s))))
 
       stop : Sided g n base img k a (min i cuts) (sideStores g seq k side lists i) → cuts < suc i → Goal
       stop s q =
-          let short : length (lists (suc i)) ≤ 2 * half g (suc i) = by-le (length (lists (suc i))) (2 * half g (suc i))
-          (λ z. z)
+          let short : length (lists (suc i)) ≤ 2 * half g (suc i) = by-le (length (lists (suc i))) (2 * half g (suc i)) (λ z. z)
           (λ z. absurd (omega (arith, q, cut-levels g shape n k a k-low c whole (suc i) (omega arith) b .0 z))) in
           let f : min i cuts ≡ min (suc i) cuts = omega (arith, q) in
           rw (le-leb (length (lists (suc i))) (2 * half g (suc i)) short, append-nil (sideStores g seq k side lists i))
@@ -284,12 +264,10 @@ module _ (g : Geometry) (shape : Shape g) (n : ℕ) (few : pagesOf g n + g .page
           let u = grow-all g shape n k a k-low c whole e in
           let x : min (c .level) cuts ≡ c .level = omega (arith, u .2) in
           let y : suc (c .level) ≡ cuts + 1 = omega (arith, u .2) in
-          let z : sideList g n c k a (suc (c .level)) ≡ sideHalf k (2 * half g (suc (c .level)))
-          (lists (suc (c .level))) =
+          let z : sideList g n c k a (suc (c .level)) ≡ sideHalf k (2 * half g (suc (c .level))) (lists (suc (c .level))) =
           rw (lt-leb (suc (c .level)) (c .level) (omega arith)) refl in
           rw e (subst (λ j. Sided g n base img k a j (sideStores g seq k side lists (c .level) ++
-          (sideStore g seq side (suc (c .level)) (sideHalf k (2 * half g (suc (c .level)))
-          (lists (suc (c .level)))) ∷ []))) y
+          (sideStore g seq side (suc (c .level)) (sideHalf k (2 * half g (suc (c .level))) (lists (suc (c .level)))) ∷ []))) y
           (subst (λ (w : List Entry). Sided g n base img k a (suc (c .level))
           (sideStores g seq k side lists (c .level) ++ (sideStore g seq side (suc (c .level)) w ∷ []))) z
           (side-step (c .level) (sideStores g seq k side lists (c .level)) (omega (arith, m-is, u .2, ap bit e))
@@ -309,8 +287,7 @@ module _ (g : Geometry) (shape : Shape g) (n : ℕ) (few : pagesOf g n + g .page
 
   height-in : (1 ≤ height) × (height ≤ g .top)
   unfolding crownHeight
-  height-in = by-test grows (λ e. let u = grow-all g shape n k a k-low c whole e in
-      rw e (omega arith, omega (arith, u .0)))
+  height-in = by-test grows (λ e. let u = grow-all g shape n k a k-low c whole e in rw e (omega arith, omega (arith, u .0)))
       (λ e. rw e (omega arith, high))
 
   module _ (d : Chip) (laid : Laid g n c k a (cuts + bit grows) d) (q : ℕ) (number-is : q ≡ suc (peak t (d .seq)))
@@ -329,8 +306,7 @@ module _ (g : Geometry) (shape : Shape g) (n : ℕ) (few : pagesOf g n + g .page
 
     er-is : after P (d .er) ≡ taken (g .pages) n (ahead g n c) m .er
     unfolding taken
-    er-is = ap (λ (x : Ahead). after (nextPage (g .pages) n x) (x .er)) (laid .ahead-is)
-        ∙ sym (ap (λ j. taken (g .pages) n (ahead g n c) j .er) m-is)
+    er-is = ap (λ (x : Ahead). after (nextPage (g .pages) n x) (x .er)) (laid .ahead-is) ∙ sym (ap (λ j. taken (g .pages) n (ahead g n c) j .er) m-is)
 
     at-N : (j : ℕ) → 1 ≤ j → j ≤ g .top → e′ .nodes N j ≡ mainList g n c k a j
     unfolding rooted
@@ -341,23 +317,14 @@ module _ (g : Geometry) (shape : Shape g) (n : ℕ) (few : pagesOf g n + g .page
     elsewhere p j h = rw (ne-eqb p P (λ z. h (z ∙ page-is))) refl
 
     at-side : (j : ℕ) → 1 ≤ j → j < m → e′ .nodes (side j) j ≡ sideList g n c k a j
-    at-side j b h = elsewhere (side j) j (λ z. let w = side-inj g (shape-core g shape) n c (whole .r2) m free j m b
-        (omega (arith, h)) (omega (arith, m-is))
+    at-side j b h = elsewhere (side j) j (λ z. let w = side-inj g (shape-core g shape) n c (whole .r2) m free j m b (omega (arith, h)) (omega (arith, m-is))
         (omega arith) z in omega (arith, w, h)) ∙ laid .sides j b (omega (arith, h, m-is))
 
     stays : (p l : ℕ) → fitOf t (c .er) (suc l) p → e′ .nodes p (suc l) ≡ c .nodes p (suc l)
-    stays p l h = elsewhere p (suc l) (λ z. new-side g (shape-core g shape) n c (whole .r2) m free m l
-        (omega (arith, m-is)) (omega arith)
+    stays p l h = elsewhere p (suc l) (λ z. new-side g (shape-core g shape) n c (whole .r2) m free m l (omega (arith, m-is)) (omega arith)
         (subst (fitOf t (c .er) (suc l)) z h)) ∙ laid .stays p l h
 
-    final-is : e′ ≡ record {
-      er = taken (g .pages) n (ahead g n c) m .er;
-      seq = e′ .seq;
-      nodes = e′ .nodes;
-      level =
-          height - 1;
-      root = N;
-    }
+    final-is : e′ ≡ record { er = taken (g .pages) n (ahead g n c) m .er; seq = e′ .seq; nodes = e′ .nodes; level = height - 1; root = N }
     unfolding rooted
     final-is = λ i. record { er = er-is i; seq = e′ .seq; nodes = e′ .nodes; level = height - 1; root = page-is i }
 
@@ -367,8 +334,7 @@ module _ (g : Geometry) (shape : Shape g) (n : ℕ) (few : pagesOf g n + g .page
 
     d-r2 : R2 (g .pages) n (d .er)
     d-r2 = subst (λ (x : Ahead). R2 (g .pages) n (x .er)) (sym (laid .ahead-is))
-        (step (g .pages) n (ahead g n c) (some-page g (shape-core g shape)) (whole .r2) i
-        (omega (arith, m-is, free)) .r2)
+        (step (g .pages) n (ahead g n c) (some-page g (shape-core g shape)) (whole .r2) i (omega (arith, m-is, free)) .r2)
 
     pub final-done : Whole g n e′ × (mapOf e′ ≡ put k a (mapOf c)) × R8 g n e′ × Inserted g n c m k a e′
     final-done =
@@ -382,8 +348,7 @@ module _ (g : Geometry) (shape : Shape g) (n : ℕ) (few : pagesOf g n + g .page
             stands = record {
               root-is = ap (λ (x : Chip). x .root) final-is;
               level-is = ap (λ (x : Chip). x .level) final-is;
-              topped = topped g shape n c d i m (builtView g q height (mainList g n c k a)) d-r2
-                  (omega (arith, d-left, room, p, m-is)) number-is most-is d-left
+              topped = topped g shape n c d i m (builtView g q height (mainList g n c k a)) d-r2 (omega (arith, d-left, room, p, m-is)) number-is most-is d-left
                   m-is;
             };
           },
@@ -399,28 +364,21 @@ module _ (g : Geometry) (shape : Shape g) (n : ℕ) (few : pagesOf g n + g .page
       let x = applyAll g ss img in
       let ci = s .runs .chip-is in
       let lf = left i (omega (arith, m-is)) in
-      let cnt : count t (s .chip .er) ≡ count t (taken (g .pages) n (ahead g n c) i .er) =
-      ap (λ (y : Ahead). count t (y .er)) (s .laid .ahead-is) in
-      let chip-most : peak t (s .chip .seq) ≡ peak t (c .seq) + i = sym (ap (λ (y : Chip). peak t (y .seq)) ci)
-      ∙ s .max-is in
-      let page : nextPage (g .pages) n (ahead g n (chipOf g n x)) ≡ N =
-      ap (λ (y : Chip). nextPage (g .pages) n (ahead g n y)) ci ∙ page-is (s .chip) (s .laid)
+      let cnt : count t (s .chip .er) ≡ count t (taken (g .pages) n (ahead g n c) i .er) = ap (λ (y : Ahead). count t (y .er)) (s .laid .ahead-is) in
+      let chip-most : peak t (s .chip .seq) ≡ peak t (c .seq) + i = sym (ap (λ (y : Chip). peak t (y .seq)) ci) ∙ s .max-is in
+      let page : nextPage (g .pages) n (ahead g n (chipOf g n x)) ≡ N = ap (λ (y : Chip). nextPage (g .pages) n (ahead g n y)) ci ∙ page-is (s .chip) (s .laid)
       (suc (peak t (s .chip .seq))) refl chip-most in
       let st = program N (built g (seq + m) height (mainList g n c k a)) in
       let e = next-is height m (mainList g n c k a) x page (omega (arith, s .max-is, m-is)) in
-      let u = updated g shape n (Inserted g n c m k a) base (put k a base) img ss (s .chip) i 0 height
-      (mainList g n c k a) st (s .runs) (omega (arith, cnt, lf, room, m-is))
+      let u = updated g shape n (Inserted g n c m k a) base (put k a base) img ss (s .chip) i 0 height (mainList g n c k a) st (s .runs) (omega (arith, cnt, lf, room, m-is))
       (omega (arith, s .max-is, low, m-is))
       (main-parts g shape n few k a k-low a-low c whole all-fit high not-high) (height-in .0) (height-in .1) e
-      (λ q num. let w = final-done (s .chip) (s .laid) q num chip-most in
-      (w .0, w .1 ∙ ap (put k a) (keeps .map-is), w .2, w .3)) in
+      (λ q num. let w = final-done (s .chip) (s .laid) q num chip-most in (w .0, w .1 ∙ ap (put k a) (keeps .map-is), w .2, w .3)) in
       let z : i + 1 ≡ m = omega (arith, m-is) in
-      subst (λ j. Updated g n (Inserted g n c m k a) base (put k a base) img
-      (sideStores g seq k side lists (c .level) ++
+      subst (λ j. Updated g n (Inserted g n c m k a) base (put k a base) img (sideStores g seq k side lists (c .level) ++
       (crownStore g seq k side (suc (c .level)) (lists (suc (c .level))) ++ (st ∷ []))) j 0) z
       (subst (λ (y : List Store). Updated g n (Inserted g n c m k a) base (put k a base) img y (i + 1) 0)
-      (append-assoc (sideStores g seq k side lists (c .level)) (crownStore g seq k side (suc (c .level))
-      (lists (suc (c .level)))) (st ∷ [])) u)
+      (append-assoc (sideStores g seq k side lists (c .level)) (crownStore g seq k side (suc (c .level)) (lists (suc (c .level)))) (st ∷ [])) u)
 
   -- they are m programs and no erase
   pub own-programs : programs (ownStores g n seq c m k a) ≡ m

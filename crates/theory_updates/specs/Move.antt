@@ -34,8 +34,7 @@ use Rattle.model.specs.Legal.{Legal}
 use Rattle.theory_images.specs.Writes.{nextStore, put-legal, put-max, root-chip, root-held}
 use Rattle.theory_updates.specs.Table.{off-table, parts-most}
 
-module _ (g : Geometry) (shape : Shape g) (n : ℕ) (few : pagesOf g n + g .pages < fourBytes) (img : List ℕ)
-    (held : Held g n img) (p : ℕ)
+module _ (g : Geometry) (shape : Shape g) (n : ℕ) (few : pagesOf g n + g .pages < fourBytes) (img : List ℕ) (held : Held g n img) (p : ℕ)
     (free : 1 ≤ count (pagesOf g n) (chipOf g n img .er)) where
   abbrev t : ℕ
   t = pagesOf g n
@@ -79,26 +78,20 @@ module _ (g : Geometry) (shape : Shape g) (n : ℕ) (few : pagesOf g n + g .page
 
   none : (j : ℕ) → (1 ≤ j → suc (c .level) < j) → movePart c p N j ≡ []
   unfolding movePart
-  none j h = shut (λ (x : List Entry). x ≡ []) (leb a j) (path j) refl (path-none (c .nodes) (moveKey c p) same
-      (renamed a N) (c .level)
+  none j h = shut (λ (x : List Entry). x ≡ []) (leb a j) (path j) refl (path-none (c .nodes) (moveKey c p) same (renamed a N) (c .level)
       (theRoot c) j h)
 
   pub move-parts : Parts g (movePart c p N)
   unfolding movePart
   move-parts = parts-most g shape (suc (c .level)) (movePart c p N) (omega arith) high
-      (λ l _ _. shut (λ (x : List Entry). All Fits x) (leb a l) (path l) tt (path-all (c .nodes) (moveKey c p) same
-      (renamed a N) Fits
+      (λ l _ _. shut (λ (x : List Entry). All Fits x) (leb a l) (path l) tt (path-all (c .nodes) (moveKey c p) same (renamed a N) Fits
       (λ es h. h) named-fits (node-fits g img (held .bytes)) (c .level) (theRoot c) l))
       (λ l i q. shut (λ (x : List Entry). length x ≤ slotsOf g l) (leb a l) (path l) (omega arith)
-      (let w = path-most (c .nodes) (moveKey c p) same (renamed a N) 0 (λ es. omega arith) named-one (fitOf t (c .er))
-      (λ l. 2 * half g l)
-      (c .level) fourBytes (theRoot c) some-root (held .whole .sound .rooted .rises) l i (omega (arith, q)) in let e =
-      shape .even l in
+      (let w = path-most (c .nodes) (moveKey c p) same (renamed a N) 0 (λ es. omega arith) named-one (fitOf t (c .er)) (λ l. 2 * half g l)
+      (c .level) fourBytes (theRoot c) some-root (held .whole .sound .rooted .rises) l i (omega (arith, q)) in let e = shape .even l in
       omega (arith, w, e)))
-      (shut (λ (x : List Entry). length x ≤ rootMost g (suc (c .level))) (leb a (suc (c .level)))
-      (path (suc (c .level))) (omega arith)
-      (let w = path-top (c .nodes) (moveKey c p) same (renamed a N) 0 (λ es. omega arith) named-one (c .level)
-      (theRoot c) in
+      (shut (λ (x : List Entry). length x ≤ rootMost g (suc (c .level))) (leb a (suc (c .level))) (path (suc (c .level))) (omega arith)
+      (let w = path-top (c .nodes) (moveKey c p) same (renamed a N) 0 (λ es. omega arith) named-one (c .level) (theRoot c) in
       omega (arith, w, held .whole .sound .rooted .atmost)))
       (λ l q. none l (λ _. q))
     where
@@ -132,24 +125,20 @@ module _ (g : Geometry) (shape : Shape g) (n : ℕ) (few : pagesOf g n + g .page
 
   module _ (alive : live (placesOf c) p ≡ true) (low : suc (maxSeq g n img) < 4294967295) where
     pub move-chip : chipOf g n (applyStore g st img) ≡ moveTo t c p N
-    move-chip = rw store-is (root-chip g (shape-core g shape) n img held free (movePart c p N) move-parts low
-        (suc (c .level)) high (omega arith) ∙ moved-chip)
+    move-chip = rw store-is (root-chip g (shape-core g shape) n img held free (movePart c p N) move-parts low (suc (c .level)) high (omega arith) ∙ moved-chip)
 
     step : MoveStep g n c (moveTo t c p N) p N
     step = move-step g shape n c (held .whole) p alive free
 
     pub move-held : Held g n (applyStore g st img)
-    move-held = rw store-is (root-held g (shape-core g shape) n img held free (movePart c p N) move-parts low
-        (suc (c .level)) high (omega arith)
+    move-held = rw store-is (root-held g (shape-core g shape) n img held free (movePart c p N) move-parts low (suc (c .level)) high (omega arith)
         (subst (Whole g n) (sym moved-chip) (step .good)))
 
     pub move-map : mapOf (chipOf g n (applyStore g st img)) ≡ mapOf c
     move-map = ap mapOf move-chip ∙ step .pairs-are
 
     pub move-max : maxSeq g n (applyStore g st img) ≡ suc (maxSeq g n img)
-    move-max = rw store-is (put-max g (shape-core g shape) n img held free (movePart c p N) move-parts low
-        (suc (c .level)) high)
+    move-max = rw store-is (put-max g (shape-core g shape) n img held free (movePart c p N) move-parts low (suc (c .level)) high)
 
     pub move-legal : Legal g n img st
-    move-legal = rw store-is (put-legal g (shape-core g shape) n img held free (movePart c p N) move-parts low
-        (suc (c .level)) high)
+    move-legal = rw store-is (put-legal g (shape-core g shape) n img held free (movePart c p N) move-parts low (suc (c .level)) high)

@@ -1,5 +1,5 @@
--- An update's own stores by the record are the model's: they hang on the pages of the levels up to the root's and on N
--- alone, and these are the pages to come. Assumes nothing.
+-- An update's own stores by the record are the model's: they hang on the pages of the levels up to the root's and on N alone, and these are the
+-- pages to come. Assumes nothing.
 use mathlib.Core.Path.{_≡_, refl, ap, _∙_}
 use mathlib.Core.List.{List, [], _∷_, _++_}
 use Prim.Native.Nat.{ℕ, zero, suc, _+_, _-_, _*_, _≤_, min}
@@ -35,8 +35,7 @@ module _ (r : Nodes) (k : ℕ) (leaf : List Entry → List Entry) (name name′ 
   edited-alike zero h e = refl
   edited-alike (suc l) h e =
       let below = edited-alike l (λ j b q. h j b (omega (arith, q))) in
-      let one : (x : Entry) → name (suc l) x (edited r k leaf name l x) ≡ name′ (suc l) x (edited r k leaf name′ l x) =
-      λ x.
+      let one : (x : Entry) → name (suc l) x (edited r k leaf name l x) ≡ name′ (suc l) x (edited r k leaf name′ l x) = λ x.
       h (suc l) (omega arith) (omega arith) x (edited r k leaf name l x) ∙ ap (name′ (suc l) x) (below x) in
       ap (λ (f : Entry → List Entry). splice f k (r (e .addr) (suc (suc l)))) (λ i x. one x i)
 
@@ -59,11 +58,9 @@ module _ (g : Geometry) (seq : ℕ) (c : Chip) (side side′ : ℕ → ℕ) (m k
 
   lists-alike : (j : ℕ) → lists j ≡ lists′ j
   unfolding insertList
-  lists-alike j = path-alike (c .nodes) k (putIn k a) (named k (side m) side (half g))
-      (named k (side′ m) side′ (half g)) (c .level)
+  lists-alike j = path-alike (c .nodes) k (putIn k a) (named k (side m) side (half g)) (named k (side′ m) side′ (half g)) (c .level)
       (λ l b q x d. let e = same l b (omega (arith, q)) in
-      λ i. pick (leb (length d) (2 * half g l)) (record { key = min (x .key) k; addr = last i } ∷ []) (two k (last i)
-      (e i) (half g l) (min (x .key) k) d))
+      λ i. pick (leb (length d) (2 * half g l)) (record { key = min (x .key) k; addr = last i } ∷ []) (two k (last i) (e i) (half g l) (min (x .key) k) d))
       (theRoot c) j
 
   sides-alike : (l : ℕ) → l ≤ c .level → sideStores g seq k side lists l ≡ sideStores g seq k side′ lists′ l
@@ -76,18 +73,15 @@ module _ (g : Geometry) (seq : ℕ) (c : Chip) (side side′ : ℕ → ℕ) (m k
       λ i. a i ++ pick (leb (length (b i)) (2 * half g (suc l))) []
       (program (d i) (built g (seq + suc l) 0 (only (suc l) (sideHalf k (half g (suc l)) (b i)))) ∷ [])
 
-  crown-alike : crownStore g seq k side (suc (c .level)) (lists (suc (c .level))) ≡ crownStore g seq k side′
-      (suc (c .level)) (lists′ (suc (c .level)))
+  crown-alike : crownStore g seq k side (suc (c .level)) (lists (suc (c .level))) ≡ crownStore g seq k side′ (suc (c .level)) (lists′ (suc (c .level)))
   unfolding crownStore sideStore
   crown-alike =
       let l = suc (c .level) in
       let b = lists-alike l in
       let d = same l (omega arith) (omega arith) in
-      λ i. pick (fills g l (length (b i))) (program (d i)
-      (built g (seq + l) 0 (only l (sideHalf k (2 * half g l) (b i)))) ∷ []) []
+      λ i. pick (fills g l (length (b i))) (program (d i) (built g (seq + l) 0 (only l (sideHalf k (2 * half g l) (b i)))) ∷ []) []
 
-  height-alike : crownHeight g (suc (c .level)) (lists (suc (c .level))) ≡ crownHeight g (suc (c .level))
-      (lists′ (suc (c .level)))
+  height-alike : crownHeight g (suc (c .level)) (lists (suc (c .level))) ≡ crownHeight g (suc (c .level)) (lists′ (suc (c .level)))
   height-alike = ap (crownHeight g (suc (c .level))) (lists-alike (suc (c .level)))
 
   part-alike : (j : ℕ) → insertPart g c k a (side m) side j ≡ insertPart g c k a (side′ m) side′ j
@@ -98,8 +92,7 @@ module _ (g : Geometry) (seq : ℕ) (c : Chip) (side side′ : ℕ → ℕ) (m k
       let b = lists-alike l in
       let d = same l (omega arith) (omega arith) in
       λ i. pick (leb j (c .level)) (pathPart k (half g) j (a i)) (pick (fills g l (length (b i)))
-      (pick (eqb j l) (pathHalf k (2 * half g l) (b i))
-      (pick (eqb j (suc l)) (two k (last i) (d i) (2 * half g l) (next (b i) 0) (b i)) []))
+      (pick (eqb j l) (pathHalf k (2 * half g l) (b i)) (pick (eqb j (suc l)) (two k (last i) (d i) (2 * half g l) (next (b i) 0) (b i)) []))
       (pick (eqb j l) (b i) []))
 
   own-alike : ownStoresAt g seq c side m k a ≡ ownStoresAt g seq c side′ m k a
@@ -120,19 +113,16 @@ module _ (g : Geometry) (shape : Shape g) (n : ℕ) (img : List ℕ) (held : Hel
   side-by zero b h = absurd (omega (arith, b))
   side-by (suc l) b h = pages-right g (shape-core g shape) n img held l (omega (arith, h))
 
-  module _ (m k a : ℕ) (levels : suc (c .level) ≤ count (pagesOf g n) (c .er))
-      (some : 1 ≤ m) (most : m ≤ count (pagesOf g n) (c .er)) where
+  module _ (m k a : ℕ) (levels : suc (c .level) ≤ count (pagesOf g n) (c .er)) (some : 1 ≤ m) (most : m ≤ count (pagesOf g n) (c .er)) where
     pub own-by : ownBy g n img (openedIn g n img) m k a ≡ ownStores g n (maxSeq g n img) c m k a
     unfolding ownStoresAt ownStores openedIn
-    own-by = ap (λ (d : Chip). ownStoresAt g (maxSeq g n img) d (sidesBy g n img (openedIn g n img)) m k a)
-        (chip-right g (shape-core g shape) n img held)
+    own-by = ap (λ (d : Chip). ownStoresAt g (maxSeq g n img) d (sidesBy g n img (openedIn g n img)) m k a) (chip-right g (shape-core g shape) n img held)
         ∙ own-alike g (maxSeq g n img) c (sidesBy g n img (openedIn g n img)) (sidePage g n c) m k a
         (λ l b h. side-by l b (omega (arith, h, levels))) (side-by m some most)
 
     pub crest-by : crestBy g n img (openedIn g n img) m k a ≡ insertCrest g c (sidePage g n c) m k a
     unfolding openedIn
-    crest-by = ap (λ (d : Chip). insertCrest g d (sidesBy g n img (openedIn g n img)) m k a)
-        (chip-right g (shape-core g shape) n img held)
+    crest-by = ap (λ (d : Chip). insertCrest g d (sidesBy g n img (openedIn g n img)) m k a) (chip-right g (shape-core g shape) n img held)
         ∙ crest-alike g (maxSeq g n img) c (sidesBy g n img (openedIn g n img)) (sidePage g n c) m k a
         (λ l b h. side-by l b (omega (arith, h, levels))) (side-by m some most)
 

@@ -34,13 +34,11 @@ abbrev afterMove : ℕ → Chip → ℕ → ℕ → Table → Table
 afterMove m c q new t = tableMoved m (c .nodes) (moveKey c q) (lowLevel (placesOf c) q) (c .level) (theRoot c) new t
 
 -- on any two chips whose lowest live levels are those before and after the move
-module _ (c c′ : Chip) (q new m : ℕ) (lows : Lowered new (lowLevel (placesOf c) q) (placesOf c) (movePath c q)
-    (placesOf c′)) (t : Table)
+module _ (c c′ : Chip) (q new m : ℕ) (lows : Lowered new (lowLevel (placesOf c) q) (placesOf c) (movePath c q) (placesOf c′)) (t : Table)
     (marks : Marked c (t .levels)) (inside : new < length (t .levels)) where
   level-moved : (p : ℕ) → p < length (t .levels) → lowIn (afterMove m c q new t) p ≡ lowLevel (placesOf c′) p
   level-moved p h = by-eq p new
-      (λ z. rw z (moved-new m (c .nodes) (moveKey c q) (lowLevel (placesOf c) q) (c .level) (theRoot c) new t inside
-      ∙ sym (lows .on-new)))
+      (λ z. rw z (moved-new m (c .nodes) (moveKey c q) (lowLevel (placesOf c) q) (c .level) (theRoot c) new t inside ∙ sym (lows .on-new)))
       (λ d. go d (subst (λ x. Off (movePath c q) p x (lowIn (afterMove m c q new t) p)) (marks .lows p h)
       (moved-low m (c .nodes) (moveKey c q) (lowLevel (placesOf c) q) (c .level) (theRoot c) new t p d)))
     where
@@ -58,8 +56,7 @@ module _ (c c′ : Chip) (q new m : ℕ) (lows : Lowered new (lowLevel (placesOf
     ));
   }
 
-module _ (g : Geometry) (shape : Shape g) (n : ℕ) (few : pagesOf g n + g .pages < fourBytes) (img : List ℕ)
-    (held : Held g n img) (q : ℕ)
+module _ (g : Geometry) (shape : Shape g) (n : ℕ) (few : pagesOf g n + g .pages < fourBytes) (img : List ℕ) (held : Held g n img) (q : ℕ)
     (alive : live (placesOf (chipOf g n img)) q ≡ true) (free : 1 ≤ count (pagesOf g n) (chipOf g n img .er))
     (low : maxSeq g n img + 1 < 4294967295) where
   abbrev c : Chip
@@ -68,22 +65,17 @@ module _ (g : Geometry) (shape : Shape g) (n : ℕ) (few : pagesOf g n + g .page
   abbrev new : ℕ
   new = nextPage (g .pages) n (ahead g n c)
 
-  lows : Lowered new (lowLevel (placesOf c) q) (placesOf c) (movePath c q)
-      (placesOf (chipOf g n (applyStore g (moveStore g n q img) img)))
+  lows : Lowered new (lowLevel (placesOf c) q) (placesOf c) (movePath c q) (placesOf (chipOf g n (applyStore g (moveStore g n q img) img)))
   lows = subst (λ (d : Chip). Lowered new (lowLevel (placesOf c) q) (placesOf c) (movePath c q) (placesOf d))
-      (sym (move-chip g shape n few img held q free alive (omega arith)))
-      (low-moved g shape n c (held .whole) q alive free)
+      (sym (move-chip g shape n few img held q free alive (omega arith))) (low-moved g shape n c (held .whole) q alive free)
 
   new-in : new < pagesOf g n
   new-in = next-in (g .pages) n (ahead g n c) (some-page g (shape-core g shape)) (held .whole .r2) free
 
   pub table-moved : (t : Table) → Right g n img t
       → Right g n (applyStore g (moveStore g n q img) img)
-      (tableMoved (wordsOf g n) (nodeAt g img) (moveKey (chipOf g n img) q) (lowLevel (placesOf (chipOf g n img)) q)
-      (chipOf g n img .level)
+      (tableMoved (wordsOf g n) (nodeAt g img) (moveKey (chipOf g n img) q) (lowLevel (placesOf (chipOf g n img)) q) (chipOf g n img .level)
       (theRoot (chipOf g n img)) (nextPage (g .pages) n (ahead g n (chipOf g n img))) t)
-  table-moved t h = right-follows g n img (applyStore g (moveStore g n q img) img) t (afterMove (wordsOf g n) c q new t)
-      h
+  table-moved t h = right-follows g n img (applyStore g (moveStore g n q img) img) t (afterMove (wordsOf g n) c q new t) h
       (moved-follows (wordsOf g n) (c .nodes) (moveKey c q) (lowLevel (placesOf c) q) (c .level) (theRoot c) new t)
-      (marks-moved c (chipOf g n (applyStore g (moveStore g n q img) img)) q new (wordsOf g n) lows t (h .marked)
-      (omega (arith, new-in, h .room)))
+      (marks-moved c (chipOf g n (applyStore g (moveStore g n q img) img)) q new (wordsOf g n) lows t (h .marked) (omega (arith, new-in, h .room)))

@@ -23,8 +23,7 @@ use Rattle.tree_root.specs.Crown.{pathStore}
 -- the store of a job, with the path laid on a blank buffer
 unfoldable pub storeBy : Geometry → Job → ℕ → ℕ → Entry → List ℕ → Store
 storeBy g j low l e i =
-    pathStore g (j .page) (suc (j .seq)) l (pick (leb low (suc l)) (changed g j i l e) []) (laid g (partsOf g j i l e) l
-    (blanks longestPage))
+    pathStore g (j .page) (suc (j .seq)) l (pick (leb low (suc l)) (changed g j i l e) []) (laid g (partsOf g j i l e) l (blanks longestPage))
 
 -- the job of moving the path of a key from level low up to page m
 pub record Moves (most m low k : ℕ) (j : Job) : Type 0 where
