@@ -1,6 +1,7 @@
-// Request 13's bench cases on three blocks, of the small chip and of the large one. Each import gives a line: answer, records stored or the
-// line that is refused, pages programmed, blocks erased, rule and page. Each export gives answer, records, bytes of the text, bytes written, rule
-// and page, then the 64 bytes of the buffer, each a full stop before; as many of them are lent as the case says.
+// Request 13's bench cases on three blocks, of the small chip and of the large one. Each import gives a line: answer,
+// records stored or the line that is refused, pages programmed, blocks erased, rule and page. Each export gives answer,
+// records, bytes of the text, bytes written, rule and page, then the 64 bytes of the buffer, each a full stop before;
+// as many of them are lent as the case says.
 ghost use mathlib.Core.Path.{_≡_};
 ghost use Prim.Native.Nat.{_*_, _≤_};
 ghost use lib.ListN.{length};

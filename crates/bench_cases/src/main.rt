@@ -1,9 +1,9 @@
-// Document 01's bench cases on three blocks, of the small chip and of the large one: bad lengths and bytes of 255 through all
-// calls, format and as many keys as a root of level 1 stores, one key more with an allowance of 1 and in full, the next
-// key, a key inserted and deleted, and patrols of a half with no, one and two flipped bits. Each call gives a line: answer,
-// address (of a patrol what it found), programmed (of a patrol the bit), erased. A page gives a line for each level that it
-// counts: page, sequence number, height, level, entries, then key and address, of a leaf's first and last entry and of each
-// entry above.
+// Document 01's bench cases on three blocks, of the small chip and of the large one: bad lengths and bytes of 255
+// through all calls, format and as many keys as a root of level 1 stores, one key more with an allowance of 1 and in
+// full, the next key, a key inserted and deleted, and patrols of a half with no, one and two flipped bits. Each call
+// gives a line: answer, address (of a patrol what it found), programmed (of a patrol the bit), erased. A page gives a
+// line for each level that it counts: page, sequence number, height, level, entries, then key and address, of a leaf's
+// first and last entry and of each entry above.
 ghost use Prim.Native.Nat.{_<_, _≤_};
 use call_answers::Answer;
 use geometry::Entry;

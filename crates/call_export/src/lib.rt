@@ -75,9 +75,12 @@ fn write_under(
     level: u32,
     entry: Entry,
 ) -> Written
-    requires { ⌜ (w .at ≤ 22 * w .records) × (w .records + length (under (nodeAt g (now img)) level entry) < fourBytes) ⌝ }
-    ensures count { λ r. ⌜ (r ≡ after w (under (nodeAt g (now (img .entry))) level entry)) × (r .at ≤ 22 * r .records) ⌝ }
-    ensures bytes { λ _. ⌜ now (text .exit) ≡ sets (now (text .entry)) (w .at) (textOf (under (nodeAt g (now (img .entry))) level entry)) ⌝ }
+    requires { ⌜ (w .at ≤ 22 * w .records) × (w .records + length (under (nodeAt g (now img)) level
+        entry) < fourBytes) ⌝ }
+    ensures count { λ r. ⌜ (r ≡ after w (under (nodeAt g (now (img .entry))) level entry)) ×
+        (r .at ≤ 22 * r .records) ⌝ }
+    ensures bytes { λ _. ⌜ now (text .exit) ≡ sets (now (text .entry)) (w .at)
+        (textOf (under (nodeAt g (now (img .entry))) level entry)) ⌝ }
 {
     if level == 0 {
         return write_record(&mut *text, w, entry);
@@ -110,7 +113,8 @@ fn done(records: u32, size: u32, written: u32) -> Row
 // The text of a tree, from its root: all of it, or none if the lent text is too short.
 fn write_tree(g: Geometry, img: &[u8], text: &mut [u8], level: u32, root: u32) -> Row
     requires { ⌜ (level < 255) × (length (mapOf (chipWith g (now img) level root)) < fourBytes) ⌝ }
-    ensures { λ r. ⌜ toldBy r (now (text .exit)) ≡ exports (mapOf (chipWith g (now (img .entry)) level root)) (now (text .entry)) ⌝ }
+    ensures { λ r. ⌜ toldBy r (now (text .exit)) ≡ exports (mapOf (chipWith g (now (img .entry)) level root))
+        (now (text .entry)) ⌝ }
 {
     let top = Entry { key: 0, addr: root };
     let mut nothing: [u8; 1] = [0; 1];

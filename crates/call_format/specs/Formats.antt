@@ -31,11 +31,13 @@ pub erased-none : (g : Geometry) (img : List ℕ) → img ≡ applyAll g (erasur
 unfolding erasures applyAll
 erased-none g img = refl
 
-pub erased-more : (g : Geometry) (img d o : List ℕ) (b : ℕ) → d ≡ applyAll g (erasures b) img → o ≡ applyStore g (erase b) d → o ≡ applyAll g (erasures (b + 1)) img
+pub erased-more : (g : Geometry) (img d o : List ℕ) (b : ℕ) → d ≡ applyAll g (erasures b) img → o ≡ applyStore g
+    (erase b) d → o ≡ applyAll g (erasures (b + 1)) img
 unfolding erasures applyAll
 erased-more g img d o b e f = f ∙ rw (e, add-one) (sym (all-append g (erasures b) (erase b ∷ []) img))
 
-pub erased-done : (g : Geometry) (img d : List ℕ) (b n : ℕ) → d ≡ applyAll g (erasures b) img → b ≤ n → n ≤ b → d ≡ applyAll g (erasures n) img
+pub erased-done : (g : Geometry) (img d : List ℕ) (b n : ℕ) → d ≡ applyAll g (erasures b) img → b ≤ n → n ≤ b
+    → d ≡ applyAll g (erasures n) img
 erased-done g img d b n e h k = let q : b ≡ n = omega arith in rw (← q) e
 
 length-store : (g : Geometry) (s : Store) (img : List ℕ) → length (applyStore g s img) ≡ length img
@@ -52,25 +54,31 @@ pub erased-same : (g : Geometry) (img d : List ℕ) (b : ℕ) → d ≡ applyAll
 erased-same g img d b e = rw e (length-all g (erasures b) img)
 
 -- ---- the page
-pub empty-is : (g : Geometry) (b c : List ℕ) → c ≡ sealed g (bare g 0 (g .top - 0) b) 1 1 → b ≡ blanks longestPage → pageBytes g ≤ longestPage
+pub empty-is : (g : Geometry) (b c : List ℕ) → c ≡ sealed g (bare g 0 (g .top - 0) b) 1 1 → b ≡ blanks longestPage
+    → pageBytes g ≤ longestPage
     → take (pageBytes g) c ≡ built g 1 1 (λ j. [])
-empty-is g b c e f h = page-is g (λ j. []) 0 1 1 b c (e ∙ ap (λ x. sealed g (bare g 0 (g .top - 0) x) 1 1) (laid-none g (λ j. []) b)) f h (λ j i. refl)
+empty-is g b c e f h = page-is g (λ j. []) 0 1 1 b c (e
+    ∙ ap (λ x. sealed g (bare g 0 (g .top - 0) x) 1 1) (laid-none g (λ j. []) b)) f h (λ j i. refl)
 
 -- ---- the whole
-short : (g : Geometry) (img : List ℕ) (t : Bool) → goodLength g img ≡ t → pick t (blocksOf g img) 0 ≡ 0 → goodLength g img ≡ false
+short : (g : Geometry) (img : List ℕ) (t : Bool) → goodLength g img ≡ t → pick t (blocksOf g img) 0 ≡ 0
+    → goodLength g img ≡ false
 unfolding goodLength
 short g img true e h = absurd (omega (arith, h, leb-true 3 (blocksOf g img) (and-right _ _ (and-left _ _ e))))
 short g img false e h = e
 
-long : (g : Geometry) (img : List ℕ) (t : Bool) → goodLength g img ≡ t → (pick t (blocksOf g img) 0 ≡ 0 → ⊥) → goodLength g img ≡ true
+long : (g : Geometry) (img : List ℕ) (t : Bool) → goodLength g img ≡ t → (pick t (blocksOf g img) 0 ≡ 0 → ⊥)
+    → goodLength g img ≡ true
 long g img true e h = e
 long g img false e h = absurd (h refl)
 
-pub format-length : (g : Geometry) (img : List ℕ) (n : ℕ) → n ≡ goodBlocks g img → n ≡ 0 → told Length img ≡ format g img
+pub format-length : (g : Geometry) (img : List ℕ) (n : ℕ) → n ≡ goodBlocks g img → n ≡ 0
+    → told Length img ≡ format g img
 unfolding goodBlocks format
 format-length g img n e z = rw (short g img (goodLength g img) refl (sym e ∙ z)) refl
 
-pub format-done : (g : Geometry) (img d o bs : List ℕ) (n : ℕ) → o ≡ applyStore g (program 0 bs) d → d ≡ applyAll g (erasures n) img → take (pageBytes g) bs ≡ built g 1 1 (λ j. [])
+pub format-done : (g : Geometry) (img d o bs : List ℕ) (n : ℕ) → o ≡ applyStore g (program 0 bs) d
+    → d ≡ applyAll g (erasures n) img → take (pageBytes g) bs ≡ built g 1 1 (λ j. [])
     → n ≡ goodBlocks g img → (n ≡ 0 → ⊥) → told (Done 0 1 n) o ≡ format g img
 unfolding goodBlocks format formatStores applyAll
 format-done g img d o bs n e f b c z =

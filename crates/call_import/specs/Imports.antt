@@ -28,9 +28,11 @@ one-record n h = rw (eq-eqb n 0 h) refl
 pub no-record : (n : ℕ) → (n ≡ 0 → ⊥) → 0 ≡ bit (eqb n 0)
 no-record n h = rw (ne-eqb n 0 h) refl
 
-pub row-counted : (s w : Row) (x a p e : ℕ) → x ≡ bit (eqb (w .answer) 0) → a ≡ word (s .address + x) → p ≡ word (s .programmed + w .programmed)
+pub row-counted : (s w : Row) (x a p e : ℕ) → x ≡ bit (eqb (w .answer) 0) → a ≡ word (s .address + x)
+    → p ≡ word (s .programmed + w .programmed)
     → e ≡ word (s .erased + w .erased)
-    → record { answer = w .answer; address = a; programmed = p; erased = e; rule = w .rule; page = w .page } ≡ countedRow s w
+    → record { answer = w .answer; address = a; programmed = p; erased = e; rule = w .rule; page = w .page }
+    ≡ countedRow s w
 row-counted s w x a p e ex ea ep ee = λ i. record {
   answer = w .answer;
   address = (ea ∙ ap (λ (m : ℕ). word (s .address + m)) ex) i;
@@ -45,13 +47,15 @@ module _ (g : Geometry) (img : List ℕ) (s : Row) (e : Entry) where
   unfolding storeOne
   store-refused h = rw (ne-eqb (s .answer) 0 h) refl
 
-  pub store-done : (out lent left : List ℕ) (a : Answer) (w r : Row) → s .answer ≡ 0 → reply (told a out) left ≡ insertLive g img lent (e .key) (e .addr) 4294967295 → Known g
+  pub store-done : (out lent left : List ℕ) (a : Answer) (w r : Row) → s .answer ≡ 0
+      → reply (told a out) left ≡ insertLive g img lent (e .key) (e .addr) 4294967295 → Known g
       → 2048 ≤ length lent → w ≡ rowOf a → r ≡ countedRow s w → toldBy r out ≡ storeOne g (toldBy s img) e
   unfolding storeOne counted
   store-done out lent left a w r z h known room ew er =
       let o : told a out ≡ insert g img (e .key) (e .addr) 4294967295 =
       ap (λ (x : Reply). x .outcome) h ∙ insert-outcome g known img lent room (e .key) (e .addr) 4294967295 in
-      ap (λ (x : Row). toldBy x out) (er ∙ ap (countedRow s) ew) ∙ ap (counted (toldBy s img)) o ∙ rw (eq-eqb (s .answer) 0 z) refl
+      ap (λ (x : Row). toldBy x out) (er ∙ ap (countedRow s) ew) ∙ ap (counted (toldBy s img)) o
+      ∙ rw (eq-eqb (s .answer) 0 z) refl
 
 module _ (g : Geometry) (img : List ℕ) (t : Spot) (end : ℕ) where
   pub begun-bad : (r : Row) → (t .bad ≡ 0 → ⊥) → r ≡ plain 9 (t .bad) 0 0 → toldBy r img ≡ begun g img t end
@@ -62,9 +66,11 @@ module _ (g : Geometry) (img : List ℕ) (t : Spot) (end : ℕ) where
   unfolding begun
   begun-more r h k e = ap (λ (x : Row). toldBy x img) e ∙ rw (eq-eqb (t .bad) 0 h, lt-ltb (t .at) end k) refl
 
-  pub begun-format : (out : List ℕ) (a : Answer) (r : Row) → t .bad ≡ 0 → end ≤ t .at → told a out ≡ format g img → r ≡ rowOf a → toldBy r out ≡ begun g img t end
+  pub begun-format : (out : List ℕ) (a : Answer) (r : Row) → t .bad ≡ 0 → end ≤ t .at → told a out ≡ format g img
+      → r ≡ rowOf a → toldBy r out ≡ begun g img t end
   unfolding begun
-  begun-format out a r h k f e = ap (λ (x : Row). toldBy x out) e ∙ f ∙ rw (eq-eqb (t .bad) 0 h, le-ltb (t .at) end k) refl
+  begun-format out a r h k f e = ap (λ (x : Row). toldBy x out) e ∙ f
+      ∙ rw (eq-eqb (t .bad) 0 h, le-ltb (t .at) end k) refl
 
 -- ---- LENGTH first
 module _ (g : Geometry) (img text : List ℕ) (n : ℕ) (en : n ≡ goodBlocks g img) where

@@ -18,7 +18,8 @@ use Rattle.text_reader.specs.Turns.{readAs, read-turns, count-most, pairs-lengt
 use Rattle.call_import.specs.Importer.{begun}
 
 -- the inserts after what the reader says
-begun-stored : (g : Geometry) (img text : List ℕ) (t : Spot) (es : List Entry) → storeAll g (begun g img t (length text)) es ≡ importRead g img (readAs text t es)
+begun-stored : (g : Geometry) (img text : List ℕ) (t : Spot) (es : List Entry)
+    → storeAll g (begun g img t (length text)) es ≡ importRead g img (readAs text t es)
 unfolding begun readAs importRead
 begun-stored g img text t es = go (eqb (t .bad) 0) (ltb (t .at) (length text))
   where
@@ -29,7 +30,8 @@ begun-stored g img text t es = go (eqb (t .bad) 0) (ltb (t .at) (length text))
     go true false = refl
     go false y = refused-stays g (gives 9 (t .bad) 0 0 img) es (λ z. omega (arith, z))
 
-module _ (g : Geometry) (img text : List ℕ) (all : ℕ) (is-all : all ≡ mostRecords) (ys zs : List Entry) (t : Spot) (n : ℕ) (long : length ys ≡ all)
+module _ (g : Geometry) (img text : List ℕ) (all : ℕ) (is-all : all ≡ mostRecords) (ys zs : List Entry)
+    (t : Spot) (n : ℕ) (long : length ys ≡ all)
     (reads : (t, zs) ≡ filled text all start ys) (en : n ≡ min (t .count) all) where
   t-is : t ≡ spotAfter text all start
   t-is = λ i. reads i .0
@@ -40,7 +42,8 @@ module _ (g : Geometry) (img text : List ℕ) (all : ℕ) (is-all : all ≡ most
   n-is : n ≡ t .count
   n-is = let h = count-most text all start in let q = ap (λ (x : Spot). x .count) t-is in omega (arith, en, h, q)
 
-  pub import-is : (s o : Outcome) → s ≡ begun g img t (length text) → o ≡ storeAll g s (take n zs) → o ≡ importRead g img (readText text)
+  pub import-is : (s o : Outcome) → s ≡ begun g img t (length text) → o ≡ storeAll g s (take n zs)
+      → o ≡ importRead g img (readText text)
   import-is s o b e =
       e ∙ ap (λ (x : Outcome). storeAll g x (take n zs)) b ∙ begun-stored g img text t (take n zs)
       ∙ ap (importRead g img) ((λ i. readAs text (t-is i) (take ((n-is ∙ ap (λ (x : Spot). x .count) t-is) i) (zs-is i))) ∙ sym (read-turns text all is-all))

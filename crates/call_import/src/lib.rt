@@ -1,4 +1,5 @@
-// Import of request 13: LENGTH first, then the text to its end, then format and an insert for each pair of a lent slice.
+// Import of request 13: LENGTH first, then the text to its end, then format and an insert for each pair of a lent
+// slice.
 ghost use mathlib.Core.Path.{_≡_};
 ghost use Prim.Native.Nat.{_+_, _≤_, min};
 ghost use lib.Dec.{eqb};
@@ -63,7 +64,8 @@ pub fn store_one(g: Geometry, img: &mut [u8], s: Row, e: Entry) -> Row
 // The first n pairs of the slice, one after the other. By hand, over `store_one`.
 pub fn store_pairs(g: Geometry, img: &mut [u8], pairs: &[Entry], n: usize, s: Row) -> Row
     requires { ⌜ (n ≤ length (now pairs)) × Known g ⌝ }
-    ensures { λ r. ⌜ toldBy r (now (img .exit)) ≡ storeAll g (toldBy s (now (img .entry))) (take n (now (pairs .entry))) ⌝ }
+    ensures { λ r. ⌜ toldBy r (now (img .exit)) ≡ storeAll g (toldBy s (now (img .entry)))
+        (take n (now (pairs .entry))) ⌝ }
 {
     let mut i: usize = 0;
     let mut t = s;

@@ -18,8 +18,10 @@ use Rattle.sound_verdict.specs.declared.Judgement.{Judgement}
 use Rattle.sound_verdict.specs.Verdict.{Judged}
 
 -- an image of n blocks, in a call of any kind
-module _ {A : Type 0} (g : Geometry) (n : ℕ) (img : List ℕ) (broken : ℕ → ℕ → A) (rest : A) (j : Judgement) (t u : List ℕ) (x : Judged g n img j t u) where
-  pub judged-broken : (o : A) (r p : ℕ) → j .verdict ≡ Broken r p → o ≡ broken r p → o ≡ byVerdict (verdict g n img) broken rest
+module _ {A : Type 0} (g : Geometry) (n : ℕ) (img : List ℕ)
+    (broken : ℕ → ℕ → A) (rest : A) (j : Judgement) (t u : List ℕ) (x : Judged g n img j t u) where
+  pub judged-broken : (o : A) (r p : ℕ) → j .verdict ≡ Broken r p → o ≡ broken r p
+      → o ≡ byVerdict (verdict g n img) broken rest
   unfolding byVerdict
   judged-broken o r p e h = h ∙ sym (simp (← (x .verdict), e))
 
@@ -28,17 +30,22 @@ module _ {A : Type 0} (g : Geometry) (n : ℕ) (img : List ℕ) (broken : ℕ �
   judged-rest o h e = h ∙ sym (simp (← (x .verdict), e))
 
 -- a sound image's judgement leaves the table of its live pages, which has a place for each page
-pub judged-marked : (g : Geometry) (n : ℕ) (img : List ℕ) (j : Judgement) (t u : List ℕ) → Judged g n img j t u → j .verdict ≡ Sound → Marked (chipOf g n img) u
+pub judged-marked : (g : Geometry) (n : ℕ) (img : List ℕ) (j : Judgement) (t u : List ℕ) → Judged g n img j t u
+    → j .verdict ≡ Sound → Marked (chipOf g n img) u
 judged-marked g n img j t u x e = x .table .marked e
 
-pub judged-room : (g : Geometry) (n : ℕ) (img : List ℕ) (j : Judgement) (t u : List ℕ) → Judged g n img j t u → g .pages ≤ 64 → n ≤ 1024 → 65536 ≤ length t → g .pages * n ≤ length u
-judged-room g n img j t u x p b h = let y = mul-le-mul-left (g .pages) b in let z = mul-le-mul-right 1024 p in omega (arith, y, z, h, x .same)
+pub judged-room : (g : Geometry) (n : ℕ) (img : List ℕ) (j : Judgement) (t u : List ℕ) → Judged g n img j t u
+    → g .pages ≤ 64 → n ≤ 1024 → 65536 ≤ length t → g .pages * n ≤ length u
+judged-room g n img j t u x p b h = let y = mul-le-mul-left (g .pages) b in let z = mul-le-mul-right 1024 p in
+    omega (arith, y, z, h, x .same)
 
-module _ {A : Type 0} (g : Geometry) (img : List ℕ) (short : A) (broken : ℕ → ℕ → A) (rest : A) (n : ℕ) (en : n ≡ goodBlocks g img) where
+module _ {A : Type 0} (g : Geometry) (img : List ℕ) (short : A) (broken : ℕ → ℕ → A) (rest : A) (n : ℕ) (en : n
+    ≡ goodBlocks g img) where
   pub judged-length : n ≡ 0 → short ≡ judged g img short broken rest
   unfolding judged
   judged-length z = sym (simp (none-good g img n en z))
 
-  pub judged-blocks : (o : A) → (n ≡ 0 → ⊥) → o ≡ byVerdict (verdict g n img) broken rest → o ≡ judged g img short broken rest
+  pub judged-blocks : (o : A) → (n ≡ 0 → ⊥) → o ≡ byVerdict (verdict g n img) broken rest
+      → o ≡ judged g img short broken rest
   unfolding judged
   judged-blocks o h e = e ∙ sym (simp (some-good g img n en h, ← (some-blocks g img n en h)))

@@ -14,7 +14,8 @@ use Rattle.model.specs.Listing.{asNumbers, writtenOf, filled}
 use Rattle.call_list.specs.Listing.{putPair, putPairs}
 
 -- one pair
-pub put-in : (b : List ℕ) (i : ℕ) (e : Entry) → 2 * i + 1 < length b → set (set b (2 * i) (e .key)) (2 * i + 1) (e .addr) ≡ putPair b i e
+pub put-in : (b : List ℕ) (i : ℕ) (e : Entry) → 2 * i + 1 < length b → set (set b (2 * i) (e .key))
+    (2 * i + 1) (e .addr) ≡ putPair b i e
 unfolding putPair
 put-in b i e h = sym (rw (lt-ltb _ _ h) refl)
 
@@ -36,7 +37,8 @@ unfolding putPairs
 length-pairs b i [] = refl
 length-pairs b i (e ∷ es) = length-pairs (putPair b i e) (i + 1) es ∙ length-pair b i e
 
-pub put-append : (b : List ℕ) (i : ℕ) (xs ys : List Entry) → putPairs b i (xs ++ ys) ≡ putPairs (putPairs b i xs) (i + length xs) ys
+pub put-append : (b : List ℕ) (i : ℕ) (xs ys : List Entry) → putPairs b i (xs ++ ys) ≡ putPairs (putPairs b i xs)
+    (i + length xs) ys
 unfolding putPairs
 put-append b i [] ys = let q : i + 0 ≡ i = omega arith in rw q refl
 put-append b i (x ∷ xs) ys =
@@ -50,7 +52,8 @@ put-past b i [] h = refl
 put-past b i (e ∷ es) h = rw (← (put-out b i e h)) (put-past b (i + 1) es (omega arith))
 
 -- a buffer with room for a pair, and one without
-filled-more : (e : Entry) (es : List Entry) (x y : ℕ) (b : List ℕ) → filled (e ∷ es) (x ∷ y ∷ b) ≡ e .key ∷ e .addr ∷ filled es b
+filled-more : (e : Entry) (es : List Entry) (x y : ℕ) (b : List ℕ) → filled (e ∷ es) (x ∷ y ∷ b)
+    ≡ e .key ∷ e .addr ∷ filled es b
 unfolding filled asNumbers
 filled-more e es x y b =
     let q : writtenOf (e ∷ es) (x ∷ y ∷ b) ≡ suc (writtenOf es b) = omega arith in
@@ -61,12 +64,15 @@ filled-none : (es : List Entry) (b : List ℕ) → writtenOf es b ≡ 0 → fill
 unfolding filled asNumbers
 filled-none es b h = rw h refl
 
-put-filled : (pre : List ℕ) (i : ℕ) → length pre ≡ 2 * i → (es : List Entry) (b : List ℕ) → putPairs (pre ++ b) i es ≡ pre ++ filled es b
+put-filled : (pre : List ℕ) (i : ℕ) → length pre ≡ 2 * i → (es : List Entry) (b : List ℕ)
+    → putPairs (pre ++ b) i es ≡ pre ++ filled es b
 unfolding putPairs
 put-filled pre i len [] b = rw (filled-none [] b (omega arith)) refl
-put-filled pre i len (e ∷ es) [] = put-past (pre ++ []) i (e ∷ es) (let w = length-append pre [] in omega (arith, w, len))
+put-filled pre i len (e ∷ es) [] = put-past (pre ++ []) i (e ∷ es) (let w = length-append pre [] in
+    omega (arith, w, len))
     ∙ ap (λ m. pre ++ m) (sym (filled-none (e ∷ es) [] (omega arith)))
-put-filled pre i len (e ∷ es) (x ∷ []) = put-past (pre ++ (x ∷ [])) i (e ∷ es) (let w = length-append pre (x ∷ []) in omega (arith, w, len))
+put-filled pre i len (e ∷ es) (x ∷ []) = put-past (pre ++ (x ∷ [])) i (e ∷ es) (let w = length-append pre (x ∷ []) in
+    omega (arith, w, len))
     ∙ ap (λ m. pre ++ m) (sym (filled-none (e ∷ es) (x ∷ []) (omega arith)))
 put-filled pre i len (e ∷ es) (x ∷ y ∷ b) =
     let k = e .key in
@@ -74,7 +80,8 @@ put-filled pre i len (e ∷ es) (x ∷ y ∷ b) =
     let w = length-append pre (x ∷ y ∷ b) in
     let one : putPair (pre ++ (x ∷ y ∷ b)) i e ≡ (pre ++ (k ∷ a ∷ [])) ++ b =
     sym (put-in (pre ++ (x ∷ y ∷ b)) i e (omega (arith, w, len)))
-    ∙ ap (λ (m : List ℕ). set m (2 * i + 1) a) (set-at pre x (y ∷ b) k (2 * i) len ∙ sym (append-assoc pre (k ∷ []) (y ∷ b)))
+    ∙ ap (λ (m : List ℕ). set m (2 * i + 1) a) (set-at pre x (y ∷ b) k (2 * i) len
+    ∙ sym (append-assoc pre (k ∷ []) (y ∷ b)))
     ∙ set-at (pre ++ (k ∷ [])) y b a (2 * i + 1) (length-append pre (k ∷ []) ∙ (omega (arith, len)))
     ∙ append-assoc pre (k ∷ []) (a ∷ b) ∙ sym (append-assoc pre (k ∷ a ∷ []) b) in
     ap (λ (m : List ℕ). putPairs m (i + 1) es) one

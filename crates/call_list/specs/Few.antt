@@ -36,7 +36,8 @@ none-above room t e (suc j) l q =
 
 none-few : (g : Geometry) (t : ℕ) → 2 * half g (suc t) ≡ 0 → (j l : ℕ) → l ≡ j + suc t → mostOf g l ≤ pairsMost
 none-few g t e j l q =
-    let z = ap (λ (x : ℕ). rootMost g (suc l) * x) (none-above (λ i. 2 * half g i) t e j l q) ∙ mul-zero (rootMost g (suc l)) in
+    let z = ap (λ (x : ℕ). rootMost g (suc l) * x) (none-above (λ i. 2 * half g i) t e j l q)
+    ∙ mul-zero (rootMost g (suc l)) in
     omega (arith, z)
 
 small-few : (l : ℕ) → mostOf small l ≤ pairsMost
@@ -71,19 +72,23 @@ sound-r5 : (g : Geometry) (n : ℕ) (img : List ℕ) → verdict g n img ≡ Sou
 unfolding verdict
 sound-r5 g n img e = or-sound _ _ _ (or-sound _ _ _ (or-sound _ _ _ (or-sound _ _ _ (or-sound _ _ _ e .1) .1) .1) .1) .0
 
-most-map : (g : Geometry) (n : ℕ) (img : List ℕ) → Known g → verdict g n img ≡ Sound → length (mapOf (chipOf g n img)) ≤ pairsMost
+most-map : (g : Geometry) (n : ℕ) (img : List ℕ) → Known g → verdict g n img ≡ Sound
+    → length (mapOf (chipOf g n img)) ≤ pairsMost
 most-map g n img known e =
     let c = chipOf g n img in
     let t = pagesOf g n in
     let rules = sound-r5 g n img e in
     let up = r5-rises g (shape-core g (shape g known)) t c rules in
-    let b = root-most (fitOf t (c .er)) (λ j. 2 * half g j) (c .nodes) (c .level) fourBytes (rootMost g (suc (c .level))) (c .root) up (r5-most g (shape-core g (shape g known)) t c rules) in
+    let b = root-most (fitOf t (c .er)) (λ j. 2 * half g j) (c .nodes) (c .level) fourBytes
+    (rootMost g (suc (c .level))) (c .root) up (r5-most g (shape-core g (shape g known)) t c rules) in
     omega (arith, b, known-few g known (c .level))
 
-pub few-map : (g : Geometry) (n : ℕ) (img : List ℕ) → Known g → verdict g n img ≡ Sound → length (mapOf (chipOf g n img)) < fourBytes
+pub few-map : (g : Geometry) (n : ℕ) (img : List ℕ) → Known g → verdict g n img ≡ Sound
+    → length (mapOf (chipOf g n img)) < fourBytes
 few-map g n img known e = omega (arith, most-map g n img known e)
 
-pub most-pairs : (g : Geometry) (n : ℕ) (img : List ℕ) (low high : ℕ) → Known g → verdict g n img ≡ Sound → length (rangedOf (chipOf g n img) low high) ≤ pairsMost
+pub most-pairs : (g : Geometry) (n : ℕ) (img : List ℕ) (low high : ℕ) → Known g → verdict g n img ≡ Sound
+    → length (rangedOf (chipOf g n img) low high) ≤ pairsMost
 most-pairs g n img low high known e =
     let c = chipOf g n img in
     let t = pagesOf g n in
@@ -93,5 +98,6 @@ most-pairs g n img low high known e =
     let b = most-map g n img known e in
     omega (arith, is, a, b)
 
-pub few-pairs : (g : Geometry) (n : ℕ) (img : List ℕ) (low high : ℕ) → Known g → verdict g n img ≡ Sound → length (rangedOf (chipOf g n img) low high) < fourBytes
+pub few-pairs : (g : Geometry) (n : ℕ) (img : List ℕ) (low high : ℕ) → Known g → verdict g n img ≡ Sound
+    → length (rangedOf (chipOf g n img) low high) < fourBytes
 few-pairs g n img low high known e = omega (arith, most-pairs g n img low high known e)

@@ -41,10 +41,14 @@ pub record Lists (g : Geometry) (img : List ℕ) (low high l : ℕ) (e : Entry) 
   pub count : r ≡ x + length (within x (ranged (nodeAt g img) low high l e))
   pub buffer : d ≡ putPairs b x (within x (ranged (nodeAt g img) low high l e))
 
--- the loop over a node's n entries from byte `at`: x pairs and the buffer b at entry s, c pairs and the buffer d at entry i
-pub record Goes (g : Geometry) (img : List ℕ) (low high l at n s x : ℕ) (b : List ℕ) (i c : ℕ) (d : List ℕ) : Type 0 where
-  pub count : x + length (within x (rest g img low high l at n s)) ≡ c + length (within c (rest g img low high l at n i))
-  pub buffer : putPairs b x (within x (rest g img low high l at n s)) ≡ putPairs d c (within c (rest g img low high l at n i))
+-- the loop over a node's n entries from byte `at`: x pairs and the buffer b at entry s, c pairs and the buffer d at
+-- entry i
+pub record Goes (g : Geometry) (img : List ℕ) (low high l at n s x : ℕ) (b : List ℕ) (i c : ℕ) (d : List ℕ) : Type 0
+  where
+    pub count : x + length (within x (rest g img low high l at n s)) ≡ c + length (within c
+        (rest g img low high l at n i))
+    pub buffer : putPairs b x (within x (rest g img low high l at n s)) ≡ putPairs d c
+        (within c (rest g img low high l at n i))
 
 -- a listing on an image of n blocks
 unfoldable pub listedIn : Geometry → ℕ → List ℕ → ℕ → ℕ → List ℕ → Listed

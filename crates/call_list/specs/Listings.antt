@@ -59,7 +59,8 @@ ranged-pair : (r : Nodes) (low high l : ℕ) (e : Entry) → l ≡ 0 → notBelo
 unfolding notBelow ranged
 ranged-pair r low high l e z = rw z refl
 
-ranged-node : (r : Nodes) (low high l : ℕ) (e : Entry) → (l ≡ 0 → ⊥) → ranged r low high l e ≡ gather (ranged r low high (l - 1)) (reached low high (r (e .addr) l))
+ranged-node : (r : Nodes) (low high l : ℕ) (e : Entry) → (l ≡ 0 → ⊥) → ranged r low high l e ≡ gather (ranged r low high
+    (l - 1)) (reached low high (r (e .addr) l))
 unfolding ranged
 ranged-node r low high zero e h = absurd (h refl)
 ranged-node r low high (suc l) e h = rw sub-one refl
@@ -74,11 +75,13 @@ entries-from img at zero (suc i) h = absurd (omega arith)
 entries-from img at (suc n) (suc i) h =
     let e : at + 8 + 8 * i ≡ at + 8 * suc i = omega arith in
     let f : suc n - suc i ≡ n - i = omega arith in
-    ap (drop (suc i)) (entries-step img at (suc n) (omega arith)) ∙ rw (sub-one, ← e, f) (entries-from img (at + 8) n i (omega arith))
+    ap (drop (suc i)) (entries-step img at (suc n) (omega arith))
+    ∙ rw (sub-one, ← e, f) (entries-from img (at + 8) n i (omega arith))
 
 module _ (g : Geometry) (img : List ℕ) (low high l at n : ℕ) where
   -- the walk starts at the entry that descent with the low key takes
-  rest-start : (e : Entry) (i : ℕ) → at ≡ nodePlace g (e .addr) l → n ≡ nodeCount g img (e .addr) l → i ≡ place low (entriesAt img at n) → i ≤ n - 1
+  rest-start : (e : Entry) (i : ℕ) → at ≡ nodePlace g (e .addr) l → n ≡ nodeCount g img (e .addr) l
+      → i ≡ place low (entriesAt img at n) → i ≤ n - 1
       → (l ≡ 0 → ⊥) → ranged (nodeAt g img) low high l e ≡ rest g img low high l at n i
   unfolding rest
   rest-start e i ea en ei h some =
@@ -92,7 +95,8 @@ module _ (g : Geometry) (img : List ℕ) (low high l at n : ℕ) where
   rest-turn i b eb h k = rw (entries-turn img at n i h, ← eb, le-leb (b .key) high k) refl
 
   -- and ends at one whose key is, or after the last
-  rest-above : (i : ℕ) (b : Entry) → b ≡ entryAt img (at + 8 * i) → i < n → high < b .key → rest g img low high l at n i ≡ []
+  rest-above : (i : ℕ) (b : Entry) → b ≡ entryAt img (at + 8 * i) → i < n → high < b .key → rest g img low high l at n i
+      ≡ []
   unfolding rest upTo gather
   rest-above i b eb h k = rw (entries-turn img at n i h, ← eb, lt-leb (b .key) high k) refl
 
@@ -137,14 +141,16 @@ module _ (g : Geometry) (img : List ℕ) (low high l : ℕ) (e : Entry) (x : ℕ
       let z = within-full x (ranged (nodeAt g img) low high l e) h in
       record { count = rw z (omega arith); buffer = rw z refl }
 
-  pub lists-pair : (r : ℕ) (d : List ℕ) → r ≡ x + length (notBelow low e) → d ≡ putPairs b x (notBelow low e) → l ≡ 0 → x < pairsMost
+  pub lists-pair : (r : ℕ) (d : List ℕ) → r ≡ x + length (notBelow low e) → d ≡ putPairs b x (notBelow low e) → l ≡ 0
+      → x < pairsMost
       → Lists g img low high l e x r b d
   lists-pair r d er ed z h =
       let w : within x (ranged (nodeAt g img) low high l e) ≡ notBelow low e =
       ap (within x) (sym (ranged-pair (nodeAt g img) low high l e z)) ∙ within-pair x low e h in
       record { count = rw w er; buffer = rw w ed }
 
-  module _ (at n s : ℕ) (ea : at ≡ nodePlace g (e .addr) l) (en : n ≡ nodeCount g img (e .addr) l) (es : s ≡ place low (entriesAt img at n)) (h : s ≤ n - 1)
+  module _ (at n s : ℕ) (ea : at ≡ nodePlace g (e .addr) l) (en : n ≡ nodeCount g img (e .addr) l)
+      (es : s ≡ place low (entriesAt img at n)) (h : s ≤ n - 1)
       (some : l ≡ 0 → ⊥) where
     -- nothing is left at entry i
     module _ (i c : ℕ) (d : List ℕ) (inv : Goes g img low high l at n s x b i c d) where
@@ -161,14 +167,16 @@ module _ (g : Geometry) (img : List ℕ) (low high l : ℕ) (e : Entry) (x : ℕ
       pub lists-past : n ≤ i → Lists g img low high l e x c b d
       lists-past p = lists-end (rest-past g img low high l at n i p)
 
-      pub lists-above : (f : Entry) → f ≡ entryAt img (at + 8 * i) → i < n → high < f .key → Lists g img low high l e x c b d
+      pub lists-above : (f : Entry) → f ≡ entryAt img (at + 8 * i) → i < n → high < f .key
+          → Lists g img low high l e x c b d
       lists-above f ef p q = lists-end (rest-above g img low high l at n i f ef p q)
 
 module _ (g : Geometry) (img : List ℕ) (low high l at n s x : ℕ) (b : List ℕ) where
   pub goes-start : Goes g img low high l at n s x b s x b
   goes-start = record { count = refl; buffer = refl }
 
-  pub goes-turn : (i c c′ : ℕ) (d d′ : List ℕ) (f : Entry) → Goes g img low high l at n s x b i c d → f ≡ entryAt img (at + 8 * i) → i < n → f .key ≤ high
+  pub goes-turn : (i c c′ : ℕ) (d d′ : List ℕ) (f : Entry) → Goes g img low high l at n s x b i c d → f ≡ entryAt img
+      (at + 8 * i) → i < n → f .key ≤ high
       → Lists g img low high (l - 1) f c c′ d d′ → Goes g img low high l at n s x b (i + 1) c′ d′
   goes-turn i c c′ d d′ f inv ef h k y =
       let front = ranged (nodeAt g img) low high (l - 1) f in
@@ -176,18 +184,22 @@ module _ (g : Geometry) (img : List ℕ) (low high l at n s x : ℕ) (b : List �
       let both : within c (rest g img low high l at n i) ≡ within c front ++ within c′ back =
       ap (within c) (rest-turn g img low high l at n i f ef h k) ∙ within-both c c′ front back (y .count) in
       record {
-        count = inv .count ∙ rw both (let q = length-append (within c front) (within c′ back) in let z = y .count in omega (arith, q, z));
-        buffer = inv .buffer ∙ rw both (put-append d c (within c front) (within c′ back) ∙ rw (← (y .count), ← (y .buffer)) refl);
+        count = inv .count ∙ rw both (let q = length-append (within c front) (within c′ back) in let z = y .count in
+            omega (arith, q, z));
+        buffer = inv .buffer ∙ rw both (put-append d c (within c front) (within c′ back)
+            ∙ rw (← (y .count), ← (y .buffer)) refl);
       }
 
-pub lists-same : (g : Geometry) (img : List ℕ) (low high l : ℕ) (e : Entry) (x r : ℕ) (b d : List ℕ) → Lists g img low high l e x r b d → length d ≡ length b
+pub lists-same : (g : Geometry) (img : List ℕ) (low high l : ℕ) (e : Entry) (x r : ℕ) (b d : List ℕ)
+    → Lists g img low high l e x r b d → length d ≡ length b
 lists-same g img low high l e x r b d y = pairs-same b d x (within x (ranged (nodeAt g img) low high l e)) (y .buffer)
 
 -- ---- a tree
 take-most : {A : Type 0} (n : ℕ) (es : List A) → length (take n es) ≤ n
 take-most n es = rw (length-take n es) (omega arith)
 
-module _ (g : Geometry) (img : List ℕ) (l p low high x : ℕ) (b d : List ℕ) (y : Lists g img low high (l + 1) (named p) 0 x b d) where
+module _ (g : Geometry) (img : List ℕ) (l p low high x : ℕ) (b d : List ℕ)
+    (y : Lists g img low high (l + 1) (named p) 0 x b d) where
   whole : List Entry
   whole = take pairsMost (rangedOf (chipWith g img l p) low high)
 
@@ -219,25 +231,30 @@ module _ (g : Geometry) (img : List ℕ) (l p low high x : ℕ) (b d : List ℕ)
       (λ i. told (Done ((ex′ ∙ q) i) ((ew′ ∙ v) i) 0) ((f ∙ put-all whole b) i))
 
 -- ---- a judged image
-module _ (g : Geometry) (n : ℕ) (img : List ℕ) (low high : ℕ) (j : Judgement) (t u : List ℕ) (x : Judged g n img j t u) where
-  pub listed-broken : (r p : ℕ) (b : List ℕ) → j .verdict ≡ Broken r p → told (Damaged r p) b ≡ asOutcome (listedIn g n img low high b)
-  unfolding listedIn byVerdict
-  listed-broken r p b e = sym (simp (← (x .verdict), e))
+module _ (g : Geometry) (n : ℕ) (img : List ℕ) (low high : ℕ) (j : Judgement) (t u : List ℕ) (x : Judged g n img j t u)
+  where
+    pub listed-broken : (r p : ℕ) (b : List ℕ) → j .verdict ≡ Broken r p
+        → told (Damaged r p) b ≡ asOutcome (listedIn g n img low high b)
+    unfolding listedIn byVerdict
+    listed-broken r p b e = sym (simp (← (x .verdict), e))
 
-  pub listed-sound : (b : List ℕ) (o : Outcome) → Known g → j .verdict ≡ Sound
-      → o ≡ asOutcome (lists (take pairsMost (rangedOf (chipWith g img (j .survey .level) (j .survey .root)) low high)) b) → o ≡ asOutcome (listedIn g n img low high b)
-  unfolding listedIn byVerdict
-  listed-sound b o known e f =
-      let most = most-pairs g n img low high known (sym (x .verdict) ∙ e) in
-      f ∙ ap (λ (c : Chip). asOutcome (lists (take pairsMost (rangedOf c low high)) b)) (chip-is g n img (j .survey) (x .survey))
-      ∙ ap (λ (es : List Entry). asOutcome (lists es b)) (take-all pairsMost (rangedOf (chipOf g n img) low high) most) ∙ sym (simp (← (x .verdict), e))
+    pub listed-sound : (b : List ℕ) (o : Outcome) → Known g → j .verdict ≡ Sound
+        → o ≡ asOutcome (lists (take pairsMost (rangedOf (chipWith g img (j .survey .level) (j .survey .root)) low high))
+        b) → o ≡ asOutcome (listedIn g n img low high b)
+    unfolding listedIn byVerdict
+    listed-sound b o known e f =
+        let most = most-pairs g n img low high known (sym (x .verdict) ∙ e) in
+        f ∙ ap (λ (c : Chip). asOutcome (lists (take pairsMost (rangedOf c low high)) b)) (chip-is g n img (j .survey) (x .survey))
+        ∙ ap (λ (es : List Entry). asOutcome (lists es b)) (take-all pairsMost (rangedOf (chipOf g n img) low high) most)
+        ∙ sym (simp (← (x .verdict), e))
 
 module _ (g : Geometry) (img : List ℕ) (low high n : ℕ) (b : List ℕ) (en : n ≡ goodBlocks g img) where
   pub list-length : n ≡ 0 → told Length b ≡ asOutcome (listing g img low high b)
   unfolding listing judged
   list-length z = sym (simp (none-good g img n en z))
 
-  pub list-blocks : (o : Outcome) → (n ≡ 0 → ⊥) → o ≡ asOutcome (listedIn g n img low high b) → o ≡ asOutcome (listing g img low high b)
+  pub list-blocks : (o : Outcome) → (n ≡ 0 → ⊥) → o ≡ asOutcome (listedIn g n img low high b)
+      → o ≡ asOutcome (listing g img low high b)
   unfolding listing judged listedIn
   list-blocks o h e = e ∙ sym (simp (some-good g img n en h, ← (some-blocks g img n en h)))
 

@@ -1,4 +1,5 @@
-// The pairs between two keys, in a lent buffer: judged first, then one walk that goes down nothing but what may hold such pairs.
+// The pairs between two keys, in a lent buffer: judged first, then one walk that goes down nothing but what may hold
+// such pairs.
 ghost use mathlib.Core.Path.{_≡_};
 ghost use Prim.Native.Nat.{_+_, _/_, min, _≤_, _<_};
 ghost use lib.ListN.{length, take};
@@ -38,8 +39,8 @@ fn list_pair(pairs: &mut [u32], exist: usize, entry: Entry, low: u32) -> usize
     exist + 1
 }
 
-// The pairs between two keys under an entry at a level, after those that exist so far, up to 536,870,912 in all. Gives how many
-// there are then.
+// The pairs between two keys under an entry at a level, after those that exist so far, up to 536,870,912 in all. Gives
+// how many there are then.
 fn list_under(
     g: Geometry,
     img: &[u8],
@@ -50,7 +51,8 @@ fn list_under(
     low: u32,
     high: u32,
 ) -> usize
-    ensures { λ r. ⌜ Lists g (now (img .entry)) low high level entry exist r (now (pairs .entry)) (now (pairs .exit)) ⌝ }
+    ensures { λ r. ⌜ Lists g (now (img .entry)) low high level entry exist r (now (pairs .entry))
+        (now (pairs .exit)) ⌝ }
 {
     if 536870912 <= exist {
         return exist;
@@ -90,7 +92,8 @@ fn narrow(x: usize) -> u32
     x as u32
 }
 
-// The pairs between two keys of a tree, from its root, no more than 536,870,912 of them: so a walk ends soon on every image.
+// The pairs between two keys of a tree, from its root, no more than 536,870,912 of them: so a walk ends soon on every
+// image.
 pub fn list_tree(
     g: Geometry,
     img: &[u8],
@@ -101,7 +104,9 @@ pub fn list_tree(
     high: u32,
 ) -> Answer
     requires { ⌜ level < 255 ⌝ }
-    ensures { λ r. ⌜ told r (now (pairs .exit)) ≡ asOutcome (lists (take pairsMost (rangedOf (chipWith g (now (img .entry)) level root) low high)) (now (pairs .entry))) ⌝ }
+    ensures { λ r. ⌜ told r (now (pairs .exit))
+        ≡ asOutcome (lists (take pairsMost (rangedOf (chipWith g (now (img .entry)) level root) low high))
+        (now (pairs .entry))) ⌝ }
 {
     let top = Entry { key: 0, addr: root };
     let exist = list_under(g, img, &mut *pairs, 0, level + 1, top, low, high);
@@ -120,7 +125,8 @@ fn list_blocks(
     pairs: &mut [u32],
 ) -> Answer
     requires { ⌜ Known g × (n ≤ 1024) × (65536 ≤ length (now table)) ⌝ }
-    ensures { λ r. ⌜ told r (now (pairs .exit)) ≡ asOutcome (listedIn g n (now (img .entry)) low high (now (pairs .entry))) ⌝ }
+    ensures { λ r. ⌜ told r (now (pairs .exit)) ≡ asOutcome (listedIn g n (now (img .entry)) low high
+        (now (pairs .entry))) ⌝ }
 {
     let judgement = sound_verdict::judge_image(g, img, &mut *table, n);
     let verdict = judgement.verdict;
@@ -134,7 +140,8 @@ fn list_blocks(
 // A listing on one of the two chips.
 pub fn list_on(g: Geometry, img: &[u8], low: u32, high: u32, pairs: &mut [u32]) -> Answer
     requires { ⌜ Known g ⌝ }
-    ensures { λ r. ⌜ told r (now (pairs .exit)) ≡ asOutcome (listing g (now (img .entry)) low high (now (pairs .entry))) ⌝ }
+    ensures { λ r. ⌜ told r (now (pairs .exit)) ≡ asOutcome (listing g (now (img .entry)) low high
+        (now (pairs .entry))) ⌝ }
 {
     let n = chip_read::good_blocks(g, img);
     if n == 0 {

@@ -40,10 +40,13 @@ answer-tells (At a) img = refl
 answer-tells Nothing img = refl
 
 module _ (g : Geometry) (n : ℕ) (img : List ℕ) (k : ℕ) (j : Judgement) (t u : List ℕ) (x : Judged g n img j t u) where
-  pub lookup-done : (f : Found) (a : Answer) → j .verdict ≡ Sound → found f ≡ sought (chipWith g img (j .survey .level) (j .survey .root)) k
-      → a ≡ answerOf f → told a img ≡ byVerdict (verdict g n img) (damaged img) (answered (sought (chipOf g n img) k) img)
+  pub lookup-done : (f : Found) (a : Answer) → j .verdict ≡ Sound → found f ≡ sought (chipWith g img (j .survey .level)
+      (j .survey .root)) k
+      → a ≡ answerOf f → told a img ≡ byVerdict (verdict g n img) (damaged img)
+      (answered (sought (chipOf g n img) k) img)
   lookup-done f a e ef ea =
-      let c : found f ≡ sought (chipOf g n img) k = ef ∙ ap (λ (y : Chip). sought y k) (chip-is g n img (j .survey) (x .survey)) in
+      let c : found f ≡ sought (chipOf g n img) k =
+      ef ∙ ap (λ (y : Chip). sought y k) (chip-is g n img (j .survey) (x .survey)) in
       judged-rest g n img (damaged img) _ j t u x (told a img)
       (ap (λ (y : Answer). told y img) ea ∙ answer-tells f img ∙ ap (λ (y : Option ℕ). answered y img) c) e
 
@@ -52,9 +55,11 @@ module _ (g : Geometry) (img : List ℕ) (k n : ℕ) (en : n ≡ goodBlocks g im
   unfolding lookup
   lookup-length z = judged-length g img (refused 1 img) (damaged img) _ n en z
 
-  pub lookup-blocks : (a : Answer) → (n ≡ 0 → ⊥) → told a img ≡ byVerdict (verdict g n img) (damaged img) (answered (sought (chipOf g n img) k) img) → told a img ≡ lookup g img k
+  pub lookup-blocks : (a : Answer) → (n ≡ 0 → ⊥) → told a img ≡ byVerdict (verdict g n img) (damaged img)
+      (answered (sought (chipOf g n img) k) img) → told a img ≡ lookup g img k
   unfolding lookup
   lookup-blocks a h e =
-      judged-blocks g img (refused 1 img) (damaged img) _ n en (told a img) h (e ∙ ap (λ (m : ℕ). byVerdict (verdict g n img) (damaged img) (answered (sought (chipOf g m img) k) img)) (some-blocks g img n en h))
+      judged-blocks g img (refused 1 img) (damaged img) _ n en (told a img) h
+      (e ∙ ap (λ (m : ℕ). byVerdict (verdict g n img) (damaged img) (answered (sought (chipOf g m img) k) img)) (some-blocks g img n en h))
 
 pub ruleset lookup-laws = (answer-at, answer-none, judged-broken, lookup-length, lookup-done, lookup-blocks)

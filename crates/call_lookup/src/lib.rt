@@ -26,7 +26,8 @@ pub fn answer(found: Found) -> Answer
 // Lookup on n blocks, with a lent table for the judge.
 fn lookup_blocks(g: Geometry, img: &[u8], table: &mut [u8], n: u16, key: u32) -> Answer
     requires { ⌜ (g .pages ≤ 64) × (n ≤ 1024) × (65536 ≤ length (now table)) ⌝ }
-    ensures { λ r. ⌜ told r (now (img .entry)) ≡ byVerdict (verdict g n (now (img .entry))) (damaged (now (img .entry))) (answered (sought (chipOf g n (now (img .entry))) key) (now (img .entry))) ⌝ }
+    ensures { λ r. ⌜ told r (now (img .entry)) ≡ byVerdict (verdict g n (now (img .entry))) (damaged (now (img .entry)))
+        (answered (sought (chipOf g n (now (img .entry))) key) (now (img .entry))) ⌝ }
 {
     let judgement = sound_verdict::judge_image(g, img, &mut *table, n);
     let verdict = judgement.verdict;

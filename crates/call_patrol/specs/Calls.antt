@@ -25,7 +25,8 @@ blocks-in : (g : Geometry) (img : List ℕ) → pageBase g (g .pages * blocksOf 
 unfolding pageBase blocksOf
 blocks-in g img =
     let e : g .pages * (length img / blockBytes g) * pageBytes g ≡ length img / blockBytes g * blockBytes g
-    = ap (λ (x : ℕ). x * pageBytes g) (mul-comm (g .pages) (length img / blockBytes g)) ∙ mul-assoc (length img / blockBytes g) (g .pages) (pageBytes g) in
+    = ap (λ (x : ℕ). x * pageBytes g) (mul-comm (g .pages) (length img / blockBytes g))
+    ∙ mul-assoc (length img / blockBytes g) (g .pages) (pageBytes g) in
     omega (arith, e, div-add-mod' (length img) (blockBytes g))
 
 -- n: the blocks, t: the pages, a: the halves of a page
@@ -57,8 +58,10 @@ module _ (g : Geometry) (img : List ℕ) (page half n t : ℕ) (en : n ≡ goodB
       let y = blocks-in g img in
       omega (arith, x, y, ea, eb, hi)
 
-  pub patrol-is : (a b c i x y : ℕ) (p : Patrol) (o : List ℕ) → a ≡ halves g → b ≡ pageBase g page → i ≡ half → c ≡ codePlace g i
-      → p ≡ found img (b + 256 * i) (b + c) → o ≡ mended img (b + 256 * i) (b + c) (found img (b + 256 * i) (b + c)) → x ≡ findingOf p → y ≡ bitOf p
+  pub patrol-is : (a b c i x y : ℕ) (p : Patrol) (o : List ℕ) → a ≡ halves g → b ≡ pageBase g page → i ≡ half
+      → c ≡ codePlace g i
+      → p ≡ found img (b + 256 * i) (b + c) → o ≡ mended img (b + 256 * i) (b + c) (found img (b + 256 * i) (b + c))
+      → x ≡ findingOf p → y ≡ bitOf p
       → page < t → i < a → told (Done x y 0) o ≡ patrol g img page half
   unfolding patrol isHalf patrolled
   patrol-is a b c i x y p o ea eb ei ec ep eo ex ey hp hi =

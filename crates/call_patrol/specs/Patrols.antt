@@ -18,7 +18,8 @@ use Rattle.theory_codes.specs.Told.{count-ones, trailing-more, pairs-off, pairs
 use Rattle.geometry.specs.declared.Patrol.{Patrol}
 use Rattle.geometry.specs.declared.Patrol.the-variants.{Clean, DataMended, CodeMended, Beyond}
 
-pub flip-is : (img : List ℕ) (at n i b : ℕ) → b ≡ 2 ^ (n % 8) → i ≡ n / 8 → set img (at + i) (bitXor (byteAt img (at + i)) b) ≡ flipBit img at n
+pub flip-is : (img : List ℕ) (at n i b : ℕ) → b ≡ 2 ^ (n % 8) → i ≡ n / 8
+    → set img (at + i) (bitXor (byteAt img (at + i)) b) ≡ flipBit img at n
 unfolding flipBit
 flip-is img at n i b e f = rw (f, e) (ap (set img (at + n / 8)) (xor-is (byteAt img (at + n / 8)) (2 ^ (n % 8))))
 
@@ -40,7 +41,8 @@ told-data : (d : ℕ) → (d ≡ 0 → ⊥) → true ≡ inPairs d → DataMende
 unfolding diagnosis
 told-data d o e = rw (ne-eqb d 0 o, ← e)
 
-told-code : (d : ℕ) → (d ≡ 0 → ⊥) → false ≡ inPairs d → d < 16777216 → ones d ≡ 1 → CodeMended (trailingZeros 32 d) ≡ diagnosis d
+told-code : (d : ℕ) → (d ≡ 0 → ⊥) → false ≡ inPairs d → d < 16777216 → ones d ≡ 1 → CodeMended (trailingZeros 32 d)
+    ≡ diagnosis d
 unfolding diagnosis
 told-code d o e h k = rw (ne-eqb d 0 o, ← e, count-ones 24 d h, eq-eqb (ones d) 1 k, trailing-more 24 8 d o h)
 
@@ -67,21 +69,27 @@ module _ (img : List ℕ) (at c d x f : ℕ) (ed : d ≡ x ⊕ f) (ex : x ≡ co
   pub found-data : (r : Bool) → r ≡ inPairs d → r ≡ true → (d ≡ 0 → ⊥) → DataMended (d % 2048) ≡ found img at c
   found-data r er et o = told-data d o (sym et ∙ er) ∙ told-is
 
-  pub after-data : (r : Bool) (out : List ℕ) → r ≡ inPairs d → r ≡ true → (d ≡ 0 → ⊥) → out ≡ flipBit img at (d % 2048) → out ≡ mended img at c (found img at c)
+  pub after-data : (r : Bool) (out : List ℕ) → r ≡ inPairs d → r ≡ true → (d ≡ 0 → ⊥) → out ≡ flipBit img at (d % 2048)
+      → out ≡ mended img at c (found img at c)
   unfolding mended
   after-data r out er et o eo = eo ∙ after-is (DataMended (d % 2048)) (told-data d o (sym et ∙ er))
 
-  pub found-code : (r : Bool) → r ≡ inPairs d → r ≡ false → (d ≡ 0 → ⊥) → d < 16777216 → ones d ≡ 1 → CodeMended (trailingZeros 32 d) ≡ found img at c
+  pub found-code : (r : Bool) → r ≡ inPairs d → r ≡ false → (d ≡ 0 → ⊥) → d < 16777216 → ones d ≡ 1
+      → CodeMended (trailingZeros 32 d) ≡ found img at c
   found-code r er et o h k = told-code d o (sym et ∙ er) h k ∙ told-is
 
-  pub after-code : (r : Bool) (out : List ℕ) → r ≡ inPairs d → r ≡ false → (d ≡ 0 → ⊥) → d < 16777216 → ones d ≡ 1 → out ≡ putCode img c f → out ≡ mended img at c (found img at c)
+  pub after-code : (r : Bool) (out : List ℕ) → r ≡ inPairs d → r ≡ false → (d ≡ 0 → ⊥) → d < 16777216 → ones d ≡ 1
+      → out ≡ putCode img c f → out ≡ mended img at c (found img at c)
   unfolding mended
-  after-code r out er et o h k eo = eo ∙ ap (putCode img c) ef ∙ after-is (CodeMended (trailingZeros 32 d)) (told-code d o (sym et ∙ er) h k)
+  after-code r out er et o h k eo = eo ∙ ap (putCode img c) ef
+      ∙ after-is (CodeMended (trailingZeros 32 d)) (told-code d o (sym et ∙ er) h k)
 
-  pub found-beyond : (r : Bool) → r ≡ inPairs d → r ≡ false → (d ≡ 0 → ⊥) → d < 16777216 → (ones d ≡ 1 → ⊥) → Beyond ≡ found img at c
+  pub found-beyond : (r : Bool) → r ≡ inPairs d → r ≡ false → (d ≡ 0 → ⊥) → d < 16777216 → (ones d ≡ 1 → ⊥)
+      → Beyond ≡ found img at c
   found-beyond r er et o h k = told-beyond d o (sym et ∙ er) h k ∙ told-is
 
-  pub after-beyond : (r : Bool) → r ≡ inPairs d → r ≡ false → (d ≡ 0 → ⊥) → d < 16777216 → (ones d ≡ 1 → ⊥) → img ≡ mended img at c (found img at c)
+  pub after-beyond : (r : Bool) → r ≡ inPairs d → r ≡ false → (d ≡ 0 → ⊥) → d < 16777216 → (ones d ≡ 1 → ⊥)
+      → img ≡ mended img at c (found img at c)
   unfolding mended
   after-beyond r er et o h k = after-is Beyond (told-beyond d o (sym et ∙ er) h k)
 

@@ -1,5 +1,6 @@
--- A call of the camera service: the number returned, the image, the lent words, the record's bytes and the result buffer afterwards; a
--- listing has its lent pairs, and an export its lent text, where the other calls have the image. Definitions alone; assumes nothing.
+-- A call of the camera service: the number returned, the image, the lent words, the record's bytes and the result
+-- buffer afterwards; a listing has its lent pairs, and an export its lent text, where the other calls have the image.
+-- Definitions alone; assumes nothing.
 use mathlib.Core.List.{List, [], _∷_}
 use Prim.Native.Nat.{ℕ, _+_}
 use lib.Dec.{ltb}
@@ -49,8 +50,8 @@ returned o img buf = pick (ltb (length buf) 24)
 unfoldable pub wordsLeft : Reply → List ℕ → List ℕ → List ℕ
 wordsLeft r old buf = pick (ltb (length buf) 24) old (r .words)
 
--- ---- request 8: the record in 24 bytes
--- "root page, its sequence number, the largest one on the image, height, next page, erased pages", each of 32 bits, least byte first
+-- ---- request 8: the record in 24 bytes "root page, its sequence number, the largest one on the image, height, next
+-- page, erased pages", each of 32 bits, least byte first
 unfoldable pub recordIn : List ℕ → Opened
 recordIn bytes = record {
   root = u32At bytes 0;
@@ -82,7 +83,8 @@ unfoldable pub lookupBytes : ℕ → List ℕ → List ℕ → ℕ → Outcome
 lookupBytes kind img bytes k = withRecord bytes (refused 1 img) (λ o. lookupWithOf kind img o k)
 
 unfoldable pub listBytes : ℕ → List ℕ → List ℕ → ℕ → ℕ → List ℕ → Outcome
-listBytes kind img bytes low high pairs = withRecord bytes (refused 1 pairs) (λ o. asOutcome (listWithOf kind img o low high pairs))
+listBytes kind img bytes low high pairs =
+    withRecord bytes (refused 1 pairs) (λ o. asOutcome (listWithOf kind img o low high pairs))
 
 -- an update: its outcome, the record's bytes, and the lent words
 pub record Reopened : Type 0 where

@@ -16,7 +16,8 @@ use Rattle.live_words.specs.Live.{Reply, reply}
 use Rattle.camera.specs.Camera.{putNumbers, numbersOf, reportRow, reportOf, returned, wordsLeft}
 
 -- ---- the loop that puts six numbers: what is to come leads to the whole. vs the numbers, i of them put, d the buffer
-pub put-go : (w m d vs : List ℕ) (i v : ℕ) → w ≡ putNumbers m (4 * i) (drop i vs) → d ≡ putU32 m (4 * i) v → v ≡ getD vs i 0 → length vs ≡ 6 → i < 6
+pub put-go : (w m d vs : List ℕ) (i v : ℕ) → w ≡ putNumbers m (4 * i) (drop i vs) → d ≡ putU32 m (4 * i) v
+    → v ≡ getD vs i 0 → length vs ≡ 6 → i < 6
     → w ≡ putNumbers d (4 * (i + 1)) (drop (i + 1) vs)
 unfolding putNumbers
 put-go w m d vs i v e f ev len h =

@@ -31,9 +31,12 @@ sealed rows all = 16777215 - (numberOf rows all + 2048 * restOf (numberOf rows a
 
 -- ---- words
 
-pub eight-is : (img : List ℕ) (at b₀ b₁ b₂ b₃ b₄ b₅ b₆ b₇ : ℕ) → b₀ ≡ byteAt img at → b₁ ≡ byteAt img (at + 1) → b₂ ≡ byteAt img (at + 2)
-    → b₃ ≡ byteAt img (at + 3) → b₄ ≡ byteAt img (at + 4) → b₅ ≡ byteAt img (at + 5) → b₆ ≡ byteAt img (at + 6) → b₇ ≡ byteAt img (at + 7)
-    → b₀ + 256 * b₁ + 65536 * b₂ + 16777216 * b₃ + fourBytes * b₄ + 1099511627776 * b₅ + 281474976710656 * b₆ + 72057594037927936 * b₇ ≡ wordAt img at 8
+pub eight-is : (img : List ℕ) (at b₀ b₁ b₂ b₃ b₄ b₅ b₆ b₇ : ℕ) → b₀ ≡ byteAt img at → b₁ ≡ byteAt img (at + 1)
+    → b₂ ≡ byteAt img (at + 2)
+    → b₃ ≡ byteAt img (at + 3) → b₄ ≡ byteAt img (at + 4) → b₅ ≡ byteAt img (at + 5) → b₆ ≡ byteAt img (at + 6)
+    → b₇ ≡ byteAt img (at + 7)
+    → b₀ + 256 * b₁ + 65536 * b₂ + 16777216 * b₃ + fourBytes * b₄ + 1099511627776 * b₅ + 281474976710656 * b₆ +
+    72057594037927936 * b₇ ≡ wordAt img at 8
 unfolding wordAt
 eight-is img at b₀ b₁ b₂ b₃ b₄ b₅ b₆ b₇ e₀ e₁ e₂ e₃ e₄ e₅ e₆ e₇ =
     let p₂ : at + 1 + 1 ≡ at + 2 = omega arith in
@@ -45,7 +48,8 @@ eight-is img at b₀ b₁ b₂ b₃ b₄ b₅ b₆ b₇ e₀ e₁ e₂ e₃ e₄
     rw (p₂, p₃, p₄, p₅, p₆, p₇, ← e₀, ← e₁, ← e₂, ← e₃, ← e₄, ← e₅, ← e₆, ← e₇) (sums b₀ b₁ b₂ b₃ b₄ b₅ b₆ b₇)
   where
     sums : (b₀ b₁ b₂ b₃ b₄ b₅ b₆ b₇ : ℕ)
-        → b₀ + 256 * b₁ + 65536 * b₂ + 16777216 * b₃ + fourBytes * b₄ + 1099511627776 * b₅ + 281474976710656 * b₆ + 72057594037927936 * b₇
+        → b₀ + 256 * b₁ + 65536 * b₂ + 16777216 * b₃ + fourBytes * b₄ + 1099511627776 * b₅ + 281474976710656 * b₆ +
+        72057594037927936 * b₇
         ≡ b₀ + 256 * (b₁ + 256 * (b₂ + 256 * (b₃ + 256 * (b₄ + 256 * (b₅ + 256 * (b₆ + 256 * (b₇ + 256 * 0)))))))
     sums b₀ b₁ b₂ b₃ b₄ b₅ b₆ b₇ = omega arith
 
@@ -61,10 +65,12 @@ pick-one : (b : Bool) (x : ℕ) → x * pick b 1 0 ≡ pick b x 0
 pick-one true x = mul-one x
 pick-one false x = mul-zero x
 
-in-more : (p w r q : ℕ) → r ≡ pick (oddOnes (w / 2 ^ (2 ^ p) % 2 ^ (2 ^ p))) (2 ^ p) 0 → q ≡ inWord (2 ^ p) (bitXor (w / 2 ^ (2 ^ p)) w) → bitXor r q ≡ inWord (2 ^ p * 2) w
+in-more : (p w r q : ℕ) → r ≡ pick (oddOnes (w / 2 ^ (2 ^ p) % 2 ^ (2 ^ p))) (2 ^ p) 0 → q ≡ inWord (2 ^ p)
+    (bitXor (w / 2 ^ (2 ^ p)) w) → bitXor r q ≡ inWord (2 ^ p * 2) w
 in-more p w r q e f =
     xor-is r q
-    ∙ ap₂ _⊕_ (e ∙ sym (pick-one (oddOnes (w / 2 ^ (2 ^ p) % 2 ^ (2 ^ p))) (2 ^ p))) (f ∙ ap (inWord (2 ^ p)) (xor-is (w / 2 ^ (2 ^ p)) w))
+    ∙ ap₂ _⊕_ (e ∙ sym (pick-one (oddOnes (w / 2 ^ (2 ^ p) % 2 ^ (2 ^ p))) (2 ^ p))) (f
+    ∙ ap (inWord (2 ^ p)) (xor-is (w / 2 ^ (2 ^ p)) w))
     ∙ sym (folded p w)
 
 in-one : (w : ℕ) → inWord 1 w ≡ 0
@@ -76,22 +82,28 @@ in-one w = none (bitOf w 0)
     none false = none-left 0
 
 pub in-2-is : (w r : ℕ) → r ≡ pick (oddOnes (w / 2 % 2)) 1 0 → r ≡ inWord 2 w
-in-2-is w r e = sym (ap (λ (x : ℕ). bitXor x 0) e ∙ xor-is (pick (oddOnes (w / 2 % 2)) 1 0) 0 ∙ none-right (pick (oddOnes (w / 2 % 2)) 1 0)
+in-2-is w r e = sym (ap (λ (x : ℕ). bitXor x 0) e ∙ xor-is (pick (oddOnes (w / 2 % 2)) 1 0) 0
+    ∙ none-right (pick (oddOnes (w / 2 % 2)) 1 0)
     ∙ sym e) ∙ in-more 0 w r 0 e (sym (in-one (bitXor (w / 2) w)))
 
-pub in-4-is : (w r q : ℕ) → r ≡ pick (oddOnes (w / 4 % 4)) 2 0 → q ≡ inWord 2 (bitXor (w / 4) w) → bitXor r q ≡ inWord 4 w
+pub in-4-is : (w r q : ℕ) → r ≡ pick (oddOnes (w / 4 % 4)) 2 0 → q ≡ inWord 2 (bitXor (w / 4) w)
+    → bitXor r q ≡ inWord 4 w
 in-4-is = in-more 1
 
-pub in-8-is : (w r q : ℕ) → r ≡ pick (oddOnes (w / 16 % 16)) 4 0 → q ≡ inWord 4 (bitXor (w / 16) w) → bitXor r q ≡ inWord 8 w
+pub in-8-is : (w r q : ℕ) → r ≡ pick (oddOnes (w / 16 % 16)) 4 0 → q ≡ inWord 4 (bitXor (w / 16) w)
+    → bitXor r q ≡ inWord 8 w
 in-8-is = in-more 2
 
-pub in-16-is : (w r q : ℕ) → r ≡ pick (oddOnes (w / 256 % 256)) 8 0 → q ≡ inWord 8 (bitXor (w / 256) w) → bitXor r q ≡ inWord 16 w
+pub in-16-is : (w r q : ℕ) → r ≡ pick (oddOnes (w / 256 % 256)) 8 0 → q ≡ inWord 8 (bitXor (w / 256) w)
+    → bitXor r q ≡ inWord 16 w
 in-16-is = in-more 3
 
-pub in-32-is : (w r q : ℕ) → r ≡ pick (oddOnes (w / 65536 % 65536)) 16 0 → q ≡ inWord 16 (bitXor (w / 65536) w) → bitXor r q ≡ inWord 32 w
+pub in-32-is : (w r q : ℕ) → r ≡ pick (oddOnes (w / 65536 % 65536)) 16 0 → q ≡ inWord 16 (bitXor (w / 65536) w)
+    → bitXor r q ≡ inWord 32 w
 in-32-is = in-more 4
 
-pub in-64-is : (w r q : ℕ) → r ≡ pick (oddOnes (w / fourBytes % fourBytes)) 32 0 → q ≡ inWord 32 (bitXor (w / fourBytes) w) → bitXor r q ≡ inWord 64 w
+pub in-64-is : (w r q : ℕ) → r ≡ pick (oddOnes (w / fourBytes % fourBytes)) 32 0
+    → q ≡ inWord 32 (bitXor (w / fourBytes) w) → bitXor r q ≡ inWord 64 w
 in-64-is = in-more 5
 
 -- ---- E, G and the code
@@ -123,13 +135,15 @@ rest-below e all r f h =
     let k : r < 2048 = rw f (pick-below (oddOnes all) 2047 2048 (omega arith)) in
     rw (xor-is r e) (below 11 r e k h)
 
-pub sealed-is : (rows all e g : ℕ) → e ≡ numberOf rows all → g ≡ restOf e all → 16777215 - (e + 2048 * g) ≡ sealed rows all
+pub sealed-is : (rows all e g : ℕ) → e ≡ numberOf rows all → g ≡ restOf e all → 16777215 - (e + 2048 * g) ≡ sealed rows
+    all
 unfolding sealed
 sealed-is rows all e g ee eg = rw (eg, ee)
 
 -- ---- all words
 
-pub half-is : (img : List ℕ) (at all rows r : ℕ) → ((k : ℕ) → Fits w8 (byteAt img k)) → r ≡ sealed rows all → all ≡ allWords img at 32 → rows ≡ oddWords img at 32
+pub half-is : (img : List ℕ) (at all rows r : ℕ) → ((k : ℕ) → Fits w8 (byteAt img k)) → r ≡ sealed rows all
+    → all ≡ allWords img at 32 → rows ≡ oddWords img at 32
     → r ≡ freshCode img at
 unfolding sealed numberOf restOf freshCode
 half-is img at all rows r bytes es ea er =

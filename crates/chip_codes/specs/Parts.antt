@@ -1,4 +1,5 @@
--- The 256 bytes of a half that an image does not have whole, copied: a byte outside the image reads as 0. Assumes nothing.
+-- The 256 bytes of a half that an image does not have whole, copied: a byte outside the image reads as 0. Assumes
+-- nothing.
 use mathlib.Core.Path.{_≡_, sym, _∙_}
 use mathlib.Core.List.{List}
 use Prim.Native.Nat.{ℕ, _+_, _<_, _≤_}
@@ -23,7 +24,8 @@ pub copied-none : (img : List ℕ) (at : ℕ) (part : List ℕ) → Copied img a
 unfolding Copied
 copied-none img at part k h = absurd (omega arith)
 
-pub copied-more : (img : List ℕ) (at : ℕ) (part : List ℕ) (n b : ℕ) → Copied img at part n → b ≡ byteAt img (at + n) → n < length part
+pub copied-more : (img : List ℕ) (at : ℕ) (part : List ℕ) (n b : ℕ) → Copied img at part n → b ≡ byteAt img (at + n)
+    → n < length part
     → Copied img at (set part n b) (n + 1)
 unfolding Copied
 copied-more img at part n b c e h k l = elim (ℕ-discrete k n) [
@@ -31,10 +33,12 @@ copied-more img at part n b c e h k l = elim (ℕ-discrete k n) [
   | no q ↦ getD-set-other part n k b 0 q ∙ c k (omega arith)
 ]
 
-pub copied-all : (img : List ℕ) (at : ℕ) (part : List ℕ) (n : ℕ) → Copied img at part n → n ≤ 256 → 256 ≤ n → Copied img at part 256
+pub copied-all : (img : List ℕ) (at : ℕ) (part : List ℕ) (n : ℕ) → Copied img at part n → n ≤ 256 → 256 ≤ n
+    → Copied img at part 256
 copied-all img at part n c h k = let e : n ≡ 256 = omega arith in rw e at c
 
-pub copied-code : (img : List ℕ) (at : ℕ) (part : List ℕ) (r : ℕ) → Copied img at part 256 → r ≡ freshCode part 0 → r ≡ freshCode img at
+pub copied-code : (img : List ℕ) (at : ℕ) (part : List ℕ) (r : ℕ) → Copied img at part 256 → r ≡ freshCode part 0
+    → r ≡ freshCode img at
 unfolding Copied
 copied-code img at part r c e = e ∙ fresh-same img part at 0 (λ i h. rw zero-add (c i h))
 

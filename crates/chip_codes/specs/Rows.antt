@@ -42,7 +42,8 @@ pub over-xor : (f : ℕ → ℕ) (k v w : ℕ) → overBits f k (v ⊕ w) ≡ ov
 unfolding overBits
 over-xor f k v w =
     xor-same (λ j. pick (bitOf (v ⊕ w) j) (f j) 0) (λ j. pick (bitOf v j) (f j) 0 ⊕ pick (bitOf w j) (f j) 0) k
-    (λ j h. ap (λ (b : Bool). pick b (f j) 0) (ap odd (cut v w j) ∙ odd-xor (v / 2 ^ j) (w / 2 ^ j)) ∙ pick-differs (bitOf v j) (bitOf w j) (f j))
+    (λ j h. ap (λ (b : Bool). pick b (f j) 0) (ap odd (cut v w j) ∙ odd-xor (v / 2 ^ j) (w / 2 ^ j))
+    ∙ pick-differs (bitOf v j) (bitOf w j) (f j))
     ∙ xor-both (λ j. pick (bitOf v j) (f j) 0) (λ j. pick (bitOf w j) (f j) 0) k
 
 zero-bit : (j : ℕ) → bitOf 0 j ≡ false
@@ -60,7 +61,8 @@ over-none f k =
     ∙ xor-zeros k
 
 -- all rows in one
-pub columns : (f : ℕ → ℕ) (w : ℕ) (row : ℕ → ℕ) (k : ℕ) → xorBelow (λ i. overBits f w (row i)) k ≡ overBits f w (xorBelow row k)
+pub columns : (f : ℕ → ℕ) (w : ℕ) (row : ℕ → ℕ) (k : ℕ) → xorBelow (λ i. overBits f w (row i)) k ≡ overBits f w
+    (xorBelow row k)
 unfolding xorBelow
 columns f w row zero = sym (over-none f w)
 columns f w row (suc k) = rw (columns f w row k) (sym (over-xor f w (row k) (xorBelow row k)))
@@ -76,7 +78,8 @@ times-xor p a b =
     ap₂ _⊕_ (mul-comm (2 ^ p) a ∙ sym (add-zero (a * 2 ^ p))) (mul-comm (2 ^ p) b ∙ sym (add-zero (b * 2 ^ p)))
     ∙ e ∙ rw (none-left 0, add-zero) (mul-comm (a ⊕ b) (2 ^ p))
 
-pub xor-times : (p : ℕ) (s : ℕ → Bool) (k : ℕ) → xorBelow (λ i. pick (s i) (2 ^ p * i) 0) k ≡ 2 ^ p * xorBelow (λ i. pick (s i) i 0) k
+pub xor-times : (p : ℕ) (s : ℕ → Bool) (k : ℕ) → xorBelow (λ i. pick (s i) (2 ^ p * i) 0) k
+    ≡ 2 ^ p * xorBelow (λ i. pick (s i) i 0) k
 unfolding xorBelow
 xor-times p s zero = sym (mul-zero (2 ^ p))
 xor-times p s (suc k) =
@@ -87,10 +90,12 @@ pick-split true p i j h = rw (mul-comm (2 ^ p) i) (sym (shifted i p j h))
 pick-split false p i j h = sym (none-left 0)
 
 -- k rows of 2 ^ p bits
-module _ (p : ℕ) (s : ℕ → Bool) (row : ℕ → ℕ) (k : ℕ) (rows : (i j : ℕ) → i < k → j < 2 ^ p → s (2 ^ p * i + j) ≡ bitOf (row i) j) where
+module _ (p : ℕ) (s : ℕ → Bool) (row : ℕ → ℕ) (k : ℕ) (rows : (i j : ℕ) → i < k → j < 2 ^ p
+    → s (2 ^ p * i + j) ≡ bitOf (row i) j) where
   -- the numbers of all set bits
   pub row-numbers : xorBelow (λ n. pick (s n) n 0) (2 ^ p * k)
-      ≡ 2 ^ p * xorBelow (λ i. pick (oddBelow (bitOf (row i)) (2 ^ p)) i 0) k ⊕ overBits (λ j. j) (2 ^ p) (xorBelow row k)
+      ≡ 2 ^ p * xorBelow (λ i. pick (oddBelow (bitOf (row i)) (2 ^ p)) i 0) k ⊕ overBits (λ j. j) (2 ^ p)
+      (xorBelow row k)
   unfolding overBits
   row-numbers =
       xor-rows (2 ^ p) (λ n. pick (s n) n 0) k
@@ -105,7 +110,8 @@ module _ (p : ℕ) (s : ℕ → Bool) (row : ℕ → ℕ) (k : ℕ) (rows : (i j
       ∙ ap₂ _⊕_ (xor-times p (λ i. oddBelow (bitOf (row i)) (2 ^ p)) k) (columns (λ j. j) (2 ^ p) row k)
 
   -- one number for all
-  pub row-const : (x : ℕ) → xorBelow (λ n. pick (s n) x 0) (2 ^ p * k) ≡ pick (oddBelow (bitOf (xorBelow row k)) (2 ^ p)) x 0
+  pub row-const : (x : ℕ) → xorBelow (λ n. pick (s n) x 0) (2 ^ p * k) ≡ pick (oddBelow (bitOf (xorBelow row k))
+      (2 ^ p)) x 0
   unfolding overBits
   row-const x =
       xor-rows (2 ^ p) (λ n. pick (s n) x 0) k
@@ -144,7 +150,8 @@ no-ones w = rw mod-one
 one-more : (w k : ℕ) → ones (w % 2 ^ suc k) ≡ w / 2 ^ k % 2 + ones (w % 2 ^ k)
 one-more w k =
     let e : suc k ≡ 1 + k = omega arith in
-    ap (λ (x : ℕ). ones (w % 2 ^ x)) e ∙ ap ones (mod-pow-add w 1 k) ∙ ones-cat k (w / 2 ^ k % 2) (w % 2 ^ k) (mod-lt w (pow-pos k))
+    ap (λ (x : ℕ). ones (w % 2 ^ x)) e ∙ ap ones (mod-pow-add w 1 k)
+    ∙ ones-cat k (w / 2 ^ k % 2) (w % 2 ^ k) (mod-lt w (pow-pos k))
     ∙ ap (λ (x : ℕ). x + ones (w % 2 ^ k)) (digit-ones (w / 2 ^ k % 2) (mod-lt (w / 2 ^ k) (lit< tt)))
 
 odd-odd : (a : ℕ) → odd (a % 2) ≡ odd a

@@ -1,4 +1,5 @@
--- The 32 words of a half by doubling: all of 2 ^ k words, and for each bit of their numbers those that have it. Assumes nothing.
+-- The 32 words of a half by doubling: all of 2 ^ k words, and for each bit of their numbers those that have it. Assumes
+-- nothing.
 use mathlib.Core.Path.{_≡_, refl, sym, ap, ap₂, _∙_}
 use mathlib.Core.Bool.{Bool, true, false}
 use mathlib.Core.List.{List}
@@ -79,7 +80,8 @@ module _ (img : List ℕ) (from : ℕ) where
   unfolding wordIn
   word-later n i = let e : from + 8 * (n + i) ≡ from + 8 * n + 8 * i = omega arith in rw e
 
-  all-both : (k : ℕ) → allWords img from (2 ^ suc k) ≡ allWords img (from + 8 * 2 ^ k) (2 ^ k) ⊕ allWords img from (2 ^ k)
+  all-both : (k : ℕ) → allWords img from (2 ^ suc k) ≡ allWords img (from + 8 * 2 ^ k) (2 ^ k) ⊕ allWords img from
+      (2 ^ k)
   unfolding allWords
   all-both k =
       ap (xorBelow (wordIn img from)) (twice k) ∙ xor-more (wordIn img from) (2 ^ k) (2 ^ k)
@@ -87,7 +89,8 @@ module _ (img : List ℕ) (from : ℕ) where
       (xor-same (λ i. wordIn img from (2 ^ k + i)) (wordIn img (from + 8 * 2 ^ k)) (2 ^ k) (λ i h. word-later (2 ^ k) i))
 
   halves-of : (j k : ℕ) → k < 5 → j < 5 → share img from j (2 ^ suc k)
-      ≡ xorBelow (λ i. pick (pick (eqb j k) true (bitOf i j)) (wordIn img (from + 8 * 2 ^ k) i) 0) (2 ^ k) ⊕ share img from j (2 ^ k)
+      ≡ xorBelow (λ i. pick (pick (eqb j k) true (bitOf i j)) (wordIn img (from + 8 * 2 ^ k) i) 0)
+      (2 ^ k) ⊕ share img from j (2 ^ k)
   unfolding share
   halves-of j k hk hj =
       ap (share img from j) (twice k) ∙ xor-more (λ i. pick (bitOf i j) (wordIn img from i) 0) (2 ^ k) (2 ^ k)
@@ -103,7 +106,8 @@ module _ (img : List ℕ) (from : ℕ) where
       ∙ xor-zeros (2 ^ k)
 
   share-both : (j k : ℕ) → k < 5 → j < 5
-      → share img from j (2 ^ suc k) ≡ pick (eqb j k) (allWords img (from + 8 * 2 ^ k) (2 ^ k)) (share img (from + 8 * 2 ^ k) j (2 ^ k) ⊕ share img from j (2 ^ k))
+      → share img from j (2 ^ suc k) ≡ pick (eqb j k) (allWords img (from + 8 * 2 ^ k) (2 ^ k))
+      (share img (from + 8 * 2 ^ k) j (2 ^ k) ⊕ share img from j (2 ^ k))
   unfolding allWords share
   share-both j k hk hj = elim (ℕ-discrete j k) [
     | yes e ↦ halves-of j k hk hj
@@ -112,11 +116,13 @@ module _ (img : List ℕ) (from : ℕ) where
   ]
 
   -- 2 ^ k words and the next 2 ^ k
-  joins : (k : ℕ) (lo hi s : Sums) → k < 5 → Summed img from k lo → Summed img (from + 8 * 2 ^ k) k hi → s .all ≡ hi .all ⊕ lo .all
+  joins : (k : ℕ) (lo hi s : Sums) → k < 5 → Summed img from k lo → Summed img (from + 8 * 2 ^ k) k hi
+      → s .all ≡ hi .all ⊕ lo .all
       → ((j : ℕ) → j < 5 → by s j ≡ pick (eqb j k) (hi .all) (by hi j ⊕ by lo j)) → Summed img from (suc k) s
   joins k lo hi s hk a b e f = record {
     all-is = e ∙ ap₂ _⊕_ (b .all-is) (a .all-is) ∙ sym (all-both k);
-    by-is = λ j hj. f j hj ∙ ap₂ (λ (x y : ℕ). pick (eqb j k) x y) (b .all-is) (ap₂ _⊕_ (b .by-is j hj) (a .by-is j hj)) ∙ sym (share-both j k hk hj);
+    by-is = λ j hj. f j hj ∙ ap₂ (λ (x y : ℕ). pick (eqb j k) x y) (b .all-is) (ap₂ _⊕_ (b .by-is j hj) (a .by-is j hj))
+        ∙ sym (share-both j k hk hj);
   }
 
 -- ---- the five levels, as the code has them
@@ -135,37 +141,45 @@ pub join-0 : (img : List ℕ) (from w : ℕ) → w ≡ wordAt img from 8 → Sum
 unfolding allWords share xorBelow wordIn
 join-0 img from w e = record {
   all-is = e ∙ sym (none-right (wordAt img (from + 8 * 0) 8) ∙ ap (λ (x : ℕ). wordAt img x 8) (add-zero from));
-  by-is = five (λ j. by (sums w 0 0 0 0 0) j ≡ share img from j 1) (sym (none-left 0)) (sym (none-left 0)) (sym (none-left 0)) (sym (none-left 0)) (sym (none-left 0));
+  by-is = five (λ j. by (sums w 0 0 0 0 0) j ≡ share img from j 1) (sym (none-left 0)) (sym (none-left 0))
+      (sym (none-left 0)) (sym (none-left 0)) (sym (none-left 0));
 }
 
 module _ (img : List ℕ) (from : ℕ) (lo hi : Sums) where
   pub join-1 : Summed img from 0 lo → Summed img (from + 8) 0 hi
-      → Summed img from 1 (sums (bitXor (hi .all) (lo .all)) (hi .all) (bitXor (hi .second) (lo .second)) (bitXor (hi .third) (lo .third)) (bitXor (hi .fourth) (lo .fourth)) (bitXor (hi .fifth) (lo .fifth)))
+      → Summed img from 1 (sums (bitXor (hi .all) (lo .all)) (hi .all) (bitXor (hi .second) (lo .second))
+      (bitXor (hi .third) (lo .third)) (bitXor (hi .fourth) (lo .fourth)) (bitXor (hi .fifth) (lo .fifth)))
   join-1 a b = joins img from 0 lo hi _ (lit< tt) a b (xor-is _ _) (five _ refl (xor-is _ _) (xor-is _ _) (xor-is _ _) (xor-is _ _))
 
   pub join-2 : Summed img from 1 lo → Summed img (from + 16) 1 hi
-      → Summed img from 2 (sums (bitXor (hi .all) (lo .all)) (bitXor (hi .first) (lo .first)) (hi .all) (bitXor (hi .third) (lo .third)) (bitXor (hi .fourth) (lo .fourth)) (bitXor (hi .fifth) (lo .fifth)))
+      → Summed img from 2 (sums (bitXor (hi .all) (lo .all)) (bitXor (hi .first) (lo .first)) (hi .all)
+      (bitXor (hi .third) (lo .third)) (bitXor (hi .fourth) (lo .fourth)) (bitXor (hi .fifth) (lo .fifth)))
   join-2 a b = joins img from 1 lo hi _ (lit< tt) a b (xor-is _ _) (five _ (xor-is _ _) refl (xor-is _ _) (xor-is _ _) (xor-is _ _))
 
   pub join-4 : Summed img from 2 lo → Summed img (from + 32) 2 hi
-      → Summed img from 3 (sums (bitXor (hi .all) (lo .all)) (bitXor (hi .first) (lo .first)) (bitXor (hi .second) (lo .second)) (hi .all) (bitXor (hi .fourth) (lo .fourth)) (bitXor (hi .fifth) (lo .fifth)))
+      → Summed img from 3 (sums (bitXor (hi .all) (lo .all)) (bitXor (hi .first) (lo .first))
+      (bitXor (hi .second) (lo .second)) (hi .all) (bitXor (hi .fourth) (lo .fourth)) (bitXor (hi .fifth) (lo .fifth)))
   join-4 a b = joins img from 2 lo hi _ (lit< tt) a b (xor-is _ _) (five _ (xor-is _ _) (xor-is _ _) refl (xor-is _ _) (xor-is _ _))
 
   pub join-8 : Summed img from 3 lo → Summed img (from + 64) 3 hi
-      → Summed img from 4 (sums (bitXor (hi .all) (lo .all)) (bitXor (hi .first) (lo .first)) (bitXor (hi .second) (lo .second)) (bitXor (hi .third) (lo .third)) (hi .all) (bitXor (hi .fifth) (lo .fifth)))
+      → Summed img from 4 (sums (bitXor (hi .all) (lo .all)) (bitXor (hi .first) (lo .first))
+      (bitXor (hi .second) (lo .second)) (bitXor (hi .third) (lo .third)) (hi .all) (bitXor (hi .fifth) (lo .fifth)))
   join-8 a b = joins img from 3 lo hi _ (lit< tt) a b (xor-is _ _) (five _ (xor-is _ _) (xor-is _ _) (xor-is _ _) refl (xor-is _ _))
 
   pub join-16 : Summed img from 4 lo → Summed img (from + 128) 4 hi
-      → Summed img from 5 (sums (bitXor (hi .all) (lo .all)) (bitXor (hi .first) (lo .first)) (bitXor (hi .second) (lo .second)) (bitXor (hi .third) (lo .third)) (bitXor (hi .fourth) (lo .fourth)) (hi .all))
+      → Summed img from 5 (sums (bitXor (hi .all) (lo .all)) (bitXor (hi .first) (lo .first))
+      (bitXor (hi .second) (lo .second)) (bitXor (hi .third) (lo .third)) (bitXor (hi .fourth) (lo .fourth)) (hi .all))
   join-16 a b = joins img from 4 lo hi _ (lit< tt) a b (xor-is _ _) (five _ (xor-is _ _) (xor-is _ _) (xor-is _ _) (xor-is _ _) refl)
 
 -- ---- the numbers of the words with odd ones, by their bits
 -- the exchange of two sums
-xor-swap : (g : ℕ → ℕ → ℕ) (k l : ℕ) → xorBelow (λ i. xorBelow (λ j. g i j) l) k ≡ xorBelow (λ j. xorBelow (λ i. g i j) k) l
+xor-swap : (g : ℕ → ℕ → ℕ) (k l : ℕ) → xorBelow (λ i. xorBelow (λ j. g i j) l) k ≡ xorBelow (λ j. xorBelow
+    (λ i. g i j) k) l
 unfolding xorBelow
 xor-swap g zero l = sym (xor-zeros l)
 xor-swap g (suc k) l =
-    ap (λ (x : ℕ). xorBelow (λ j. g k j) l ⊕ x) (xor-swap g k l) ∙ sym (xor-both (λ j. g k j) (λ j. xorBelow (λ i. g i j) k) l)
+    ap (λ (x : ℕ). xorBelow (λ j. g k j) l ⊕ x) (xor-swap g k l)
+    ∙ sym (xor-both (λ j. g k j) (λ j. xorBelow (λ i. g i j) k) l)
 
 odd-all : (w : ℕ) → w < 2 ^ 64 → oddBelow (bitOf w) 64 ≡ oddOnes w
 unfolding oddOnes
@@ -177,7 +191,8 @@ unfolding overBits
 pick-ones x w h = ap (λ (b : Bool). pick b x 0) (sym (odd-all w h)) ∙ sym (xor-const (bitOf w) x 64)
 
 -- and over any words
-ones-both : (x : ℕ) (row : ℕ → ℕ) (k : ℕ) → ((i : ℕ) → row i < 2 ^ 64) → xorBelow (λ i. pick (oddOnes (row i)) x 0) k ≡ pick (oddOnes (xorBelow row k)) x 0
+ones-both : (x : ℕ) (row : ℕ → ℕ) (k : ℕ) → ((i : ℕ) → row i < 2 ^ 64) → xorBelow (λ i. pick (oddOnes (row i)) x 0) k
+    ≡ pick (oddOnes (xorBelow row k)) x 0
 ones-both x row k h =
     xor-same (λ i. pick (oddOnes (row i)) x 0) (λ i. overBits (λ j. x) 64 (row i)) k (λ i l. pick-ones x (row i) (h i))
     ∙ columns (λ j. x) 64 row k
@@ -216,10 +231,12 @@ module _ (img : List ℕ) (bytes : (i : ℕ) → byteAt img i < 256) (from : ℕ
       ∙ xor-swap (λ i j. pick (oddOnes (pick (bitOf i j) (wordIn img from i) 0)) (2 ^ j) 0) 32 5
       ∙ xor-same (λ j. xorBelow (λ i. pick (oddOnes (pick (bitOf i j) (wordIn img from i) 0)) (2 ^ j) 0) 32)
       (λ j. pick (oddOnes (share img from j 32)) (2 ^ j) 0) 5
-      (λ j h. ones-both (2 ^ j) (λ i. pick (bitOf i j) (wordIn img from i) 0) 32 (λ i. pick-below (bitOf i j) (wordIn img from i) (2 ^ 64) (in-below img bytes from i)))
+      (λ j h. ones-both (2 ^ j) (λ i. pick (bitOf i j) (wordIn img from i) 0) 32
+      (λ i. pick-below (bitOf i j) (wordIn img from i) (2 ^ 64) (in-below img bytes from i)))
     where
       number : (i : ℕ) → i < 32
-          → pick (oddOnes (wordIn img from i)) i 0 ≡ xorBelow (λ j. pick (oddOnes (pick (bitOf i j) (wordIn img from i) 0)) (2 ^ j) 0) 5
+          → pick (oddOnes (wordIn img from i)) i 0 ≡ xorBelow (λ j. pick
+          (oddOnes (pick (bitOf i j) (wordIn img from i) 0)) (2 ^ j) 0) 5
       number i h =
           ap (λ (x : ℕ). pick (oddOnes (wordIn img from i)) x 0) (bits-are i h)
           ∙ pick-xor (oddOnes (wordIn img from i)) (λ j. pick (bitOf i j) (2 ^ j) 0) 5
@@ -227,13 +244,15 @@ module _ (img : List ℕ) (bytes : (i : ℕ) → byteAt img i < 256) (from : ℕ
           (λ j. pick (oddOnes (pick (bitOf i j) (wordIn img from i) 0)) (2 ^ j) 0) 5 (λ j l. pick-if (bitOf i j) (wordIn img from i) (2 ^ j))
 
 unfoldable pub rowsOf : Sums → ℕ
-rowsOf s = pick (oddOnes (s .fifth)) 16 0 ⊕ (pick (oddOnes (s .fourth)) 8 0 ⊕ (pick (oddOnes (s .third)) 4 0 ⊕ (pick (oddOnes (s .second)) 2 0 ⊕ pick (oddOnes (s .first)) 1 0)))
+rowsOf s = pick (oddOnes (s .fifth)) 16 0 ⊕
+    (pick (oddOnes (s .fourth)) 8 0 ⊕ (pick (oddOnes (s .third)) 4 0 ⊕ (pick (oddOnes (s .second)) 2 0 ⊕ pick (oddOnes (s .first)) 1 0)))
 
 five-of : (g : ℕ → ℕ) → xorBelow g 5 ≡ g 4 ⊕ (g 3 ⊕ (g 2 ⊕ (g 1 ⊕ g 0)))
 unfolding xorBelow
 five-of g = rw (none-right (g 0))
 
-module _ (s : Sums) (a b c d e : ℕ) (ea : a ≡ pick (oddOnes (s .first)) 1 0) (eb : b ≡ pick (oddOnes (s .second)) 2 0) (ec : c ≡ pick (oddOnes (s .third)) 4 0)
+module _ (s : Sums) (a b c d e : ℕ) (ea : a ≡ pick (oddOnes (s .first)) 1 0) (eb : b ≡ pick (oddOnes (s .second)) 2 0)
+    (ec : c ≡ pick (oddOnes (s .third)) 4 0)
     (ed : d ≡ pick (oddOnes (s .fourth)) 8 0) (ee : e ≡ pick (oddOnes (s .fifth)) 16 0) where
   pub rows-is : bitXor e (bitXor d (bitXor c (bitXor b a))) ≡ rowsOf s
   unfolding rowsOf _⊕_
@@ -247,11 +266,13 @@ module _ (s : Sums) (a b c d e : ℕ) (ea : a ≡ pick (oddOnes (s .first)) 1 0)
       (below 5 c (b ⊕ a) (rw ec (pick-below (oddOnes (s .third)) 4 32 (omega arith)))
       (below 5 b a (rw eb (pick-below (oddOnes (s .second)) 2 32 (omega arith))) (rw ea (pick-below (oddOnes (s .first)) 1 32 (omega arith))))))
 
-pub sums-end : (img : List ℕ) (from m r : ℕ) (s : Sums) → ((k : ℕ) → Fits w8 (byteAt img k)) → r ≡ sealed m (s .all) → m ≡ rowsOf s → Summed img from 5 s → r ≡ freshCode img from
+pub sums-end : (img : List ℕ) (from m r : ℕ) (s : Sums) → ((k : ℕ) → Fits w8 (byteAt img k)) → r ≡ sealed m (s .all)
+    → m ≡ rowsOf s → Summed img from 5 s → r ≡ freshCode img from
 unfolding rowsOf
 sums-end img from m r s bytes er em h =
     let by-bits : m ≡ oddWords img from 32
-    = em ∙ sym (odd-by-bits img (λ k. bytes k .fits) from ∙ five-of (λ j. pick (oddOnes (share img from j 32)) (2 ^ j) 0)
+    = em ∙ sym (odd-by-bits img (λ k. bytes k .fits) from
+    ∙ five-of (λ j. pick (oddOnes (share img from j 32)) (2 ^ j) 0)
     ∙ rw (← (h .by-is 0 (lit< tt)), ← (h .by-is 1 (lit< tt)), ← (h .by-is 2 (lit< tt)), ← (h .by-is 3 (lit< tt)), ← (h .by-is 4 (lit< tt)))) in
     half-is img from (s .all) m r bytes er (h .all-is) by-bits
 

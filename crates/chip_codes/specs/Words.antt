@@ -56,7 +56,8 @@ high-bits : (b w j : ℕ) → b < 256 → 8 ≤ j → (b + 256 * w) / 2 ^ j ≡ 
 high-bits b w j h k =
     let e : 8 + (j - 8) ≡ j = omega arith in
     let q : (b + 256 * w) / 256 ≡ w = omega arith in
-    sym (ap (λ (x : ℕ). x / 2 ^ (j - 8)) (sym q) ∙ shr-shr (b + 256 * w) 8 (j - 8) ∙ ap (λ (x : ℕ). (b + 256 * w) / 2 ^ x) e)
+    sym (ap (λ (x : ℕ). x / 2 ^ (j - 8)) (sym q) ∙ shr-shr (b + 256 * w) 8 (j - 8)
+    ∙ ap (λ (x : ℕ). (b + 256 * w) / 2 ^ x) e)
 
 module _ (img : List ℕ) (bytes : (i : ℕ) → byteAt img i < 256) where
   pub word-bit : (n at j : ℕ) → j < 8 * n → bitOf (wordAt img at n) j ≡ bitOf (byteAt img (at + j / 8)) (j % 8)
@@ -138,10 +139,12 @@ pick-none true = refl
 pick-none false = refl
 
 two-numbers : (s : ℕ → Bool) → xorBelow (λ i. pick (s i) i 0) 2 ≡ pick (s 1) 1 0
-two-numbers s = two-rows (λ i. pick (s i) i 0) ∙ ap (λ (x : ℕ). pick (s 1) 1 0 ⊕ x) (pick-none (s 0)) ∙ none-right (pick (s 1) 1 0)
+two-numbers s = two-rows (λ i. pick (s i) i 0) ∙ ap (λ (x : ℕ). pick (s 1) 1 0 ⊕ x) (pick-none (s 0))
+    ∙ none-right (pick (s 1) 1 0)
 
 -- a word folded in two
-pub folded : (p w : ℕ) → inWord (2 ^ p * 2) w ≡ 2 ^ p * pick (oddOnes (w / 2 ^ (2 ^ p) % 2 ^ (2 ^ p))) 1 0 ⊕ inWord (2 ^ p) (w / 2 ^ (2 ^ p) ⊕ w)
+pub folded : (p w : ℕ) → inWord (2 ^ p * 2) w ≡ 2 ^ p * pick (oddOnes (w / 2 ^ (2 ^ p) % 2 ^ (2 ^ p))) 1 0 ⊕ inWord
+    (2 ^ p) (w / 2 ^ (2 ^ p) ⊕ w)
 unfolding overBits oddOnes
 folded p w =
     let first : w / 2 ^ (2 ^ p * 0) ≡ w = rw mul-zero (div-one w) in
@@ -149,5 +152,6 @@ folded p w =
     row-numbers p (bitOf w) (λ i. w / 2 ^ (2 ^ p * i)) 2 (λ i j h l. ap odd (sym (shr-shr w (2 ^ p * i) j)))
     ∙ ap₂ (λ (x y : ℕ). 2 ^ p * x ⊕ inWord (2 ^ p) y)
     (two-numbers (λ i. oddBelow (bitOf (w / 2 ^ (2 ^ p * i))) (2 ^ p))
-    ∙ ap (λ (b : Bool). pick b 1 0) (ap (λ (x : ℕ). oddBelow (bitOf x) (2 ^ p)) second ∙ odd-ones (w / 2 ^ (2 ^ p)) (2 ^ p)))
+    ∙ ap (λ (b : Bool). pick b 1 0) (ap (λ (x : ℕ). oddBelow (bitOf x) (2 ^ p)) second
+    ∙ odd-ones (w / 2 ^ (2 ^ p)) (2 ^ p)))
     (two-rows (λ i. w / 2 ^ (2 ^ p * i)) ∙ ap₂ _⊕_ second first)

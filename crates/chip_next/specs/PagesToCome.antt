@@ -31,7 +31,8 @@ module _ (er : ℕ → Bool) (ps : List ℕ) (q : ℕ) where
   free-stop i zero e h g = absurd (omega arith)
   free-stop i (suc k) e h g = sym (e ∙ rw (eq-eqb q (getD ps k 0) (sym (rw sub-one at g))))
 
-  pub free-go : (i k : ℕ) → free er ps i q ≡ free er ps k q → 0 < k → (getD ps (k - 1) 0 ≡ q → ⊥) → free er ps i q ≡ free er ps (k - 1) q
+  pub free-go : (i k : ℕ) → free er ps i q ≡ free er ps k q → 0 < k → (getD ps (k - 1) 0 ≡ q → ⊥)
+      → free er ps i q ≡ free er ps (k - 1) q
   unfolding free
   free-go i zero e h g = absurd (omega arith)
   free-go i (suc k) e h g = e ∙ rw (ne-eqb q (getD ps k 0) (λ z. g (rw sub-one (sym z))), sub-one)
@@ -64,10 +65,12 @@ module _ (p : ℕ) (er : ℕ → Bool) where
   pub whole-start : (a : ℕ) → least 0 (whole p er a) ≡ 0
   whole-start a = sym (least-zero (whole p er a))
 
-  pub whole-go : (a b : ℕ) (r : Bool) → least b (whole p er a) ≡ b → r ≡ whole p er a b → r ≡ false → least (b + 1) (whole p er a) ≡ b + 1
+  pub whole-go : (a b : ℕ) (r : Bool) → least b (whole p er a) ≡ b → r ≡ whole p er a b → r ≡ false
+      → least (b + 1) (whole p er a) ≡ b + 1
   whole-go a b r e er′ q = least-go (whole p er a) b e (sym er′ ∙ q)
 
-  pub whole-hit : (n a b : ℕ) (r : Bool) → least b (whole p er a) ≡ b → r ≡ whole p er a b → r ≡ true → b < n → b ≡ least n (whole p er a)
+  pub whole-hit : (n a b : ℕ) (r : Bool) → least b (whole p er a) ≡ b → r ≡ whole p er a b → r ≡ true → b < n
+      → b ≡ least n (whole p er a)
   whole-hit n a b r e er′ q h = sym (least-hit (whole p er a) n b e (sym er′ ∙ q) h)
 
   pub whole-end : (n a b : ℕ) → least b (whole p er a) ≡ b → b ≤ n → n ≤ b → b ≡ least n (whole p er a)
@@ -99,12 +102,14 @@ module _ (p : ℕ) (er : ℕ → Bool) where
     unfolding wholeAfter round
     round-start v ev h = ev ∙ rw whole-all (sym (rw (← later-is, le-ltb j n h) refl))
 
-  pub next-round : (n m b v last : ℕ) (ps : List ℕ) → v ≡ wholeAfter p n (free er ps 0) b → b ≡ last / p → m ≡ least n (mixed p er) → n ≤ m
+  pub next-round : (n m b v last : ℕ) (ps : List ℕ) → v ≡ wholeAfter p n (free er ps 0) b → b ≡ last / p
+      → m ≡ least n (mixed p er) → n ≤ m
       → v ≡ nextBlock p n (seen er last)
   unfolding nextBlock wholeAfter free
   next-round n m b v last ps ev eb em none = ev ∙ rw eb (sym (rw (← em, le-ltb m n none) refl))
 
-  pub after-is : (n b j last r : ℕ) → r ≡ p * b + j → b ≡ nextBlock p n (seen er last) → j ≡ firstIn p er b → r ≡ nextPage p n (seen er last)
+  pub after-is : (n b j last r : ℕ) → r ≡ p * b + j → b ≡ nextBlock p n (seen er last) → j ≡ firstIn p er b
+      → r ≡ nextPage p n (seen er last)
   after-is n b j last r e eb ej = e ∙ rw (ej, eb)
 
 -- a page of 16 bits' worth of blocks and of pages in each
@@ -116,7 +121,8 @@ page-low p b j r e h fp fb =
 
 -- ---- the page after one
 pub ends-none : (x p w : ℕ) → w ≡ p → w ≡ 0 → false ≡ eqb (suc x % p) 0
-ends-none x p w e z = sym (ap (λ y. eqb (suc x % y) 0) (sym e ∙ z) ∙ rw (mod-zero (suc x)) (ne-eqb (suc x) 0 (λ q. let r : suc x ≡ 0 = q in omega arith)))
+ends-none x p w e z = sym (ap (λ y. eqb (suc x % y) 0) (sym e ∙ z)
+    ∙ rw (mod-zero (suc x)) (ne-eqb (suc x) 0 (λ q. let r : suc x ≡ 0 = q in omega arith)))
 
 pub ends-is : (x p y w : ℕ) → y ≡ x → w ≡ p → eqb ((y + 1) % w) 0 ≡ eqb (suc x % p) 0
 ends-is x p y w e f = rw (add-one y, e, f)
@@ -130,7 +136,8 @@ module _ (p n x : ℕ) (er : ℕ → Bool) (t : Bool) (et : t ≡ eqb (suc x % p
   unfolding nextAfter wholeAfter
   goes-round b v r e ev eb q = e ∙ rw (ev, eb) (sym (rw (← et, q) refl))
 
-pub after-none : (p n x r : ℕ) (er : ℕ → Bool) (ps : List ℕ) → r ≡ nextAfter p n (free er ps 0) x → r ≡ nextAfter p n er x
+pub after-none : (p n x r : ℕ) (er : ℕ → Bool) (ps : List ℕ) → r ≡ nextAfter p n (free er ps 0) x
+    → r ≡ nextAfter p n er x
 unfolding free
 after-none p n x r er ps e = e
 
@@ -146,19 +153,22 @@ module _ (p n root x : ℕ) (er : ℕ → Bool) (t : Bool) (et : t ≡ eqb (x % 
   unfolding nextErased
   erased-stays q = sym (rw (← et, q) refl)
 
-  pub erased-round : (b v r : ℕ) (ps : List ℕ) → r ≡ p * v → v ≡ wholeAfter p n (free er ps 0) b → b ≡ root / p → t ≡ true → r ≡ nextErased p n er root x
+  pub erased-round : (b v r : ℕ) (ps : List ℕ) → r ≡ p * v → v ≡ wholeAfter p n (free er ps 0) b → b ≡ root / p
+      → t ≡ true → r ≡ nextErased p n er root x
   unfolding nextErased wholeAfter free
   erased-round b v r ps e ev eb q = e ∙ rw (ev, eb) (sym (rw (← et, q) refl))
 
 -- ---- the pages to come
 module _ (p n : ℕ) where
   -- the page after the i-th one, and the erased pages then
-  from-suc : (er : ℕ → Bool) (x i : ℕ) → pageFrom p n er x (suc i) ≡ nextAfter p n (erasedFrom p n er x (suc i)) (pageFrom p n er x i)
+  from-suc : (er : ℕ → Bool) (x i : ℕ) → pageFrom p n er x (suc i) ≡ nextAfter p n (erasedFrom p n er x (suc i))
+      (pageFrom p n er x i)
   unfolding pageFrom erasedFrom
   from-suc er x zero = refl
   from-suc er x (suc i) = from-suc (after x er) (nextAfter p n (after x er) x) i
 
-  erased-suc : (er : ℕ → Bool) (x i q : ℕ) → erasedFrom p n er x (suc i) q ≡ after (pageFrom p n er x i) (erasedFrom p n er x i) q
+  erased-suc : (er : ℕ → Bool) (x i q : ℕ) → erasedFrom p n er x (suc i) q ≡ after (pageFrom p n er x i)
+      (erasedFrom p n er x i) q
   unfolding pageFrom erasedFrom
   erased-suc er x zero q = refl
   erased-suc er x (suc i) q = erased-suc (after x er) (nextAfter p n (after x er) x) i q
@@ -171,7 +181,8 @@ module _ (p n : ℕ) where
     free-from (suc k) ps c q =
         rw (c .at k (omega arith), free-from k ps (record { at = λ i h. c .at i (omega arith) }) q) (sym (erased-suc er x k q))
 
-    next-from : (k page y : ℕ) (ps : List ℕ) → Coming p n er x k ps → page ≡ pageFrom p n er x (k - 1) → 1 ≤ k → y ≡ nextAfter p n (free er ps k) page
+    next-from : (k page y : ℕ) (ps : List ℕ) → Coming p n er x k ps → page ≡ pageFrom p n er x (k - 1) → 1 ≤ k
+        → y ≡ nextAfter p n (free er ps k) page
         → y ≡ pageFrom p n er x k
     next-from zero page y ps c e h ey = absurd (omega arith)
     next-from (suc k) page y ps c e h ey =
@@ -186,16 +197,19 @@ module _ (p n : ℕ) where
     unfolding pageFrom
     page-one = refl
 
-    pub page-more : (k page y : ℕ) (ps : List ℕ) → Coming p n er x k ps → page ≡ pageFrom p n er x (k - 1) → 1 ≤ k → y ≡ nextAfter p n (free er ps k) page
+    pub page-more : (k page y : ℕ) (ps : List ℕ) → Coming p n er x k ps → page ≡ pageFrom p n er x (k - 1) → 1 ≤ k
+        → y ≡ nextAfter p n (free er ps k) page
         → y ≡ pageFrom p n er x (k + 1 - 1)
     page-more k page y ps c e h ey = let q : k + 1 - 1 ≡ k = omega arith in rw q (next-from k page y ps c e h ey)
 
-    pub coming-more : (k page y : ℕ) (ps : List ℕ) → Coming p n er x k ps → page ≡ pageFrom p n er x (k - 1) → 1 ≤ k → y ≡ nextAfter p n (free er ps k) page
+    pub coming-more : (k page y : ℕ) (ps : List ℕ) → Coming p n er x k ps → page ≡ pageFrom p n er x (k - 1) → 1 ≤ k
+        → y ≡ nextAfter p n (free er ps k) page
         → length ps ≡ 256 → k < 256 → Coming p n er x (k + 1) (set ps k y)
     coming-more k page y ps c e some ey len h = record {
       at = λ i j. by-lt i k
           (λ b. getD-set-other ps k i y 0 (omega arith) ∙ c .at i b)
-          (λ b. let q : i ≡ k = omega arith in rw q (getD-set-same ps k y 0 (omega arith) ∙ next-from k page y ps c e some ey));
+          (λ b. let q : i ≡ k = omega arith in rw q (getD-set-same ps k y 0 (omega arith)
+          ∙ next-from k page y ps c e some ey));
     }
 
     pub coming-done : (k m : ℕ) (ps : List ℕ) → Coming p n er x k ps → m ≤ k → Coming p n er x m ps

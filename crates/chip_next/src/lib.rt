@@ -155,12 +155,13 @@ fn ends_block(g: Geometry, page: u32) -> bool
     (geometry::index(page) + 1) % pages == 0
 }
 
-// The page after a chosen one: the next of its block; past the block's end page 0 of the first wholly erased block after
-// it, round past the end to the start.
+// The page after a chosen one: the next of its block; past the block's end page 0 of the first wholly erased block
+// after it, round past the end to the start.
 fn page_after(g: Geometry, img: &[u8], taken: &[u32; 256], i: usize, n: u16, page: u32) -> u32
     requires { ⌜ (i ≤ 256) × (page < 4294967295) ⌝ }
     ensures { λ r.
-        ⌜ (r ≡ nextAfter (g .pages) n (free (erased g (now (img .entry))) (now (taken .entry)) i) page) × (r ≤ max (page + 1) 4294836225) ⌝ }
+        ⌜ (r ≡ nextAfter (g .pages) n (free (erased g (now (img .entry))) (now (taken .entry)) i) page) ×
+        (r ≤ max (page + 1) 4294836225) ⌝ }
 {
     if ends_block(g, page) {
         let block = round_block(g, img, taken, i, n, block_of(g, page));
@@ -172,7 +173,8 @@ fn page_after(g: Geometry, img: &[u8], taken: &[u32; 256], i: usize, n: u16, pag
 // The page after one just programmed.
 pub fn next_after(g: Geometry, img: &[u8], n: u16, page: u32) -> u32
     requires { ⌜ page < 4294967295 ⌝ }
-    ensures { λ r. ⌜ (r ≡ nextAfter (g .pages) n (erased g (now (img .entry))) page) × (r ≤ max (page + 1) 4294836225) ⌝ }
+    ensures { λ r. ⌜ (r ≡ nextAfter (g .pages) n (erased g (now (img .entry))) page) ×
+        (r ≤ max (page + 1) 4294836225) ⌝ }
 {
     let none = no_pages();
     page_after(g, img, &none, 0, n, page)

@@ -1,4 +1,5 @@
-// A page as it is built, in a buffer of 2112 bytes whose first bytes are the page. A put outside the buffer changes nothing.
+// A page as it is built, in a buffer of 2112 bytes whose first bytes are the page. A put outside the buffer changes
+// nothing.
 ghost use mathlib.Core.Path.{_≡_};
 ghost use mathlib.Core.List.{[]};
 ghost use Prim.Native.Nat.{_+_, _*_, _-_, _/_, _%_, _≤_, _<_};

@@ -45,7 +45,8 @@ module _ (img : List ℕ) (at n k : ℕ) (e : blank img at n ≡ blank img at k)
   pub run-stop : (m : ℕ) (r : Bool) → r ≡ blank img (at + (k - m)) m → m ≤ k → not r ≡ true → false ≡ blank img at n
   run-stop m r f h q = sym (e ∙ blank-down img at k m h ∙ simp (← f, not-true r q, and-false))
 
-  pub run-go : (m : ℕ) (r : Bool) → r ≡ blank img (at + (k - m)) m → m ≤ k → not r ≡ false → blank img at n ≡ blank img at (k - m)
+  pub run-go : (m : ℕ) (r : Bool) → r ≡ blank img (at + (k - m)) m → m ≤ k → not r ≡ false
+      → blank img at n ≡ blank img at (k - m)
   run-go m r f h q = e ∙ blank-down img at k m h ∙ simp (← f, not-false r q, and-true)
 
   pub run-rest : (r : Bool) → r ≡ blank img at k → r ≡ blank img at n
@@ -78,7 +79,8 @@ both-tests x y a b c d split join = tests (eqb a b) (eqb c d) refl refl
     tests true false e f = simp (ne-eqb x y (λ g. eqb-false c d f (split g .1)), and-true)
     tests false t e f = simp (ne-eqb x y (λ g. eqb-false a b e (split g .0)), and-false)
 
-module _ (img : List ℕ) (at a b c d : ℕ) (ea : a ≡ byteAt img at) (eb : b ≡ byteAt img (at + 1)) (ec : c ≡ byteAt img (at + 2)) (ed : d ≡ byteAt img (at + 3)) where
+module _ (img : List ℕ) (at a b c d : ℕ) (ea : a ≡ byteAt img at) (eb : b ≡ byteAt img (at + 1)) (ec : c ≡ byteAt img
+    (at + 2)) (ed : d ≡ byteAt img (at + 3)) where
   four-bytes : (eqb a 255 & (eqb b 255 & (eqb c 255 & eqb d 255))) ≡ blank img at 4
   unfolding blank
   four-bytes =
@@ -86,7 +88,8 @@ module _ (img : List ℕ) (at a b c d : ℕ) (ea : a ≡ byteAt img at) (eb : b 
       let f : at + 2 + 1 ≡ at + 3 = omega arith in
       rw (e, f, ea, eb, ec, ed, and-last (eqb (byteAt img (at + 3)) 255))
 
-  pub four-full : a < 256 → b < 256 → c < 256 → d < 256 → eqb (a + 256 * b + 65536 * c + 16777216 * d) 4294967295 ≡ blank img at 4
+  pub four-full : a < 256 → b < 256 → c < 256 → d < 256 → eqb (a + 256 * b + 65536 * c + 16777216 * d) 4294967295
+      ≡ blank img at 4
   four-full ha hb hc hd =
       both-tests (a + 256 * b + 65536 * c + 16777216 * d) 4294967295 a 255 (b + 256 * c + 65536 * d) 16777215
       (λ e. (omega arith, omega arith)) (λ e f. omega arith)
@@ -95,7 +98,8 @@ module _ (img : List ℕ) (at a b c d : ℕ) (ea : a ≡ byteAt img at) (eb : b 
       ∙ ap (λ (t : Bool). eqb a 255 & (eqb b 255 & t)) (both-tests (c + 256 * d) 65535 c 255 d 255 (λ e. (omega arith, omega arith)) (λ e f. omega arith))
       ∙ four-bytes
 
-pub eight-full : (img : List ℕ) (at a b x y : ℕ) → eqb a 4294967295 ≡ blank img at 4 → eqb b 4294967295 ≡ blank img (at + 4) 4 → x ≡ a → y ≡ b
+pub eight-full : (img : List ℕ) (at a b x y : ℕ) → eqb a 4294967295 ≡ blank img at 4 → eqb b 4294967295 ≡ blank img
+    (at + 4) 4 → x ≡ a → y ≡ b
     → x < fourBytes → y < fourBytes → eqb (x + fourBytes * y) 18446744073709551615 ≡ blank img at 8
 eight-full img at a b x y ea eb ex ey hx hy =
     both-tests (x + fourBytes * y) 18446744073709551615 b 4294967295 a 4294967295
@@ -116,7 +120,8 @@ and-turn true false = refl
 and-turn false true = refl
 and-turn false false = refl
 
-pub pair-full : (img : List ℕ) (at k m a b r : ℕ) → eqb r 18446744073709551615 ≡ (eqb a 18446744073709551615 & eqb b 18446744073709551615)
+pub pair-full : (img : List ℕ) (at k m a b r : ℕ) → eqb r 18446744073709551615
+    ≡ (eqb a 18446744073709551615 & eqb b 18446744073709551615)
     → eqb a 18446744073709551615 ≡ blank img at k → eqb b 18446744073709551615 ≡ blank img (at + k) k → m ≡ k + k
     → eqb r 18446744073709551615 ≡ blank img at m
 pair-full img at k m a b r e ea eb em = e ∙ rw (ea, eb, em) (and-turn _ _ ∙ sym (blank-parts img k k at))

@@ -36,14 +36,16 @@ few g img h = fails (eqb (length img % blockBytes g) 0)
 pub length-none : (g : Geometry) (img : List ℕ) (b : ℕ) → b ≡ blockBytes g → b ≡ 0 → false ≡ goodLength g img
 length-none g img b e z = few g img (rw (← (blocks-none g img b e z)) (omega arith))
 
-pub length-odd : (g : Geometry) (img : List ℕ) (b : ℕ) → b ≡ blockBytes g → (length img % b ≡ 0 → ⊥) → false ≡ goodLength g img
+pub length-odd : (g : Geometry) (img : List ℕ) (b : ℕ) → b ≡ blockBytes g → (length img % b ≡ 0 → ⊥)
+    → false ≡ goodLength g img
 unfolding goodLength
 length-odd g img b e h = simp (← e, ne-eqb _ _ h, and-false)
 
 pub length-few : (g : Geometry) (img : List ℕ) (n : ℕ) → n ≡ blocksOf g img → n < 3 → false ≡ goodLength g img
 length-few g img n e h = few g img (rw (← e) h)
 
-pub length-even : (g : Geometry) (img : List ℕ) (b n : ℕ) → b ≡ blockBytes g → n ≡ blocksOf g img → length img % b ≡ 0 → 3 ≤ n
+pub length-even : (g : Geometry) (img : List ℕ) (b n : ℕ) → b ≡ blockBytes g → n ≡ blocksOf g img → length img % b ≡ 0
+    → 3 ≤ n
     → leb n 1024 ≡ goodLength g img
 unfolding goodLength
 length-even g img b n e f h k = simp (← e, ← f, eq-eqb _ _ h, le-leb _ _ k, and-true)
@@ -61,17 +63,20 @@ pub blocks-bad : (g : Geometry) (img : List ℕ) (b : Bool) → b ≡ goodLength
 unfolding goodBlocks
 blocks-bad g img b e q = simp (← e, not-true b q)
 
-pub blocks-over : (g : Geometry) (img : List ℕ) (b : Bool) (n : ℕ) → b ≡ goodLength g img → not b ≡ false → n ≡ blocksOf g img → 1024 < n
+pub blocks-over : (g : Geometry) (img : List ℕ) (b : Bool) (n : ℕ) → b ≡ goodLength g img → not b ≡ false
+    → n ≡ blocksOf g img → 1024 < n
     → 0 ≡ goodBlocks g img
 blocks-over g img b n e q f h = absurd (omega (arith, good-most g img (sym e ∙ not-false b q)))
 
-pub blocks-good : (g : Geometry) (img : List ℕ) (b : Bool) (n : ℕ) → b ≡ goodLength g img → not b ≡ false → n ≡ blocksOf g img → n ≡ goodBlocks g img
+pub blocks-good : (g : Geometry) (img : List ℕ) (b : Bool) (n : ℕ) → b ≡ goodLength g img → not b ≡ false
+    → n ≡ blocksOf g img → n ≡ goodBlocks g img
 unfolding goodBlocks
 blocks-good g img b n e q f = simp (← e, not-false b q, ← f)
 
 -- what the blocks say: none of a bad length, else all of them
 module _ (g : Geometry) (img : List ℕ) (n : ℕ) (e : n ≡ goodBlocks g img) where
-  by-length : (t : Bool) → goodLength g img ≡ t → (n ≡ 0 → goodLength g img ≡ false) × ((n ≡ 0 → ⊥) → (goodLength g img ≡ true) × (n ≡ blocksOf g img))
+  by-length : (t : Bool) → goodLength g img ≡ t → (n ≡ 0 → goodLength g img ≡ false) ×
+      ((n ≡ 0 → ⊥) → (goodLength g img ≡ true) × (n ≡ blocksOf g img))
   unfolding goodBlocks
   by-length true q =
       let f : n ≡ blocksOf g img = e ∙ simp q in

@@ -14,27 +14,32 @@ use Rattle.model.specs.Bytes.{u32At, countAt, entriesAt, nodePlace, nodeCount, 
 use Rattle.chip_read.specs.Chip.{entryAt}
 
 -- the count
-pub count-none : (g : Geometry) (img : List ℕ) (p l : ℕ) (b : Bool) → b ≡ inTable g l → not b ≡ true → 0 ≡ nodeCount g img p l
+pub count-none : (g : Geometry) (img : List ℕ) (p l : ℕ) (b : Bool) → b ≡ inTable g l → not b ≡ true
+    → 0 ≡ nodeCount g img p l
 unfolding nodeCount
 count-none g img p l b e q = simp (← e, not-true b q)
 
-pub count-over : (g : Geometry) (img : List ℕ) (p l n f : ℕ) (b : Bool) → b ≡ inTable g l → not b ≡ false → n ≡ countAt g img p l → f ≡ rootSlots g l
+pub count-over : (g : Geometry) (img : List ℕ) (p l n f : ℕ) (b : Bool) → b ≡ inTable g l → not b ≡ false
+    → n ≡ countAt g img p l → f ≡ rootSlots g l
     → f < n → f + 1 ≡ nodeCount g img p l
 unfolding nodeCount
 count-over g img p l n f b e q en ef h = simp (← e, not-false b q, ← en, ← ef, min-eq-right {n = suc f} {m = n} h) (omega arith)
 
-pub count-on : (g : Geometry) (img : List ℕ) (p l n f : ℕ) (b : Bool) → b ≡ inTable g l → not b ≡ false → n ≡ countAt g img p l → f ≡ rootSlots g l
+pub count-on : (g : Geometry) (img : List ℕ) (p l n f : ℕ) (b : Bool) → b ≡ inTable g l → not b ≡ false
+    → n ≡ countAt g img p l → f ≡ rootSlots g l
     → n ≤ f → n ≡ nodeCount g img p l
 unfolding nodeCount
 count-on g img p l n f b e q en ef h = simp (← e, not-false b q, ← en, ← ef, min-eq-left {n = n} {m = suc f} (omega arith))
 
 -- the entries
-pub node-is : (g : Geometry) (img : List ℕ) (p l : ℕ) → nodeAt g img p l ≡ entriesAt img (nodePlace g p l) (nodeCount g img p l)
+pub node-is : (g : Geometry) (img : List ℕ) (p l : ℕ) → nodeAt g img p l ≡ entriesAt img (nodePlace g p l)
+    (nodeCount g img p l)
 unfolding nodeAt
 node-is g img p l = refl
 
 -- the same with place and count as the code has them
-pub node-read : (g : Geometry) (img : List ℕ) (p l at n : ℕ) → at ≡ nodePlace g p l → n ≡ nodeCount g img p l → entriesAt img at n ≡ nodeAt g img p l
+pub node-read : (g : Geometry) (img : List ℕ) (p l at n : ℕ) → at ≡ nodePlace g p l → n ≡ nodeCount g img p l
+    → entriesAt img at n ≡ nodeAt g img p l
 unfolding nodeAt
 node-read g img p l at n e f = rw (e, f)
 
@@ -51,7 +56,8 @@ pub entries-none : (img : List ℕ) (at n : ℕ) → n ≡ 0 → entriesAt img a
 unfolding entriesAt
 entries-none img at n e = rw e
 
-pub entries-step : (img : List ℕ) (at n : ℕ) → (n ≡ 0 → ⊥) → entriesAt img at n ≡ entryAt img at ∷ entriesAt img (at + 8) (n - 1)
+pub entries-step : (img : List ℕ) (at n : ℕ) → (n ≡ 0 → ⊥) → entriesAt img at n ≡ entryAt img at ∷ entriesAt img
+    (at + 8) (n - 1)
 unfolding entriesAt entryAt
 entries-step img at zero h = absurd (h refl)
 entries-step img at (suc n) h = rw sub-one
@@ -74,7 +80,8 @@ pub entries-past : (img : List ℕ) (at n i : ℕ) → n ≤ i → entriesAt img
 entries-past img at n i h = entries-none img (at + 8 * i) (n - i) (omega arith)
 
 -- the i-th entry
-pub entries-at : (img : List ℕ) (at n i : ℕ) → i < n → getD (entriesAt img at n) i (record { key = 0; addr = 0 }) ≡ entryAt img (at + 8 * i)
+pub entries-at : (img : List ℕ) (at n i : ℕ) → i < n → getD (entriesAt img at n) i (record { key = 0; addr = 0 })
+    ≡ entryAt img (at + 8 * i)
 unfolding entriesAt entryAt
 entries-at img at zero i h = absurd (omega arith)
 entries-at img at (suc n) zero h =

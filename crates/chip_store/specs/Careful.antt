@@ -1,4 +1,5 @@
--- "program erased pages only": the stores of a list up to the first program of a page that is not erased. Definitions alone; assumes nothing.
+-- "program erased pages only": the stores of a list up to the first program of a page that is not erased. Definitions
+-- alone; assumes nothing.
 use mathlib.Core.Path.{_≡_}
 use mathlib.Core.Bool.{true}
 use mathlib.Core.List.{List, [], _∷_}

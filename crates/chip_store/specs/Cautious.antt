@@ -18,12 +18,14 @@ module _ (g : Geometry) where
   pub careful-cautious : (ss : List Store) (img : List ℕ) → Cautious g (careful g ss img) img
   unfolding careful Cautious
   careful-cautious [] img = tt
-  careful-cautious (program p bs ∷ ss) img = go (erased g img p) refl (careful-cautious ss (applyStore g (program p bs) img))
+  careful-cautious (program p bs ∷ ss) img =
+      go (erased g img p) refl (careful-cautious ss (applyStore g (program p bs) img))
     where
       then : List ℕ
       then = applyStore g (program p bs) img
 
-      go : (t : Bool) → erased g img p ≡ t → Cautious g (careful g ss then) then → Cautious g (pick t (program p bs ∷ careful g ss then) []) img
+      go : (t : Bool) → erased g img p ≡ t → Cautious g (careful g ss then) then
+          → Cautious g (pick t (program p bs ∷ careful g ss then) []) img
       go true e c = (e, c)
       go false e c = tt
   careful-cautious (erase b ∷ ss) img = careful-cautious ss (applyStore g (erase b) img)
@@ -67,16 +69,19 @@ module _ (g : Geometry) where
       more : List Store
       more = careful g ss (applyStore g (program p bs) img)
 
-      go : (t : Bool) → suc (length ss) ≤ length (pick t (program p bs ∷ more) []) → (length ss ≤ length more → more ≡ ss)
+      go : (t : Bool) → suc (length ss) ≤ length (pick t (program p bs ∷ more) [])
+          → (length ss ≤ length more → more ≡ ss)
           → pick t (program p bs ∷ more) [] ≡ program p bs ∷ ss
-      go true l f = ap (λ (l : List Store). program p bs ∷ l) (f (let z : suc (length ss) ≤ suc (length more) = l in omega arith))
+      go true l f = ap (λ (l : List Store). program p bs ∷ l) (f (let z : suc (length ss) ≤ suc (length more) = l in
+          omega arith))
       go false l f = absurd (let z : suc (length ss) ≤ 0 = l in omega arith)
   careful-whole (erase b ∷ ss) img h =
       ap (λ (l : List Store). erase b ∷ l) (careful-whole ss (applyStore g (erase b) img)
       (let z : suc (length ss) ≤ suc (length (careful g ss (applyStore g (erase b) img))) = h in omega arith))
 
   -- an append whose first part is made whole, and one whose first part is not
-  careful-on : (xs ys : List Store) (img : List ℕ) → Cautious g xs img → careful g (xs ++ ys) img ≡ xs ++ careful g ys (applyAll g xs img)
+  careful-on : (xs ys : List Store) (img : List ℕ) → Cautious g xs img → careful g (xs ++ ys) img ≡ xs ++ careful g ys
+      (applyAll g xs img)
   unfolding Cautious careful applyAll
   careful-on [] ys img c = refl
   careful-on (program p bs ∷ xs) ys img c =
@@ -87,7 +92,8 @@ module _ (g : Geometry) where
       → careful g (xs ++ ys) img ≡ xs ++ careful g ys (applyAll g xs img)
   append-whole xs ys img h = careful-on xs ys img (rw (careful-whole xs img h) at (careful-cautious xs img))
 
-  pub append-cut : (xs ys : List Store) (img : List ℕ) → length (careful g xs img) < length xs → careful g (xs ++ ys) img ≡ careful g xs img
+  pub append-cut : (xs ys : List Store) (img : List ℕ) → length (careful g xs img) < length xs
+      → careful g (xs ++ ys) img ≡ careful g xs img
   unfolding careful
   append-cut [] ys img h = absurd (let z : 0 < 0 = h in omega arith)
   append-cut (program p bs ∷ xs) ys img h = go (erased g img p) h (append-cut xs ys (applyStore g (program p bs) img))
@@ -98,9 +104,11 @@ module _ (g : Geometry) where
       all : List Store
       all = careful g (xs ++ ys) (applyStore g (program p bs) img)
 
-      go : (t : Bool) → length (pick t (program p bs ∷ more) []) < suc (length xs) → (length more < length xs → all ≡ more)
+      go : (t : Bool) → length (pick t (program p bs ∷ more) []) < suc (length xs)
+          → (length more < length xs → all ≡ more)
           → pick t (program p bs ∷ all) [] ≡ pick t (program p bs ∷ more) []
-      go true l f = ap (λ (l : List Store). program p bs ∷ l) (f (let z : suc (length more) < suc (length xs) = l in omega arith))
+      go true l f = ap (λ (l : List Store). program p bs ∷ l) (f (let z : suc (length more) < suc (length xs) = l in
+          omega arith))
       go false l f = refl
   append-cut (erase b ∷ xs) ys img h =
       ap (λ (l : List Store). erase b ∷ l) (append-cut xs ys (applyStore g (erase b) img)

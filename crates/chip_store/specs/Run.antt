@@ -20,8 +20,8 @@ halt b = record { left = 0; programmed = b .programmed; erased = b .erased; stop
 abbrev pub Countable : Budget → Type 0
 Countable b = b .left + b .programmed + b .erased < fourBytes
 
--- What a call that has the stores ss to make leaves of the budget b and the image i: the image after the first stores, as many as b allows and as
--- program erased pages only, the counts of those, and whether one more was asked for.
+-- What a call that has the stores ss to make leaves of the budget b and the image i: the image after the first stores,
+-- as many as b allows and as program erased pages only, the counts of those, and whether one more was asked for.
 pub record Ran (g : Geometry) (ss : List Store) (b r : Budget) (i o : List ℕ) : Type 0 where
   pub image : o ≡ applyAll g (madeOf g ss (b .left) i) i
   pub allowance : r .left ≡ pick (ltb (length (madeOf g ss (b .left) i)) (length ss)) 0 (b .left - length ss)

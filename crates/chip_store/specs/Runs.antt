@@ -21,7 +21,8 @@ use Rattle.chip_store.specs.Run.{Ran, halt}
 use Rattle.chip_store.specs.TwoStores.{program-cut}
 
 -- ---- append
-pub all-append : (g : Geometry) (xs ys : List Store) (i : List ℕ) → applyAll g (xs ++ ys) i ≡ applyAll g ys (applyAll g xs i)
+pub all-append : (g : Geometry) (xs ys : List Store) (i : List ℕ) → applyAll g (xs ++ ys) i ≡ applyAll g ys
+    (applyAll g xs i)
 unfolding applyAll
 all-append g [] ys i = refl
 all-append g (x ∷ xs) ys i = all-append g xs ys (applyStore g x i)
@@ -42,10 +43,13 @@ erases-append (erase b ∷ xs) ys = ap (λ (n : ℕ). 1 + n) (erases-append xs y
 pub take-append : {A : Type 0} (n : ℕ) (xs ys : List A) → take n (xs ++ ys) ≡ take n xs ++ take (n - length xs) ys
 take-append n [] ys = rw (sub-zero, take-nil n)
 take-append zero (x ∷ xs) ys = let q : 0 - length (x ∷ xs) ≡ 0 = omega arith in rw q
-take-append (suc n) (x ∷ xs) ys = ap (λ (l : List _). x ∷ l) (take-append n xs ys ∙ (let q : n - length xs ≡ suc n - suc (length xs) = omega arith in rw q))
+take-append (suc n) (x ∷ xs) ys = ap (λ (l : List _). x ∷ l) (take-append n xs ys
+    ∙ (let q : n - length xs ≡ suc n - suc (length xs) = omega arith in rw q))
 
--- what is made of an append: where the first list is not made whole, what is made of it; else that list, and what is made of the second
-made-first : (g : Geometry) (n : ℕ) (xs ys : List Store) (i : List ℕ) → length (madeOf g xs n i) < length xs → madeOf g (xs ++ ys) n i ≡ madeOf g xs n i
+-- what is made of an append: where the first list is not made whole, what is made of it; else that list, and what is
+-- made of the second
+made-first : (g : Geometry) (n : ℕ) (xs ys : List Store) (i : List ℕ) → length (madeOf g xs n i) < length xs
+    → madeOf g (xs ++ ys) n i ≡ madeOf g xs n i
 made-first g n xs ys i h = go (ltb (length (careful g xs i)) (length xs)) refl
   where
     go : (t : Bool) → ltb (length (careful g xs i)) (length xs) ≡ t → madeOf g (xs ++ ys) n i ≡ madeOf g xs n i
@@ -56,7 +60,8 @@ made-first g n xs ys i h = go (ltb (length (careful g xs i)) (length xs)) refl
         let k : length (take n xs) < length xs = rw q at h in
         let l : n < length xs = omega (arith, k, length-take n xs) in
         let z : n - length xs ≡ 0 = omega arith in
-        rw (append-whole g xs ys i w, q) (take-append n xs (careful g ys (applyAll g xs i)) ∙ rw z (append-nil (take n xs)))
+        rw (append-whole g xs ys i w, q) (take-append n xs (careful g ys (applyAll g xs i))
+        ∙ rw z (append-nil (take n xs)))
 
 module _ (g : Geometry) (n : ℕ) (xs : List Store) (i : List ℕ) (h : length xs ≤ length (madeOf g xs n i)) where
   made-reach : length xs ≤ n
@@ -109,7 +114,8 @@ module _ (g : Geometry) where
       }
 
   -- stores of which the first is not made
-  ran-refused : (ss : List Store) (b : Budget) (i : List ℕ) → 0 < length ss → madeOf g ss (b .left) i ≡ [] → Ran g ss b (halt b) i i
+  ran-refused : (ss : List Store) (b : Budget) (i : List ℕ) → 0 < length ss → madeOf g ss (b .left) i ≡ []
+      → Ran g ss b (halt b) i i
   unfolding applyAll programs erases
   ran-refused ss b i h e = record {
     image = rw e;
@@ -135,16 +141,21 @@ module _ (g : Geometry) where
   unfolding careful
   program-spared p bs b r i t er et f = rw er (ran-refused (program p bs ∷ []) b i (omega arith) (rw (← et, f) (take-nil {A = Store} (b .left))))
 
-  one : (s : Store) (b : Budget) (i : List ℕ) → careful g (s ∷ []) i ≡ s ∷ [] → (b .left ≡ 0 → ⊥) → madeOf g (s ∷ []) (b .left) i ≡ s ∷ []
+  one : (s : Store) (b : Budget) (i : List ℕ) → careful g (s ∷ []) i ≡ s ∷ [] → (b .left ≡ 0 → ⊥)
+      → madeOf g (s ∷ []) (b .left) i ≡ s ∷ []
   one s b i e h = rw e (take-all (b .left) (s ∷ []) (omega arith))
 
-  pub ran-program : (p : ℕ) (bs : List ℕ) (b : Budget) (i o : List ℕ) (t : Bool) → o ≡ applyStore g (program p bs) i → (b .left ≡ 0 → ⊥)
+  pub ran-program : (p : ℕ) (bs : List ℕ) (b : Budget) (i o : List ℕ) (t : Bool) → o ≡ applyStore g (program p bs) i
+      → (b .left ≡ 0 → ⊥)
       → t ≡ erased g i p → t ≡ true
-      → Ran g (program p (take (pageBytes g) bs) ∷ []) b (record { left = b .left - 1; programmed = b .programmed + 1; erased = b .erased; stopped = b .stopped }) i o
+      → Ran g (program p (take (pageBytes g) bs) ∷ []) b
+      (record { left = b .left - 1; programmed = b .programmed + 1; erased = b .erased; stopped = b .stopped }) i o
   unfolding applyAll programs erases careful
   ran-program p bs b i o t e h et f =
-      let q : madeOf g (program p (take (pageBytes g) bs) ∷ []) (b .left) i ≡ program p (take (pageBytes g) bs) ∷ [] = one _ b i (rw (← et, f)) h in
-      let u : ltb (length (madeOf g (program p (take (pageBytes g) bs) ∷ []) (b .left) i)) 1 ≡ false = rw q (le-ltb 1 1 (omega arith)) in
+      let q : madeOf g (program p (take (pageBytes g) bs) ∷ []) (b .left) i ≡ program p (take (pageBytes g) bs) ∷ [] =
+      one _ b i (rw (← et, f)) h in
+      let u : ltb (length (madeOf g (program p (take (pageBytes g) bs) ∷ []) (b .left) i)) 1 ≡ false =
+      rw q (le-ltb 1 1 (omega arith)) in
       record {
         image = rw q (e ∙ program-cut g p bs i);
         allowance = rw u;
@@ -155,7 +166,12 @@ module _ (g : Geometry) where
       }
 
   pub ran-erase : (k : ℕ) (b : Budget) (i o : List ℕ) → o ≡ applyStore g (erase k) i → (b .left ≡ 0 → ⊥)
-      → Ran g (erase k ∷ []) b (record { left = b .left - 1; programmed = b .programmed; erased = b .erased + 1; stopped = b .stopped }) i o
+      → Ran g (erase k ∷ []) b (record {
+        left = b .left - 1;
+        programmed = b .programmed;
+        erased = b .erased + 1;
+        stopped = b .stopped;
+      }) i o
   unfolding applyAll programs erases careful
   ran-erase k b i o e h =
       let q : madeOf g (erase k ∷ []) (b .left) i ≡ erase k ∷ [] = one _ b i refl h in
@@ -211,12 +227,14 @@ module _ (g : Geometry) where
       let z : r .left ≡ b .left - length xs = first .allowance ∙ rw t in
       let d : r .stopped ≡ b .stopped = first .stopped ∙ rw t (sym (stay (b .stopped))) in
       let e : m ≡ applyAll g xs i = rw a at (first .image) in
-      let q : madeOf g (xs ++ ys) (b .left) i ≡ xs ++ madeOf g ys (r .left) m = rw (z, e) (made-second g (b .left) xs i h ys) in
+      let q : madeOf g (xs ++ ys) (b .left) i ≡ xs ++ madeOf g ys (r .left) m =
+      rw (z, e) (made-second g (b .left) xs i h ys) in
       let u : ltb (length (madeOf g (xs ++ ys) (b .left) i)) (length (xs ++ ys)) ≡ ltb (length (madeOf g ys (r .left) m)) (length ys) =
       rw (q, length-append xs (madeOf g ys (r .left) m), length-append xs ys) (ltb-shift (length xs) (length (madeOf g ys (r .left) m)) (length ys)) in
       record {
         image = rw (q, all-append, ← e) (second .image);
-        allowance = rw u (second .allowance ∙ rw (z, length-append) (let y : b .left - length xs - length ys ≡ b .left - (length xs + length ys) = omega arith in rw y));
+        allowance = rw u (second .allowance ∙ rw (z, length-append)
+            (let y : b .left - length xs - length ys ≡ b .left - (length xs + length ys) = omega arith in rw y));
         programmed = rw (q, programs-append) (omega (arith, second .programmed, rw a at (first .programmed)));
         erased = rw (q, erases-append) (omega (arith, second .erased, rw a at (first .erased)));
         stopped = rw u (second .stopped ∙ rw d);
@@ -224,7 +242,8 @@ module _ (g : Geometry) where
       }
 
   -- one run after another
-  pub ran-then : (xs ys : List Store) (b r s : Budget) (i m o : List ℕ) → Ran g xs b r i m → Ran g ys r s m o → Ran g (xs ++ ys) b s i o
+  pub ran-then : (xs ys : List Store) (b r s : Budget) (i m o : List ℕ) → Ran g xs b r i m → Ran g ys r s m o
+      → Ran g (xs ++ ys) b s i o
   ran-then xs ys b r s i m o first second = go (ltb (length (madeOf g xs (b .left) i)) (length xs)) refl
     where
       go : (t : Bool) → ltb (length (madeOf g xs (b .left) i)) (length xs) ≡ t → Ran g (xs ++ ys) b s i o
@@ -232,24 +251,29 @@ module _ (g : Geometry) where
       go false e = then-second xs ys b r s i m o first second (ltb-false _ _ e)
 
   -- whether a run that began unstopped was stopped
-  short : (ss : List Store) (b r : Budget) (i o : List ℕ) → Ran g ss b r i o → b .stopped ≡ false → r .stopped ≡ ltb (length (madeOf g ss (b .left) i)) (length ss)
+  short : (ss : List Store) (b r : Budget) (i o : List ℕ) → Ran g ss b r i o → b .stopped ≡ false
+      → r .stopped ≡ ltb (length (madeOf g ss (b .left) i)) (length ss)
   short ss b r i o run e = run .stopped ∙ rw e
 
   -- a run that was stopped is a run of any longer list
-  pub ran-halted : (xs ys : List Store) (b r : Budget) (i o : List ℕ) → Ran g xs b r i o → b .stopped ≡ false → r .stopped ≡ true → Ran g (xs ++ ys) b r i o
+  pub ran-halted : (xs ys : List Store) (b r : Budget) (i o : List ℕ) → Ran g xs b r i o → b .stopped ≡ false
+      → r .stopped ≡ true → Ran g (xs ++ ys) b r i o
   ran-halted xs ys b r i o run e h =
       let z : r .left ≡ 0 = run .allowance ∙ rw (sym (short xs b r i o run e) ∙ h) in
       ran-then xs ys b r r i o o run (ran-nothing ys r o z h)
 
   -- in a run that was not stopped all the stores were made
-  pub ran-whole : (ss : List Store) (b r : Budget) (i o : List ℕ) → Ran g ss b r i o → b .stopped ≡ false → r .stopped ≡ false
+  pub ran-whole : (ss : List Store) (b r : Budget) (i o : List ℕ) → Ran g ss b r i o → b .stopped ≡ false
+      → r .stopped ≡ false
       → madeOf g ss (b .left) i ≡ ss
   ran-whole ss b r i o run e h = made-all g (b .left) ss i (ltb-false _ _ (sym (short ss b r i o run e) ∙ h))
 
-  pub ran-full : (ss : List Store) (b r : Budget) (i o : List ℕ) → Ran g ss b r i o → b .stopped ≡ false → r .stopped ≡ false → o ≡ applyAll g ss i
+  pub ran-full : (ss : List Store) (b r : Budget) (i o : List ℕ) → Ran g ss b r i o → b .stopped ≡ false
+      → r .stopped ≡ false → o ≡ applyAll g ss i
   ran-full ss b r i o run e h = rw (ran-whole ss b r i o run e h) at (run .image)
 
-  pub ran-made : (s : Store) (b r : Budget) (i o : List ℕ) → Ran g (s ∷ []) b r i o → b .stopped ≡ false → r .stopped ≡ false → o ≡ applyStore g s i
+  pub ran-made : (s : Store) (b r : Budget) (i o : List ℕ) → Ran g (s ∷ []) b r i o → b .stopped ≡ false
+      → r .stopped ≡ false → o ≡ applyStore g s i
   unfolding applyAll
   ran-made s b r i o run e h = ran-full (s ∷ []) b r i o run e h
 

@@ -43,7 +43,8 @@ fn copy_bytes(img: &mut [u8], at: usize, bytes: &[u8], n: usize)
 fn copy_part(part: &mut [u8], bytes: &[u8])
     requires { ⌜ length (now part) ≤ length (now bytes) ⌝ }
     ensures { λ _.
-        ⌜ now (part .exit) ≡ written (now (part .entry)) 0 (byteAt (now (bytes .entry))) (length (now (part .entry))) ⌝ }
+        ⌜ now (part .exit) ≡ written (now (part .entry)) 0 (byteAt (now (bytes .entry)))
+        (length (now (part .entry))) ⌝ }
 {
     let n = part.len();
     let mut j: usize = 0;
@@ -162,7 +163,8 @@ fn halted(b: Budget) -> Budget
 // Programs a page with the first bytes of a buffer, if the allowance has a store left and the page is erased.
 pub fn put_page(g: Geometry, img: &mut [u8], b: Budget, page: u32, bytes: &[u8]) -> Budget
     requires { ⌜ Countable b ⌝ }
-    ensures { λ r. ⌜ Ran g (Store.program page (take (pageBytes g) (now (bytes .entry))) ∷ []) b r (now (img .entry)) (now (img .exit)) ⌝ }
+    ensures { λ r. ⌜ Ran g (Store.program page (take (pageBytes g) (now (bytes .entry))) ∷ []) b r (now (img .entry))
+        (now (img .exit)) ⌝ }
 {
     if b.left == 0 {
         return halted(b);

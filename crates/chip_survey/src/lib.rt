@@ -52,7 +52,8 @@ fn holder(seq: u32, most: u32, page: u32, last: u32) -> u32
 
 // What is seen with one programmed page more.
 pub fn see_page(g: Geometry, img: &[u8], page: u32, height: u32, seq: u32, seen: Seen) -> Seen
-    requires { ⌜ (seen ≡ seenTo g (now img) page) × (erased g (now img) page ≡ false) × (height ≡ heightAt g (now img) page) × (seq ≡ seqAt g (now img) page) ⌝ }
+    requires { ⌜ (seen ≡ seenTo g (now img) page) × (erased g (now img) page ≡ false) ×
+        (height ≡ heightAt g (now img) page) × (seq ≡ seqAt g (now img) page) ⌝ }
     ensures { λ r. ⌜ (r ≡ seenTo g (now (img .entry)) (page + 1)) × (r .erased ≡ seen .erased) ⌝ }
 {
     let most = larger(seq, seen.most);

@@ -25,9 +25,10 @@ use Rattle.collect_blocks.specs.declared.Swept.{Swept}
 unfoldable pub besideIn : Kept → ℕ → Table → Beside
 besideIn h l t = record { root = h .root; most = h .most; level = l; next = h .next; table = t }
 
--- a run whose stores were made as far as the allowance goes; where all were, the image is the run's, and so is what is kept. The table of levels
--- is as long as before, and the words past the image's stay.
-pub record Makes (A : Type 0) (g : Geometry) (n : ℕ) (run : Run A) (b r : Budget) (i o : List ℕ) (a : A) (tbl tbl′ ws ws′ : List ℕ) : Type 0 where
+-- a run whose stores were made as far as the allowance goes; where all were, the image is the run's, and so is what is
+-- kept. The table of levels is as long as before, and the words past the image's stay.
+pub record Makes (A : Type 0) (g : Geometry) (n : ℕ) (run : Run A) (b r : Budget) (i o : List ℕ)
+    (a : A) (tbl tbl′ ws ws′ : List ℕ) : Type 0 where
   pub ran : Ran g (run .stores) b r i o
   pub image : r .stopped ≡ false → o ≡ run .image
   pub kept : r .stopped ≡ false → a ≡ run .kept
@@ -35,11 +36,14 @@ pub record Makes (A : Type 0) (g : Geometry) (n : ℕ) (run : Run A) (b r : Budg
   pub past : Past (wordsOf g n) ws ws′
 
 -- the same, of what is kept in a sweep with l levels below the root
-abbrev pub Sweeps : Geometry → ℕ → ℕ → Run Beside → Budget → Budget → List ℕ → List ℕ → Kept → List ℕ → List ℕ → List ℕ → List ℕ → Type 0
-Sweeps g n l run b r i o k tbl tbl′ ws ws′ = Makes Beside g n run b r i o (besideIn k l (tableIn tbl′ ws′)) tbl tbl′ ws ws′
+abbrev pub Sweeps : Geometry → ℕ → ℕ → Run Beside → Budget → Budget → List ℕ → List ℕ → Kept → List ℕ → List ℕ → List ℕ
+    → List ℕ → Type 0
+Sweeps g n l run b r i o k tbl tbl′ ws ws′ =
+    Makes Beside g n run b r i o (besideIn k l (tableIn tbl′ ws′)) tbl tbl′ ws ws′
 
 -- the same, of the record and the table; the record's height is a byte
-pub record Clears (g : Geometry) (n : ℕ) (run : Run Held) (b : Budget) (r : Swept) (i o tbl tbl′ ws ws′ : List ℕ) : Type 0 where
+pub record Clears (g : Geometry) (n : ℕ) (run : Run Held)
+    (b : Budget) (r : Swept) (i o tbl tbl′ ws ws′ : List ℕ) : Type 0 where
   pub made : Makes Held g n run b (r .budget) i o (holding (r .opened) (tableIn tbl′ ws′)) tbl tbl′ ws ws′
   pub low : r .opened .height < 256
 
@@ -53,10 +57,12 @@ pub record Wipes (g : Geometry) (n v : ℕ) (h : Opened) (k : Kept) (b : Budget)
   pub opened : r .opened ≡ recordSwept g n h (k .root) (k .most) (k .next) o
   pub low : r .opened .height < 256
 
--- the tables of an image of n blocks once page q, whose lowest live level is low, is moved by its key; img the image before
+-- the tables of an image of n blocks once page q, whose lowest live level is low, is moved by its key; img the image
+-- before
 pub record Remarks (g : Geometry) (n l q low key : ℕ) (h : Kept) (img tbl tbl′ ws ws′ : List ℕ) : Type 0 where
   pub first : key ≡ next (nodeAt g img q low) 0
-  pub table : tableIn tbl′ ws′ ≡ tableMoved (wordsOf g n) (nodeAt g img) key low l (named (h .root)) (h .next) (tableIn tbl ws)
+  pub table : tableIn tbl′ ws′ ≡ tableMoved (wordsOf g n) (nodeAt g img) key low l (named (h .root)) (h .next)
+      (tableIn tbl ws)
   pub long : length tbl′ ≡ length tbl
   pub past : Past (wordsOf g n) ws ws′
 
@@ -67,5 +73,7 @@ pub record Onward (g : Geometry) (n : ℕ) (then : List ℕ) (h k : Kept) : Type
   pub next : k .next ≡ nextAfter (g .pages) n (erased g then) (h .next)
 
 -- a collection from the record h
-abbrev pub Collects : Geometry → ℕ → ℕ → ℕ → Budget → Swept → Opened → List ℕ → List ℕ → List ℕ → List ℕ → List ℕ → List ℕ → Type 0
-Collects g n k m b r h i o tbl tbl′ ws ws′ = Clears g n (collectBy g n k m (holding h (tableIn tbl ws)) i) b r i o tbl tbl′ ws ws′
+abbrev pub Collects : Geometry → ℕ → ℕ → ℕ → Budget → Swept → Opened → List ℕ → List ℕ → List ℕ → List ℕ → List ℕ
+    → List ℕ → Type 0
+Collects g n k m b r h i o tbl tbl′ ws ws′ =
+    Clears g n (collectBy g n k m (holding h (tableIn tbl ws)) i) b r i o tbl tbl′ ws ws′

@@ -63,7 +63,8 @@ fn move_marks(
     h: Kept,
 ) -> u32
     requires { ⌜ (level < 255) × (low < 256) ⌝ }
-    ensures { λ r. ⌜ Remarks g n level page low r h (now (img .entry)) (now (table .entry)) (now (table .exit)) (now (words .entry)) (now (words .exit)) ⌝ }
+    ensures { λ r. ⌜ Remarks g n level page low r h (now (img .entry)) (now (table .entry)) (now (table .exit))
+        (now (words .entry)) (now (words .exit)) ⌝ }
 {
     let key = tree_move::first_key(g, img, page, low);
     let m = live_fill::words_of(g, n);
@@ -96,9 +97,12 @@ fn move_live(
     low: u32,
     h: Kept,
 ) -> Carried
-    requires { ⌜ (level < 255) × (low < 256) × (pageBytes g ≤ longestPage) × (h .most < 8589934592) × (h .next < 4294967295) × (Countable b) × (b .stopped ≡ false) ⌝ }
+    requires { ⌜ (level < 255) × (low < 256) × (pageBytes g ≤ longestPage) × (h .most < 8589934592) ×
+        (h .next < 4294967295) × (Countable b) × (b .stopped ≡ false) ⌝ }
     requires { ⌜ low ≡ getD (now table) page 0 ⌝ }
-    ensures { λ r. ⌜ Sweeps g n level (moveBy g n page (besideIn h level (tableIn (now (table .entry)) (now (words .entry)))) (now (img .entry))) b (r .budget) (now (img .entry)) (now (img .exit)) (r .kept) (now (table .entry)) (now (table .exit)) (now (words .entry)) (now (words .exit)) ⌝ }
+    ensures { λ r. ⌜ Sweeps g n level (moveBy g n page
+        (besideIn h level (tableIn (now (table .entry)) (now (words .entry)))) (now (img .entry))) b (r .budget)
+        (now (img .entry)) (now (img .exit)) (r .kept) (now (table .entry)) (now (table .exit)) (now (words .entry)) (now (words .exit)) ⌝ }
     ensures { λ r. ⌜ (r .kept .most ≤ h .most + 1) × (r .kept .next ≤ max (h .next + 1) 4294836225) ⌝ }
 {
     let key = move_marks(g, &*img, &mut *table, &mut *words, n, level, page, low, h);
@@ -122,8 +126,11 @@ fn sweep_page(
     page: u32,
     h: Kept,
 ) -> Carried
-    requires { ⌜ (level < 255) × (pageBytes g ≤ longestPage) × (h .most < 8589934592) × (h .next < 4294967295) × (Countable b) × (b .stopped ≡ false) ⌝ }
-    ensures { λ r. ⌜ Sweeps g n level (pageBy g n page (besideIn h level (tableIn (now (table .entry)) (now (words .entry)))) (now (img .entry))) b (r .budget) (now (img .entry)) (now (img .exit)) (r .kept) (now (table .entry)) (now (table .exit)) (now (words .entry)) (now (words .exit)) ⌝ }
+    requires { ⌜ (level < 255) × (pageBytes g ≤ longestPage) × (h .most < 8589934592) × (h .next < 4294967295) ×
+        (Countable b) × (b .stopped ≡ false) ⌝ }
+    ensures { λ r. ⌜ Sweeps g n level (pageBy g n page
+        (besideIn h level (tableIn (now (table .entry)) (now (words .entry)))) (now (img .entry))) b (r .budget)
+        (now (img .entry)) (now (img .exit)) (r .kept) (now (table .entry)) (now (table .exit)) (now (words .entry)) (now (words .exit)) ⌝ }
     ensures { λ r. ⌜ (r .kept .most ≤ h .most + 1) × (r .kept .next ≤ max (h .next + 1) 4294836225) ⌝ }
 {
     let low = live_walk::noted(&*table, page);
@@ -157,8 +164,11 @@ fn sweep(
     left: u16,
     h: Kept,
 ) -> Carried
-    requires { ⌜ (left ≤ g .pages) × (level < 255) × (pageBytes g ≤ longestPage) × (h .most + left < 8589934592) × (h .next + left < fourBytes) × (Countable b) × (b .stopped ≡ false) ⌝ }
-    ensures { λ r. ⌜ Sweeps g n level (sweepBy g n v left (besideIn h level (tableIn (now (table .entry)) (now (words .entry)))) (now (img .entry))) b (r .budget) (now (img .entry)) (now (img .exit)) (r .kept) (now (table .entry)) (now (table .exit)) (now (words .entry)) (now (words .exit)) ⌝ }
+    requires { ⌜ (left ≤ g .pages) × (level < 255) × (pageBytes g ≤ longestPage) × (h .most + left < 8589934592) ×
+        (h .next + left < fourBytes) × (Countable b) × (b .stopped ≡ false) ⌝ }
+    ensures { λ r. ⌜ Sweeps g n level (sweepBy g n v left
+        (besideIn h level (tableIn (now (table .entry)) (now (words .entry)))) (now (img .entry))) b (r .budget)
+        (now (img .entry)) (now (img .exit)) (r .kept) (now (table .entry)) (now (table .exit)) (now (words .entry)) (now (words .exit)) ⌝ }
 {
     if left == 0 {
         return Carried { budget: b, kept: h };
@@ -228,8 +238,10 @@ fn clear_block(
     v: u16,
     o: Opened,
 ) -> Swept
-    requires { ⌜ (o .erased < 4294901760) × (o .height < 256) × (pageBytes g ≤ longestPage) × (Countable b) × (b .stopped ≡ false) ⌝ }
-    ensures { λ r. ⌜ Clears g n (clearBy g n (some v) (holding o (tableIn (now (table .entry)) (now (words .entry)))) (now (img .entry))) b r (now (img .entry)) (now (img .exit)) (now (table .entry)) (now (table .exit)) (now (words .entry)) (now (words .exit)) ⌝ }
+    requires { ⌜ (o .erased < 4294901760) × (o .height < 256) × (pageBytes g ≤ longestPage) × (Countable b) ×
+        (b .stopped ≡ false) ⌝ }
+    ensures { λ r. ⌜ Clears g n (clearBy g n (some v) (holding o (tableIn (now (table .entry)) (now (words .entry))))
+        (now (img .entry))) b r (now (img .entry)) (now (img .exit)) (now (table .entry)) (now (table .exit)) (now (words .entry)) (now (words .exit)) ⌝ }
 {
     let h = begin(g, n, o);
     let level = chip_survey::level_by(g, o.height);
@@ -266,8 +278,11 @@ fn clear(
     b: Budget,
     o: Opened,
 ) -> Swept
-    requires { ⌜ (o .erased < 4294901760) × (o .height < 256) × (pageBytes g ≤ longestPage) × (Countable b) × (b .stopped ≡ false) ⌝ }
-    ensures { λ r. ⌜ Clears g n (clearBy g n (victimBy g n (tableIn (now (table .entry)) (now (words .entry))) (now (img .entry))) (holding o (tableIn (now (table .entry)) (now (words .entry)))) (now (img .entry))) b r (now (img .entry)) (now (img .exit)) (now (table .entry)) (now (table .exit)) (now (words .entry)) (now (words .exit)) ⌝ }
+    requires { ⌜ (o .erased < 4294901760) × (o .height < 256) × (pageBytes g ≤ longestPage) × (Countable b) ×
+        (b .stopped ≡ false) ⌝ }
+    ensures { λ r. ⌜ Clears g n (clearBy g n (victimBy g n (tableIn (now (table .entry)) (now (words .entry)))
+        (now (img .entry))) (holding o (tableIn (now (table .entry)) (now (words .entry)))) (now (img .entry))) b r
+        (now (img .entry)) (now (img .exit)) (now (table .entry)) (now (table .exit)) (now (words .entry)) (now (words .exit)) ⌝ }
 {
     let v = collect_victim::find_victim(g, &*img, &*words, n);
     if !v.found {
@@ -300,8 +315,10 @@ pub fn collect(
     m: u32,
     o: Opened,
 ) -> Swept
-    requires { ⌜ (o .height < 256) × (k < 65536) × (pageBytes g ≤ longestPage) × (Countable b) × (b .stopped ≡ false) ⌝ }
-    ensures { λ r. ⌜ Collects g n k m b r o (now (img .entry)) (now (img .exit)) (now (table .entry)) (now (table .exit)) (now (words .entry)) (now (words .exit)) ⌝ }
+    requires { ⌜ (o .height < 256) × (k < 65536) × (pageBytes g ≤ longestPage) × (Countable b) ×
+        (b .stopped ≡ false) ⌝ }
+    ensures { λ r. ⌜ Collects g n k m b r o (now (img .entry)) (now (img .exit)) (now (table .entry))
+        (now (table .exit)) (now (words .entry)) (now (words .exit)) ⌝ }
 {
     if m == 0 {
         return Swept {

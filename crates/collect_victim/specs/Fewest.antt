@@ -24,7 +24,8 @@ module _ (full : ℕ → Bool) (lives : ℕ → ℕ) where
   pub best-end : (k n : ℕ) (r : Best) → Bests full lives k r → k ≤ n → n ≤ k → Bests full lives n r
   best-end k n r b h g = let q : k ≡ n = omega arith in rw (← q) b
 
-  keep : (k : ℕ) (r : Best) → Bests full lives k r → better full lives k (bestOf r) ≡ bestOf r → Bests full lives (suc k) r
+  keep : (k : ℕ) (r : Best) → Bests full lives k r → better full lives k (bestOf r) ≡ bestOf r → Bests full lives
+      (suc k) r
   unfolding victim
   keep k r b e = record {
     best = sym e ∙ ap (λ (o : Option ℕ). better full lives k o) (b .best);
@@ -32,7 +33,8 @@ module _ (full : ℕ → Bool) (lives : ℕ → ℕ) where
     below = λ f. let h : r .block < k = b .below f in omega arith;
   }
 
-  take : (k l : ℕ) (r : Best) → Bests full lives k r → l ≡ lives k → better full lives k (bestOf r) ≡ some k → Bests full lives (suc k) (record { found = true; block = k; lives = l })
+  take : (k l : ℕ) (r : Best) → Bests full lives k r → l ≡ lives k → better full lives k (bestOf r) ≡ some k
+      → Bests full lives (suc k) (record { found = true; block = k; lives = l })
   unfolding bestOf victim
   take k l r b el e = record {
     best = sym e ∙ ap (λ (o : Option ℕ). better full lives k o) (b .best);
@@ -49,16 +51,19 @@ module _ (full : ℕ → Bool) (lives : ℕ → ℕ) where
   unfolding better bestOf
   first k r e f = rw (f, e)
 
-  fewer : (k : ℕ) (r : Best) → full k ≡ true → r .found ≡ true → lives k < lives (r .block) → better full lives k (bestOf r) ≡ some k
+  fewer : (k : ℕ) (r : Best) → full k ≡ true → r .found ≡ true → lives k < lives (r .block) → better full lives k
+      (bestOf r) ≡ some k
   unfolding better bestOf
   fewer k r e f h = rw (f, e, lt-ltb (lives k) (lives (r .block)) h)
 
-  no-fewer : (k : ℕ) (r : Best) → full k ≡ true → r .found ≡ true → lives (r .block) ≤ lives k → better full lives k (bestOf r) ≡ bestOf r
+  no-fewer : (k : ℕ) (r : Best) → full k ≡ true → r .found ≡ true → lives (r .block) ≤ lives k → better full lives k
+      (bestOf r) ≡ bestOf r
   unfolding better bestOf
   no-fewer k r e f h = rw (f, e, le-ltb (lives k) (lives (r .block)) h)
 
   -- full or not, a block with no fewer live pages is passed over
-  no-better : (k : ℕ) (r : Best) → r .found ≡ true → lives (r .block) ≤ lives k → better full lives k (bestOf r) ≡ bestOf r
+  no-better : (k : ℕ) (r : Best) → r .found ≡ true → lives (r .block) ≤ lives k → better full lives k
+      (bestOf r) ≡ bestOf r
   no-better k r f h = go (full k) refl
     where
       go : (t : Bool) → full k ≡ t → better full lives k (bestOf r) ≡ bestOf r
@@ -89,14 +94,17 @@ module _ (g : Geometry) (img ws : List ℕ) (k : ℕ) (r : Best) (b : Bests (ful
     better-not q = rw add-one (keep (fullIn g img) (onesBy g ws) k r b (unfull (fullIn g img) (onesBy g ws) k (bestOf r) (not-full q)))
 
     module _ (l : ℕ) (el : l ≡ blockOnes g ws k) (q : e ≡ false) where
-      pub better-first : not (r .found) ≡ true → Bests (fullIn g img) (onesBy g ws) (k + 1) (record { found = true; block = k; lives = l })
+      pub better-first : not (r .found) ≡ true → Bests (fullIn g img) (onesBy g ws)
+          (k + 1) (record { found = true; block = k; lives = l })
       better-first f =
           rw add-one (take (fullIn g img) (onesBy g ws) k l r b (lives-is l el) (first (fullIn g img) (onesBy g ws) k r (is-full q) (not-true (r .found) f)))
 
-      pub better-fewer : not (r .found) ≡ false → l < r .lives → Bests (fullIn g img) (onesBy g ws) (k + 1) (record { found = true; block = k; lives = l })
+      pub better-fewer : not (r .found) ≡ false → l < r .lives → Bests (fullIn g img) (onesBy g ws)
+          (k + 1) (record { found = true; block = k; lives = l })
       better-fewer f h =
           let t : r .found ≡ true = not-false (r .found) f in
-          rw add-one (take (fullIn g img) (onesBy g ws) k l r b (lives-is l el) (fewer (fullIn g img) (onesBy g ws) k r (is-full q) t (rw (← (lives-is l el), ← (b .count t)) h)))
+          rw add-one (take (fullIn g img) (onesBy g ws) k l r b (lives-is l el) (fewer (fullIn g img) (onesBy g ws) k r
+          (is-full q) t (rw (← (lives-is l el), ← (b .count t)) h)))
 
 -- ---- the definition's victim
 pub victim-is : (g : Geometry) (n : ℕ) (img ws : List ℕ) (r : Best) → Bests (fullIn g img) (onesBy g ws) n r

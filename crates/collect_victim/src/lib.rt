@@ -10,7 +10,8 @@ pub struct Best {
     pub lives: u32,
 }
 
-// The better of a block and the best before it. The image is looked at only where the block would win by its live pages.
+// The better of a block and the best before it. The image is looked at only where the block would win by its live
+// pages.
 fn better(g: Geometry, img: &[u8], words: &[u32], block: u16, best: Best) -> Best
     requires { ⌜ Bests (fullIn g (now img)) (onesBy g (now words)) block best ⌝ }
     ensures { λ r. ⌜ Bests (fullIn g (now (img .entry))) (onesBy g (now (words .entry))) (block + 1) r ⌝ }

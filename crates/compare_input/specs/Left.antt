@@ -45,18 +45,22 @@ played-left : (s : Score) (order : Order) (a b : Outcome) (n : ℕ) → s .lines
 unfolding played
 played-left s order a b n h k = go (not (stops a) & not (stops b))
   where
-    go : (t : Bool) → leftIn (pick t (inLine [] (scored s order a b) (a .image) (b .image)) (record { line = []; score = s; mu = a .image; plain = b .image; course = Stopped }))
+    go : (t : Bool) → leftIn (pick t (inLine [] (scored s order a b) (a .image) (b .image))
+        (record { line = []; score = s; mu = a .image; plain = b .image; course = Stopped }))
         ≤ bytesLeft false (s .lines) n - 1
     go true = let q = scored-lines s order a b in omega (arith, q, h, k)
     go false = omega arith
 
-close-left : (s : Score) (mu pl line : List ℕ) → length line ≤ longest → leftIn (close s mu pl (formAfter (s .lines) line)) ≤ bytesLeft false (s .lines) (length line) - 1
+close-left : (s : Score) (mu pl line : List ℕ) → length line ≤ longest
+    → leftIn (close s mu pl (formAfter (s .lines) line)) ≤ bytesLeft false (s .lines) (length line) - 1
 unfolding close formAfter
 close-left s mu pl line h = go (ltb (s .lines) mostLines) refl (parsed line)
   where
-    go : (u : Bool) → ltb (s .lines) mostLines ≡ u → (x : Line) → leftIn (close s mu pl (pick u x Other)) ≤ bytesLeft false (s .lines) (length line) - 1
+    go : (u : Bool) → ltb (s .lines) mostLines ≡ u → (x : Line)
+        → leftIn (close s mu pl (pick u x Other)) ≤ bytesLeft false (s .lines) (length line) - 1
     go true e Other = omega arith
-    go true e (Of order) = played-left s order (obeyed small order mu) (plainObeyed order pl) (length line) (let q = ltb-true (s .lines) mostLines e in omega (arith, q)) h
+    go true e (Of order) = played-left s order (obeyed small order mu) (plainObeyed order pl) (length line)
+        (let q = ltb-true (s .lines) mostLines e in omega (arith, q)) h
     go false e x = omega arith
 
 longer-left : (s : State) (b : ℕ) → leftIn (longer s b) ≤ bytesLeft false (s .score .lines) (length (s .line)) - 1
@@ -64,9 +68,11 @@ unfolding longer
 longer-left s b = go (ltb (length (s .line)) longest) refl
   where
     go : (u : Bool) → ltb (length (s .line)) longest ≡ u
-        → leftIn (pick u (inLine (s .line ++ (b ∷ [])) (s .score) (s .mu) (s .plain)) (refused (s .score) (s .mu) (s .plain)))
+        → leftIn (pick u (inLine (s .line ++ (b ∷ [])) (s .score) (s .mu) (s .plain))
+        (refused (s .score) (s .mu) (s .plain)))
         ≤ bytesLeft false (s .score .lines) (length (s .line)) - 1
-    go true e = let q = ltb-true (length (s .line)) longest e in let n = length-append (s .line) (b ∷ []) in omega (arith, q, n)
+    go true e = let q = ltb-true (length (s .line)) longest e in let n = length-append (s .line) (b ∷ []) in
+        omega (arith, q, n)
     go false e = omega arith
 
 feed-left : (s : State) (b : ℕ) → length (s .line) ≤ longest → leftIn (feed s b) ≤ leftIn s - 1
@@ -74,14 +80,16 @@ unfolding feed
 feed-left s b h = go (goes (s .course)) refl (eqb b 10)
   where
     go : (u : Bool) → goes (s .course) ≡ u → (v : Bool)
-        → leftIn (pick u (pick v (close (s .score) (s .mu) (s .plain) (formAfter (s .score .lines) (s .line))) (longer s b)) s)
+        → leftIn (pick u (pick v (close (s .score) (s .mu) (s .plain) (formAfter (s .score .lines) (s .line)))
+        (longer s b)) s)
         ≤ bytesLeft (not u) (s .score .lines) (length (s .line)) - 1
     go true e true = close-left (s .score) (s .mu) (s .plain) (s .line) h
     go true e false = longer-left s b
     go false e v = rw e (omega arith)
 
 -- in the code's words
-pub run-left : (run r : Run) (line mu pl : List ℕ) (b : ℕ) → Steady run line → r ≡ runOf (feed (stateOf run line mu pl) b) → left r ≤ left run - 1
+pub run-left : (run r : Run) (line mu pl : List ℕ) (b : ℕ) → Steady run line
+    → r ≡ runOf (feed (stateOf run line mu pl) b) → left r ≤ left run - 1
 run-left run r line mu pl b h e =
     let n = part-length line (run .filled) (h .filled) (h .room) in
     subst (λ (x : Run). left x ≤ left run - 1) (sym e)

@@ -1,4 +1,5 @@
-// A log from standard input on both trees, reported on standard output. Each image is three blocks of the small chip, all 255 at first.
+// A log from standard input on both trees, reported on standard output. Each image is three blocks of the small chip,
+// all 255 at first.
 ghost use mathlib.Core.Path.{_≡_};
 ghost use mathlib.Core.List.{List, _++_};
 ghost use Prim.Native.Nat.{ℕ, _-_, _≤_};
@@ -15,7 +16,8 @@ fn play_part(mu: &mut [u8], plain: &mut [u8], line: &mut [u8], part: &[u8], run:
     requires { ⌜ Steady run (now line) × (length (now part) ≤ 65536) ⌝ }
     ensures steady { λ r. ⌜ Steady r (now (line .exit)) ⌝ }
     ensures left { λ r. ⌜ left r ≤ left run - length (now (part .entry)) ⌝ }
-    ensures ran { λ r. ⌜ ((rest : List ℕ) → ran (stateOf run (now (line .entry)) (now (mu .entry)) (now (plain .entry))) (now (part .entry) ++ rest) ≡ ran (stateOf r (now (line .exit)) (now (mu .exit)) (now (plain .exit))) rest) ⌝ }
+    ensures ran { λ r. ⌜ ((rest : List ℕ) → ran (stateOf run (now (line .entry)) (now (mu .entry)) (now (plain .entry)))
+        (now (part .entry) ++ rest) ≡ ran (stateOf r (now (line .exit)) (now (mu .exit)) (now (plain .exit))) rest) ⌝ }
 {
     let mut at: usize = 0;
     let mut state = run;

@@ -1,5 +1,5 @@
--- Request 12 byte by byte, with a line of at most 34 bytes: what the code does with an input of any length, and that it is `compared`.
--- Nothing is written before the end. Assumes nothing.
+-- Request 12 byte by byte, with a line of at most 34 bytes: what the code does with an input of any length, and that it
+-- is `compared`. Nothing is written before the end. Assumes nothing.
 use mathlib.Core.Path.{_≡_, refl, ap, sym, _∙_}
 use mathlib.Core.List.{List, [], _∷_, _++_, append-assoc, append-nil}
 use mathlib.Core.Bool.{Bool, true, false, not}
@@ -96,7 +96,8 @@ unfolding reported
 at-line p bs s mu pl h = ap (λ (x : Pieces). reported s mu pl (x .ended) (x .rest)) (lines-line p bs h)
 
 -- a line that is longer than any form, whatever follows
-foreign : (s : Score) (mu pl : List ℕ) (ls : List (List ℕ)) (rest : List ℕ) → Foreign ls rest → reported s mu pl ls rest ≡ errorAfter (s .lines)
+foreign : (s : Score) (mu pl : List ℕ) (ls : List (List ℕ)) (rest : List ℕ) → Foreign ls rest
+    → reported s mu pl ls rest ≡ errorAfter (s .lines)
 unfolding reported ending met formAfter
 foreign s mu pl [] [] f = absurd f
 foreign s mu pl [] (b ∷ bs) f = refl
@@ -125,7 +126,8 @@ closed s mu pl bs (Of order) ih = go (not (stops a) & not (stops b))
     b : Outcome
     b = plainObeyed order pl
 
-    go : (t : Bool) → ran (pick t (inLine [] (scored s order a b) (a .image) (b .image)) (record { line = []; score = s; mu = a .image; plain = b .image; course = Stopped })) bs
+    go : (t : Bool) → ran (pick t (inLine [] (scored s order a b) (a .image) (b .image))
+        (record { line = []; score = s; mu = a .image; plain = b .image; course = Stopped })) bs
         ≡ pick t (answered (scored s order a b) (a .image) (b .image) bs) (report s)
     go true = ih (scored s order a b) (a .image) (b .image)
     go false = ran-over (record { line = []; score = s; mu = a .image; plain = b .image; course = Stopped }) bs refl
@@ -141,15 +143,19 @@ from (b ∷ bs) p s mu pl h q = go (eqb b 10) refl (from bs)
   where
     more : (u : Bool) → ltb (length p) longest ≡ u → eqb b 10 ≡ false → From bs
         → ran (pick u (inLine (p ++ (b ∷ [])) s mu pl) (refused s mu pl)) bs ≡ answered s mu pl (p ++ (b ∷ bs))
-    more true w e ih = ih (p ++ (b ∷ [])) s mu pl (whole-more p b h e) (let n = length-append p (b ∷ []) in let z = ltb-true (length p) longest w in omega (arith, n, z))
+    more true w e ih = ih (p ++ (b ∷ [])) s mu pl (whole-more p b h e) (let n = length-append p (b ∷ []) in let z =
+        ltb-true (length p) longest w in omega (arith, n, z))
         ∙ ap (answered s mu pl) (append-assoc p (b ∷ []) bs)
     more false w e ih = ran-over (refused s mu pl) bs refl
         ∙ sym (ap (answered s mu pl) (sym (append-assoc p (b ∷ []) bs))
-        ∙ foreign s mu pl _ _ (long-foreign bs (p ++ (b ∷ [])) (whole-more p b h e) (let n = length-append p (b ∷ []) in let z = ltb-false (length p) longest w in omega (arith, n, z))))
+        ∙ foreign s mu pl _ _ (long-foreign bs (p ++ (b ∷ [])) (whole-more p b h e) (let n = length-append p (b ∷ []) in
+        let z = ltb-false (length p) longest w in omega (arith, n, z))))
 
     go : (e : Bool) → eqb b 10 ≡ e → From bs
-        → ran (pick e (close s mu pl (formAfter (s .lines) p)) (longer (inLine p s mu pl) b)) bs ≡ answered s mu pl (p ++ (b ∷ bs))
-    go true e ih = closed s mu pl bs (formAfter (s .lines) p) (λ t x y. ih [] t x y tt (omega arith)) ∙ rw (eqb-true b 10 e) (sym (at-line p bs s mu pl h))
+        → ran (pick e (close s mu pl (formAfter (s .lines) p)) (longer (inLine p s mu pl) b)) bs ≡ answered s mu pl
+        (p ++ (b ∷ bs))
+    go true e ih = closed s mu pl bs (formAfter (s .lines) p) (λ t x y. ih [] t x y tt (omega arith))
+        ∙ rw (eqb-true b 10 e) (sym (at-line p bs s mu pl h))
     go false e ih = more (ltb (length p) longest) refl e ih
 
 pub machine : (input : List ℕ) → ran start input ≡ compared input

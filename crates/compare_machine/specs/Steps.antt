@@ -42,7 +42,8 @@ module _ (order : Order) (img : List ℕ) (o : Outcome) where
   unfolding plainObeyed
   plain-format e h = h ∙ ap (λ (x : Order). plainObeyed x img) (sym e)
 
-  pub plain-insert : (k a : ℕ) → order ≡ Insert k a → o ≡ plainInsert plain img k a 4294967295 → o ≡ plainObeyed order img
+  pub plain-insert : (k a : ℕ) → order ≡ Insert k a → o ≡ plainInsert plain img k a 4294967295
+      → o ≡ plainObeyed order img
   unfolding plainObeyed
   plain-insert k a e h = h ∙ ap (λ (x : Order). plainObeyed x img) (sym e)
 
@@ -54,7 +55,8 @@ module _ (order : Order) (img : List ℕ) (o : Outcome) where
   unfolding plainObeyed
   plain-lookup k e h = h ∙ ap (λ (x : Order). plainObeyed x img) (sym e)
 
-  pub plain-limited : (k a allowance : ℕ) → order ≡ Limited k a allowance → o ≡ plainInsert plain img k a allowance → o ≡ plainObeyed order img
+  pub plain-limited : (k a allowance : ℕ) → order ≡ Limited k a allowance → o ≡ plainInsert plain img k a allowance
+      → o ≡ plainObeyed order img
   unfolding plainObeyed
   plain-limited k a allowance e h = h ∙ ap (λ (x : Order). plainObeyed x img) (sym e)
 
@@ -81,7 +83,8 @@ module _ (s : Score) (order : Order) (v w : Row) where
       unfolding played
       second-stops r l f = f ∙ rw (← i, ← j, k, l, and-none) refl
 
-      pub none-stops : (t : Score) → q ≡ false → t ≡ scored s order (outcomeOf v) (outcomeOf w) → record { filled = 0; score = t; course = Going } ≡ settled
+      pub none-stops : (t : Score) → q ≡ false → t ≡ scored s order (outcomeOf v) (outcomeOf w)
+          → record { filled = 0; score = t; course = Going } ≡ settled
       unfolding played
       none-stops t l f = rw (f, ← i, ← j, k, l, and-true) refl
 
@@ -96,7 +99,8 @@ module _ (s : Score) (order : Order) (v w : Row) where
       subst Within (sym q) (within-more s order (outcomeOf v) (outcomeOf w) h k y z)
 
   -- what becomes of the images does not hang on the score
-  played-images : (x y : List ℕ) → played s order (toldBy v x) (toldBy w y) ≡ withImages x y (played s order (outcomeOf v) (outcomeOf w))
+  played-images : (x y : List ℕ) → played s order (toldBy v x) (toldBy w y) ≡ withImages x y
+      (played s order (outcomeOf v) (outcomeOf w))
   unfolding played scored
   played-images x y = go (not (stops (outcomeOf v)) & not (stops (outcomeOf w)))
     where
@@ -105,10 +109,12 @@ module _ (s : Score) (order : Order) (v w : Row) where
       go true = refl
       go false = refl
 
-  module _ (mu pl x y : List ℕ) (a b : Answer) (e : told a x ≡ obeyed small order mu) (f : told b y ≡ plainObeyed order pl) (g : v ≡ rowOf a) (h : w ≡ rowOf b) where
+  module _ (mu pl x y : List ℕ) (a b : Answer) (e : told a x ≡ obeyed small order mu)
+      (f : told b y ≡ plainObeyed order pl) (g : v ≡ rowOf a) (h : w ≡ rowOf b) where
     pub close-both : close s mu pl (Of order) ≡ withImages x y (played s order (outcomeOf v) (outcomeOf w))
     unfolding close
-    close-both = ap (λ o. played s order o (plainObeyed order pl)) (sym e) ∙ ap (λ o. played s order (told a x) o) (sym f) ∙ rw (← g, ← h) (played-images x y)
+    close-both = ap (λ o. played s order o (plainObeyed order pl)) (sym e)
+        ∙ ap (λ o. played s order (told a x) o) (sym f) ∙ rw (← g, ← h) (played-images x y)
 
 pub ruleset settle-laws = (first-stops, second-stops, none-stops, stopped-within, scored-within)
 
@@ -137,7 +143,8 @@ module _ (s : Score) (line mu pl : List ℕ) (r : Run) where
     pub played-mu : (x : List ℕ) → x ≡ close s mu pl (Of order) .mu → x ≡ close s mu pl (formAfter (s .lines) line) .mu
     played-mu x f = rw e f
 
-    pub played-plain : (x : List ℕ) → x ≡ close s mu pl (Of order) .plain → x ≡ close s mu pl (formAfter (s .lines) line) .plain
+    pub played-plain : (x : List ℕ) → x ≡ close s mu pl (Of order) .plain → x ≡ close s mu pl
+        (formAfter (s .lines) line) .plain
     played-plain x f = rw e f
 
 -- ---- a byte more of a line
@@ -150,14 +157,16 @@ module _ (s : Score) (line : List ℕ) (filled b : ℕ) (room : length line ≡ 
     unfolding longer
     on = rw (few (omega arith), lt-ltb filled 34 h) refl
 
-    pub longer-run : record { filled = filled + 1; score = s; course = Going } ≡ runOf (longerFrom s (take filled line) b)
+    pub longer-run : record { filled = filled + 1; score = s; course = Going }
+        ≡ runOf (longerFrom s (take filled line) b)
     longer-run =
         let n = length-append (take filled line) (b ∷ []) in
         let k = few (omega arith) in
         let z : length (take filled line ++ (b ∷ [])) ≡ filled + 1 = omega (arith, n, k) in
         sym (rw (on, z) refl)
 
-    pub longer-line : (new : List ℕ) → new ≡ set line filled b → take (filled + 1) new ≡ longerFrom s (take filled line) b .line
+    pub longer-line : (new : List ℕ) → new ≡ set line filled b → take (filled + 1) new ≡ longerFrom s
+        (take filled line) b .line
     longer-line new e = rw (on, e, add-one) (take-suc-set line filled b (omega arith))
 
   module _ (h : 34 ≤ filled) (g : filled ≤ 34) (r : Run) (f : r ≡ refusedRun s) where
@@ -177,8 +186,10 @@ longer-images : (s : State) (b : ℕ) → longer s b ≡ withImages (s .mu) (s .
 unfolding longer
 longer-images s b = go (ltb (length (s .line)) 34)
   where
-    go : (t : Bool) → pick t (inLine (s .line ++ (b ∷ [])) (s .score) (s .mu) (s .plain)) (refused (s .score) (s .mu) (s .plain))
-        ≡ withImages (s .mu) (s .plain) (pick t (inLine (s .line ++ (b ∷ [])) (s .score) [] []) (refused (s .score) [] []))
+    go : (t : Bool) → pick t (inLine (s .line ++ (b ∷ [])) (s .score) (s .mu) (s .plain))
+        (refused (s .score) (s .mu) (s .plain))
+        ≡ withImages (s .mu) (s .plain) (pick t (inLine (s .line ++ (b ∷ [])) (s .score) [] []) (refused (s .score)
+        [] []))
     go true = refl
     go false = refl
 
@@ -186,7 +197,8 @@ longer-few : (s : Score) (l : List ℕ) (b : ℕ) → length (longerFrom s l b .
 unfolding longer
 longer-few s l b = go (ltb (length l) 34) refl
   where
-    go : (u : Bool) → ltb (length l) 34 ≡ u → length (pick u (inLine (l ++ (b ∷ [])) s [] []) (refused s [] []) .line) ≤ 34
+    go : (u : Bool) → ltb (length l) 34 ≡ u → length (pick u (inLine (l ++ (b ∷ [])) s [] []) (refused s [] []) .line) ≤
+        34
     go true e = let h = ltb-true (length l) 34 e in let n = length-append l (b ∷ []) in omega (arith, h, n)
     go false e = omega arith
 
@@ -195,7 +207,8 @@ unfolding close played
 close-empty s mu pl Other = refl
 close-empty s mu pl (Of order) = go (not (stops (obeyed small order mu)) & not (stops (plainObeyed order pl)))
   where
-    go : (t : Bool) → pick t (inLine [] (scored s order (obeyed small order mu) (plainObeyed order pl)) (obeyed small order mu .image) (plainObeyed order pl .image))
+    go : (t : Bool) → pick t (inLine [] (scored s order (obeyed small order mu) (plainObeyed order pl))
+        (obeyed small order mu .image) (plainObeyed order pl .image))
         (stoppedIn s (obeyed small order mu .image) (plainObeyed order pl .image)) .line ≡ []
     go true = refl
     go false = refl
@@ -280,7 +293,8 @@ module _ (run r : Run) (line mu pl : List ℕ) (b : ℕ) (h : Steady run line) w
         record { filled = omega (arith, z, k); room = n; within = w }
 
 -- ---- the end of the input
-pub report-is : (s : Score) (r : Ratio) → r ≡ ratio (s .mu) (s .plain) → numbersText (s .updates ∷ s .mu ∷ s .plain ∷ r .upper ∷ r .lower ∷ []) ≡ report s
+pub report-is : (s : Score) (r : Ratio) → r ≡ ratio (s .mu) (s .plain)
+    → numbersText (s .updates ∷ s .mu ∷ s .plain ∷ r .upper ∷ r .lower ∷ []) ≡ report s
 report-is s r e = rw e refl
 
 module _ (c : Course) (s : Score) (line : List ℕ) where
@@ -296,7 +310,8 @@ module _ (c : Course) (s : Score) (line : List ℕ) where
   unfolding finish ending
   finish-last n e f = rw (e, f) refl
 
-  pub finish-begun : (n : ℕ) → length line ≡ 34 → c ≡ Going → (n ≡ 0 → ⊥) → finish c s (take n line) ≡ errorAfter (s .lines)
+  pub finish-begun : (n : ℕ) → length line ≡ 34 → c ≡ Going → (n ≡ 0 → ⊥)
+      → finish c s (take n line) ≡ errorAfter (s .lines)
   unfolding finish ending
   finish-begun n k e f = rw e (go n line f k)
     where

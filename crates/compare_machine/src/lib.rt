@@ -1,5 +1,5 @@
-// A log on both trees, fed byte by byte. The line that has begun stands in a lent buffer of 34 bytes, which is as long as a line
-// with a form can be. Nothing is written before the end.
+// A log on both trees, fed byte by byte. The line that has begun stands in a lent buffer of 34 bytes, which is as long
+// as a line with a form can be. Nothing is written before the end.
 ghost use mathlib.Core.Path.{_≡_};
 ghost use mathlib.Core.Bool.{true, false};
 ghost use Prim.Native.Nat.{_+_, _<_, _≤_};
@@ -133,9 +133,12 @@ fn play(mu: &mut [u8], plain: &mut [u8], s: Score, order: Order) -> Run
 // A line that is whole.
 fn close_line(mu: &mut [u8], plain: &mut [u8], line: &[u8], s: Score) -> Run
     requires { ⌜ Within s ⌝ }
-    ensures run { λ r. ⌜ r ≡ runOf (close s (now (mu .entry)) (now (plain .entry)) (formAfter (s .lines) (now (line .entry)))) ⌝ }
-    ensures mu { λ _. ⌜ now (mu .exit) ≡ close s (now (mu .entry)) (now (plain .entry)) (formAfter (s .lines) (now (line .entry))) .mu ⌝ }
-    ensures plain { λ _. ⌜ now (plain .exit) ≡ close s (now (mu .entry)) (now (plain .entry)) (formAfter (s .lines) (now (line .entry))) .plain ⌝ }
+    ensures run { λ r. ⌜ r ≡ runOf (close s (now (mu .entry)) (now (plain .entry))
+        (formAfter (s .lines) (now (line .entry)))) ⌝ }
+    ensures mu { λ _. ⌜ now (mu .exit) ≡ close s (now (mu .entry)) (now (plain .entry))
+        (formAfter (s .lines) (now (line .entry))) .mu ⌝ }
+    ensures plain { λ _. ⌜ now (plain .exit) ≡ close s (now (mu .entry)) (now (plain .entry))
+        (formAfter (s .lines) (now (line .entry))) .plain ⌝ }
     ensures within { λ r. ⌜ Within (r .score) ⌝ }
 {
     if 1000000 <= s.lines {
@@ -152,7 +155,8 @@ fn close_line(mu: &mut [u8], plain: &mut [u8], line: &[u8], s: Score) -> Run
 fn lengthen(line: &mut [u8], s: Score, filled: usize, b: u8) -> Run
     requires { ⌜ Within s × (filled ≤ 34) × (length (now line) ≡ 34) ⌝ }
     ensures run { λ r. ⌜ r ≡ runOf (longerFrom s (take filled (now (line .entry))) b) ⌝ }
-    ensures line { λ r. ⌜ take (r .filled) (now (line .exit)) ≡ longerFrom s (take filled (now (line .entry))) b .line ⌝ }
+    ensures line { λ r. ⌜ take (r .filled) (now (line .exit)) ≡ longerFrom s (take filled (now (line .entry)))
+        b .line ⌝ }
     ensures within { λ r. ⌜ Within (r .score) ⌝ }
 {
     if filled < 34 {
@@ -170,9 +174,12 @@ fn lengthen(line: &mut [u8], s: Score, filled: usize, b: u8) -> Run
 pub fn feed(mu: &mut [u8], plain: &mut [u8], line: &mut [u8], run: Run, b: u8) -> Run
     requires { ⌜ Steady run (now line) ⌝ }
     ensures run { λ r. ⌜ r ≡ runOf (feed (stateOf run (now (line .entry)) (now (mu .entry)) (now (plain .entry))) b) ⌝ }
-    ensures line { λ r. ⌜ take (r .filled) (now (line .exit)) ≡ feed (stateOf run (now (line .entry)) (now (mu .entry)) (now (plain .entry))) b .line ⌝ }
-    ensures mu { λ _. ⌜ now (mu .exit) ≡ feed (stateOf run (now (line .entry)) (now (mu .entry)) (now (plain .entry))) b .mu ⌝ }
-    ensures plain { λ _. ⌜ now (plain .exit) ≡ feed (stateOf run (now (line .entry)) (now (mu .entry)) (now (plain .entry))) b .plain ⌝ }
+    ensures line { λ r. ⌜ take (r .filled) (now (line .exit)) ≡ feed (stateOf run (now (line .entry)) (now (mu .entry))
+        (now (plain .entry))) b .line ⌝ }
+    ensures mu { λ _. ⌜ now (mu .exit) ≡ feed (stateOf run (now (line .entry)) (now (mu .entry)) (now (plain .entry)))
+        b .mu ⌝ }
+    ensures plain { λ _. ⌜ now (plain .exit) ≡ feed (stateOf run (now (line .entry)) (now (mu .entry))
+        (now (plain .entry))) b .plain ⌝ }
     ensures steady { λ r. ⌜ Steady r (now (line .exit)) ⌝ }
 {
     let s = run.score;
@@ -216,7 +223,8 @@ pub fn finish(out: &mut [u8], line: &[u8], run: Run) -> usize
     requires { ⌜ Steady run (now line) ⌝ }
     ensures place { λ r. ⌜ r ≡ length (finish (run .course) (run .score) (take (run .filled) (now (line .entry)))) ⌝ }
     ensures most { λ r. ⌜ r ≤ 105 ⌝ }
-    ensures bytes { λ _. ⌜ now (out .exit) ≡ sets (now (out .entry)) 0 (finish (run .course) (run .score) (take (run .filled) (now (line .entry)))) ⌝ }
+    ensures bytes { λ _. ⌜ now (out .exit) ≡ sets (now (out .entry)) 0 (finish (run .course) (run .score)
+        (take (run .filled) (now (line .entry)))) ⌝ }
 {
     let s = run.score;
     let course = run.course;

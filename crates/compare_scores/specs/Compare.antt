@@ -1,5 +1,5 @@
--- Request 12: what the comparing program reports of a log. The whole output is a function of the whole input. Definitions alone; assumes
--- nothing.
+-- Request 12: what the comparing program reports of a log. The whole output is a function of the whole input.
+-- Definitions alone; assumes nothing.
 use Prim.Native.Nat.{ℕ}
 use mathlib.Core.Bool.{not}
 use mathlib.Core.List.{List, [], _∷_}

@@ -93,17 +93,24 @@ module _ (order : Order) (v w : Row) (u : Bool) (e : u ≡ isUpdate order) where
     counts-second k = rw (← e, not-false u h, eq-eqb (v .answer) 0 k) (sym (simp (and-true)))
 
 module _ (s : Score) (order : Order) (v w : Row) (t : Bool) (e : t ≡ counts order (outcomeOf v) (outcomeOf w)) where
-  pub scored-none : not t ≡ true → record { lines = s .lines + 1; updates = s .updates; mu = s .mu; plain = s .plain } ≡ scored s order (outcomeOf v) (outcomeOf w)
+  pub scored-none : not t ≡ true → record { lines = s .lines + 1; updates = s .updates; mu = s .mu; plain = s .plain }
+      ≡ scored s order (outcomeOf v) (outcomeOf w)
   unfolding scored
   scored-none h = rw (← e, not-true t h) refl
 
   pub scored-one : not t ≡ false
-      → record { lines = s .lines + 1; updates = s .updates + 1; mu = s .mu + v .programmed; plain = s .plain + w .programmed } ≡ scored s order (outcomeOf v) (outcomeOf w)
+      → record {
+        lines = s .lines + 1;
+        updates = s .updates + 1;
+        mu = s .mu + v .programmed;
+        plain = s .plain + w .programmed;
+      } ≡ scored s order (outcomeOf v) (outcomeOf w)
   unfolding scored
   scored-one h = rw (← e, not-false t h) refl
 
 -- a line more of those that may come
-pub within-more : (s : Score) (order : Order) (a b : Outcome) → Within s → s .lines < 1000000 → a .programmed ≤ 4294967295 → b .programmed ≤ 4294967295
+pub within-more : (s : Score) (order : Order) (a b : Outcome) → Within s → s .lines < 1000000
+    → a .programmed ≤ 4294967295 → b .programmed ≤ 4294967295
     → Within (scored s order a b)
 unfolding scored
 within-more s order a b w h i j = go (counts order a b)

@@ -101,7 +101,8 @@ module _ (g : Geometry) (l k : ℕ) (e : k ≡ l) where
   pub slots-plain-past : 6 ≤ k → g .table ≡ 2 → 0 ≡ slotsOf g l
   slots-plain-past h f = sym (List·getD-eq-default plainSlots 0 h) ∙ slots-plain f
 
-pub slots-other : (g : Geometry) (l : ℕ) → (g .table ≡ 0 → ⊥) → (g .table ≡ 1 → ⊥) → (g .table ≡ 2 → ⊥) → 0 ≡ slotsOf g l
+pub slots-other : (g : Geometry) (l : ℕ) → (g .table ≡ 0 → ⊥) → (g .table ≡ 1 → ⊥) → (g .table ≡ 2 → ⊥)
+    → 0 ≡ slotsOf g l
 unfolding slotsOf
 slots-other g l n f z = rw (ne-eqb (g .table) 2 z) (in-neither g smallSlots largeSlots l n f)
 
@@ -153,14 +154,17 @@ pub most-plain : (g : Geometry) (l s : ℕ) → s ≡ rootSlots g l → g .table
 unfolding rootMost
 most-plain g l s e f = rw (e, eq-eqb (g .table) 2 f) refl
 
-pub most-below : (g : Geometry) (l a b s : ℕ) → (g .table ≡ 2 → ⊥) → s ≡ rootSlots g l → a ≡ l → b ≡ g .top → a < b → s - 1 ≡ rootMost g l
+pub most-below : (g : Geometry) (l a b s : ℕ) → (g .table ≡ 2 → ⊥) → s ≡ rootSlots g l → a ≡ l → b ≡ g .top → a < b
+    → s - 1 ≡ rootMost g l
 unfolding rootMost
 most-below g l a b s p e d f h = rw (ne-eqb (g .table) 2 p, lt-ltb l (g .top) (rw (← d, ← f) h), e) refl
 
-pub most-none : (g : Geometry) (l a b s : ℕ) → (g .table ≡ 2 → ⊥) → s ≡ rootSlots g l → a ≡ l → b ≡ g .top → a < b → s ≡ 0 → 0 ≡ rootMost g l
+pub most-none : (g : Geometry) (l a b s : ℕ) → (g .table ≡ 2 → ⊥) → s ≡ rootSlots g l → a ≡ l → b ≡ g .top → a < b
+    → s ≡ 0 → 0 ≡ rootMost g l
 most-none g l a b s p e d f h z = (let w : 0 ≡ s - 1 = omega arith in w) ∙ most-below g l a b s p e d f h
 
-pub most-top : (g : Geometry) (l a b s : ℕ) → (g .table ≡ 2 → ⊥) → s ≡ rootSlots g l → a ≡ l → b ≡ g .top → b ≤ a → s ≡ rootMost g l
+pub most-top : (g : Geometry) (l a b s : ℕ) → (g .table ≡ 2 → ⊥) → s ≡ rootSlots g l → a ≡ l → b ≡ g .top → b ≤ a
+    → s ≡ rootMost g l
 unfolding rootMost
 most-top g l a b s p e d f h = rw (ne-eqb (g .table) 2 p, le-ltb l (g .top) (rw (← d, ← f) h), e) refl
 

@@ -34,7 +34,8 @@ pageBytes g = g .main + g .spare
 abbrev pub halves : Geometry → ℕ
 halves g = g .main / 256
 
--- the byte of a page at which the code of half i stands: spare bytes 10 to 12 and 13 to 15, and 12 to 35 on the large chip
+-- the byte of a page at which the code of half i stands: spare bytes 10 to 12 and 13 to 15, and 12 to 35 on the large
+-- chip
 abbrev pub codePlace : Geometry → ℕ → ℕ
 codePlace g i = g .main + 5 + g .top + 3 * i
 

@@ -122,7 +122,8 @@ pub enum Verdict {
     Broken(u32, u32),
 }
 
-// What a patrol of one half finds: nothing, the number of the data bit or of the code's bit that it mended, or more than it can mend.
+// What a patrol of one half finds: nothing, the number of the data bit or of the code's bit that it mended, or more
+// than it can mend.
 pub enum Patrol {
     Clean,
     DataMended(u32),

@@ -39,19 +39,23 @@ module _ (kind : ℕ) (c : Chosen) (ec : c ≡ chosenOf kind) (g : Geometry) (e 
   unfolding lookupOf
   of-lookup img k o h = called (λ x. lookup x img k) (refused 1 img) o h
 
-  pub of-list : (img : List ℕ) (low high : ℕ) (b : List ℕ) (o : Outcome) → o ≡ asOutcome (listing g img low high b) → o ≡ asOutcome (listOf kind img low high b)
+  pub of-list : (img : List ℕ) (low high : ℕ) (b : List ℕ) (o : Outcome) → o ≡ asOutcome (listing g img low high b)
+      → o ≡ asOutcome (listOf kind img low high b)
   unfolding listOf chosenCall
   of-list img low high b o h = h ∙ ap (λ (x : Chosen). asOutcome (chosenCall x (λ y. listing y img low high b) (listsNone 1 0 0 b))) (sym e ∙ ec)
 
-  pub of-insert : (img old : List ℕ) (k a al : ℕ) (r : Reply) → r ≡ insertLive g img old k a al → r ≡ insertLiveOf kind img old k a al
+  pub of-insert : (img old : List ℕ) (k a al : ℕ) (r : Reply) → r ≡ insertLive g img old k a al
+      → r ≡ insertLiveOf kind img old k a al
   unfolding insertLiveOf
   of-insert img old k a al r h = called (λ x. insertLive x img old k a al) (reply (refused 1 img) old) r h
 
-  pub of-delete : (img old : List ℕ) (k al : ℕ) (r : Reply) → r ≡ deleteLive g img old k al → r ≡ deleteLiveOf kind img old k al
+  pub of-delete : (img old : List ℕ) (k al : ℕ) (r : Reply) → r ≡ deleteLive g img old k al
+      → r ≡ deleteLiveOf kind img old k al
   unfolding deleteLiveOf
   of-delete img old k al r h = called (λ x. deleteLive x img old k al) (reply (refused 1 img) old) r h
 
-  pub of-patrol : (img : List ℕ) (page half : ℕ) (o : Outcome) → o ≡ patrol g img page half → o ≡ patrolOf kind img page half
+  pub of-patrol : (img : List ℕ) (page half : ℕ) (o : Outcome) → o ≡ patrol g img page half
+      → o ≡ patrolOf kind img page half
   unfolding patrolOf
   of-patrol img page half o h = called (λ x. patrol x img page half) (refused 1 img) o h
 

@@ -1,5 +1,6 @@
-// The index as Rattle calls, on the small-block chip (0) or the large-page chip (1). No call asks anything of its caller, and
-// each contract is one equation: the answer, its numbers and the image afterwards are those of the definition, for every image.
+// The index as Rattle calls, on the small-block chip (0) or the large-page chip (1). No call asks anything of its
+// caller, and each contract is one equation: the answer, its numbers and the image afterwards are those of the
+// definition, for every image.
 ghost use mathlib.Core.Path.{_≡_};
 ghost use Rattle.model.specs.Calls.{formatOf, lookupOf, patrolOf};
 ghost use Rattle.model.specs.Listing.{listOf, asOutcome};
@@ -38,7 +39,8 @@ pub fn lookup(kind: u32, img: &[u8], key: u32) -> Answer
 
 // The pairs between two keys, both taken in, into a lent buffer: DONE has how many exist and how many were written.
 pub fn list(kind: u32, img: &[u8], low: u32, high: u32, pairs: &mut [u32]) -> Answer
-    ensures { λ r. ⌜ told r (now (pairs .exit)) ≡ asOutcome (listOf kind (now (img .entry)) low high (now (pairs .entry))) ⌝ }
+    ensures { λ r. ⌜ told r (now (pairs .exit)) ≡ asOutcome (listOf kind (now (img .entry)) low high
+        (now (pairs .entry))) ⌝ }
 {
     let chosen = geometry::choose(kind);
     let Chosen::Of(g) = chosen else {
@@ -56,7 +58,8 @@ pub fn insert(
     allowance: u32,
 ) -> Answer
     ensures { λ r.
-        ⌜ reply (told r (now (img .exit))) (now (lent .exit)) ≡ insertLiveOf kind (now (img .entry)) (now (lent .entry)) key address allowance ⌝ }
+        ⌜ reply (told r (now (img .exit))) (now (lent .exit)) ≡ insertLiveOf kind (now (img .entry))
+        (now (lent .entry)) key address allowance ⌝ }
 {
     let chosen = geometry::choose(kind);
     let Chosen::Of(g) = chosen else {
@@ -67,7 +70,8 @@ pub fn insert(
 
 pub fn delete(kind: u32, img: &mut [u8], lent: &mut [u32], key: u32, allowance: u32) -> Answer
     ensures { λ r.
-        ⌜ reply (told r (now (img .exit))) (now (lent .exit)) ≡ deleteLiveOf kind (now (img .entry)) (now (lent .entry)) key allowance ⌝ }
+        ⌜ reply (told r (now (img .exit))) (now (lent .exit)) ≡ deleteLiveOf kind (now (img .entry))
+        (now (lent .entry)) key allowance ⌝ }
 {
     let chosen = geometry::choose(kind);
     let Chosen::Of(g) = chosen else {
@@ -78,7 +82,8 @@ pub fn delete(kind: u32, img: &mut [u8], lent: &mut [u32], key: u32, allowance: 
 
 // Request 8, "Open once, call often": judges the image and hands back its record; a refused opening gives zeros.
 pub fn open(kind: u32, img: &[u8]) -> Opening
-    ensures { λ r. ⌜ (told (r .answer) (now (img .entry)) ≡ openingOf kind (now (img .entry))) × (r .opened ≡ openedOf kind (now (img .entry))) ⌝ }
+    ensures { λ r. ⌜ (told (r .answer) (now (img .entry)) ≡ openingOf kind (now (img .entry))) ×
+        (r .opened ≡ openedOf kind (now (img .entry))) ⌝ }
 {
     let chosen = geometry::choose(kind);
     let Chosen::Of(g) = chosen else {
@@ -107,7 +112,8 @@ pub fn list_opened(
     high: u32,
     pairs: &mut [u32],
 ) -> Answer
-    ensures { λ r. ⌜ told r (now (pairs .exit)) ≡ asOutcome (listWithOf kind (now (img .entry)) o low high (now (pairs .entry))) ⌝ }
+    ensures { λ r. ⌜ told r (now (pairs .exit)) ≡ asOutcome (listWithOf kind (now (img .entry)) o low high
+        (now (pairs .entry))) ⌝ }
 {
     let chosen = geometry::choose(kind);
     let Chosen::Of(g) = chosen else {
@@ -127,7 +133,8 @@ pub fn insert_opened(
     allowance: u32,
 ) -> Renewed
     ensures { λ r.
-        ⌜ returned (told (r .answer) (now (img .exit))) (r .opened) (now (lent .exit)) ≡ insertWithOf kind (now (img .entry)) (now (lent .entry)) o key address allowance ⌝ }
+        ⌜ returned (told (r .answer) (now (img .exit))) (r .opened) (now (lent .exit)) ≡ insertWithOf kind
+        (now (img .entry)) (now (lent .entry)) o key address allowance ⌝ }
 {
     let chosen = geometry::choose(kind);
     let Chosen::Of(g) = chosen else {
@@ -149,7 +156,8 @@ pub fn delete_opened(
     allowance: u32,
 ) -> Renewed
     ensures { λ r.
-        ⌜ returned (told (r .answer) (now (img .exit))) (r .opened) (now (lent .exit)) ≡ deleteWithOf kind (now (img .entry)) (now (lent .entry)) o key allowance ⌝ }
+        ⌜ returned (told (r .answer) (now (img .exit))) (r .opened) (now (lent .exit)) ≡ deleteWithOf kind
+        (now (img .entry)) (now (lent .entry)) o key allowance ⌝ }
 {
     let chosen = geometry::choose(kind);
     let Chosen::Of(g) = chosen else {
@@ -171,7 +179,8 @@ pub fn patrol(kind: u32, img: &mut [u8], page: u32, half: u32) -> Answer
     call_patrol::patrol_on(g, &mut *img, page, half)
 }
 
-// The map as a text of lines, into a lent text: the row has records, bytes of the whole text and bytes written, all or none.
+// The map as a text of lines, into a lent text: the row has records, bytes of the whole text and bytes written, all or
+// none.
 pub fn export_text(kind: u32, img: &[u8], text: &mut [u8]) -> Row
     ensures { λ r. ⌜ toldBy r (now (text .exit)) ≡ exportOf kind (now (img .entry)) (now (text .entry)) ⌝ }
 {
@@ -182,7 +191,8 @@ pub fn export_text(kind: u32, img: &[u8], text: &mut [u8]) -> Row
     call_export::export_on(g, img, &mut *text)
 }
 
-// The records of a text into an image that is formatted first: the row has the records stored, or the line that is refused.
+// The records of a text into an image that is formatted first: the row has the records stored, or the line that is
+// refused.
 pub fn import_text(kind: u32, img: &mut [u8], text: &[u8]) -> Row
     ensures { λ r. ⌜ toldBy r (now (img .exit)) ≡ importOf kind (now (img .entry)) (now (text .entry)) ⌝ }
 {

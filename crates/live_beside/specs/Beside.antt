@@ -1,4 +1,5 @@
--- What an update keeps beside the image: the record of request 8 and the table; and one move of a sweep. Definitions alone; assumes nothing.
+-- What an update keeps beside the image: the record of request 8 and the table; and one move of a sweep. Definitions
+-- alone; assumes nothing.
 use Prim.Native.Nat.{ℕ, zero, suc, _+_, _*_, _/_, _%_, min}
 use mathlib.Core.Bool.{Bool}
 use mathlib.Core.List.{List, []}
@@ -27,9 +28,9 @@ pub record Held : Type 0 where
 abbrev pub holding : Opened → Table → Held
 holding o t = record { at = o; table = t }
 
--- ---- the pages to come
--- the page after page x, which has just been programmed and so has the largest number: the next one of its block; past the block's end page 0
--- of the first wholly erased block after it, round past the end to the start
+-- ---- the pages to come the page after page x, which has just been programmed and so has the largest number: the next
+-- one of its block; past the block's end page 0 of the first wholly erased block after it, round past the end to the
+-- start
 unfoldable pub nextAfter : ℕ → ℕ → (ℕ → Bool) → ℕ → ℕ
 nextAfter p n er x = pick (eqb (suc x % p) 0) (p * round n (x / p) (λ b. er (p * b + 0))) (suc x)
 

@@ -1,6 +1,6 @@
--- What marks change in a table: the levels of the marked pages alone, and the words with them, so that words which told the levels still do;
--- words past the image's stay. Of a move: the path's pages from level a up die whose level is the path's there, and the new page gets a.
--- Assumes nothing.
+-- What marks change in a table: the levels of the marked pages alone, and the words with them, so that words which told
+-- the levels still do; words past the image's stay. Of a move: the path's pages from level a up die whose level is the
+-- path's there, and the new page gets a. Assumes nothing.
 use Prim.Native.Nat.{ℕ, zero, suc, _+_, _*_, _/_, _<_, _≤_}
 use native.Mathlib.Omega.{arith}
 use mathlib.Core.Bool.{Bool, true, false, not}
@@ -62,7 +62,8 @@ module _ (m q a : ℕ) (t : Table) where
       w : ℕ
       w = word (liveIn (set (t .levels) q a)) (q / 32)
 
-      go : (b : Bool) → ltb (q / 32) m ≡ b → Told (liveIn (set (t .levels) q a)) m (pick b (set (t .words) (q / 32) w) (t .words))
+      go : (b : Bool) → ltb (q / 32) m ≡ b → Told (liveIn (set (t .levels) q a)) m (pick b (set (t .words) (q / 32) w)
+          (t .words))
       go true e = record {
         room = omega (arith, h .room, length-set (t .words) (q / 32) w);
         each = λ i k. by-eq i (q / 32)
@@ -91,7 +92,8 @@ module _ (m q a : ℕ) (t : Table) where
 abbrev pub Off : List Place → ℕ → ℕ → ℕ → Type 0
 Off path p old new = (Mem (spot p old) path × (new ≡ 0)) ⊎ ((Mem (spot p old) path → ⊥) × (new ≡ old))
 
-off-then : (x : Place) (path : List Place) (p old mid new : ℕ) → Off (x ∷ []) p old mid → Off path p mid new → Off (x ∷ path) p old new
+off-then : (x : Place) (path : List Place) (p old mid new : ℕ) → Off (x ∷ []) p old mid → Off path p mid new
+    → Off (x ∷ path) p old new
 off-then x path p old mid new (inl (inl e, z)) (inl h) = inl (inl e, h .1)
 off-then x path p old mid new (inl (inl e, z)) (inr h) = inl (inl e, h .1 ∙ z)
 off-then x path p old mid new (inl (inr e, z)) h = absurd e
@@ -145,11 +147,13 @@ module _ (m q j : ℕ) (t : Table) where
 
 -- ---- a path's marks taken off
 module _ (m : ℕ) (r : Nodes) (k a : ℕ) where
-  pub off-low : (l : ℕ) (e : Entry) (t : Table) (p : ℕ) → Off (pathPlaces r k a (suc l) e) p (lowIn t p) (lowIn (offPath m r k a l e t) p)
+  pub off-low : (l : ℕ) (e : Entry) (t : Table) (p : ℕ) → Off (pathPlaces r k a (suc l) e) p (lowIn t p)
+      (lowIn (offPath m r k a l e t) p)
   unfolding pathPlaces offPath
   off-low zero e t p = go (leb a 1)
     where
-      go : (b : Bool) → Off (pick b (spot (e .addr) 1 ∷ []) []) p (lowIn t p) (lowIn (pick b (unmark m (e .addr) 1 t) t) p)
+      go : (b : Bool) → Off (pick b (spot (e .addr) 1 ∷ []) []) p (lowIn t p)
+          (lowIn (pick b (unmark m (e .addr) 1 t) t) p)
       go true = unmark-low m (e .addr) 1 t p
       go false = inr ((λ z. z), refl)
   off-low (suc l) e t p =
@@ -162,7 +166,8 @@ module _ (m : ℕ) (r : Nodes) (k a : ℕ) where
       u = unmark m (e .addr) (suc (suc l)) t
 
       go : (b : Bool) → Off (pathPlaces r k a (suc l) x) p (lowIn u p) (lowIn (offPath m r k a l x u) p)
-          → Off (pick b (spot (e .addr) (suc (suc l)) ∷ pathPlaces r k a (suc l) x) []) p (lowIn t p) (lowIn (pick b (offPath m r k a l x u) t) p)
+          → Off (pick b (spot (e .addr) (suc (suc l)) ∷ pathPlaces r k a (suc l) x) []) p (lowIn t p)
+          (lowIn (pick b (offPath m r k a l x u) t) p)
       go true h = off-then (spot (e .addr) (suc (suc l))) (pathPlaces r k a (suc l) x) p (lowIn t p) (lowIn u p) (lowIn (offPath m r k a l x u) p)
           (unmark-low m (e .addr) (suc (suc l)) t p) h
       go false h = inr ((λ z. z), refl)
@@ -202,7 +207,8 @@ module _ (m : ℕ) (r : Nodes) (k a l : ℕ) (e : Entry) (new : ℕ) (t : Table)
   unfolding tableMoved
   moved-new h = mark-same m new a (offPath m r k a l e t) (omega (arith, h, off-follows m r k a l e t .long))
 
-  pub moved-low : (p : ℕ) → (p ≡ new → ⊥) → Off (pathPlaces r k a (suc l) e) p (lowIn t p) (lowIn (tableMoved m r k a l e new t) p)
+  pub moved-low : (p : ℕ) → (p ≡ new → ⊥) → Off (pathPlaces r k a (suc l) e) p (lowIn t p)
+      (lowIn (tableMoved m r k a l e new t) p)
   unfolding tableMoved
   moved-low p d = rw (mark-other m new a (offPath m r k a l e t) p d) (off-low m r k a l e t p)
 
@@ -215,9 +221,11 @@ module _ (m : ℕ) (r : Nodes) (k a l : ℕ) (e : Entry) (new : ℕ) (t : Table)
   pub few-marks : length (movedPages r k a l e new) ≤ suc l + 1
   few-marks = omega (arith, path-few r k a (suc l) e, length-map (pathPlaces r k a (suc l) e) (λ (x : Place). x .page))
 
-  pub others-stay : (p : ℕ) → (Mem p (movedPages r k a l e new) → ⊥) → lowIn (tableMoved m r k a l e new t) p ≡ lowIn t p
+  pub others-stay : (p : ℕ) → (Mem p (movedPages r k a l e new) → ⊥) → lowIn (tableMoved m r k a l e new t) p
+      ≡ lowIn t p
   others-stay p d = go (moved-low p (λ z. d (inl (sym z))))
     where
-      go : Off (pathPlaces r k a (suc l) e) p (lowIn t p) (lowIn (tableMoved m r k a l e new t) p) → lowIn (tableMoved m r k a l e new t) p ≡ lowIn t p
+      go : Off (pathPlaces r k a (suc l) e) p (lowIn t p) (lowIn (tableMoved m r k a l e new t) p)
+          → lowIn (tableMoved m r k a l e new t) p ≡ lowIn t p
       go (inl i) = absurd (d (inr (page-mem (spot p (lowIn t p)) (pathPlaces r k a (suc l) e) (i .0))))
       go (inr i) = i .1

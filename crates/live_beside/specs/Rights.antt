@@ -22,11 +22,13 @@ words-in g n =
     omega (arith, e, z)
 
 -- the words of a right table tell what its levels do
-pub levels-told : (g : Geometry) (n : ℕ) (img : List ℕ) (t : Table) → Right g n img t → Told (liveIn (t .levels)) (wordsOf g n) (t .words)
+pub levels-told : (g : Geometry) (n : ℕ) (img : List ℕ) (t : Table) → Right g n img t → Told (liveIn (t .levels))
+    (wordsOf g n) (t .words)
 levels-told g n img t h = told-alike (live (placesOf (chipOf g n img))) (liveIn (t .levels)) (wordsOf g n)
     (λ p b. sym (marked-live (chipOf g n img) (t .levels) (h .marked) p (omega (arith, b, words-in g n, h .room)))) (t .words) (h .told)
 
-pub right-follows : (g : Geometry) (n : ℕ) (img img′ : List ℕ) (t t′ : Table) → Right g n img t → Follows (wordsOf g n) t t′
+pub right-follows : (g : Geometry) (n : ℕ) (img img′ : List ℕ) (t t′ : Table) → Right g n img t
+    → Follows (wordsOf g n) t t′
     → Marked (chipOf g n img′) (t′ .levels) → Right g n img′ t′
 right-follows g n img img′ t t′ h f marks = record {
   room = omega (arith, h .room, f .long);

@@ -32,7 +32,8 @@ mark m q a t = tableIn (set (t .levels) q a)
 unfoldable pub unmark : ℕ → ℕ → ℕ → Table → Table
 unmark m q j t = pick (eqb (lowIn t q) j) (mark m q 0 t) t
 
--- the pages of K's path from the node at level suc l that e names down to level a: each dies whose lowest live node stands on the path
+-- the pages of K's path from the node at level suc l that e names down to level a: each dies whose lowest live node
+-- stands on the path
 unfoldable pub offPath : ℕ → Nodes → ℕ → ℕ → ℕ → Entry → Table → Table
 offPath m r k a zero e t = pick (leb a 1) (unmark m (e .addr) 1 t) t
 offPath m r k a (suc l) e t =

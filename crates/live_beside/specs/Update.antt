@@ -1,5 +1,5 @@
--- Insert and delete by the record and the table, on every image: the outcome, the record and the words that are left. Definitions alone;
--- assumes nothing.
+-- Insert and delete by the record and the table, on every image: the outcome, the record and the words that are left.
+-- Definitions alone; assumes nothing.
 use Prim.Native.Nat.{ℕ, zero, suc, _+_, _-_, _%_, min}
 use mathlib.Core.Bool.{Bool}
 use mathlib.Core.List.{List, [], _∷_, _++_}
@@ -60,8 +60,8 @@ recordMade g n o m t then = record {
   erased = o .erased - m;
 }
 
--- the stores made under an allowance, m of them own pages after the record o: where all are, the record goes on from o; else it is taken anew
--- from the image that is left. The words are those of the record
+-- the stores made under an allowance, m of them own pages after the record o: where all are, the record goes on from o;
+-- else it is taken anew from the image that is left. The words are those of the record
 unfoldable pub madeBy : Geometry → ℕ → List Store → Opened → ℕ → Crest → ℕ → List ℕ → List ℕ → Returned
 madeBy g n ss o m t allowance img old =
     let made = madeOf g ss allowance img in

@@ -50,7 +50,8 @@ ones-start words at q = record {
   sum = let w : at + 0 ≡ at = omega arith in let v : q - 0 ≡ q = omega arith in rw (w, v) (omega arith);
 }
 
-ones-suc : (words : List ℕ) (at q : ℕ) → 0 < q → onesFrom words at q ≡ ones (getD words at 0) + onesFrom words (at + 1) (q - 1)
+ones-suc : (words : List ℕ) (at q : ℕ) → 0 < q → onesFrom words at q ≡ ones (getD words at 0) + onesFrom words
+    (at + 1) (q - 1)
 unfolding onesFrom
 ones-suc words at zero h = absurd (omega arith)
 ones-suc words at (suc q) h = rw sub-one
@@ -70,7 +71,8 @@ ones-end words at q i n e h =
     let w : onesFrom words at q ≡ n + 0 = e .sum ∙ rw u in
     sym (w ∙ omega arith)
 
-pub ones-of-words : (words : List ℕ) (at at′ q q′ r : ℕ) → r ≡ onesFrom words at q → at ≡ at′ → q ≡ q′ → r ≡ onesFrom words at′ q′
+pub ones-of-words : (words : List ℕ) (at at′ q q′ r : ℕ) → r ≡ onesFrom words at q → at ≡ at′ → q ≡ q′
+    → r ≡ onesFrom words at′ q′
 ones-of-words words at at′ q q′ r e ea eq = e ∙ rw (ea, eq)
 
 -- no more ones than pages
@@ -109,7 +111,8 @@ word-low f zero at = lit< tt
 word-low f (suc n) at = (let w = pow-suc 2 n in omega (arith, word-low f n (at + 1), bit-most (f at), w))
 
 pub word-small : (f : ℕ → Bool) (j at w : ℕ) → w ≡ wordOf f (32 - j) at → 0 < j → w < 2147483648
-word-small f j at w e h = rw e (lt-of-lt-of-le (word-low f (32 - j) at) (pow-mono (let z : 32 - j ≤ 31 = omega arith in z)))
+word-small f j at w e h = rw e (lt-of-lt-of-le (word-low f (32 - j) at) (pow-mono (let z : 32 - j ≤ 31 = omega arith in
+    z)))
 
 word-suc : (f : ℕ → Bool) (at j w r : ℕ) → w ≡ wordOf f (32 - j) (at + j) → r ≡ bit (f (at + (j - 1))) → 0 < j → j ≤ 32
     → 2 * w + r ≡ wordOf f (32 - (j - 1)) (at + (j - 1))
@@ -121,7 +124,8 @@ word-suc f at (suc j) w r e d h k =
     let c : at + j + 1 ≡ at + suc j = omega arith in
     rw (e, d, a, b, c) (omega arith)
 
-pub word-go : (f : ℕ → Bool) (at j w r v : ℕ) → v ≡ 2 * w + r → w ≡ wordOf f (32 - j) (at + j) → r ≡ bit (f (at + (j - 1))) → 0 < j → j ≤ 32
+pub word-go : (f : ℕ → Bool) (at j w r v : ℕ) → v ≡ 2 * w + r → w ≡ wordOf f (32 - j) (at + j)
+    → r ≡ bit (f (at + (j - 1))) → 0 < j → j ≤ 32
     → v ≡ wordOf f (32 - (j - 1)) (at + (j - 1))
 word-go f at j w r v ev e d h k = ev ∙ word-suc f at j w r e d h k
 
@@ -146,7 +150,8 @@ pub fill-start : (f : ℕ → Bool) (words : List ℕ) → words ≡ filled f 0 
 unfolding filled
 fill-start f words = written-none words 0 (word f)
 
-pub fill-go : (f : ℕ → Bool) (words x y : List ℕ) (i : ℕ) → y ≡ set x i (word f i) → x ≡ filled f i words → y ≡ filled f (i + 1) words
+pub fill-go : (f : ℕ → Bool) (words x y : List ℕ) (i : ℕ) → y ≡ set x i (word f i) → x ≡ filled f i words
+    → y ≡ filled f (i + 1) words
 unfolding filled
 fill-go f words x y i ey ex = ey ∙ filled-more words (word f) i x ex
 

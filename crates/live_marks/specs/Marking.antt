@@ -30,14 +30,16 @@ pub put-long : (x y : List ℕ) (p a : ℕ) → y ≡ set x p a → length y ≡
 put-long x y p a e = rw e (length-set x p a)
 
 -- the page's word is one of the image's, or it is not
-pub mark-in : (m p a i q : ℕ) (x y u v : List ℕ) → y ≡ set x p a → v ≡ set u i (word (liveIn y) i) → i ≡ q / 32 → q ≡ p → i < m
+pub mark-in : (m p a i q : ℕ) (x y u v : List ℕ) → y ≡ set x p a → v ≡ set u i (word (liveIn y) i) → i ≡ q / 32 → q ≡ p
+    → i < m
     → tableIn y v ≡ mark m p a (tableIn x u)
 unfolding mark
 mark-in m p a i q x y u v ey ev ei eq h =
     let w : i ≡ p / 32 = ei ∙ rw eq in
     sym (rw (← w) (simp (lt-ltb i m h) (rw (← ey, ← ev))))
 
-pub mark-out : (m p a i q : ℕ) (x y u : List ℕ) → y ≡ set x p a → i ≡ q / 32 → q ≡ p → m ≤ i → tableIn y u ≡ mark m p a (tableIn x u)
+pub mark-out : (m p a i q : ℕ) (x y u : List ℕ) → y ≡ set x p a → i ≡ q / 32 → q ≡ p → m ≤ i → tableIn y u ≡ mark m p a
+    (tableIn x u)
 unfolding mark
 mark-out m p a i q x y u ey ei eq h =
     let w : i ≡ p / 32 = ei ∙ rw eq in
@@ -59,7 +61,8 @@ unfolding unmark
 unmark-out m p a n x u en h = sym (simp (ne-eqb (getD x p 0) a (λ e. h (en ∙ e))))
 
 -- ---- a path; it asks an entry for its page only
-pub off-named : (m : ℕ) (r : Nodes) (k a l : ℕ) (e : Entry) (t : Table) → offPath m r k a l e t ≡ offPath m r k a l (named (e .addr)) t
+pub off-named : (m : ℕ) (r : Nodes) (k a l : ℕ) (e : Entry) (t : Table) → offPath m r k a l e t ≡ offPath m r k a l
+    (named (e .addr)) t
 unfolding offPath
 off-named m r k a zero e t = refl
 off-named m r k a (suc l) e t = refl
@@ -70,12 +73,14 @@ unfolding offPath
 off-step m r k a zero p t h i = absurd (omega arith)
 off-step m r k a (suc l) p t h i = rw (add-one (suc l), sub-one) (simp (le-leb a (suc (suc l)) (omega arith)))
 
-pub off-stop : (m : ℕ) (r : Nodes) (k a l p : ℕ) (w t : Table) → w ≡ offPath m r k a l (named p) t → 0 < l → l + 1 < a → t ≡ w
+pub off-stop : (m : ℕ) (r : Nodes) (k a l p : ℕ) (w t : Table) → w ≡ offPath m r k a l (named p) t → 0 < l → l + 1 < a
+    → t ≡ w
 unfolding offPath
 off-stop m r k a zero p w t e h i = absurd (omega arith)
 off-stop m r k a (suc l) p w t e h i = sym (e ∙ simp (lt-leb a (suc (suc l)) (omega arith)))
 
-pub off-go : (m : ℕ) (g : Geometry) (img : List ℕ) (k a l p : ℕ) (e : Entry) (w t o : Table) → w ≡ offPath m (nodeAt g img) k a l (named p) t
+pub off-go : (m : ℕ) (g : Geometry) (img : List ℕ) (k a l p : ℕ) (e : Entry) (w t o : Table)
+    → w ≡ offPath m (nodeAt g img) k a l (named p) t
     → e ≡ chosen k (nodeAt g img p (l + 1)) → o ≡ unmark m p (l + 1) t → 0 < l → a ≤ l + 1
     → w ≡ offPath m (nodeAt g img) k a (l - 1) (named (e .addr)) o
 off-go m g img k a l p e w t o ew ee eo h i =
@@ -87,12 +92,14 @@ unfolding offPath
 off-last m r k a zero p w t o e h i eo = eo ∙ sym (e ∙ simp (le-leb a 1 i))
 off-last m r k a (suc l) p w t o e h i eo = absurd (omega arith)
 
-pub off-none : (m : ℕ) (r : Nodes) (k a l p : ℕ) (w t : Table) → w ≡ offPath m r k a l (named p) t → l ≤ 0 → 1 < a → t ≡ w
+pub off-none : (m : ℕ) (r : Nodes) (k a l p : ℕ) (w t : Table) → w ≡ offPath m r k a l (named p) t → l ≤ 0 → 1 < a
+    → t ≡ w
 unfolding offPath
 off-none m r k a zero p w t e h i = sym (e ∙ simp (lt-leb a 1 i))
 off-none m r k a (suc l) p w t e h i = absurd (omega arith)
 
-pub moved : (m : ℕ) (r : Nodes) (k a l q new : ℕ) (t o z : Table) → o ≡ offPath m r k a l (named q) t → z ≡ mark m new a o
+pub moved : (m : ℕ) (r : Nodes) (k a l q new : ℕ) (t o z : Table) → o ≡ offPath m r k a l (named q) t
+    → z ≡ mark m new a o
     → z ≡ tableMoved m r k a l (named q) new t
 unfolding tableMoved
 moved m r k a l q new t o z eo ez = ez ∙ rw eo

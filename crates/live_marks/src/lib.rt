@@ -23,7 +23,8 @@ fn put_level(table: &mut [u8], page: u32, level: u32)
 pub fn mark(table: &mut [u8], words: &mut [u32], m: usize, page: u32, level: u32)
     requires { ⌜ level < 256 ⌝ }
     ensures { λ _.
-        ⌜ tableIn (now (table .exit)) (now (words .exit)) ≡ mark m page level (tableIn (now (table .entry)) (now (words .entry))) ⌝ }
+        ⌜ tableIn (now (table .exit)) (now (words .exit)) ≡ mark m page level
+        (tableIn (now (table .entry)) (now (words .entry))) ⌝ }
     ensures { λ _. ⌜ length (now (table .exit)) ≡ length (now (table .entry)) ⌝ }
     ensures { λ _. ⌜ Past m (now (words .entry)) (now (words .exit)) ⌝ }
 {
@@ -37,7 +38,8 @@ pub fn mark(table: &mut [u8], words: &mut [u32], m: usize, page: u32, level: u32
 // A page dies if its lowest live level is the one given.
 pub fn unmark(table: &mut [u8], words: &mut [u32], m: usize, page: u32, level: u32)
     ensures { λ _.
-        ⌜ tableIn (now (table .exit)) (now (words .exit)) ≡ unmark m page level (tableIn (now (table .entry)) (now (words .entry))) ⌝ }
+        ⌜ tableIn (now (table .exit)) (now (words .exit)) ≡ unmark m page level
+        (tableIn (now (table .entry)) (now (words .entry))) ⌝ }
     ensures { λ _. ⌜ length (now (table .exit)) ≡ length (now (table .entry)) ⌝ }
     ensures { λ _. ⌜ Past m (now (words .entry)) (now (words .exit)) ⌝ }
 {
@@ -61,7 +63,8 @@ pub fn off_path(
 )
     requires { ⌜ level < 255 ⌝ }
     ensures { λ _.
-        ⌜ tableIn (now (table .exit)) (now (words .exit)) ≡ offPath m (nodeAt g (now (img .entry))) key low level (named root) (tableIn (now (table .entry)) (now (words .entry))) ⌝ }
+        ⌜ tableIn (now (table .exit)) (now (words .exit)) ≡ offPath m (nodeAt g (now (img .entry))) key low level
+        (named root) (tableIn (now (table .entry)) (now (words .entry))) ⌝ }
     ensures { λ _. ⌜ length (now (table .exit)) ≡ length (now (table .entry)) ⌝ }
     ensures { λ _. ⌜ Past m (now (words .entry)) (now (words .exit)) ⌝ }
 {
@@ -96,7 +99,8 @@ pub fn move_marks(
 )
     requires { ⌜ (level < 255) × (low < 256) ⌝ }
     ensures { λ _.
-        ⌜ tableIn (now (table .exit)) (now (words .exit)) ≡ tableMoved m (nodeAt g (now (img .entry))) key low level (named root) new (tableIn (now (table .entry)) (now (words .entry))) ⌝ }
+        ⌜ tableIn (now (table .exit)) (now (words .exit)) ≡ tableMoved m (nodeAt g (now (img .entry))) key low level
+        (named root) new (tableIn (now (table .entry)) (now (words .entry))) ⌝ }
     ensures { λ _. ⌜ length (now (table .exit)) ≡ length (now (table .entry)) ⌝ }
     ensures { λ _. ⌜ Past m (now (words .entry)) (now (words .exit)) ⌝ }
 {

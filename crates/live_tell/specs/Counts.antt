@@ -21,7 +21,8 @@ module _ (g : Geometry) (img : List ℕ) (l at : ℕ) (c : List ℕ) where
   pub counts-start : Counts g img l at 0 c
   counts-start = record { counts = λ j h. absurd (omega arith) }
 
-  pub counts-go : (i k a n b : ℕ) → Counts g img l at i c → i < k → k < 256 → length c ≡ 256 → a ≡ u32At img (at + 8 * i + 4) → n ≡ nodeCount g img a l → b ≡ n
+  pub counts-go : (i k a n b : ℕ) → Counts g img l at i c → i < k → k < 256 → length c ≡ 256
+      → a ≡ u32At img (at + 8 * i + 4) → n ≡ nodeCount g img a l → b ≡ n
       → Counts g img l at (i + 1) (set c i b)
   counts-go i k a n b x low high long ea en eb = record {
     counts = λ j h. by-lt j i
@@ -32,7 +33,8 @@ module _ (g : Geometry) (img : List ℕ) (l at : ℕ) (c : List ℕ) where
   pub counts-end : (i n : ℕ) → Counts g img l at i c → i ≤ n → n ≤ i → Counts g img l at n c
   counts-end i n x h k = let w : i ≡ n = omega arith in rw (← w) x
 
-  pub count-read : (n i a b r : ℕ) → Counts g img l at n c → b ≡ getD c i 0 → r ≡ b → a ≡ u32At img (at + 8 * i + 4) → i < n → Counted g img a l r
+  pub count-read : (n i a b r : ℕ) → Counts g img l at n c → b ≡ getD c i 0 → r ≡ b → a ≡ u32At img (at + 8 * i + 4)
+      → i < n → Counted g img a l r
   count-read n i a b r x eb er ea h = record { count = er ∙ eb ∙ x .counts i h ∙ rw ea refl }
 
 pub counted : (g : Geometry) (img : List ℕ) (p l n : ℕ) → n ≡ nodeCount g img p l → Counted g img p l n

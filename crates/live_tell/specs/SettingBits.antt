@@ -52,31 +52,38 @@ module _ (m : ℕ) (g : Geometry) (img : List ℕ) where
     pub marked-out : left ≡ 0 → Walked (markAll m) g img l p left 0 t t
     marked-out = walked-out (markAll m) (λ t p l. markOne m t p) steps g img l p left t
 
-    pub marked-leaf : (u : List ℕ) → u ≡ markOne m t p → l ≡ 1 → (left ≡ 0 → ⊥) → Walked (markAll m) g img l p left (left - 1) t u
+    pub marked-leaf : (u : List ℕ) → u ≡ markOne m t p → l ≡ 1 → (left ≡ 0 → ⊥) → Walked (markAll m) g img l p left
+        (left - 1) t u
     marked-leaf = walked-leaf (markAll m) (λ t p l. markOne m t p) steps g img l p left t
 
     pub marked-end : (at n i left′ : ℕ) (u w : List ℕ) → at ≡ nodePlace g p l → Counted g img p l n → u ≡ markOne m t p
-        → Going (markAll m) g img l at n (left - 1) u i left′ w → n ≤ i → (l ≡ 0 → ⊥) → (left ≡ 0 → ⊥) → Walked (markAll m) g img l p left left′ t w
+        → Going (markAll m) g img l at n (left - 1) u i left′ w → n ≤ i → (l ≡ 0 → ⊥) → (left ≡ 0 → ⊥)
+        → Walked (markAll m) g img l p left left′ t w
     marked-end at n i left′ u w ea c = walked-end (markAll m) (λ t p l. markOne m t p) steps g img l p left t at n i left′ u w ea (c .count)
 
   pub marked-turn : (l at n left₀ : ℕ) (t₀ : List ℕ) (i left : ℕ) (t : List ℕ) (a r : ℕ) (u : List ℕ)
-      → Going (markAll m) g img l at n left₀ t₀ i left t → a ≡ u32At img (at + 8 * i + 4) → Walked (markAll m) g img (l - 1) a left r t u → i < n
+      → Going (markAll m) g img l at n left₀ t₀ i left t → a ≡ u32At img (at + 8 * i + 4) → Walked (markAll m) g img
+      (l - 1) a left r t u → i < n
       → Going (markAll m) g img l at n left₀ t₀ (i + 1) r u
   marked-turn = going-turn (markAll m) (λ t p l. markOne m t p) steps g img
 
-  pub marked-leaves : (p left at n k r : ℕ) (t u w : List ℕ) → at ≡ nodePlace g p 2 → Counted g img p 2 n → u ≡ markOne m t p
-      → k ≡ min n (left - 1) → w ≡ markAll m (leavesAt img at k) u → r ≡ left - 1 - k → (left ≡ 0 → ⊥) → Walked (markAll m) g img 2 p left r t w
+  pub marked-leaves : (p left at n k r : ℕ) (t u w : List ℕ) → at ≡ nodePlace g p 2 → Counted g img p 2 n
+      → u ≡ markOne m t p
+      → k ≡ min n (left - 1) → w ≡ markAll m (leavesAt img at k) u → r ≡ left - 1 - k → (left ≡ 0 → ⊥)
+      → Walked (markAll m) g img 2 p left r t w
   marked-leaves p left at n k r t u w ea c eu ek ew er more =
       rw er (walked-leaves (markAll m) (λ t p l. markOne m t p) steps g img p left at n k t u w ea (c .count) eu ek ew more)
 
   pub leaves-begin : (at : ℕ) (t : List ℕ) → t ≡ markAll m (leavesAt img at 0) t
   leaves-begin = leaves-start (markAll m) (λ t p l. markOne m t p) steps img
 
-  pub leaves-turn : (at : ℕ) (t : List ℕ) (i a : ℕ) (u w : List ℕ) → u ≡ markAll m (leavesAt img at i) t → a ≡ u32At img (at + 8 * i + 4) → w ≡ markOne m u a
+  pub leaves-turn : (at : ℕ) (t : List ℕ) (i a : ℕ) (u w : List ℕ) → u ≡ markAll m (leavesAt img at i) t
+      → a ≡ u32At img (at + 8 * i + 4) → w ≡ markOne m u a
       → w ≡ markAll m (leavesAt img at (i + 1)) t
   leaves-turn at t i a u w = leaves-go (markAll m) (λ t p l. markOne m t p) steps img at i a t u w
 
-  pub leaves-end : (at : ℕ) (t : List ℕ) (i k : ℕ) (u : List ℕ) → u ≡ markAll m (leavesAt img at i) t → i ≤ k → k ≤ i → u ≡ markAll m (leavesAt img at k) t
+  pub leaves-end : (at : ℕ) (t : List ℕ) (i k : ℕ) (u : List ℕ) → u ≡ markAll m (leavesAt img at i) t → i ≤ k → k ≤ i
+      → u ≡ markAll m (leavesAt img at k) t
   leaves-end at t i k u e h j = let z : i ≡ k = omega arith in rw (← z) e
 
 pub mark-same : (m p : ℕ) (t u : List ℕ) → u ≡ markOne m t p → length u ≡ length t
@@ -92,7 +99,8 @@ all-same m (x ∷ xs) t = all-same m xs (markOne m t (x .page)) ∙ mark-same m 
 pub leaves-same : (m : ℕ) (xs : List Place) (t u : List ℕ) → u ≡ markAll m xs t → length u ≡ length t
 leaves-same m xs t u e = rw e (all-same m xs t)
 
-pub marked-same : (m : ℕ) (g : Geometry) (img : List ℕ) (l p left r : ℕ) (t u : List ℕ) → Walked (markAll m) g img l p left r t u → length u ≡ length t
+pub marked-same : (m : ℕ) (g : Geometry) (img : List ℕ) (l p left r : ℕ) (t u : List ℕ)
+    → Walked (markAll m) g img l p left r t u → length u ≡ length t
 marked-same m g img l p left r t u x = rw (x .done) (all-same m (take left (places (nodeAt g img) l (named p))) t)
 
 -- ---- cleared words
@@ -124,7 +132,8 @@ within-lent m n h = omega arith
 filled-within : (f : ℕ → Bool) (m : ℕ) (old : List ℕ) → filled f (min m (length old)) old ≡ filled f m old
 filled-within f m old =
     let k = min m (length old) in
-    ext-getD 0 (filled f k old) (filled f m old) (length-filled f k old ∙ sym (length-filled f m old)) (λ i h. each i (omega (arith, h, length-filled f k old)))
+    ext-getD 0 (filled f k old) (filled f m old) (length-filled f k old
+    ∙ sym (length-filled f m old)) (λ i h. each i (omega (arith, h, length-filled f k old)))
   where
     each : (i : ℕ) → i < length old → getD (filled f (min m (length old)) old) i 0 ≡ getD (filled f m old) i 0
     each i h = by-lt i m
@@ -132,11 +141,14 @@ filled-within f m old =
         (λ b. filled-past f (min m (length old)) old .same i (omega arith) ∙ sym (filled-past f m old .same i b))
 
 -- ---- all of it
-pub told : (g : Geometry) (img : List ℕ) (n l p w m r : ℕ) (old t u : List ℕ) → w ≡ wordsOf g n → m ≡ min w (length old) → t ≡ filled nowhere m old
-    → Walked (markAll m) g img (l + 1) p 8388608 r t u → u ≡ filled (live (take 8388608 (placesOf (chipWith g img l p)))) (wordsOf g n) old
+pub told : (g : Geometry) (img : List ℕ) (n l p w m r : ℕ) (old t u : List ℕ) → w ≡ wordsOf g n → m ≡ min w (length old)
+    → t ≡ filled nowhere m old
+    → Walked (markAll m) g img (l + 1) p 8388608 r t u
+    → u ≡ filled (live (take 8388608 (placesOf (chipWith g img l p)))) (wordsOf g n) old
 told g img n l p w m r old t u ew em et x =
     let xs = take 8388608 (placesOf (chipWith g img l p)) in
     walked-root (markAll m) g img l p 8388608 r t u x ∙ ap (markAll m xs) et ∙ marked-live m xs old
-    ∙ ap (λ (k : ℕ). filled (live xs) k old) em ∙ filled-within (live xs) w old ∙ ap (λ (k : ℕ). filled (live xs) k old) ew
+    ∙ ap (λ (k : ℕ). filled (live xs) k old) em ∙ filled-within (live xs) w old
+    ∙ ap (λ (k : ℕ). filled (live xs) k old) ew
 
 pub ruleset telling-laws = (going-start, level-two, count-laws, one-bit, bit-set, mark-far, mark-in, marked-none, marked-out, marked-leaf, marked-leaves, marked-end, marked-turn, leaves-begin, leaves-turn, leaves-end, leaves-same, mark-same, marked-same, clear-start, clear-go, clear-end, clear-long, within-all, within-lent, told)

@@ -66,7 +66,8 @@ unfolding wordOf
 word-also f zero at j h = absurd (omega arith)
 word-also f (suc n) at zero h =
     let here : eqb (at + 0) at ≡ true = eq-eqb (at + 0) at (omega arith) in
-    let rest : wordOf f n (at + 1) ≡ wordOf (also f (at + 0)) n (at + 1) = words-alike f (also f (at + 0)) n (at + 1) others in
+    let rest : wordOf f n (at + 1) ≡ wordOf (also f (at + 0)) n (at + 1) =
+    words-alike f (also f (at + 0)) n (at + 1) others in
     or-low (f at) (wordOf f n (at + 1)) ∙ rw (here, ← rest)
   where
     others : (k : ℕ) → k < n → f (at + 1 + k) ≡ also f (at + 0) (at + 1 + k)
@@ -110,7 +111,8 @@ module _ (f : ℕ → Bool) (m p : ℕ) (old : List ℕ) where
         ∙ ap (λ (w : ℕ). bitOr w (2 ^ (p % 32))) (filled-in f m old (p / 32) h k) ∙ word-marked f p
 
     each : (i : ℕ) → i < length old → getD after i 0 ≡ getD (filled (also f p) m old) i 0
-    each i k = by-lt i m inner (λ b. other (omega arith) ∙ filled-past f m old .same i b ∙ sym (filled-past (also f p) m old .same i b))
+    each i k = by-lt i m inner (λ b. other (omega arith) ∙ filled-past f m old .same i b
+        ∙ sym (filled-past (also f p) m old .same i b))
       where
         other : (i ≡ p / 32 → ⊥) → getD after i 0 ≡ getD before i 0
         other ne = getD-set-other before (p / 32) i (bitOr (getD before (p / 32) 0) (2 ^ (p % 32))) 0 ne
@@ -127,7 +129,8 @@ module _ (f : ℕ → Bool) (m p : ℕ) (old : List ℕ) where
             ∙ sym (filled-in (also f p) m old i b k)
 
     marked-in : after ≡ filled (also f p) m old
-    marked-in = ext-getD 0 after (filled (also f p) m old) (long ∙ sym (length-filled (also f p) m old)) (λ i k. each i (omega (arith, long)))
+    marked-in = ext-getD 0 after (filled (also f p) m old) (long
+        ∙ sym (length-filled (also f p) m old)) (λ i k. each i (omega (arith, long)))
 
   mark-one : markOne m (filled f m old) p ≡ filled (also f p) m old
   unfolding markOne
@@ -147,7 +150,8 @@ alive-more f x xs q = go (live xs q) (eqb (x .page) q) (f q)
     go false true c = refl
     go false false c = refl
 
-mark-all : (f : ℕ → Bool) (m : ℕ) (xs : List Place) (old : List ℕ) → markAll m xs (filled f m old) ≡ filled (alive f xs) m old
+mark-all : (f : ℕ → Bool) (m : ℕ) (xs : List Place) (old : List ℕ) → markAll m xs (filled f m old) ≡ filled (alive f xs)
+    m old
 unfolding markAll live
 mark-all f m [] old = refl
 mark-all f m (x ∷ xs) old =
@@ -155,9 +159,11 @@ mark-all f m (x ∷ xs) old =
     ∙ filled-alike (alive (also f (x .page)) xs) (alive f (x ∷ xs)) m (λ q b. alive-more f x xs q) old
 
 -- from words with no page live
-pub marked-live : (m : ℕ) (xs : List Place) (old : List ℕ) → markAll m xs (filled nowhere m old) ≡ filled (live xs) m old
+pub marked-live : (m : ℕ) (xs : List Place) (old : List ℕ) → markAll m xs (filled nowhere m old) ≡ filled (live xs) m
+    old
 unfolding nowhere
-marked-live m xs old = mark-all nowhere m xs old ∙ filled-alike (alive nowhere xs) (live xs) m (λ q b. go (live xs q)) old
+marked-live m xs old = mark-all nowhere m xs old
+    ∙ filled-alike (alive nowhere xs) (live xs) m (λ q b. go (live xs q)) old
   where
     go : (a : Bool) → pick a true false ≡ a
     go true = refl

@@ -1,4 +1,5 @@
-// The lent words of request 7 by one walk from a root: the image's words are cleared, then each page that the walk meets sets its bit.
+// The lent words of request 7 by one walk from a root: the image's words are cleared, then each page that the walk
+// meets sets its bit.
 ghost use mathlib.Core.Path.{_≡_};
 ghost use Prim.Native.Nat.{_+_, _*_, _^_, _≤_, _<_, min};
 ghost use lib.Bits.{bitOr};
@@ -111,8 +112,8 @@ fn wide(b: u8) -> usize
     b as usize
 }
 
-// The counts of the nodes at a level that n entries from byte `at` name. They are read before any of these nodes is walked:
-// so they come from memory side by side, and not one after another.
+// The counts of the nodes at a level that n entries from byte `at` name. They are read before any of these nodes is
+// walked: so they come from memory side by side, and not one after another.
 fn counts_below(g: Geometry, img: &[u8], at: usize, n: usize, level: u32) -> [u8; 256]
     requires { ⌜ (n < 256) × (at < 1125899906842624) ⌝ }
     ensures { λ r. ⌜ Counts g (now (img .entry)) level at n r ⌝ }
@@ -157,8 +158,8 @@ fn below_at(
     }
 }
 
-// Marks the node at a level of a page, n its count, and all that it reaches, no more than `left` nodes. Gives how many are
-// left.
+// Marks the node at a level of a page, n its count, and all that it reaches, no more than `left` nodes. Gives how many
+// are left.
 fn mark_nodes(
     g: Geometry,
     img: &[u8],
@@ -170,7 +171,8 @@ fn mark_nodes(
     n: usize,
 ) -> u32
     requires { ⌜ (level < 256) × (m ≤ length (now lent)) × (Counted g (now img) page level n) × (n < 256) ⌝ }
-    ensures { λ r. ⌜ Walked (markAll m) g (now (img .entry)) level page left r (now (lent .entry)) (now (lent .exit)) ⌝ }
+    ensures { λ r. ⌜ Walked (markAll m) g (now (img .entry)) level page left r (now (lent .entry))
+        (now (lent .exit)) ⌝ }
 {
     if level == 0 {
         return left;
@@ -233,7 +235,8 @@ fn within(lent: &[u32], m: usize) -> usize
 pub fn tell_words(g: Geometry, img: &[u8], lent: &mut [u32], n: u16, level: u32, root: u32)
     requires { ⌜ level < 255 ⌝ }
     ensures { λ _.
-        ⌜ now (lent .exit) ≡ filled (live (take 8388608 (placesOf (chipWith g (now (img .entry)) level root)))) (wordsOf g n) (now (lent .entry)) ⌝ }
+        ⌜ now (lent .exit) ≡ filled (live (take 8388608 (placesOf (chipWith g (now (img .entry)) level root))))
+        (wordsOf g n) (now (lent .entry)) ⌝ }
 {
     let m = within(&*lent, live_fill::words_of(g, n));
     clear(&mut *lent, m);

@@ -29,7 +29,8 @@ lower-some a l h = simp (ne-eqb a 0 h)
 pub note-length : (xs : List Place) (tbl : List ℕ) → length (noteAll xs tbl) ≡ length tbl
 unfolding noteAll noteOne
 note-length [] tbl = refl
-note-length (x ∷ xs) tbl = note-length xs (noteOne tbl (x .page) (x .level)) ∙ length-set tbl (x .page) (lower (getD tbl (x .page) 0) (x .level))
+note-length (x ∷ xs) tbl = note-length xs (noteOne tbl (x .page) (x .level))
+    ∙ length-set tbl (x .page) (lower (getD tbl (x .page) 0) (x .level))
 
 -- levels are counted from 1
 abbrev pub Level : Place → Type 0
@@ -45,7 +46,8 @@ met-none a p false e = refl
 
 -- page p noted at level l, a before
 met-here : (a l ll : ℕ) (v t : Bool) → 1 ≤ l → eqb a 0 ≡ t
-    → pick (eqb (lower a l) 0) ll (pick v (min (lower a l) ll) (lower a l)) ≡ pick t (pick v (min l ll) l) (min a (pick v (min l ll) l))
+    → pick (eqb (lower a l) 0) ll (pick v (min (lower a l) ll) (lower a l)) ≡ pick t (pick v (min l ll) l)
+    (min a (pick v (min l ll) l))
 met-here a l ll v true h e =
     let z : lower a l ≡ l = rw (eqb-true a 0 e) (lower-none l) in
     simp (z, ne-eqb l 0 (omega arith))
@@ -58,19 +60,25 @@ met-here a l ll v false h e =
     by-live true = omega arith
     by-live false = omega arith
 
-note-meets : (xs : List Place) (tbl : List ℕ) (p : ℕ) → All Level xs → p < length tbl → getD (noteAll xs tbl) p 0 ≡ met (getD tbl p 0) xs p
+note-meets : (xs : List Place) (tbl : List ℕ) (p : ℕ) → All Level xs → p < length tbl
+    → getD (noteAll xs tbl) p 0 ≡ met (getD tbl p 0) xs p
 unfolding noteAll noteOne met lowLevel live
 note-meets [] tbl p h k = met-none (getD tbl p 0) p (eqb (getD tbl p 0) 0) refl
 note-meets (x ∷ xs) tbl p h k =
-    by-page (eqb (x .page) p) refl (note-meets xs (noteOne tbl (x .page) (x .level)) p (h .1) (rw (length-set tbl (x .page) (lower (getD tbl (x .page) 0) (x .level))) k))
+    by-page (eqb (x .page) p) refl (note-meets xs (noteOne tbl (x .page) (x .level)) p (h .1)
+    (rw (length-set tbl (x .page) (lower (getD tbl (x .page) 0) (x .level))) k))
   where
-    by-page : (t : Bool) → eqb (x .page) p ≡ t → getD (noteAll xs (noteOne tbl (x .page) (x .level))) p 0 ≡ met (getD (noteOne tbl (x .page) (x .level)) p 0) xs p
+    by-page : (t : Bool) → eqb (x .page) p ≡ t → getD (noteAll xs (noteOne tbl (x .page) (x .level))) p 0
+        ≡ met (getD (noteOne tbl (x .page) (x .level)) p 0) xs p
         → getD (noteAll xs (noteOne tbl (x .page) (x .level))) p 0
-        ≡ pick (eqb (getD tbl p 0) 0) (pick t (pick (live xs p) (min (x .level) (lowLevel xs p)) (x .level)) (lowLevel xs p))
-        (pick (pick t true (live xs p)) (min (getD tbl p 0) (pick t (pick (live xs p) (min (x .level) (lowLevel xs p)) (x .level)) (lowLevel xs p))) (getD tbl p 0))
+        ≡ pick (eqb (getD tbl p 0) 0) (pick t (pick (live xs p) (min (x .level) (lowLevel xs p)) (x .level))
+        (lowLevel xs p))
+        (pick (pick t true (live xs p)) (min (getD tbl p 0)
+        (pick t (pick (live xs p) (min (x .level) (lowLevel xs p)) (x .level)) (lowLevel xs p))) (getD tbl p 0))
     by-page true e i =
         let w : x .page ≡ p = eqb-true (x .page) p e in
-        let z : getD (noteOne tbl (x .page) (x .level)) p 0 ≡ lower (getD tbl p 0) (x .level) = rw w (getD-set-same tbl p (lower (getD tbl p 0) (x .level)) 0 k) in
+        let z : getD (noteOne tbl (x .page) (x .level)) p 0 ≡ lower (getD tbl p 0) (x .level) =
+        rw w (getD-set-same tbl p (lower (getD tbl p 0) (x .level)) 0 k) in
         i ∙ rw z (met-here (getD tbl p 0) (x .level) (lowLevel xs p) (live xs p) (eqb (getD tbl p 0) 0) (h .0) refl)
     by-page false e i =
         i ∙ rw (getD-set-other tbl (x .page) p (lower (getD tbl (x .page) 0) (x .level)) 0 (λ z. eqb-false (x .page) p e (sym z))) refl

@@ -1,4 +1,5 @@
--- A walk that stops after so many nodes, whatever it does at each of them: laws in the form in which the code has the premises. Assumes nothing.
+-- A walk that stops after so many nodes, whatever it does at each of them: laws in the form in which the code has the
+-- premises. Assumes nothing.
 use Prim.Native.Nat.{ℕ, zero, suc, _+_, _-_, _*_, _<_, _≤_, min}
 use mathlib.Core.Path.{_≡_, refl, sym, ap, _∙_}
 use mathlib.Core.List.{List, [], _∷_, _++_}
@@ -20,12 +21,14 @@ pub record Steps (all : List Place → List ℕ → List ℕ) (one : List ℕ �
   pub more : (x : Place) (xs : List Place) (t : List ℕ) → all (x ∷ xs) t ≡ all xs (one t (x .page) (x .level))
 
 -- the node at level l of page p and what it reaches, the first `left` nodes: t before, u after, r what is left then
-pub record Walked (all : List Place → List ℕ → List ℕ) (g : Geometry) (img : List ℕ) (l p left r : ℕ) (t u : List ℕ) : Type 0 where
+pub record Walked (all : List Place → List ℕ → List ℕ) (g : Geometry) (img : List ℕ)
+    (l p left r : ℕ) (t u : List ℕ) : Type 0 where
   pub done : u ≡ all (take left (places (nodeAt g img) l (named p))) t
   pub spared : r ≡ left - length (places (nodeAt g img) l (named p))
 
 -- the loop over the n entries from byte `at`: left₀ and t₀ at its start, left and t after i of them
-pub record Going (all : List Place → List ℕ → List ℕ) (g : Geometry) (img : List ℕ) (l at n left₀ : ℕ) (t₀ : List ℕ) (i left : ℕ) (t : List ℕ) : Type 0 where
+pub record Going (all : List Place → List ℕ → List ℕ) (g : Geometry) (img : List ℕ) (l at n left₀ : ℕ) (t₀ : List ℕ)
+    (i left : ℕ) (t : List ℕ) : Type 0 where
   pub done : all (take left₀ (rest g img l at n 0)) t₀ ≡ all (take left (rest g img l at n i)) t
   pub spared : left₀ - length (rest g img l at n 0) ≡ left - length (rest g img l at n i)
 
@@ -71,7 +74,8 @@ module _ (all : List Place → List ℕ → List ℕ) (one : List ℕ → ℕ �
     -- the loop ends where nothing more is done
     walked-by : (at n i left′ : ℕ) (u w : List ℕ) → at ≡ nodePlace g p l → n ≡ nodeCount g img p l → u ≡ one t p l
         → Going all g img l at n (left - 1) u i left′ w → (l ≡ 0 → ⊥) → (left ≡ 0 → ⊥)
-        → take left′ (rest g img l at n i) ≡ [] → left′ - length (rest g img l at n i) ≡ left′ → Walked all g img l p left left′ t w
+        → take left′ (rest g img l at n i) ≡ [] → left′ - length (rest g img l at n i) ≡ left′
+        → Walked all g img l p left left′ t w
     walked-by at n i left′ u w ea en eu x some more nothing none-less =
         let y : Place = record { page = p; level = l } in
         let below = rest g img l at n 0 in
@@ -81,18 +85,22 @@ module _ (all : List Place → List ℕ → List ℕ) (one : List ℕ → ℕ �
         let few : left′ ≡ left - 1 - length below = sym (k ∙ none-less) in
         let first = rest-start g img l p at n ea en some in
         record {
-          done = sym (rw (first, take-first left y below more) (s .more y (take (left - 1) below) t ∙ ap (all (take (left - 1) below)) (sym eu) ∙ d ∙ last));
+          done = sym (rw (first, take-first left y below more) (s .more y (take (left - 1) below) t
+              ∙ ap (all (take (left - 1) below)) (sym eu) ∙ d ∙ last));
           spared = few ∙ rw first (omega arith);
         }
 
     pub walked-end : (at n i left′ : ℕ) (u w : List ℕ) → at ≡ nodePlace g p l → n ≡ nodeCount g img p l → u ≡ one t p l
-        → Going all g img l at n (left - 1) u i left′ w → n ≤ i → (l ≡ 0 → ⊥) → (left ≡ 0 → ⊥) → Walked all g img l p left left′ t w
+        → Going all g img l at n (left - 1) u i left′ w → n ≤ i → (l ≡ 0 → ⊥) → (left ≡ 0 → ⊥)
+        → Walked all g img l p left left′ t w
     walked-end at n i left′ u w ea en eu x h some more =
         let z = rest-end g img l at n i h in
         walked-by at n i left′ u w ea en eu x some more (rw (z, take-nil) refl) (rw z (omega arith))
 
-  pub going-turn : (g : Geometry) (img : List ℕ) (l at n left₀ : ℕ) (t₀ : List ℕ) (i left : ℕ) (t : List ℕ) (a r : ℕ) (u : List ℕ)
-      → Going all g img l at n left₀ t₀ i left t → a ≡ u32At img (at + 8 * i + 4) → Walked all g img (l - 1) a left r t u → i < n
+  pub going-turn : (g : Geometry) (img : List ℕ) (l at n left₀ : ℕ) (t₀ : List ℕ) (i left : ℕ) (t : List ℕ)
+      (a r : ℕ) (u : List ℕ)
+      → Going all g img l at n left₀ t₀ i left t → a ≡ u32At img (at + 8 * i + 4) → Walked all g img
+      (l - 1) a left r t u → i < n
       → Going all g img l at n left₀ t₀ (i + 1) r u
   going-turn g img l at n left₀ t₀ i left t a r u x ea y h =
       let front = places (nodeAt g img) (l - 1) (named a) in
@@ -103,11 +111,13 @@ module _ (all : List Place → List ℕ → List ℕ) (one : List ℕ → ℕ �
             ∙ ap (λ (xs : List Place). all xs t) (take-append left front back)
             ∙ all-append (take left front) (take (left - length front) back) t
             ∙ rw (← (y .spared), ← (y .done)) refl;
-        spared = x .spared ∙ ap (λ (xs : List Place). left - length xs) e ∙ (let q = length-append front back in let z = y .spared in omega (arith, q, z));
+        spared = x .spared ∙ ap (λ (xs : List Place). left - length xs) e ∙ (let q = length-append front back in let z =
+            y .spared in omega (arith, q, z));
       }
 
   -- the loop over leaves
-  leaves-more : (img : List ℕ) (at i : ℕ) (t : List ℕ) → all (leavesAt img at (suc i)) t ≡ one (all (leavesAt img at i) t) (u32At img (at + 8 * i + 4)) 1
+  leaves-more : (img : List ℕ) (at i : ℕ) (t : List ℕ) → all (leavesAt img at (suc i)) t
+      ≡ one (all (leavesAt img at i) t) (u32At img (at + 8 * i + 4)) 1
   unfolding leavesAt
   leaves-more img at i t =
       let x : Place = record { page = u32At img (at + 8 * i + 4); level = 1 } in
@@ -118,7 +128,8 @@ module _ (all : List Place → List ℕ → List ℕ) (one : List ℕ → ℕ �
   unfolding leavesAt
   leaves-start img at t = sym (s .none t)
 
-  pub leaves-go : (img : List ℕ) (at i a : ℕ) (t u w : List ℕ) → u ≡ all (leavesAt img at i) t → a ≡ u32At img (at + 8 * i + 4) → w ≡ one u a 1
+  pub leaves-go : (img : List ℕ) (at i a : ℕ) (t u w : List ℕ) → u ≡ all (leavesAt img at i) t
+      → a ≡ u32At img (at + 8 * i + 4) → w ≡ one u a 1
       → w ≡ all (leavesAt img at (i + 1)) t
   leaves-go img at i a t u w eu ea ew = ew ∙ rw (ea, eu) (sym (rw add-one (leaves-more img at i t)))
 
@@ -138,21 +149,26 @@ module _ (all : List Place → List ℕ → List ℕ) (one : List ℕ → ℕ �
       let fewer : left - k - 1 ≡ left - suc k = omega arith in
       rw (← fewer, ← (add-one k)) (going-turn g img 2 at n left t k (left - k) u a (left - k - 1) w before refl one-leaf (omega arith))
 
-  pub walked-leaves : (g : Geometry) (img : List ℕ) (p left at n k : ℕ) (t u w : List ℕ) → at ≡ nodePlace g p 2 → n ≡ nodeCount g img p 2 → u ≡ one t p 2
-      → k ≡ min n (left - 1) → w ≡ all (leavesAt img at k) u → (left ≡ 0 → ⊥) → Walked all g img 2 p left (left - 1 - k) t w
+  pub walked-leaves : (g : Geometry) (img : List ℕ) (p left at n k : ℕ) (t u w : List ℕ) → at ≡ nodePlace g p 2
+      → n ≡ nodeCount g img p 2 → u ≡ one t p 2
+      → k ≡ min n (left - 1) → w ≡ all (leavesAt img at k) u → (left ≡ 0 → ⊥) → Walked all g img 2 p left
+      (left - 1 - k) t w
   walked-leaves g img p left at n k t u w ea en eu ek ew more =
-      let x : Going all g img 2 at n (left - 1) u k (left - 1 - k) w = rw ew (leaves-going g img at n (left - 1) u k (omega (arith, ek)) (omega (arith, ek))) in
+      let x : Going all g img 2 at n (left - 1) u k (left - 1 - k) w =
+      rw ew (leaves-going g img at n (left - 1) u k (omega (arith, ek)) (omega (arith, ek))) in
       by-lt k n
       (λ h.
       let none : left - 1 - k ≡ 0 = omega (arith, ek) in
       walked-by g img 2 p left t at n k (left - 1 - k) u w ea en eu x (omega arith) more (rw none refl) (rw none (omega arith)))
       (λ h. walked-end g img 2 p left t at n k (left - 1 - k) u w ea en eu x h (omega arith) more)
 
-pub going-start : (all : List Place → List ℕ → List ℕ) (g : Geometry) (img : List ℕ) (l at n left : ℕ) (t : List ℕ) → Going all g img l at n left t 0 left t
+pub going-start : (all : List Place → List ℕ → List ℕ) (g : Geometry) (img : List ℕ) (l at n left : ℕ) (t : List ℕ)
+    → Going all g img l at n left t 0 left t
 going-start all g img l at n left t = record { done = refl; spared = refl }
 
 -- from the root of a chip
-pub walked-root : (all : List Place → List ℕ → List ℕ) (g : Geometry) (img : List ℕ) (l p left r : ℕ) (t u : List ℕ) → Walked all g img (l + 1) p left r t u
+pub walked-root : (all : List Place → List ℕ → List ℕ) (g : Geometry) (img : List ℕ) (l p left r : ℕ) (t u : List ℕ)
+    → Walked all g img (l + 1) p left r t u
     → u ≡ all (take left (placesOf (chipWith g img l p))) t
 walked-root all g img l p left r t u x = rw (← (add-one l)) (x .done)
 
@@ -160,13 +176,15 @@ walked-root all g img l p left r t u x = rw (← (add-one l)) (x .done)
 pub note-steps : Steps noteAll noteOne
 note-steps = record { none = note-nil; more = note-cons }
 
-pub noted-same : (g : Geometry) (img : List ℕ) (l p left r : ℕ) (t u : List ℕ) → Walked noteAll g img l p left r t u → length u ≡ length t
+pub noted-same : (g : Geometry) (img : List ℕ) (l p left r : ℕ) (t u : List ℕ) → Walked noteAll g img l p left r t u
+    → length u ≡ length t
 noted-same g img l p left r t u x = walk-same (take left (places (nodeAt g img) l (named p))) t u (x .done)
 
 pub ruleset stop-laws = (walked-none, walked-out, walked-leaf, walked-end, going-turn, going-start, walked-root)
 
 -- in the code's form
-pub level-two : (all : List Place → List ℕ → List ℕ) (g : Geometry) (img : List ℕ) (l p left r : ℕ) (t u : List ℕ) → l ≡ 2 → Walked all g img 2 p left r t u
+pub level-two : (all : List Place → List ℕ → List ℕ) (g : Geometry) (img : List ℕ) (l p left r : ℕ) (t u : List ℕ)
+    → l ≡ 2 → Walked all g img 2 p left r t u
     → Walked all g img l p left r t u
 level-two all g img l p left r t u e x = rw e x
 
@@ -174,14 +192,19 @@ module _ (img : List ℕ) (at : ℕ) (t : List ℕ) where
   pub note-start : t ≡ noteAll (leavesAt img at 0) t
   note-start = leaves-start noteAll noteOne note-steps img at t
 
-  pub note-go : (i a : ℕ) (u w : List ℕ) → u ≡ noteAll (leavesAt img at i) t → a ≡ u32At img (at + 8 * i + 4) → w ≡ noteOne u a 1 → w ≡ noteAll (leavesAt img at (i + 1)) t
+  pub note-go : (i a : ℕ) (u w : List ℕ) → u ≡ noteAll (leavesAt img at i) t → a ≡ u32At img (at + 8 * i + 4)
+      → w ≡ noteOne u a 1 → w ≡ noteAll (leavesAt img at (i + 1)) t
   note-go i a u w = leaves-go noteAll noteOne note-steps img at i a t u w
 
-  pub note-end : (i k : ℕ) (u : List ℕ) → u ≡ noteAll (leavesAt img at i) t → i ≤ k → k ≤ i → u ≡ noteAll (leavesAt img at k) t
+  pub note-end : (i k : ℕ) (u : List ℕ) → u ≡ noteAll (leavesAt img at i) t → i ≤ k → k ≤ i
+      → u ≡ noteAll (leavesAt img at k) t
   note-end i k u e h j = let z : i ≡ k = omega arith in rw (← z) e
 
-pub note-leaves : (g : Geometry) (img : List ℕ) (p left at n k r : ℕ) (t u w : List ℕ) → at ≡ nodePlace g p 2 → n ≡ nodeCount g img p 2 → u ≡ noteOne t p 2
-    → k ≡ min n (left - 1) → w ≡ noteAll (leavesAt img at k) u → r ≡ left - 1 - k → (left ≡ 0 → ⊥) → Walked noteAll g img 2 p left r t w
-note-leaves g img p left at n k r t u w ea en eu ek ew er more = rw er (walked-leaves noteAll noteOne note-steps g img p left at n k t u w ea en eu ek ew more)
+pub note-leaves : (g : Geometry) (img : List ℕ) (p left at n k r : ℕ) (t u w : List ℕ) → at ≡ nodePlace g p 2
+    → n ≡ nodeCount g img p 2 → u ≡ noteOne t p 2
+    → k ≡ min n (left - 1) → w ≡ noteAll (leavesAt img at k) u → r ≡ left - 1 - k → (left ≡ 0 → ⊥)
+    → Walked noteAll g img 2 p left r t w
+note-leaves g img p left at n k r t u w ea en eu ek ew er more =
+    rw er (walked-leaves noteAll noteOne note-steps g img p left at n k t u w ea en eu ek ew more)
 
 pub ruleset note-laws = (stop-laws, note-steps, noted-same, level-two, note-start, note-go, note-end, note-leaves)

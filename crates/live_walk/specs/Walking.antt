@@ -49,7 +49,8 @@ pub note-past : (tbl : List ℕ) (p l w : ℕ) → w ≡ p → length tbl ≤ w 
 unfolding noteOne
 note-past tbl p l w e h = sym (set-out tbl p (lower (getD tbl p 0) l) (rw (← e) h))
 
-pub note-at : (tbl : List ℕ) (p l w o v n : ℕ) → w ≡ p → o ≡ getD tbl w 0 → v ≡ lower o l → n ≡ v → set tbl w n ≡ noteOne tbl p l
+pub note-at : (tbl : List ℕ) (p l w o v n : ℕ) → w ≡ p → o ≡ getD tbl w 0 → v ≡ lower o l → n ≡ v
+    → set tbl w n ≡ noteOne tbl p l
 unfolding noteOne
 note-at tbl p l w o v n e eo ev en = rw (en, ev, eo, e)
 
@@ -59,7 +60,8 @@ unfolding places
 places-named r zero e = refl
 places-named r (suc l) e = refl
 
-places-step : (r : Nodes) (l : ℕ) (e : Entry) → (l ≡ 0 → ⊥) → places r l e ≡ record { page = e .addr; level = l } ∷ gather (places r (l - 1)) (r (e .addr) l)
+places-step : (r : Nodes) (l : ℕ) (e : Entry) → (l ≡ 0 → ⊥)
+    → places r l e ≡ record { page = e .addr; level = l } ∷ gather (places r (l - 1)) (r (e .addr) l)
 unfolding places
 places-step r zero e h = absurd (h refl)
 places-step r (suc l) e h = rw sub-one
@@ -69,19 +71,22 @@ unfolding gather places
 leaves r [] = refl
 leaves r (e ∷ es) = leaves r es
 
-pub rest-leaf : (g : Geometry) (img : List ℕ) (l p : ℕ) → l ≡ 1 → places (nodeAt g img) l (named p) ≡ record { page = p; level = l } ∷ []
+pub rest-leaf : (g : Geometry) (img : List ℕ) (l p : ℕ) → l ≡ 1 → places (nodeAt g img) l
+    (named p) ≡ record { page = p; level = l } ∷ []
 rest-leaf g img l p h =
     let f : l - 1 ≡ 0 = omega arith in
     places-step (nodeAt g img) l (named p) (omega arith) ∙ rw (f, leaves (nodeAt g img) (nodeAt g img p l)) refl
 
-pub rest-start : (g : Geometry) (img : List ℕ) (l p at n : ℕ) → at ≡ nodePlace g p l → n ≡ nodeCount g img p l → (l ≡ 0 → ⊥)
+pub rest-start : (g : Geometry) (img : List ℕ) (l p at n : ℕ) → at ≡ nodePlace g p l → n ≡ nodeCount g img p l
+    → (l ≡ 0 → ⊥)
     → places (nodeAt g img) l (named p) ≡ record { page = p; level = l } ∷ rest g img l at n 0
 unfolding rest
 rest-start g img l p at n ea en h =
     places-step (nodeAt g img) l (named p) h ∙ rw (← (node-read g img p l at n ea en), entries-start img at n) refl
 
 pub rest-turn : (g : Geometry) (img : List ℕ) (l at n i : ℕ) → i < n
-    → rest g img l at n i ≡ places (nodeAt g img) (l - 1) (named (u32At img (at + 8 * i + 4))) ++ rest g img l at n (i + 1)
+    → rest g img l at n i ≡ places (nodeAt g img) (l - 1) (named (u32At img (at + 8 * i + 4))) ++ rest g img l at n
+    (i + 1)
 unfolding rest gather
 rest-turn g img l at n i h =
     rw (entries-turn img at n i h, places-named (nodeAt g img) (l - 1) (entryAt img (at + 8 * i)), addr-is img (at + 8 * i)) refl
@@ -94,7 +99,8 @@ pub note-nil : (tbl : List ℕ) → noteAll [] tbl ≡ tbl
 unfolding noteAll
 note-nil tbl = refl
 
-pub note-cons : (x : Place) (xs : List Place) (tbl : List ℕ) → noteAll (x ∷ xs) tbl ≡ noteAll xs (noteOne tbl (x .page) (x .level))
+pub note-cons : (x : Place) (xs : List Place) (tbl : List ℕ) → noteAll (x ∷ xs) tbl ≡ noteAll xs
+    (noteOne tbl (x .page) (x .level))
 unfolding noteAll
 note-cons x xs tbl = refl
 
@@ -139,7 +145,8 @@ bit-dead tbl p b e q = simp (← e, q)
 pub pages-start : (f : ℕ → Bool) → 0 ≡ count 0 f
 pages-start f = count-zero f
 
-pub pages-go : (tbl : List ℕ) (i n b : ℕ) → n ≡ count i (liveIn tbl) → b ≡ bit (liveIn tbl i) → b + n ≡ count (i + 1) (liveIn tbl)
+pub pages-go : (tbl : List ℕ) (i n b : ℕ) → n ≡ count i (liveIn tbl) → b ≡ bit (liveIn tbl i)
+    → b + n ≡ count (i + 1) (liveIn tbl)
 pages-go tbl i n b e f = sym (count-more (liveIn tbl) i ∙ rw (← f, ← e))
 
 pub pages-end : (tbl : List ℕ) (i t n : ℕ) → n ≡ count i (liveIn tbl) → i ≤ t → t ≤ i → n ≡ count t (liveIn tbl)
@@ -147,11 +154,14 @@ pages-end tbl i t n e h k =
     let w : i ≡ t = omega arith in
     rw (← w) e
 
-pub block-go : (p b i n q v : ℕ) (tbl : List ℕ) → n ≡ count i (within p (liveIn tbl) b) → q ≡ p * b + i → v ≡ bit (liveIn tbl q)
+pub block-go : (p b i n q v : ℕ) (tbl : List ℕ) → n ≡ count i (within p (liveIn tbl) b) → q ≡ p * b + i
+    → v ≡ bit (liveIn tbl q)
     → v + n ≡ count (i + 1) (within p (liveIn tbl) b)
-block-go p b i n q v tbl e eq f = sym (count-more (within p (liveIn tbl) b) i ∙ rw (within-is p (liveIn tbl) b i, ← eq, ← f, ← e))
+block-go p b i n q v tbl e eq f = sym (count-more (within p (liveIn tbl) b) i
+    ∙ rw (within-is p (liveIn tbl) b i, ← eq, ← f, ← e))
 
-pub block-end : (p b i n : ℕ) (tbl : List ℕ) → n ≡ count i (within p (liveIn tbl) b) → i ≤ p → p ≤ i → n ≡ inBlock p (liveIn tbl) b
+pub block-end : (p b i n : ℕ) (tbl : List ℕ) → n ≡ count i (within p (liveIn tbl) b) → i ≤ p → p ≤ i
+    → n ≡ inBlock p (liveIn tbl) b
 block-end p b i n tbl e h k =
     let w : i ≡ p = omega arith in
     e ∙ rw w (within-count p (liveIn tbl) b)

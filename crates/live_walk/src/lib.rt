@@ -178,7 +178,8 @@ pub fn clear(table: &mut [u8])
 pub fn note_from(g: Geometry, img: &[u8], table: &mut [u8], level: u32, root: u32)
     requires { ⌜ level < 255 ⌝ }
     ensures { λ _.
-        ⌜ now (table .exit) ≡ noteAll (take 8388608 (placesOf (chipWith g (now (img .entry)) level root))) (now (table .entry)) ⌝ }
+        ⌜ now (table .exit) ≡ noteAll (take 8388608 (placesOf (chipWith g (now (img .entry)) level root)))
+        (now (table .entry)) ⌝ }
     ensures { λ _. ⌜ length (now (table .exit)) ≡ length (now (table .entry)) ⌝ }
 {
     note_nodes(g, img, &mut *table, level + 1, root, 8388608);

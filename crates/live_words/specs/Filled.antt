@@ -28,7 +28,8 @@ pub past-set : (m : ℕ) (x : List ℕ) (i w : ℕ) → i < m → Past m x (set 
 past-set m x i w h = record { long = length-set x i w; same = λ j k. getD-set-other x i j w 0 (omega arith) }
 
 -- ---- a word by its 32 tests
-pub words-alike : (f h : ℕ → Bool) (n at : ℕ) → ((j : ℕ) → j < n → f (at + j) ≡ h (at + j)) → wordOf f n at ≡ wordOf h n at
+pub words-alike : (f h : ℕ → Bool) (n at : ℕ) → ((j : ℕ) → j < n → f (at + j) ≡ h (at + j))
+    → wordOf f n at ≡ wordOf h n at
 unfolding wordOf
 words-alike f h zero at e = refl
 words-alike f h (suc n) at e =

@@ -1,5 +1,5 @@
--- Request 7: insert and delete with the lent words. The outcome is that of the call without them; the words are worked out from the image
--- that the call leaves. Definitions alone; assumes nothing.
+-- Request 7: insert and delete with the lent words. The outcome is that of the call without them; the words are worked
+-- out from the image that the call leaves. Definitions alone; assumes nothing.
 use Prim.Native.Nat.{ℕ}
 use mathlib.Core.Bool.{Bool, true}
 use mathlib.Core.List.{List}

@@ -72,7 +72,8 @@ module _ (f : ℕ → Bool) (m : ℕ) (words : List ℕ) (t : Told f m words) wh
       next : count (32 * q) (λ j. f (32 * at + (32 + j))) ≡ count (32 * q) (λ j. f (32 * (at + 1) + j))
       next = count-same (λ j. f (32 * at + (32 + j))) (λ j. f (32 * (at + 1) + j)) (32 * q) (λ j k. ap f (omega arith))
 
-module _ (g : Geometry) (f : ℕ → Bool) (n : ℕ) (words : List ℕ) (e : g .pages ≡ 32 * blockWords g) (t : Told f (wordsOf g n) words) where
+module _ (g : Geometry) (f : ℕ → Bool) (n : ℕ) (words : List ℕ) (e : g .pages ≡ 32 * blockWords g)
+    (t : Told f (wordsOf g n) words) where
   -- the words of a block
   pub block-ones : (b : ℕ) → b < n → blockOnes g words b ≡ inBlock (g .pages) f b
   block-ones b h =

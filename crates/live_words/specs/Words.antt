@@ -1,5 +1,6 @@
--- Request 7: a lent table of 32-bit words. Page p is bit p % 32 of word p / 32: so a block of the small chip has one word, "bit j for its page
--- j", and one of the large chip two, the lower pages first. Definitions alone; assumes nothing.
+-- Request 7: a lent table of 32-bit words. Page p is bit p % 32 of word p / 32: so a block of the small chip has one
+-- word, "bit j for its page j", and one of the large chip two, the lower pages first. Definitions alone; assumes
+-- nothing.
 use Prim.Native.Nat.{ℕ, zero, suc, _+_, _*_, _/_, _<_, _≤_}
 use mathlib.Core.Bool.{Bool}
 use mathlib.Core.Path.{_≡_}

@@ -1,4 +1,5 @@
-// A day's log from standard input, answered on standard output. The image is three blocks of the small chip, all 255 at first.
+// A day's log from standard input, answered on standard output. The image is three blocks of the small chip, all 255 at
+// first.
 ghost use mathlib.Core.Path.{_≡_};
 ghost use Prim.Native.Nat.{_-_, _≤_};
 ghost use lib.ListN.{length};

@@ -22,7 +22,8 @@ module _ (run r : Run) (line img out line′ img′ out′ : List ℕ) (b : ℕ)
   abbrev fed : Fed
   fed = feed small (stateOf run line img) b
 
-  module _ (e : r ≡ runOf fed (run .wrote)) (l : take (r .filled) line′ ≡ fed .state .line) (i : img′ ≡ fed .state .image) (o : out′ ≡ sets out (run .wrote) (fed .out)) where
+  module _ (e : r ≡ runOf fed (run .wrote)) (l : take (r .filled) line′ ≡ fed .state .line)
+      (i : img′ ≡ fed .state .image) (o : out′ ≡ sets out (run .wrote) (fed .out)) where
     state-is : stateOf r line′ img′ ≡ fed .state
     state-is = rw (l, i) (ap (λ (x : Run). record { line = fed .state .line; tally = x .tally; image = fed .state .image; over = x .over }) e)
 
@@ -39,7 +40,8 @@ module _ (run r : Run) (line img out line′ img′ out′ : List ℕ) (b : ℕ)
         (sym (append-assoc (take (run .wrote) out) (fed .out) (ran small (fed .state) (drop (suc at) part ++ rest))))
 
 -- with room for a line the first byte at least is fed
-pub went : (run state : Run) (out out₀ : List ℕ) (from at : ℕ) → from ≤ at → (at ≡ from → state ≡ run) → length out ≡ length out₀ → length out - state .wrote < 86
+pub went : (run state : Run) (out out₀ : List ℕ) (from at : ℕ) → from ≤ at → (at ≡ from → state ≡ run)
+    → length out ≡ length out₀ → length out - state .wrote < 86
     → run .wrote + 86 ≤ length out₀ → from < at
 went run state out out₀ from at h s n k m = elim (decLt from at) [
   | yes q ↦ q

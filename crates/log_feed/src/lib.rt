@@ -1,4 +1,5 @@
-// A part of a day's log that was read, fed to the machine until it is used up or the output has no room for another line.
+// A part of a day's log that was read, fed to the machine until it is used up or the output has no room for another
+// line.
 ghost use mathlib.Core.Path.{_≡_};
 ghost use mathlib.Core.List.{List, _++_};
 ghost use Prim.Native.Nat.{ℕ, _+_, _-_, _<_, _≤_};
@@ -23,13 +24,18 @@ pub fn play_part(
     from: usize,
     run: Run,
 ) -> Played
-    requires { ⌜ Steady run (now line) × (from ≤ length (now part)) × (run .wrote ≤ length (now out)) × (length (now out) ≤ 65536) × (length (now part) ≤ 65536) ⌝ }
+    requires { ⌜ Steady run (now line) × (from ≤ length (now part)) × (run .wrote ≤ length (now out)) ×
+        (length (now out) ≤ 65536) × (length (now part) ≤ 65536) ⌝ }
     ensures steady { λ r. ⌜ Steady (r .run) (now (line .exit)) ⌝ }
     ensures room { λ r. ⌜ r .run .wrote ≤ length (now (out .exit)) ⌝ }
     ensures within { λ r. ⌜ r .next ≤ length (now (part .entry)) ⌝ }
-    ensures goes { λ r. ⌜ (from < length (now (part .entry)) → run .wrote + 86 ≤ length (now (out .entry)) → from < r .next) ⌝ }
+    ensures goes { λ r. ⌜ (from < length (now (part .entry)) → run .wrote + 86 ≤ length (now (out .entry))
+        → from < r .next) ⌝ }
     ensures left { λ r. ⌜ left (r .run) ≤ left run - (r .next - from) ⌝ }
-    ensures ran { λ r. ⌜ ((rest : List ℕ) → take (run .wrote) (now (out .entry)) ++ ran small (stateOf run (now (line .entry)) (now (img .entry))) (drop from (now (part .entry)) ++ rest) ≡ take (r .run .wrote) (now (out .exit)) ++ ran small (stateOf (r .run) (now (line .exit)) (now (img .exit))) (drop (r .next) (now (part .entry)) ++ rest)) ⌝ }
+    ensures ran { λ r. ⌜ ((rest : List ℕ) → take (run .wrote) (now (out .entry)) ++ ran small
+        (stateOf run (now (line .entry)) (now (img .entry))) (drop from (now (part .entry)) ++ rest)
+        ≡ take (r .run .wrote) (now (out .exit)) ++ ran small (stateOf (r .run) (now (line .exit)) (now (img .exit)))
+        (drop (r .next) (now (part .entry)) ++ rest)) ⌝ }
 {
     let mut at = from;
     let mut state = run;

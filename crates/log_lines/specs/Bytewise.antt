@@ -1,4 +1,5 @@
--- A log that comes byte by byte: the line that has begun, lines longer than any form, and the next line's form. Assumes nothing.
+-- A log that comes byte by byte: the line that has begun, lines longer than any form, and the next line's form. Assumes
+-- nothing.
 use mathlib.Core.Path.{_≡_, refl, ap, sym, subst, _∙_}
 use mathlib.Core.List.{List, [], _∷_, _++_, append-assoc, append-nil}
 use mathlib.Core.Bool.{Bool, true, false}
@@ -30,7 +31,10 @@ unfolding pieces
 lines-rest [] h = refl
 lines-rest (b ∷ p) h = rw (h .0) (ap (λ (x : Pieces). before b (x .ended) (x .rest)) (lines-rest p (h .1)))
 
-pub lines-line : (p bs : List ℕ) → Whole p → lines (p ++ (10 ∷ bs)) ≡ record { ended = p ∷ lines bs .ended; rest = lines bs .rest }
+pub lines-line : (p bs : List ℕ) → Whole p → lines (p ++ (10 ∷ bs)) ≡ record {
+  ended = p ∷ lines bs .ended;
+  rest = lines bs .rest;
+}
 unfolding pieces
 lines-line [] bs h = refl
 lines-line (b ∷ p) bs h = rw (h .0) (ap (λ (x : Pieces). before b (x .ended) (x .rest)) (lines-line p bs (h .1)))
@@ -43,7 +47,8 @@ Foreign [] (b ∷ bs) = Unit {0}
 Foreign (l ∷ ls) rest = parsed l ≡ Other
 
 -- whatever follows
-pub long-foreign : (bs p : List ℕ) → Whole p → longest < length p → Foreign (lines (p ++ bs) .ended) (lines (p ++ bs) .rest)
+pub long-foreign : (bs p : List ℕ) → Whole p → longest < length p → Foreign (lines (p ++ bs) .ended)
+    (lines (p ++ bs) .rest)
 long-foreign [] p h q = rw (append-nil p, lines-rest p h) (go p q)
   where
     go : (p : List ℕ) → longest < length p → Foreign [] p
@@ -51,7 +56,8 @@ long-foreign [] p h q = rw (append-nil p, lines-rest p h) (go p q)
     go (b ∷ p) q = tt
 long-foreign (b ∷ bs) p h q = go (eqb b 10) refl (λ r i k. long-foreign bs r i k)
   where
-    go : (e : Bool) → eqb b 10 ≡ e → ((r : List ℕ) → Whole r → longest < length r → Foreign (lines (r ++ bs) .ended) (lines (r ++ bs) .rest))
+    go : (e : Bool) → eqb b 10 ≡ e → ((r : List ℕ) → Whole r → longest < length r → Foreign (lines (r ++ bs) .ended)
+        (lines (r ++ bs) .rest))
         → Foreign (lines (p ++ (b ∷ bs)) .ended) (lines (p ++ (b ∷ bs)) .rest)
     go true e ih = rw (eqb-true b 10 e, lines-line p bs h) (long-other p q)
     go false e ih = subst (λ m. Foreign (lines m .ended) (lines m .rest)) (append-assoc p (b ∷ []) bs)

@@ -9,8 +9,8 @@ use Rattle.log_lines.specs.declared.Line.the-variants.{Of, Other}
 use Rattle.log_lines.specs.Forms.{isLetter, given, formOf, parsed}
 use Rattle.log_lines.specs.Replay.{tabbed, lineText, lastLine}
 
--- "I 7 1000", "I 07 1" (a leading zero), "L 4294967295", "L 4294967296" (too large), "F " (a field too many), "" (an empty line),
--- "D 9" and byte 13, "S 0 0 1"
+-- "I 7 1000", "I 07 1" (a leading zero), "L 4294967295", "L 4294967296" (too large), "F " (a field too many), "" (an
+-- empty line), "D 9" and byte 13, "S 0 0 1"
 pub forms : map parsed (
     (73 ∷ 9 ∷ 55 ∷ 9 ∷ 49 ∷ 48 ∷ 48 ∷ 48 ∷ [])
     ∷ (73 ∷ 9 ∷ 48 ∷ 55 ∷ 9 ∷ 49 ∷ [])

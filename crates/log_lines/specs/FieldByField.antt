@@ -56,7 +56,8 @@ pub form-letter : (l : ℕ) (x : List ℕ) (xs : List (List ℕ)) → formOf ((l
 unfolding formOf numberThen isLetter given
 form-letter l x [] = go (eqb l 68) (eqb l 76) (numberOf x)
   where
-    go : (t u : Bool) (o : Option ℕ) → pick t (given o (λ k. Of (Delete k))) (pick u (given o (λ k. Of (Lookup k))) Other)
+    go : (t u : Bool) (o : Option ℕ) → pick t (given o (λ k. Of (Delete k)))
+        (pick u (given o (λ k. Of (Lookup k))) Other)
         ≡ given o (λ k. pick t (Of (Delete k)) (pick u (Of (Lookup k)) Other))
     go true u none = refl
     go false true none = refl
@@ -66,7 +67,8 @@ form-letter l x [] = go (eqb l 68) (eqb l 76) (numberOf x)
     go false false (some k) = refl
 form-letter l x (y ∷ []) = go (eqb l 73) (numberOf x) (numberOf y)
   where
-    go : (t : Bool) (o p : Option ℕ) → pick t (given o (λ k. given p (λ a. Of (Insert k a)))) Other ≡ given o (λ k. given p (λ a. pick t (Of (Insert k a)) Other))
+    go : (t : Bool) (o p : Option ℕ) → pick t (given o (λ k. given p (λ a. Of (Insert k a)))) Other ≡ given o
+        (λ k. given p (λ a. pick t (Of (Insert k a)) Other))
     go true none p = refl
     go false none p = refl
     go true (some k) none = refl
@@ -128,7 +130,8 @@ module _ (s : List ℕ) (from end : ℕ) (e : end ≡ from + reach 9 (drop from 
     unfolding numberThen
     many x r = go (pieces 9 r .ended) (pieces 9 r .rest)
       where
-        go : (E : List (List ℕ)) (R : List ℕ) → numberThen one more (x ∷ (E ++ (R ∷ []))) ≡ given (numberOf x) (λ n. more n (E ++ (R ∷ [])))
+        go : (E : List (List ℕ)) (R : List ℕ) → numberThen one more (x ∷ (E ++ (R ∷ []))) ≡ given (numberOf x)
+            (λ n. more n (E ++ (R ∷ [])))
         go [] R = refl
         go (y ∷ E) R = refl
 
@@ -140,11 +143,13 @@ module _ (s : List ℕ) (from end : ℕ) (e : end ≡ from + reach 9 (drop from 
         | no h ↦ sym (rw (field-last (omega arith), ← is, e) refl)
       ]
 
-      pub form-more : (k : ℕ) (r : Line) → n ≡ Value k → end < length s → r ≡ more k (fields (drop (end + 1) s)) → r ≡ numberThen one more (fields (drop from s))
+      pub form-more : (k : ℕ) (r : Line) → n ≡ Value k → end < length s → r ≡ more k (fields (drop (end + 1) s))
+          → r ≡ numberThen one more (fields (drop from s))
       unfolding numberIs given
       form-more k r e h f = f ∙ sym (rw (field-more h, many, ← is, e) refl)
 
-      pub form-last : (k : ℕ) (r : Line) → n ≡ Value k → length s ≤ end → r ≡ one k → r ≡ numberThen one more (fields (drop from s))
+      pub form-last : (k : ℕ) (r : Line) → n ≡ Value k → length s ≤ end → r ≡ one k → r ≡ numberThen one more
+          (fields (drop from s))
       unfolding numberIs given numberThen
       form-last k r e h f = f ∙ sym (rw (field-last h, ← is, e) refl)
 
@@ -187,7 +192,8 @@ module _ (s : List ℕ) (end : ℕ) (e : end ≡ 0 + reach 9 (drop 0 s)) where
         let z : end < length s = elim (decLt 1 (length s)) [ yes q ↦ omega arith | no q ↦ absurd (k (omega (arith, at-first))) ] in
         g ∙ sym (rw (field-more s 0 end e (omega arith) z, h) (go s f z))
       where
-        go : (s : List ℕ) → l ≡ getD s 0 0 → end < length s → formOf (take (1 - 0) s ∷ fields (drop (1 + 1) s)) ≡ firstForm l (fields (drop 2 s))
+        go : (s : List ℕ) → l ≡ getD s 0 0 → end < length s → formOf (take (1 - 0) s ∷ fields (drop (1 + 1) s))
+            ≡ firstForm l (fields (drop 2 s))
         go [] w q = absurd (omega arith)
         go (b ∷ s) w q = rw w (all (pieces 9 (drop 1 s) .ended) (pieces 9 (drop 1 s) .rest))
           where

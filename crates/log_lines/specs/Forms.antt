@@ -1,4 +1,5 @@
--- Request 3: "F ..., `I key address`, `D key`, `L key`, and `S key address allowance`", "fields parted by tabs". Definitions alone; assumes nothing.
+-- Request 3: "F ..., `I key address`, `D key`, `L key`, and `S key address allowance`", "fields parted by tabs".
+-- Definitions alone; assumes nothing.
 use Prim.Native.Nat.{ℕ}
 use mathlib.Core.Bool.{Bool, false}
 use mathlib.Core.List.{List, [], _∷_}

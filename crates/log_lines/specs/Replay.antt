@@ -1,4 +1,5 @@
--- Request 3: what a day's log is answered by. The whole output is a function of the whole input. Definitions alone; assumes nothing.
+-- Request 3: what a day's log is answered by. The whole output is a function of the whole input. Definitions alone;
+-- assumes nothing.
 use Prim.Native.Nat.{ℕ, _+_, _*_}
 use mathlib.Core.List.{List, [], _∷_, _++_}
 use lib.Dec.{ltb}

@@ -1,4 +1,5 @@
--- A line that has a form is at most 34 bytes long: S, three tabs and three numbers of at most ten digits. Assumes nothing.
+-- A line that has a form is at most 34 bytes long: S, three tabs and three numbers of at most ten digits. Assumes
+-- nothing.
 use mathlib.Core.Path.{_≡_, refl, subst}
 use mathlib.Core.List.{List, [], _∷_, _++_}
 use mathlib.Core.Bool.{Bool, true, false, false≢true}
@@ -33,7 +34,8 @@ pick-short : (t : Bool) (x y : Line) (n : ℕ) → (t ≡ true → Short x n) �
 pick-short true x y n f h = f refl
 pick-short false x y n f h = h
 
-given-short : (ds : List ℕ) (f : ℕ → Line) (n : ℕ) → (length ds ≤ 10 → (k : ℕ) → Short (f k) n) → Short (given (numberOf ds) f) n
+given-short : (ds : List ℕ) (f : ℕ → Line) (n : ℕ) → (length ds ≤ 10 → (k : ℕ) → Short (f k) n)
+    → Short (given (numberOf ds) f) n
 unfolding given
 given-short ds f n h = go (numberOf ds) refl
   where
@@ -46,7 +48,8 @@ parts-length w r = let a = length-append (w ++ (9 ∷ [])) r in let b = length-a
 
 fields-short : (E : List (List ℕ)) (R : List ℕ) → Short (formOf (E ++ (R ∷ []))) (length (joined 9 E R))
 unfolding formOf joined
-fields-short [] R = pick-short (isLetter 70 R) (Of Format) Other (length R) (λ t. let a = letter-short 70 R t in omega (arith, a)) tt
+fields-short [] R = pick-short (isLetter 70 R) (Of Format) Other (length R) (λ t. let a = letter-short 70 R t in
+    omega (arith, a)) tt
 fields-short (w ∷ []) R =
     let n = parts-length w R in
     pick-short (isLetter 68 w) _ _ (length ((w ++ (9 ∷ [])) ++ R))

@@ -1,5 +1,5 @@
--- Request 3 byte by byte, with a line of at most 34 bytes: what the code does with an input of any length, and that it is `replayed`.
--- Assumes nothing.
+-- Request 3 byte by byte, with a line of at most 34 bytes: what the code does with an input of any length, and that it
+-- is `replayed`. Assumes nothing.
 use mathlib.Core.Path.{_≡_, refl, ap, sym, _∙_}
 use mathlib.Core.List.{List, [], _∷_, _++_, append-assoc, append-nil}
 use mathlib.Core.Bool.{Bool, true, false}
@@ -77,7 +77,8 @@ module _ (g : Geometry) where
   at-line p bs t img h = ap (λ (x : Pieces). answers g t img (x .ended) (x .rest)) (lines-line p bs h)
 
   -- a line that is longer than any form, whatever follows
-  foreign : (t : Tally) (img : List ℕ) (ls : List (List ℕ)) (rest : List ℕ) → Foreign ls rest → answers g t img ls rest ≡ errorLine t
+  foreign : (t : Tally) (img : List ℕ) (ls : List (List ℕ)) (rest : List ℕ) → Foreign ls rest
+      → answers g t img ls rest ≡ errorLine t
   unfolding answers ending reply formAfter
   foreign t img [] [] f = absurd f
   foreign t img [] (b ∷ bs) f = refl
@@ -87,7 +88,8 @@ module _ (g : Geometry) where
       go true = refl
       go false = refl
 
-  too-long : (bs p : List ℕ) (t : Tally) (img : List ℕ) → Whole p → longest < length p → answered t img (p ++ bs) ≡ errorLine t
+  too-long : (bs p : List ℕ) (t : Tally) (img : List ℕ) → Whole p → longest < length p
+      → answered t img (p ++ bs) ≡ errorLine t
   too-long bs p t img h q = foreign t img (lines (p ++ bs) .ended) (lines (p ++ bs) .rest) (long-foreign bs p h q)
 
   -- ---- the machine is the definition
@@ -107,26 +109,32 @@ module _ (g : Geometry) where
   closed t img bs Other ih = rw (ran-over t img bs) (append-nil (errorLine t))
   closed t img bs (Of order) ih = ap (λ m. answerLine order (obeyed g order img) ++ m) (ih (tallyAfter t (obeyed g order img)) (obeyed g order img .image))
 
-  from : (bs p : List ℕ) (t : Tally) (img : List ℕ) → Whole p → length p ≤ longest → ran g (inLine p t img) bs ≡ answered t img (p ++ bs)
+  from : (bs p : List ℕ) (t : Tally) (img : List ℕ) → Whole p → length p ≤ longest
+      → ran g (inLine p t img) bs ≡ answered t img (p ++ bs)
   unfolding ran feed finish longer close
   from [] p t img h q = sym (ap (answered t img) (append-nil p) ∙ at-end p t img h)
   from (b ∷ bs) p t img h q = go (eqb b 10) refl (λ p t img h q. from bs p t img h q)
     where
       more : (u : Bool) → ltb (length p) longest ≡ u → eqb b 10 ≡ false
-          → ((p : List ℕ) (t : Tally) (img : List ℕ) → Whole p → length p ≤ longest → ran g (inLine p t img) bs ≡ answered t img (p ++ bs))
+          → ((p : List ℕ) (t : Tally) (img : List ℕ) → Whole p → length p ≤ longest
+          → ran g (inLine p t img) bs ≡ answered t img (p ++ bs))
           → pick u (record { state = inLine (p ++ (b ∷ [])) t img; out = [] }) (close g t img Other) .out
           ++ ran g (pick u (record { state = inLine (p ++ (b ∷ [])) t img; out = [] }) (close g t img Other) .state) bs ≡ answered t img (p ++ (b ∷ bs))
-      more true w e ih = ih (p ++ (b ∷ [])) t img (whole-more p b h e) (let n = length-append p (b ∷ []) in let z = ltb-true (length p) longest w in omega (arith, n, z))
+      more true w e ih = ih (p ++ (b ∷ [])) t img (whole-more p b h e) (let n = length-append p (b ∷ []) in let z =
+          ltb-true (length p) longest w in omega (arith, n, z))
           ∙ ap (answered t img) (append-assoc p (b ∷ []) bs)
       more false w e ih = rw (ran-over t img bs) (append-nil (errorLine t)
           ∙ sym (ap (answered t img) (sym (append-assoc p (b ∷ []) bs))
-          ∙ too-long bs (p ++ (b ∷ [])) t img (whole-more p b h e) (let n = length-append p (b ∷ []) in let z = ltb-false (length p) longest w in omega (arith, n, z))))
+          ∙ too-long bs (p ++ (b ∷ [])) t img (whole-more p b h e) (let n = length-append p (b ∷ []) in let z =
+          ltb-false (length p) longest w in omega (arith, n, z))))
 
       go : (e : Bool) → eqb b 10 ≡ e
-          → ((p : List ℕ) (t : Tally) (img : List ℕ) → Whole p → length p ≤ longest → ran g (inLine p t img) bs ≡ answered t img (p ++ bs))
+          → ((p : List ℕ) (t : Tally) (img : List ℕ) → Whole p → length p ≤ longest
+          → ran g (inLine p t img) bs ≡ answered t img (p ++ bs))
           → pick e (close g t img (formAt t p)) (longer g (inLine p t img) b) .out
           ++ ran g (pick e (close g t img (formAt t p)) (longer g (inLine p t img) b) .state) bs ≡ answered t img (p ++ (b ∷ bs))
-      go true e ih = closed t img bs (formAt t p) (λ t img. ih [] t img tt (omega arith)) ∙ rw (eqb-true b 10 e) (sym (at-line p bs t img h))
+      go true e ih = closed t img bs (formAt t p) (λ t img. ih [] t img tt (omega arith))
+          ∙ rw (eqb-true b 10 e) (sym (at-line p bs t img h))
       go false e ih = more (ltb (length p) longest) refl e ih
 
   pub machine : (input : List ℕ) → ran g (start g) input ≡ replayed g input

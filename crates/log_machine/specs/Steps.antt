@@ -33,17 +33,20 @@ use Rattle.log_machine.specs.Run.{stateOf, runOf, refusedRun, longerFrom
 abbrev pub rowLine : ℕ → Row → List ℕ
 rowLine l w = lineText l (take 4 (w .answer ∷ w .address ∷ w .programmed ∷ w .erased ∷ []))
 
-module _ (t : Tally) (img x : List ℕ) (order : Order) (a : Answer) (w : Row) (e : told a x ≡ obeyed small order img) (f : w ≡ rowOf a) where
+module _ (t : Tally) (img x : List ℕ) (order : Order) (a : Answer) (w : Row) (e : told a x ≡ obeyed small order img)
+    (f : w ≡ rowOf a) where
   module _ (l : ℕ) (q : l ≡ letterOf order) where
     row-line : rowLine l w ≡ answerLine order (obeyed small order img)
     row-line = rw (q, f, ← e) refl
 
-    pub answer-run : (wrote next : ℕ) (u : Tally) → u ≡ counted t (w .programmed) (w .erased) → next ≡ wrote + length (rowLine l w)
+    pub answer-run : (wrote next : ℕ) (u : Tally) → u ≡ counted t (w .programmed) (w .erased)
+        → next ≡ wrote + length (rowLine l w)
         → record { filled = 0; tally = u; over = false; wrote = next } ≡ runOf (close small t img (Of order)) wrote
     unfolding close
     answer-run wrote next u g h = rw (g, h, row-line, f, ← e) refl
 
-    pub answer-out : (buf out : List ℕ) (wrote : ℕ) → out ≡ sets buf wrote (rowLine l w) → out ≡ sets buf wrote (close small t img (Of order) .out)
+    pub answer-out : (buf out : List ℕ) (wrote : ℕ) → out ≡ sets buf wrote (rowLine l w) → out ≡ sets buf wrote
+        (close small t img (Of order) .out)
     unfolding close
     answer-out buf out wrote g = g ∙ rw row-line refl
 
@@ -51,7 +54,8 @@ module _ (t : Tally) (img x : List ℕ) (order : Order) (a : Answer) (w : Row) (
   unfolding close
   answer-image = ap (λ (o : Outcome). o .image) e
 
-pub answer-within : (t u : Tally) (p e : ℕ) → u ≡ counted t p e → Within t → t .lines < 1000000 → Fits w32 p → Fits w32 e → Within u
+pub answer-within : (t u : Tally) (p e : ℕ) → u ≡ counted t p e → Within t → t .lines < 1000000 → Fits w32 p
+    → Fits w32 e → Within u
 answer-within t u p e q w h i j =
     let y : p ≤ 4294967295 = omega (arith, i .fits) in
     let z : e ≤ 4294967295 = omega (arith, j .fits) in
@@ -60,7 +64,8 @@ answer-within t u p e q w h i j =
 -- ---- a line that is whole: what follows from its form
 module _ (t : Tally) (line : List ℕ) where
   module _ (img : List ℕ) (r : Run) (buf out : List ℕ) (wrote : ℕ) where
-    pub refused-run : formAt t line ≡ Other → r ≡ refusedRun t wrote → r ≡ runOf (close small t img (formAt t line)) wrote
+    pub refused-run : formAt t line ≡ Other → r ≡ refusedRun t wrote → r ≡ runOf (close small t img (formAt t line))
+        wrote
     unfolding close
     refused-run e f = f ∙ rw e refl
 
@@ -68,7 +73,8 @@ module _ (t : Tally) (line : List ℕ) where
     unfolding close
     refused-image e = rw e refl
 
-    pub refused-out : formAt t line ≡ Other → out ≡ sets buf wrote (errorLine t) → out ≡ sets buf wrote (close small t img (formAt t line) .out)
+    pub refused-out : formAt t line ≡ Other → out ≡ sets buf wrote (errorLine t) → out ≡ sets buf wrote
+        (close small t img (formAt t line) .out)
     unfolding close
     refused-out e f = f ∙ rw e refl
 
@@ -76,13 +82,16 @@ module _ (t : Tally) (line : List ℕ) where
     refused-within w f = subst (λ (x : Run). Within (x .tally)) (sym f) w
 
     module _ (order : Order) (e : formAt t line ≡ Of order) where
-      pub answered-run : r ≡ runOf (close small t img (Of order)) wrote → r ≡ runOf (close small t img (formAt t line)) wrote
+      pub answered-run : r ≡ runOf (close small t img (Of order)) wrote → r ≡ runOf (close small t img (formAt t line))
+          wrote
       answered-run f = rw e f
 
-      pub answered-image : (y : List ℕ) → y ≡ close small t img (Of order) .state .image → y ≡ close small t img (formAt t line) .state .image
+      pub answered-image : (y : List ℕ) → y ≡ close small t img (Of order) .state .image → y ≡ close small t img
+          (formAt t line) .state .image
       answered-image y f = rw e f
 
-      pub answered-out : out ≡ sets buf wrote (close small t img (Of order) .out) → out ≡ sets buf wrote (close small t img (formAt t line) .out)
+      pub answered-out : out ≡ sets buf wrote (close small t img (Of order) .out) → out ≡ sets buf wrote
+          (close small t img (formAt t line) .out)
       answered-out f = rw e f
 
 -- ---- a byte more of a line
@@ -91,18 +100,28 @@ module _ (t : Tally) (line : List ℕ) (filled b : ℕ) (room : length line ≡ 
   few h = length-take-le filled line (omega arith)
 
   module _ (h : filled < 34) where
-    goes : longerFrom t (take filled line) b ≡ record { state = record { line = take filled line ++ (b ∷ []); tally = t; image = []; over = false }; out = [] }
+    goes : longerFrom t (take filled line) b ≡ record {
+      state = record {
+        line = take filled line ++ (b ∷ []);
+        tally = t;
+        image = [];
+        over = false;
+      };
+      out = [];
+    }
     unfolding longer
     goes = rw (few (omega arith), lt-ltb filled 34 h) refl
 
-    pub longer-run : (wrote : ℕ) → record { filled = filled + 1; tally = t; over = false; wrote = wrote } ≡ runOf (longerFrom t (take filled line) b) wrote
+    pub longer-run : (wrote : ℕ) → record { filled = filled + 1; tally = t; over = false; wrote = wrote }
+        ≡ runOf (longerFrom t (take filled line) b) wrote
     longer-run wrote =
         let n = length-append (take filled line) (b ∷ []) in
         let k = few (omega arith) in
         let z : length (take filled line ++ (b ∷ [])) ≡ filled + 1 = omega (arith, n, k) in
         sym (rw (goes, z, add-zero) refl)
 
-    pub longer-line : (new : List ℕ) → new ≡ set line filled b → take (filled + 1) new ≡ longerFrom t (take filled line) b .state .line
+    pub longer-line : (new : List ℕ) → new ≡ set line filled b → take (filled + 1) new ≡ longerFrom t
+        (take filled line) b .state .line
     longer-line new e = rw (goes, e, add-one) (take-suc-set line filled b (omega arith))
 
     pub longer-out : (buf : List ℕ) (wrote : ℕ) → buf ≡ sets buf wrote (longerFrom t (take filled line) b .out)
@@ -117,11 +136,13 @@ module _ (t : Tally) (line : List ℕ) (filled b : ℕ) (room : length line ≡ 
     unfolding close
     stops-run r wrote f = f ∙ sym (rw stops refl)
 
-    pub stops-line : (r : Run) (wrote : ℕ) (new : List ℕ) → r ≡ refusedRun t wrote → take (r .filled) new ≡ longerFrom t (take filled line) b .state .line
+    pub stops-line : (r : Run) (wrote : ℕ) (new : List ℕ) → r ≡ refusedRun t wrote → take (r .filled) new ≡ longerFrom t
+        (take filled line) b .state .line
     unfolding close
     stops-line r wrote new f = rw (stops, f) refl
 
-    pub stops-out : (buf out : List ℕ) (wrote : ℕ) → out ≡ sets buf wrote (errorLine t) → out ≡ sets buf wrote (longerFrom t (take filled line) b .out)
+    pub stops-out : (buf out : List ℕ) (wrote : ℕ) → out ≡ sets buf wrote (errorLine t) → out ≡ sets buf wrote
+        (longerFrom t (take filled line) b .out)
     unfolding close
     stops-out buf out wrote f = f ∙ sym (rw stops refl)
 
@@ -131,7 +152,8 @@ module _ (s : State) (b : ℕ) where
   unfolding feed
   feed-over e = rw e refl
 
-  feed-close : s .over ≡ false → b ≡ 10 → feed small s b ≡ close small (s .tally) (s .image) (formAt (s .tally) (s .line))
+  feed-close : s .over ≡ false → b ≡ 10 → feed small s b ≡ close small (s .tally) (s .image)
+      (formAt (s .tally) (s .line))
   unfolding feed
   feed-close e h = rw (e, eq-eqb b 10 h) refl
 
@@ -150,8 +172,24 @@ longer-image : (s : State) (b : ℕ) → longer small s b ≡ withImage (s .imag
 unfolding longer close
 longer-image s b = go (ltb (length (s .line)) 34)
   where
-    go : (t : Bool) → pick t (record { state = record { line = s .line ++ (b ∷ []); tally = s .tally; image = s .image; over = false }; out = [] }) (close small (s .tally) (s .image) Other)
-        ≡ withImage (s .image) (pick t (record { state = record { line = s .line ++ (b ∷ []); tally = s .tally; image = []; over = false }; out = [] }) (close small (s .tally) [] Other))
+    go : (t : Bool) → pick t (record {
+      state = record {
+        line = s .line ++ (b ∷ []);
+        tally = s .tally;
+        image = s .image;
+        over = false;
+      };
+      out = [];
+    }) (close small (s .tally) (s .image) Other)
+        ≡ withImage (s .image) (pick t (record {
+          state = record {
+            line = s .line ++ (b ∷ []);
+            tally = s .tally;
+            image = [];
+            over = false;
+          };
+          out = [];
+        }) (close small (s .tally) [] Other))
     go true = refl
     go false = refl
 
@@ -160,7 +198,10 @@ unfolding longer close
 longer-few t l b = go (ltb (length l) 34) refl
   where
     go : (u : Bool) → ltb (length l) 34 ≡ u
-        → length (pick u (record { state = record { line = l ++ (b ∷ []); tally = t; image = []; over = false }; out = [] }) (close small t [] Other) .state .line) ≤ 34
+        → length (pick u (record {
+          state = record { line = l ++ (b ∷ []); tally = t; image = []; over = false };
+          out = [];
+        }) (close small t [] Other) .state .line) ≤ 34
     go true e = let h = ltb-true (length l) 34 e in let n = length-append l (b ∷ []) in omega (arith, h, n)
     go false e = omega arith
 
@@ -207,7 +248,8 @@ module _ (run r : Run) (line img : List ℕ) (b : ℕ) (h : Steady run line) whe
     pub end-image : (x : List ℕ) → x ≡ closed .state .image → x ≡ fed .state .image
     end-image x f = rw at-end f
 
-    pub end-out : (buf out : List ℕ) → out ≡ sets buf (run .wrote) (closed .out) → out ≡ sets buf (run .wrote) (fed .out)
+    pub end-out : (buf out : List ℕ) → out ≡ sets buf (run .wrote) (closed .out) → out ≡ sets buf (run .wrote)
+        (fed .out)
     end-out buf out f = rw at-end f
 
     pub end-steady : r ≡ runOf closed (run .wrote) → Within (r .tally) → Steady r line
@@ -249,7 +291,8 @@ module _ (run : Run) (line : List ℕ) where
   unfolding finish ending
   finish-last e f = rw (e, f) refl
 
-  pub finish-error : Steady run line → run .over ≡ false → (run .filled ≡ 0 → ⊥) → finish (stateOf run line []) ≡ errorLine (run .tally)
+  pub finish-error : Steady run line → run .over ≡ false → (run .filled ≡ 0 → ⊥) → finish (stateOf run line [])
+      ≡ errorLine (run .tally)
   unfolding finish ending
   finish-error h e f = rw e (go (run .filled) line f (h .room))
     where

@@ -35,7 +35,11 @@ tallied t (o ∷ os) = tallied (tallyAfter t o) os
 
 -- it is the count of the answers and both sums
 sums-from : (t : Tally) (os : List Outcome) → tallied t os
-    ≡ record { lines = t .lines + length os; programmed = t .programmed + programmedSum os; erased = t .erased + erasedSum os }
+    ≡ record {
+      lines = t .lines + length os;
+      programmed = t .programmed + programmedSum os;
+      erased = t .erased + erasedSum os;
+    }
 unfolding tallied programmedSum erasedSum
 sums-from t [] = same t
   where
@@ -47,11 +51,16 @@ sums-from t [] = same t
         rw (a, b, c) refl
 sums-from t (o ∷ os) =
     let a : t .lines + 1 + length os ≡ t .lines + length (o ∷ os) = omega arith in
-    let b : t .programmed + o .programmed + programmedSum os ≡ t .programmed + (o .programmed + programmedSum os) = omega arith in
+    let b : t .programmed + o .programmed + programmedSum os ≡ t .programmed + (o .programmed + programmedSum os) =
+    omega arith in
     let c : t .erased + o .erased + erasedSum os ≡ t .erased + (o .erased + erasedSum os) = omega arith in
     sums-from (tallyAfter t o) os ∙ rw (a, b, c) refl
 
-pub tally-sums : (os : List Outcome) → tallied none-yet os ≡ record { lines = length os; programmed = programmedSum os; erased = erasedSum os }
+pub tally-sums : (os : List Outcome) → tallied none-yet os ≡ record {
+  lines = length os;
+  programmed = programmedSum os;
+  erased = erasedSum os;
+}
 tally-sums os =
     let a : 0 + length os ≡ length os = omega arith in
     let b : 0 + programmedSum os ≡ programmedSum os = omega arith in
@@ -70,7 +79,8 @@ Formed [] (c ∷ cs) = ⊥
 Formed (l ∷ ls) [] = ⊥
 Formed (l ∷ ls) (c ∷ cs) = (parsed l ≡ Of c) × Formed ls cs
 
-log-from : (g : Geometry) (t : Tally) (img : List ℕ) (ls : List (List ℕ)) (cs : List Order) → Formed ls cs → t .lines + length ls ≤ mostLines
+log-from : (g : Geometry) (t : Tally) (img : List ℕ) (ls : List (List ℕ)) (cs : List Order) → Formed ls cs
+    → t .lines + length ls ≤ mostLines
     → answers g t img ls [] ≡ answerLines cs (outcomes g img cs) ++ lastLine (tallied t (outcomes g img cs))
 unfolding answers reply ending formAfter answerLines tallied outcomes
 log-from g t img [] [] p q = refl
@@ -83,7 +93,8 @@ log-from g t img (l ∷ ls) (c ∷ cs) p q =
     ∙ sym (append-assoc (answerLine c o) (answerLines cs (outcomes g (o .image) cs)) (lastLine (tallied (tallyAfter t o) (outcomes g (o .image) cs)))))
 
 -- its lines are answered in order, then come T, the count of the answers, and their sums
-pub log-answers : (g : Geometry) (input : List ℕ) (cs : List Order) → Formed (lines input .ended) cs → lines input .rest ≡ []
+pub log-answers : (g : Geometry) (input : List ℕ) (cs : List Order) → Formed (lines input .ended) cs
+    → lines input .rest ≡ []
     → length (lines input .ended) ≤ mostLines
     → replayed g input ≡ answerLines cs (outcomes g (blankImage g) cs) ++ lastLine (record {
       lines = length (outcomes g (blankImage g) cs);

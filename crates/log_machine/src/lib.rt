@@ -1,5 +1,5 @@
-// A day's log, fed byte by byte. What waits to be written stands at the start of a lent buffer; the line that has begun stands in
-// another one of 34 bytes, which is as long as a line with a form can be.
+// A day's log, fed byte by byte. What waits to be written stands at the start of a lent buffer; the line that has begun
+// stands in another one of 34 bytes, which is as long as a line with a form can be.
 ghost use mathlib.Core.Path.{_≡_};
 ghost use mathlib.Core.List.{[]};
 ghost use Prim.Native.Nat.{_+_, _<_, _≤_};
@@ -57,7 +57,8 @@ fn answer(img: &mut [u8], out: &mut [u8], t: Tally, wrote: usize, order: Order) 
     requires { ⌜ Within t × (t .lines < 1000000) × (wrote ≤ 8000000000000000000) ⌝ }
     ensures run { λ r. ⌜ r ≡ runOf (close small t (now (img .entry)) (Of order)) wrote ⌝ }
     ensures image { λ _. ⌜ now (img .exit) ≡ close small t (now (img .entry)) (Of order) .state .image ⌝ }
-    ensures out { λ _. ⌜ now (out .exit) ≡ sets (now (out .entry)) wrote (close small t (now (img .entry)) (Of order) .out) ⌝ }
+    ensures out { λ _. ⌜ now (out .exit) ≡ sets (now (out .entry)) wrote
+        (close small t (now (img .entry)) (Of order) .out) ⌝ }
     ensures most { λ r. ⌜ r .wrote ≤ wrote + 86 ⌝ }
     ensures within { λ r. ⌜ Within (r .tally) ⌝ }
 {
@@ -82,8 +83,10 @@ fn answer(img: &mut [u8], out: &mut [u8], t: Tally, wrote: usize, order: Order) 
 fn close_line(img: &mut [u8], line: &[u8], out: &mut [u8], t: Tally, wrote: usize) -> Run
     requires { ⌜ Within t × (wrote ≤ 8000000000000000000) ⌝ }
     ensures run { λ r. ⌜ r ≡ runOf (close small t (now (img .entry)) (formAt t (now (line .entry)))) wrote ⌝ }
-    ensures image { λ _. ⌜ now (img .exit) ≡ close small t (now (img .entry)) (formAt t (now (line .entry))) .state .image ⌝ }
-    ensures out { λ _. ⌜ now (out .exit) ≡ sets (now (out .entry)) wrote (close small t (now (img .entry)) (formAt t (now (line .entry))) .out) ⌝ }
+    ensures image { λ _. ⌜ now (img .exit) ≡ close small t (now (img .entry))
+        (formAt t (now (line .entry))) .state .image ⌝ }
+    ensures out { λ _. ⌜ now (out .exit) ≡ sets (now (out .entry)) wrote
+        (close small t (now (img .entry)) (formAt t (now (line .entry))) .out) ⌝ }
     ensures most { λ r. ⌜ r .wrote ≤ wrote + 86 ⌝ }
     ensures within { λ r. ⌜ Within (r .tally) ⌝ }
 {
@@ -101,8 +104,10 @@ fn close_line(img: &mut [u8], line: &[u8], out: &mut [u8], t: Tally, wrote: usiz
 fn lengthen(line: &mut [u8], out: &mut [u8], t: Tally, filled: usize, wrote: usize, b: u8) -> Run
     requires { ⌜ Within t × (wrote ≤ 8000000000000000000) × (filled ≤ 34) × (length (now line) ≡ 34) ⌝ }
     ensures run { λ r. ⌜ r ≡ runOf (longerFrom t (take filled (now (line .entry))) b) wrote ⌝ }
-    ensures line { λ r. ⌜ take (r .filled) (now (line .exit)) ≡ longerFrom t (take filled (now (line .entry))) b .state .line ⌝ }
-    ensures out { λ _. ⌜ now (out .exit) ≡ sets (now (out .entry)) wrote (longerFrom t (take filled (now (line .entry))) b .out) ⌝ }
+    ensures line { λ r. ⌜ take (r .filled) (now (line .exit)) ≡ longerFrom t (take filled (now (line .entry)))
+        b .state .line ⌝ }
+    ensures out { λ _. ⌜ now (out .exit) ≡ sets (now (out .entry)) wrote
+        (longerFrom t (take filled (now (line .entry))) b .out) ⌝ }
     ensures most { λ r. ⌜ r .wrote ≤ wrote + 86 ⌝ }
     ensures within { λ r. ⌜ Within (r .tally) ⌝ }
 {
@@ -122,9 +127,12 @@ fn lengthen(line: &mut [u8], out: &mut [u8], t: Tally, filled: usize, wrote: usi
 pub fn feed(img: &mut [u8], line: &mut [u8], out: &mut [u8], run: Run, b: u8) -> Run
     requires { ⌜ Steady run (now line) × (run .wrote ≤ 8000000000000000000) ⌝ }
     ensures run { λ r. ⌜ r ≡ runOf (feed small (stateOf run (now (line .entry)) (now (img .entry))) b) (run .wrote) ⌝ }
-    ensures line { λ r. ⌜ take (r .filled) (now (line .exit)) ≡ feed small (stateOf run (now (line .entry)) (now (img .entry))) b .state .line ⌝ }
-    ensures image { λ _. ⌜ now (img .exit) ≡ feed small (stateOf run (now (line .entry)) (now (img .entry))) b .state .image ⌝ }
-    ensures out { λ _. ⌜ now (out .exit) ≡ sets (now (out .entry)) (run .wrote) (feed small (stateOf run (now (line .entry)) (now (img .entry))) b .out) ⌝ }
+    ensures line { λ r. ⌜ take (r .filled) (now (line .exit)) ≡ feed small
+        (stateOf run (now (line .entry)) (now (img .entry))) b .state .line ⌝ }
+    ensures image { λ _. ⌜ now (img .exit) ≡ feed small (stateOf run (now (line .entry)) (now (img .entry)))
+        b .state .image ⌝ }
+    ensures out { λ _. ⌜ now (out .exit) ≡ sets (now (out .entry)) (run .wrote)
+        (feed small (stateOf run (now (line .entry)) (now (img .entry))) b .out) ⌝ }
     ensures most { λ r. ⌜ r .wrote ≤ run .wrote + 86 ⌝ }
     ensures steady { λ r. ⌜ Steady r (now (line .exit)) ⌝ }
 {
@@ -144,7 +152,8 @@ pub fn finish(out: &mut [u8], line: &[u8], run: Run) -> usize
     requires { ⌜ Steady run (now line) × (run .wrote ≤ 8000000000000000000) ⌝ }
     ensures place { λ r. ⌜ r ≡ run .wrote + length (finish (stateOf run (now (line .entry)) [])) ⌝ }
     ensures most { λ r. ⌜ r ≤ run .wrote + 86 ⌝ }
-    ensures bytes { λ _. ⌜ now (out .exit) ≡ sets (now (out .entry)) (run .wrote) (finish (stateOf run (now (line .entry)) [])) ⌝ }
+    ensures bytes { λ _. ⌜ now (out .exit) ≡ sets (now (out .entry)) (run .wrote)
+        (finish (stateOf run (now (line .entry)) [])) ⌝ }
 {
     let t = run.tally;
     if run.over {

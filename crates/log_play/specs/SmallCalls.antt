@@ -39,7 +39,8 @@ module _ (order : Order) (img : List ℕ) (o : Outcome) where
   unfolding lookupOf chosenCall obeyed
   play-lookup k e h = h ∙ ap (λ (x : Order). obeyed small x img) (sym e)
 
-  pub play-limited : (k a allowance : ℕ) → order ≡ Limited k a allowance → o ≡ insertOf 0 img k a allowance → o ≡ obeyed small order img
+  pub play-limited : (k a allowance : ℕ) → order ≡ Limited k a allowance → o ≡ insertOf 0 img k a allowance
+      → o ≡ obeyed small order img
   unfolding insertOf chosenCall obeyed
   play-limited k a allowance e h = h ∙ ap (λ (x : Order). obeyed small x img) (sym e)
 

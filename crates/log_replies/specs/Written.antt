@@ -29,7 +29,8 @@ unfolding tabbed
 tabbed-append [] ys = refl
 tabbed-append (x ∷ xs) ys = rw (tabbed-append xs ys) (sym (append-assoc (9 ∷ decimal x) (tabbed xs) (tabbed ys)))
 
-tabbed-more : (ns : List ℕ) (i : ℕ) → i < length ns → tabbed (take (i + 1) ns) ≡ tabbed (take i ns) ++ (9 ∷ decimal (getD ns i 0))
+tabbed-more : (ns : List ℕ) (i : ℕ) → i < length ns
+    → tabbed (take (i + 1) ns) ≡ tabbed (take i ns) ++ (9 ∷ decimal (getD ns i 0))
 unfolding tabbed
 tabbed-more ns i h = rw (add-one, take-suc ns i 0 h) (tabbed-append (take i ns) (getD ns i 0 ∷ []) ∙ rw append-nil refl)
 
@@ -43,12 +44,14 @@ module _ (ns buf : List ℕ) (at : ℕ) where
   place-starts = omega arith
 
   module _ (i end : ℕ) (e : end ≡ at + length (tabbed (take i ns))) where
-    pub fields-go : (mid out : List ℕ) (x n : ℕ) → i < n → n ≤ 4 → length ns ≡ 4 → x ≡ getD ns i 0 → mid ≡ sets buf at (tabbed (take i ns)) → out ≡ sets mid end (9 ∷ decimal x)
+    pub fields-go : (mid out : List ℕ) (x n : ℕ) → i < n → n ≤ 4 → length ns ≡ 4 → x ≡ getD ns i 0 → mid ≡ sets buf at
+        (tabbed (take i ns)) → out ≡ sets mid end (9 ∷ decimal x)
         → out ≡ sets buf at (tabbed (take (i + 1) ns))
     fields-go mid out x n h k l q f g =
         g ∙ rw (e, f, q, tabbed-more ns i (omega arith)) (sym (sets-append buf at (tabbed (take i ns)) (9 ∷ decimal (getD ns i 0))))
 
-    pub place-goes : (r x n : ℕ) → i < n → n ≤ 4 → length ns ≡ 4 → x ≡ getD ns i 0 → r ≡ end + length (9 ∷ decimal x) → r ≡ at + length (tabbed (take (i + 1) ns))
+    pub place-goes : (r x n : ℕ) → i < n → n ≤ 4 → length ns ≡ 4 → x ≡ getD ns i 0 → r ≡ end + length (9 ∷ decimal x)
+        → r ≡ at + length (tabbed (take (i + 1) ns))
     place-goes r x n h k l q g =
         let m = length-append (tabbed (take i ns)) (9 ∷ decimal (getD ns i 0)) in
         rw (tabbed-more ns i (omega arith)) (g ∙ rw q (omega (arith, m, e)))
@@ -59,7 +62,8 @@ module _ (ns buf : List ℕ) (at : ℕ) where
     pub most-ends : (n : ℕ) → end ≤ at + 21 * i → i ≤ n → n ≤ 4 → end ≤ at + 84
     most-ends n h k l = omega arith
 
-    pub fields-end : (mid : List ℕ) (n : ℕ) → i ≤ n → n ≤ i → mid ≡ sets buf at (tabbed (take i ns)) → mid ≡ sets buf at (tabbed (take n ns))
+    pub fields-end : (mid : List ℕ) (n : ℕ) → i ≤ n → n ≤ i → mid ≡ sets buf at (tabbed (take i ns)) → mid ≡ sets buf at
+        (tabbed (take n ns))
     fields-end mid n p q f = let z : n ≡ i = omega arith in rw z f
 
     pub place-ends : (n : ℕ) → i ≤ n → n ≤ i → end ≡ at + length (tabbed (take n ns))
@@ -76,7 +80,8 @@ module _ (l : ℕ) (ns : List ℕ) (at end : ℕ) (e : end ≡ at + 1 + length (
   pub line-most : end ≤ at + 1 + 84 → end + 1 ≤ at + 86
   line-most h = omega arith
 
-  pub line-bytes : (buf one mid out : List ℕ) → one ≡ set buf at l → mid ≡ sets one (at + 1) (tabbed ns) → out ≡ set mid end 10 → out ≡ sets buf at (lineText l ns)
+  pub line-bytes : (buf one mid out : List ℕ) → one ≡ set buf at l → mid ≡ sets one (at + 1) (tabbed ns)
+      → out ≡ set mid end 10 → out ≡ sets buf at (lineText l ns)
   unfolding lineText
   line-bytes buf one mid out f g h =
       let q : end ≡ at + length (l ∷ tabbed ns) = omega arith in
@@ -104,12 +109,14 @@ module _ (n : ℕ) (ns : List ℕ) (at next : ℕ) (e : next ≡ at + length (de
     pub numbers-most : n < 18446744073709551616 → end ≤ next + 84 → end + 1 ≤ at + 105
     numbers-most h k = let d = decimal-long n h in omega (arith, d, e)
 
-    pub numbers-bytes : (buf one mid out : List ℕ) → length ns ≡ 4 → one ≡ sets buf at (decimal n) → mid ≡ sets one next (tabbed (take 4 ns)) → out ≡ set mid end 10
+    pub numbers-bytes : (buf one mid out : List ℕ) → length ns ≡ 4 → one ≡ sets buf at (decimal n) → mid ≡ sets one next
+        (tabbed (take 4 ns)) → out ≡ set mid end 10
         → out ≡ sets buf at (numbersText (n ∷ ns))
     unfolding numbersText
     numbers-bytes buf one mid out l g h k =
         let q : end ≡ next + length (tabbed ns) = f ∙ rw (take-all 4 ns (omega arith)) refl in
         k ∙ rw (h, g, take-all 4 ns (omega arith), q, e)
-        (sets-snoc (sets buf at (decimal n)) (at + length (decimal n)) (tabbed ns) 10 ∙ sym (sets-append buf at (decimal n) (tabbed ns ++ (10 ∷ []))))
+        (sets-snoc (sets buf at (decimal n)) (at + length (decimal n)) (tabbed ns) 10
+        ∙ sym (sets-append buf at (decimal n) (tabbed ns ++ (10 ∷ []))))
 
 pub ruleset numbers-laws = (numbers-next, numbers-fit, numbers-place, numbers-most, numbers-bytes)

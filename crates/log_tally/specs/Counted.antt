@@ -16,9 +16,11 @@ counted t programmed erased = record { lines = t .lines + 1; programmed = t .pro
 abbrev pub Within : Tally → Type 0
 Within t = (t .lines ≤ 1000000) × (t .programmed ≤ 4294967295 * t .lines) × (t .erased ≤ 4294967295 * t .lines)
 
-pub within-more : (t : Tally) (p e : ℕ) → Within t → t .lines < 1000000 → p ≤ 4294967295 → e ≤ 4294967295 → Within (counted t p e)
+pub within-more : (t : Tally) (p e : ℕ) → Within t → t .lines < 1000000 → p ≤ 4294967295 → e ≤ 4294967295
+    → Within (counted t p e)
 within-more t p e w h i j = (omega arith, omega arith, omega arith)
 
 -- a number more can be added to each
-pub roomy : (t : Tally) → Within t → (t .lines ≤ 4294967295000000) × (t .programmed ≤ 4294967295000000) × (t .erased ≤ 4294967295000000)
+pub roomy : (t : Tally) → Within t → (t .lines ≤ 4294967295000000) × (t .programmed ≤ 4294967295000000) ×
+    (t .erased ≤ 4294967295000000)
 roomy t w = (omega arith, omega arith, omega arith)

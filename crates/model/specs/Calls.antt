@@ -1,5 +1,5 @@
--- "Answer numbers": the calls on every image. Each gives its answer, address, counts, rule, page and the image afterwards.
--- Definitions alone; assumes nothing.
+-- "Answer numbers": the calls on every image. Each gives its answer, address, counts, rule, page and the image
+-- afterwards. Definitions alone; assumes nothing.
 use Prim.Native.Nat.{ℕ, _+_, _-_, _*_}
 use mathlib.Core.Bool.{Bool}
 use mathlib.Core.List.{List}

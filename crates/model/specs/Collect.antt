@@ -1,4 +1,5 @@
--- Collection: the victim, the moves, the erase, each on the image as it then stands. Definitions alone; assumes nothing.
+-- Collection: the victim, the moves, the erase, each on the image as it then stands. Definitions alone; assumes
+-- nothing.
 use Prim.Native.Nat.{ℕ, zero, suc, _+_, _-_, _*_}
 use mathlib.Core.Bool.{Bool}
 use mathlib.Core.List.{List, [], _∷_, _++_}
@@ -44,7 +45,8 @@ unfoldable pub moveStore : Geometry → ℕ → ℕ → List ℕ → Store
 moveStore g n q img = program (nextPage (g .pages) n (ahead g n (chipOf g n img)))
     (built g (suc (maxSeq g n img)) (suc (chipOf g n img .level)) (movePart (chipOf g n img) q (nextPage (g .pages) n (ahead g n (chipOf g n img)))))
 
--- "While the victim has a live page, take the lowest-numbered": its last j pages in rising order, each that is then live
+-- "While the victim has a live page, take the lowest-numbered": its last j pages in rising order, each that is then
+-- live
 unfoldable pub sweepStores : Geometry → ℕ → ℕ → ℕ → List ℕ → List Store
 sweepStores g n v zero img = []
 sweepStores g n v (suc j) img = pick (live (placesOf (chipOf g n img)) (g .pages * v + (g .pages - suc j)))

@@ -20,14 +20,16 @@ swap f (suc i) (e ∷ es) = e ∷ swap f i es
 unfoldable pub splice : (Entry → List Entry) → ℕ → List Entry → List Entry
 splice f k es = swap f (place k es) es
 
--- the edited node at level suc l that e names: a leaf by `leaf`; above, the chosen entry x gives way to what `name` says
--- of x and of the edited node below
-unfoldable pub edited : Nodes → ℕ → (List Entry → List Entry) → (ℕ → Entry → List Entry → List Entry) → ℕ → Entry → List Entry
+-- the edited node at level suc l that e names: a leaf by `leaf`; above, the chosen entry x gives way to what `name`
+-- says of x and of the edited node below
+unfoldable pub edited : Nodes → ℕ → (List Entry → List Entry) → (ℕ → Entry → List Entry → List Entry) → ℕ → Entry
+    → List Entry
 edited r k leaf name zero e = leaf (r (e .addr) 1)
 edited r k leaf name (suc l) e = splice (λ x. name (suc l) x (edited r k leaf name l x)) k (r (e .addr) (suc (suc l)))
 
 -- the edited node of the path at level j, from the node at level suc l that e names
-unfoldable pub onPath : Nodes → ℕ → (List Entry → List Entry) → (ℕ → Entry → List Entry → List Entry) → ℕ → Entry → ℕ → List Entry
+unfoldable pub onPath : Nodes → ℕ → (List Entry → List Entry) → (ℕ → Entry → List Entry → List Entry) → ℕ → Entry → ℕ
+    → List Entry
 onPath r k leaf name zero e j = pick (eqb j 1) (edited r k leaf name zero e) []
 onPath r k leaf name (suc l) e j =
     pick (eqb j (suc (suc l))) (edited r k leaf name (suc l) e) (onPath r k leaf name l (chosen k (r (e .addr) (suc (suc l)))) j)
@@ -61,8 +63,8 @@ abbrev pub two : ℕ → ℕ → ℕ → ℕ → ℕ → List Entry → List Ent
 two k n o m z c =
     record { key = z; addr = pick (turn k m c) o n } ∷ record { key = next (drop m c) 0; addr = pick (turn k m c) n o } ∷ []
 
--- what stands above an edited node c at level l: one entry that names N, its key lowered to K where it is above K, or two
--- where c exceeds the level's slots, 2 * half
+-- what stands above an edited node c at level l: one entry that names N, its key lowered to K where it is above K, or
+-- two where c exceeds the level's slots, 2 * half
 abbrev pub named : ℕ → ℕ → (ℕ → ℕ) → (ℕ → ℕ) → ℕ → Entry → List Entry → List Entry
 named k n side half l e c =
     pick (leb (length c) (2 * half l)) (record { key = min (e .key) k; addr = n } ∷ []) (two k n (side l) (half l) (min (e .key) k) c)

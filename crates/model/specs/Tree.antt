@@ -1,4 +1,5 @@
--- The tree from the root down: its map, its live pages, descent. Level 0 is the pair itself. Definitions alone; assumes nothing.
+-- The tree from the root down: its map, its live pages, descent. Level 0 is the pair itself. Definitions alone; assumes
+-- nothing.
 use Prim.Native.Nat.{ℕ, zero, suc, _+_, _-_, _/_, min}
 use mathlib.Core.Bool.{Bool, true, false}
 use mathlib.Core.List.{List, [], _∷_, _++_}
@@ -66,8 +67,8 @@ entryOf es i = getD es i (record { key = 0; addr = 0 })
 abbrev pub middle : ℕ → ℕ → ℕ
 middle lo hi = lo + (hi - lo) / 2
 
--- s halvings of the entries from lo to hi, hi left out: the half before the middle where its key is above K, else the half
--- that starts with it. Of one entry or none lo stays
+-- s halvings of the entries from lo to hi, hi left out: the half before the middle where its key is above K, else the
+-- half that starts with it. Of one entry or none lo stays
 unfoldable pub halve : ℕ → ℕ → List Entry → ℕ → ℕ → ℕ
 halve zero k es lo hi = lo
 halve (suc s) k es lo hi =

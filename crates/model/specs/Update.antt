@@ -104,7 +104,8 @@ deleteList c k n j = onPath (c .nodes) k (removeIn k) (kept n) (c .level) (theRo
 unfoldable pub deleteTop : Chip → ℕ → ℕ → Top
 deleteTop c k n = collapse (c .nodes) (c .level) (deleteList c k n (suc (c .level)))
 
--- "Delete programs N only, holding the root and the path's nodes left below it": at level j. Where the tree shrinks none is left below
+-- "Delete programs N only, holding the root and the path's nodes left below it": at level j. Where the tree shrinks
+-- none is left below
 unfoldable pub deletePart : Chip → ℕ → ℕ → ℕ → List Entry
 deletePart c k n j = pick (eqb j (suc (deleteTop c k n .level))) (deleteTop c k n .list)
     (pick (eqb (deleteTop c k n .level) (c .level) & leb j (c .level)) (deleteList c k n j) [])

@@ -36,7 +36,8 @@ module _ (g : Geometry) (n : ℕ) (img : List ℕ) (j : Judgement) (t u : List �
   pub survey-judged : j .survey ≡ surveyOf g n img
   survey-judged = x .survey
 
-  pub opening-broken : (a : Answer) (r p : ℕ) → a ≡ Damaged r p → j .verdict ≡ Broken r p → told a img ≡ openingIn g n img
+  pub opening-broken : (a : Answer) (r p : ℕ) → a ≡ Damaged r p → j .verdict ≡ Broken r p
+      → told a img ≡ openingIn g n img
   unfolding openingIn
   opening-broken a r p ea e = judged-broken g n img (damaged img) (gives 0 0 0 0 img) j t u x (told a img) r p e (ap (λ (y : Answer). told y img) ea)
 
@@ -55,7 +56,8 @@ module _ (g : Geometry) (n : ℕ) (img : List ℕ) (j : Judgement) (t u : List �
 module _ (g : Geometry) (img : List ℕ) (n : ℕ) (en : n ≡ goodBlocks g img) where
   pub opening-length : (a : Answer) → a ≡ Length → n ≡ 0 → told a img ≡ opening g img
   unfolding opening
-  opening-length a ea z = ap (λ (y : Answer). told y img) ea ∙ judged-length g img (refused 1 img) (damaged img) (gives 0 0 0 0 img) n en z
+  opening-length a ea z = ap (λ (y : Answer). told y img) ea
+      ∙ judged-length g img (refused 1 img) (damaged img) (gives 0 0 0 0 img) n en z
 
   pub opened-length : (o : Opened) → o ≡ noRecord → n ≡ 0 → o ≡ opened g img
   unfolding opened
@@ -72,7 +74,8 @@ module _ (g : Geometry) (img : List ℕ) (n : ℕ) (en : n ≡ goodBlocks g img)
       (e ∙ ap (λ (m : ℕ). byVerdict (verdict g n img) (λ r p. noRecord) (openedIn g m img)) (some-blocks g img n en h))
 
 -- ---- a call with a record, of any kind
-stands-height : (g : Geometry) (n : ℕ) (img : List ℕ) (o : Opened) → standing g n img o ≡ true → heightAt g img (o .root) ≡ o .height
+stands-height : (g : Geometry) (n : ℕ) (img : List ℕ) (o : Opened) → standing g n img o ≡ true
+    → heightAt g img (o .root) ≡ o .height
 unfolding standing
 stands-height g n img o e = eqb-true (heightAt g img (o .root)) (o .height) (and-right _ _ e)
 
@@ -108,11 +111,13 @@ module _ (g : Geometry) (img : List ℕ) (o : Opened) (n : ℕ) (en : n ≡ good
       unfolding lookupWith
       lookup-stale f = call-stale s es h (refused 1 img) (refused 8 img) _ f
 
-      pub lookup-sought : (l : ℕ) (f : Found) (a : Answer) → l ≡ min (heightAt g img (o .root) - 1) (g .top - 1) → found f ≡ sought (chipWith g img l (o .root)) k
+      pub lookup-sought : (l : ℕ) (f : Found) (a : Answer) → l ≡ min (heightAt g img (o .root) - 1) (g .top - 1)
+          → found f ≡ sought (chipWith g img l (o .root)) k
           → a ≡ answerOf f → not s ≡ false → told a img ≡ lookupWith g img o k
       unfolding lookupWith
       lookup-sought l f a el ef ea e =
-          let c : found f ≡ sought (chipBy g img o) k = ef ∙ ap (λ (m : ℕ). sought (chipWith g img m (o .root)) k) (call-level s es h l el e) in
+          let c : found f ≡ sought (chipBy g img o) k =
+          ef ∙ ap (λ (m : ℕ). sought (chipWith g img m (o .root)) k) (call-level s es h l el e) in
           ap (λ (y : Answer). told y img) ea ∙ answer-tells f img ∙ ap (λ (y : Option ℕ). answered y img) c
           ∙ call-rest s es h (refused 1 img) (refused 8 img) _ e
 

@@ -1,5 +1,6 @@
-// Request 8, "Open once, call often": opening, which judges an image and hands back its record, and lookup and listing with a
-// record. With a record nothing is judged: one page is read, and the record is STALE where that page is not the root that it names.
+// Request 8, "Open once, call often": opening, which judges an image and hands back its record, and lookup and listing
+// with a record. With a record nothing is judged: one page is read, and the record is STALE where that page is not the
+// root that it names.
 ghost use mathlib.Core.Path.{_≡_};
 ghost use Prim.Native.Nat.{_-_, _≤_, _<_, min};
 ghost use lib.ListN.{length};
@@ -54,7 +55,8 @@ fn granted(g: Geometry, img: &[u8], n: u16, survey: Survey) -> Opening
 // Opening n blocks, with a lent table for the judge.
 fn open_blocks(g: Geometry, img: &[u8], table: &mut [u8], n: u16) -> Opening
     requires { ⌜ (g .pages ≤ 64) × (n ≤ 1024) × (65536 ≤ length (now table)) ⌝ }
-    ensures { λ r. ⌜ (told (r .answer) (now (img .entry)) ≡ openingIn g n (now (img .entry))) × (r .opened ≡ openedBlocks g n (now (img .entry))) ⌝ }
+    ensures { λ r. ⌜ (told (r .answer) (now (img .entry)) ≡ openingIn g n (now (img .entry))) ×
+        (r .opened ≡ openedBlocks g n (now (img .entry))) ⌝ }
 {
     let judgement = sound_verdict::judge_image(g, img, &mut *table, n);
     let verdict = judgement.verdict;
@@ -68,7 +70,8 @@ fn open_blocks(g: Geometry, img: &[u8], table: &mut [u8], n: u16) -> Opening
 // Judges an image and hands back its record.
 pub fn open_on(g: Geometry, img: &[u8]) -> Opening
     requires { ⌜ g .pages ≤ 64 ⌝ }
-    ensures { λ r. ⌜ (told (r .answer) (now (img .entry)) ≡ opening g (now (img .entry))) × (r .opened ≡ opened g (now (img .entry))) ⌝ }
+    ensures { λ r. ⌜ (told (r .answer) (now (img .entry)) ≡ opening g (now (img .entry))) ×
+        (r .opened ≡ opened g (now (img .entry))) ⌝ }
 {
     let n = chip_read::good_blocks(g, img);
     if n == 0 {
@@ -110,7 +113,8 @@ pub fn list_opened_on(
     high: u32,
     pairs: &mut [u32],
 ) -> Answer
-    ensures { λ r. ⌜ told r (now (pairs .exit)) ≡ asOutcome (listWith g (now (img .entry)) o low high (now (pairs .entry))) ⌝ }
+    ensures { λ r. ⌜ told r (now (pairs .exit)) ≡ asOutcome (listWith g (now (img .entry)) o low high
+        (now (pairs .entry))) ⌝ }
 {
     let n = chip_read::good_blocks(g, img);
     if n == 0 {

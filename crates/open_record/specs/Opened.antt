@@ -1,4 +1,5 @@
--- Request 8: the record of an image, when it is STALE, and opening, lookup and listing with it. Definitions alone; assumes nothing.
+-- Request 8: the record of an image, when it is STALE, and opening, lookup and listing with it. Definitions alone;
+-- assumes nothing.
 use Prim.Native.Nat.{ℕ, _-_, min}
 use mathlib.Core.Bool.{Bool, not}
 use mathlib.Core.List.{List}
@@ -16,7 +17,8 @@ use Rattle.model.specs.Listing.{Listed, rangedOf, lists, listsNone}
 use Rattle.chip_read.specs.Chip.{chipWith}
 use Rattle.open_record.specs.declared.Opened.{Opened}
 
--- "root page, its sequence number, the largest one on the image, height, next page (T if none), erased pages", of n blocks
+-- "root page, its sequence number, the largest one on the image, height, next page (T if none), erased pages", of n
+-- blocks
 unfoldable pub openedIn : Geometry → ℕ → List ℕ → Opened
 openedIn g n img = record {
   root = rootOf g n img;
@@ -48,7 +50,8 @@ standing g n img o = ltb (o .root) (pagesOf g n) & not (erased g img (o .root)) 
 unfoldable pub openedCall : {A : Type 0} → Geometry → List ℕ → Opened → A → A → A → A
 openedCall g img o short stale rest = pick (goodLength g img) (pick (standing g (blocksOf g img) img o) rest stale) short
 
--- the levels below the record's root, no more than below the highest root: a record that no opening gave may name any height
+-- the levels below the record's root, no more than below the highest root: a record that no opening gave may name any
+-- height
 abbrev pub levelBy : Geometry → Opened → ℕ
 levelBy g o = min (o .height - 1) (g .top - 1)
 
@@ -59,7 +62,8 @@ chipBy g img o = chipWith g img (levelBy g o) (o .root)
 unfoldable pub lookupWith : Geometry → List ℕ → Opened → ℕ → Outcome
 lookupWith g img o k = openedCall g img o (refused 1 img) (refused 8 img) (answered (sought (chipBy g img o) k) img)
 
--- the pairs of the largest tree, 4 * 4 * 8 * 16 * 32 * 64 * 128: a listing stops there, so that it ends soon on a damaged image too
+-- the pairs of the largest tree, 4 * 4 * 8 * 16 * 32 * 64 * 128: a listing stops there, so that it ends soon on a
+-- damaged image too
 abbrev pub pairsMost : ℕ
 pairsMost = 536870912
 

@@ -30,13 +30,16 @@ pub number-none : (g : Geometry) (img : List ℕ) (p : ℕ) (e : Bool) → e ≡
 unfolding seqOf
 number-none g img p e ee q = simp (← ee, q)
 
-pub number-some : (g : Geometry) (img : List ℕ) (p x : ℕ) (e : Bool) → x ≡ seqAt g img p → e ≡ erased g img p → e ≡ false → x ≡ seqOf g img p
+pub number-some : (g : Geometry) (img : List ℕ) (p x : ℕ) (e : Bool) → x ≡ seqAt g img p → e ≡ erased g img p
+    → e ≡ false → x ≡ seqOf g img p
 unfolding seqOf
 number-some g img p x e ex ee q = ex ∙ simp (← ee, q)
 
-pub record-is : (g : Geometry) (n x y z : ℕ) (img : List ℕ) (s : Survey) → s ≡ surveyOf g n img → x ≡ seqOf g img (s .root) → z ≡ min (pagesOf g n) y
+pub record-is : (g : Geometry) (n x y z : ℕ) (img : List ℕ) (s : Survey) → s ≡ surveyOf g n img → x ≡ seqOf g img
+    (s .root) → z ≡ min (pagesOf g n) y
     → y ≡ nextPage (g .pages) n (seen (erased g img) (s .last))
-    → record { root = s .root; number = x; most = s .most; height = s .height; next = z; erased = s .erased } ≡ openedIn g n img
+    → record { root = s .root; number = x; most = s .most; height = s .height; next = z; erased = s .erased }
+    ≡ openedIn g n img
 unfolding surveyOf openedIn
 record-is g n x y z img s es ex ez ey = λ i. record {
   root = es i .root;
@@ -48,7 +51,8 @@ record-is g n x y z img s es ex ez ey = λ i. record {
 }
 
 -- a height byte
-pub height-low : (g : Geometry) (n : ℕ) (img : List ℕ) (s : Survey) (r : Opened) → r ≡ openedIn g n img → s ≡ surveyOf g n img → s .level < 255 → r .height < 256
+pub height-low : (g : Geometry) (n : ℕ) (img : List ℕ) (s : Survey) (r : Opened) → r ≡ openedIn g n img
+    → s ≡ surveyOf g n img → s .level < 255 → r .height < 256
 unfolding surveyOf openedIn
 height-low g n img s r er es h =
     let a : s .level ≡ heightOf g img (rootOf g n img) - 1 = ap (λ (t : Survey). t .level) es in
@@ -56,9 +60,11 @@ height-low g n img s r er es h =
     omega arith
 
 -- ---- after an erase
-pub record-on : (g : Geometry) (n root most next a b c d : ℕ) (o : Opened) (img : List ℕ) → a ≡ o .erased - (most - o .most) + g .pages
+pub record-on : (g : Geometry) (n root most next a b c d : ℕ) (o : Opened) (img : List ℕ)
+    → a ≡ o .erased - (most - o .most) + g .pages
     → c ≡ min (pagesOf g n) b → b ≡ nextErased (g .pages) n (erased g img) root next → d ≡ most % fourBytes
-    → record { root = root; number = d; most = d; height = o .height; next = c; erased = a } ≡ onwardSwept g n o root most next img
+    → record { root = root; number = d; most = d; height = o .height; next = c; erased = a } ≡ onwardSwept g n o root
+    most next img
 unfolding onwardSwept
 record-on g n root most next a b c d o img ea ec eb ed = λ i. record {
   root = root;
@@ -70,32 +76,39 @@ record-on g n root most next a b c d o img ea ec eb ed = λ i. record {
 }
 
 module _ (g : Geometry) (n root most next x : ℕ) (o r : Opened) (img : List ℕ) where
-  pub swept-more : r ≡ onwardSwept g n o root most next img → x ≡ o .most → (most ≡ x → ⊥) → r ≡ recordSwept g n o root most next img
+  pub swept-more : r ≡ onwardSwept g n o root most next img → x ≡ o .most → (most ≡ x → ⊥)
+      → r ≡ recordSwept g n o root most next img
   unfolding recordSwept recordErased onwardSwept
   swept-more e ex h = e ∙ sym (rw (ne-eqb most (o .most) (λ z. h (z ∙ sym ex)), and-false))
 
-  pub swept-root : r ≡ onwardSwept g n o root most next img → o .number ≡ o .most → r ≡ recordSwept g n o root most next img
+  pub swept-root : r ≡ onwardSwept g n o root most next img → o .number ≡ o .most
+      → r ≡ recordSwept g n o root most next img
   unfolding recordSwept recordErased onwardSwept
   swept-root e h = e ∙ sym (rw (eq-eqb (o .number) (o .most) h, and-none))
 
-  pub swept-anew : r ≡ openedIn g n img → x ≡ o .most → most ≡ x → (o .number ≡ o .most → ⊥) → r ≡ recordSwept g n o root most next img
+  pub swept-anew : r ≡ openedIn g n img → x ≡ o .most → most ≡ x → (o .number ≡ o .most → ⊥)
+      → r ≡ recordSwept g n o root most next img
   unfolding recordSwept recordErased
   swept-anew e ex h z = e ∙ sym (rw (eq-eqb most (o .most) (h ∙ ex), ne-eqb (o .number) (o .most) z, and-true))
 
 -- the height stays
-pub height-on : (g : Geometry) (n root most next : ℕ) (o r : Opened) (img : List ℕ) → r ≡ onwardSwept g n o root most next img → o .height < 256 → r .height < 256
+pub height-on : (g : Geometry) (n root most next : ℕ) (o r : Opened) (img : List ℕ)
+    → r ≡ onwardSwept g n o root most next img → o .height < 256 → r .height < 256
 unfolding onwardSwept
 height-on g n root most next o r img e h = rw (ap (λ (y : Opened). y .height) e) h
 
 -- a record asks of a sweep for its root, its largest number and its next page
-pub swept-is : (g : Geometry) (n : ℕ) (o : Opened) (h : Beside) (then : List ℕ) → recordSwept g n o (h .root) (h .most) (h .next) then ≡ recordErased g n o h then
+pub swept-is : (g : Geometry) (n : ℕ) (o : Opened) (h : Beside) (then : List ℕ) → recordSwept g n o (h .root) (h .most)
+    (h .next) then ≡ recordErased g n o h then
 unfolding recordSwept recordErased
 swept-is g n o h then = refl
 
 -- ---- after own pages
-pub made-is : (g : Geometry) (n m page level a b c d s u v : ℕ) (o : Opened) (img : List ℕ) → a ≡ (u + v) % fourBytes → u ≡ o .most → v ≡ m
+pub made-is : (g : Geometry) (n m page level a b c d s u v : ℕ) (o : Opened) (img : List ℕ) → a ≡ (u + v) % fourBytes
+    → u ≡ o .most → v ≡ m
     → c ≡ min (pagesOf g n) b → b ≡ nextAfter (g .pages) n (erased g img) page → d ≡ o .erased - s → s ≡ m
-    → record { root = page; number = a; most = a; height = level + 1; next = c; erased = d } ≡ recordAt g n o m page level img
+    → record { root = page; number = a; most = a; height = level + 1; next = c; erased = d } ≡ recordAt g n o m page
+    level img
 unfolding recordAt recordMade
 made-is g n m page level a b c d s u v o img ea eu ev ec eb ed es = λ i. record {
   root = page;
@@ -109,7 +122,8 @@ made-is g n m page level a b c d s u v o img ea eu ev ec eb ed es = λ i. record
     number : a ≡ (o .most + m) % fourBytes
     number = ea ∙ rw (eu, ev)
 
-pub made-at : (g : Geometry) (n : ℕ) (o : Opened) (m : ℕ) (t : Crest) (then : List ℕ) → recordAt g n o m (t .page) (t .level) then ≡ recordMade g n o m t then
+pub made-at : (g : Geometry) (n : ℕ) (o : Opened) (m : ℕ) (t : Crest) (then : List ℕ) → recordAt g n o m (t .page)
+    (t .level) then ≡ recordMade g n o m t then
 unfolding recordAt recordMade
 made-at g n o m t then = refl
 
@@ -137,7 +151,8 @@ module _ (g : Geometry) (n t : ℕ) (img : List ℕ) (o : Opened) (et : t ≡ g 
       stale-height y ey z = sym (rw (within, ← ee, q, ← ex, eq-eqb x (o .number) z, and-true, and-true, and-true, ← ey))
 
 -- a record that stands has a height byte
-pub standing-low : (g : Geometry) (n : ℕ) (img : List ℕ) (o : Opened) → standing g n img o ≡ true → ((i : ℕ) → Fits w8 (byteAt img i)) → o .height < 256
+pub standing-low : (g : Geometry) (n : ℕ) (img : List ℕ) (o : Opened) → standing g n img o ≡ true
+    → ((i : ℕ) → Fits w8 (byteAt img i)) → o .height < 256
 unfolding standing heightAt
 standing-low g n img o e bytes =
     let h : heightAt g img (o .root) ≡ o .height = eqb-true _ _ (and-right _ _ e) in

@@ -1,4 +1,5 @@
--- The record after an erase and after own pages, from the numbers that the code has. Definitions alone; assumes nothing.
+-- The record after an erase and after own pages, from the numbers that the code has. Definitions alone; assumes
+-- nothing.
 use Prim.Native.Nat.{ℕ, _-_, _+_, _%_, min}
 use mathlib.Core.List.{List, []}
 use Rattle.geometry.specs.declared.Geometry.{Geometry}

@@ -78,7 +78,8 @@ fn grown(most: u64, before: u32) -> u64
     most - old
 }
 
-// The erased pages once pages were moved out of a block, as many as the largest number has grown, and the block was erased.
+// The erased pages once pages were moved out of a block, as many as the largest number has grown, and the block was
+// erased.
 fn erased_after(g: Geometry, o: Opened, most: u64) -> u32
     requires { ⌜ o .erased < 4294901760 ⌝ }
     ensures { λ r. ⌜ r ≡ o .erased - (most - o .most) + g .pages ⌝ }
@@ -104,7 +105,8 @@ fn record_on(g: Geometry, img: &[u8], n: u16, o: Opened, root: u32, most: u64, n
     }
 }
 
-// The record after an erase; o the record before the sweep, and root, largest number and next page as the sweep left them.
+// The record after an erase; o the record before the sweep, and root, largest number and next page as the sweep left
+// them.
 pub fn record_erased(
     g: Geometry,
     img: &[u8],

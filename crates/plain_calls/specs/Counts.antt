@@ -21,7 +21,8 @@ pub record Cuts (g : Geometry) (c : Chip) (k : ℕ) (r : Run) : Type 0 where
   pub grows : r .gains ≡ plainGrows g c k
   pub few : r .splits ≤ suc (c .level)
 
--- the node that e names with l levels below it, after a delete (whether a node is emptied does not hang on page numbers: 0)
+-- the node that e names with l levels below it, after a delete (whether a node is emptied does not hang on page
+-- numbers: 0)
 abbrev pub lessOf : Nodes → ℕ → ℕ → Entry → List Entry
 lessOf r k l e = edited r k (removeIn k) (kept 0) l e
 

@@ -62,11 +62,13 @@ plain-page g e = rw e (omega arith)
 pub plain-format : (g : Geometry) (r : Outcome) (img : List ℕ) → r ≡ format g img → g ≡ plain → r ≡ format plain img
 plain-format g r img h e = rw e at h
 
-pub plain-lookup : (g : Geometry) (r : Outcome) (img : List ℕ) (k : ℕ) → r ≡ lookup g img k → g ≡ plain → r ≡ lookup plain img k
+pub plain-lookup : (g : Geometry) (r : Outcome) (img : List ℕ) (k : ℕ) → r ≡ lookup g img k → g ≡ plain
+    → r ≡ lookup plain img k
 plain-lookup g r img k h e = rw e at h
 
 -- ---- what an update counts
-pub cuts-are : (g : Geometry) (img : List ℕ) (l p k : ℕ) (t : Bool) (r : Run) → Counts g img k t (l + 1) (record { key = 0; addr = p }) r
+pub cuts-are : (g : Geometry) (img : List ℕ) (l p k : ℕ) (t : Bool) (r : Run) → Counts g img k t
+    (l + 1) (record { key = 0; addr = p }) r
     → t ≡ isNone (findIn k (leaf (nodeAt g img) k l (record { key = 0; addr = p }))) → Cuts g (chipWith g img l p) k r
 unfolding plainCuts plainGrows
 cuts-are g img l p k t r c e =
@@ -102,7 +104,8 @@ pub room-test : (e p q : ℕ) → p ≡ q → ltb e p ≡ ltb e q
 room-test e p q h = rw h
 
 -- ---- the stores, from a fresh allowance
-made-with : (g : Geometry) (x : ℕ) (b r : Budget) (w : Answer) (i out : List ℕ) (ss ts : List Store) → Ran g ss b r i out → ss ≡ ts
+made-with : (g : Geometry) (x : ℕ) (b r : Budget) (w : Answer) (i out : List ℕ) (ss ts : List Store)
+    → Ran g ss b r i out → ss ≡ ts
     → b ≡ freshOf x → w ≡ answerBy r → told w out ≡ madeWith g ts x i
 unfolding madeWith
 made-with g x b r w i out ss ts run e eb ew =
@@ -110,14 +113,16 @@ made-with g x b r w i out ss ts run e eb ew =
     ∙ ap (λ (y : List Store). madeWith g y x i) e
 
 module _ (g : Geometry) (n k x : ℕ) (s : Survey) (o : Opened) (b r : Budget) (w : Answer) (i out : List ℕ) where
-  pub insert-made : (a v : ℕ) → Ran g (insertStoresAt g (chipWith g i (s .level) (o .root)) k a (pageBy g n i o) (o .most) v) b r i out → o ≡ openedIn g n i
+  pub insert-made : (a v : ℕ) → Ran g (insertStoresAt g (chipWith g i (s .level) (o .root)) k a (pageBy g n i o)
+      (o .most) v) b r i out → o ≡ openedIn g n i
       → s ≡ surveyOf g n i → b ≡ freshOf x → w ≡ answerBy r
       → told w out ≡ madeWith g (insertStoresAt g (chipOf g n i) k a (pagesBy g n i) (maxSeq g n i) v) x i
   unfolding surveyOf openedIn
   insert-made a v run eo es eb ew = made-with g x b r w i out _ _ run
       (λ z. insertStoresAt g (chipWith g i (es z .level) (eo z .root)) k a (pageBy g n i (eo z)) (eo z .most) v) eb ew
 
-  pub delete-made : (v : ℕ) → Ran g (deleteStoresAt g (chipWith g i (s .level) (o .root)) k (pageBy g n i o) (o .most) v) b r i out → o ≡ openedIn g n i
+  pub delete-made : (v : ℕ) → Ran g (deleteStoresAt g (chipWith g i (s .level) (o .root)) k (pageBy g n i o)
+      (o .most) v) b r i out → o ≡ openedIn g n i
       → s ≡ surveyOf g n i → b ≡ freshOf x → w ≡ answerBy r
       → told w out ≡ madeWith g (deleteStoresAt g (chipOf g n i) k (pagesBy g n i) (maxSeq g n i) v) x i
   unfolding surveyOf openedIn
@@ -166,19 +171,21 @@ module _ (g : Geometry) (n : ℕ) (s : Survey) (i : List ℕ) (es : s ≡ survey
       unfolding plainInsertBy
       insert-high q = sym (rw (not-worn fresh, high-same, q))
 
-      module _ (low : t ≡ false) (v : Bool) (ev : v ≡ ltb (s .erased) (suc (s .level + r .splits + bit (r .gains)))) where
-        room-same : plainRoomless g n (chipOf g n i) (plainNeeds g (chipOf g n i) k) ≡ v
-        unfolding plainNeeds
-        room-same = sym (ev ∙ rw (erased-is, level-is, counted .cuts, counted .grows, counted-from-one))
+      module _ (low : t ≡ false) (v : Bool) (ev : v ≡ ltb (s .erased) (suc (s .level + r .splits + bit (r .gains))))
+        where
+          room-same : plainRoomless g n (chipOf g n i) (plainNeeds g (chipOf g n i) k) ≡ v
+          unfolding plainNeeds
+          room-same = sym (ev ∙ rw (erased-is, level-is, counted .cuts, counted .grows, counted-from-one))
 
-        pub insert-room : v ≡ true → told Room i ≡ plainInsertBy g n i k a x
-        unfolding plainInsertBy
-        insert-room q = sym (rw (not-worn fresh, high-same, low, room-same, q))
+          pub insert-room : v ≡ true → told Room i ≡ plainInsertBy g n i k a x
+          unfolding plainInsertBy
+          insert-room q = sym (rw (not-worn fresh, high-same, low, room-same, q))
 
-        pub insert-stores : (w : Outcome) → w ≡ madeWith g (insertStoresAt g (chipOf g n i) k a (pagesBy g n i) (maxSeq g n i) (r .splits)) x i → v ≡ false
-            → w ≡ plainInsertBy g n i k a x
-        unfolding plainInsertBy
-        insert-stores w e q = e ∙ sym (rw (not-worn fresh, high-same, low, room-same, q, ← counted .cuts))
+          pub insert-stores : (w : Outcome) → w ≡ madeWith g (insertStoresAt g (chipOf g n i) k a (pagesBy g n i)
+              (maxSeq g n i) (r .splits)) x i → v ≡ false
+              → w ≡ plainInsertBy g n i k a x
+          unfolding plainInsertBy
+          insert-stores w e q = e ∙ sym (rw (not-worn fresh, high-same, low, room-same, q, ← counted .cuts))
 
   module _ (k x : ℕ) where
     pub delete-worn : g .worn < s .most → told Worn i ≡ plainDeleteBy g n i k x
@@ -203,7 +210,8 @@ module _ (g : Geometry) (n : ℕ) (s : Survey) (i : List ℕ) (es : s ≡ survey
         unfolding plainDeleteBy
         delete-room q = sym (rw (not-worn fresh, ← shed .absent, there, left-same, q))
 
-        pub delete-stores : (w : Outcome) → w ≡ madeWith g (deleteStoresAt g (chipOf g n i) k (pagesBy g n i) (maxSeq g n i) (r .emptied)) x i → v ≡ false
+        pub delete-stores : (w : Outcome) → w ≡ madeWith g (deleteStoresAt g (chipOf g n i) k (pagesBy g n i)
+            (maxSeq g n i) (r .emptied)) x i → v ≡ false
             → w ≡ plainDeleteBy g n i k x
         unfolding plainDeleteBy
         delete-stores w e q = e ∙ sym (rw (not-worn fresh, ← shed .absent, there, left-same, q, ← shed .emptied))
@@ -232,15 +240,18 @@ module _ (img : List ℕ) (n : ℕ) (g : Geometry) (eg : g ≡ plain) (en : n �
     judgement : Judged plain n img j t u
     judgement = rw eg at d
 
-    call-broken : (rest : Outcome) (rule page : ℕ) → j .verdict ≡ Broken rule page → told (Damaged rule page) img ≡ judgedCall plain img rest
+    call-broken : (rest : Outcome) (rule page : ℕ) → j .verdict ≡ Broken rule page → told (Damaged rule page) img
+        ≡ judgedCall plain img rest
     call-broken rest rule page e = judged-blocks plain img (refused 1 img) (damaged img) rest n blocks _ some
         (judged-broken plain n img (damaged img) rest j t u judgement _ rule page e refl)
 
-    pub insert-broken : (k a x rule page : ℕ) → j .verdict ≡ Broken rule page → told (Damaged rule page) img ≡ plainInsert plain img k a x
+    pub insert-broken : (k a x rule page : ℕ) → j .verdict ≡ Broken rule page → told (Damaged rule page) img
+        ≡ plainInsert plain img k a x
     unfolding plainInsert
     insert-broken k a x rule page e = call-broken _ rule page e
 
-    pub delete-broken : (k x rule page : ℕ) → j .verdict ≡ Broken rule page → told (Damaged rule page) img ≡ plainDelete plain img k x
+    pub delete-broken : (k x rule page : ℕ) → j .verdict ≡ Broken rule page → told (Damaged rule page) img
+        ≡ plainDelete plain img k x
     unfolding plainDelete
     delete-broken k x rule page e = call-broken _ rule page e
 
@@ -264,9 +275,11 @@ module _ (img : List ℕ) (n : ℕ) (g : Geometry) (eg : g ≡ plain) (en : n �
           omega (arith, w, l)
 
       module _ (few : n ≤ 1024) (k x : ℕ) (k-low : k < fourBytes) where
-        pub insert-sound : (a : ℕ) (w : Outcome) → a < fourBytes → w ≡ plainInsertBy g n img k a x → w ≡ plainInsert plain img k a x
+        pub insert-sound : (a : ℕ) (w : Outcome) → a < fourBytes → w ≡ plainInsertBy g n img k a x
+            → w ≡ plainInsert plain img k a x
         unfolding plainInsert
-        insert-sound a w a-low h = call-sound _ w (rw eg at h ∙ plain-insert-by n (omega arith) few img held k x k-low a a-low
+        insert-sound a w a-low h = call-sound _ w (rw eg at h
+            ∙ plain-insert-by n (omega arith) few img held k x k-low a a-low
             ∙ ap (λ m. plainInsertRest plain m img k a x) (some-blocks plain img n blocks some))
 
         pub delete-sound : (w : Outcome) → w ≡ plainDeleteBy g n img k x → w ≡ plainDelete plain img k x

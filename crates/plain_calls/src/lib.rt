@@ -1,5 +1,6 @@
-// The plain tree of request 12 as Rattle calls: format, lookup, insert, delete. No call asks anything of its caller, and each contract is
-// one equation: the answer, its numbers and the image afterwards are those of the definition, for every image.
+// The plain tree of request 12 as Rattle calls: format, lookup, insert, delete. No call asks anything of its caller,
+// and each contract is one equation: the answer, its numbers and the image afterwards are those of the definition, for
+// every image.
 ghost use mathlib.Core.Path.{_≡_};
 ghost use Prim.Native.Nat.{suc, _+_, _-_, _≤_, _<_};
 ghost use lib.Dec.{eqb, leb, ltb};
@@ -23,7 +24,8 @@ use geometry::Verdict;
 use tree_plan::Run;
 use tree_search::Found;
 
-// What a delete does to the node that an entry names: whether its key is absent, how many levels below are emptied, the entries left.
+// What a delete does to the node that an entry names: whether its key is absent, how many levels below are emptied, the
+// entries left.
 pub struct Loss {
     pub absent: bool,
     pub emptied: u32,
@@ -42,8 +44,8 @@ pub fn lookup(img: &[u8], key: u32) -> Answer
     call_lookup::lookup_on(Geometry::plain(), img, key)
 }
 
-// ---- insert
-// The levels that an insert splits, under the root at a page with `level` levels below it, and whether the root is one of them.
+// ---- insert The levels that an insert splits, under the root at a page with `level` levels below it, and whether the
+// root is one of them.
 fn count_cuts(g: Geometry, img: &[u8], level: u32, root: u32, key: u32) -> Run
     requires { ⌜ level < 255 ⌝ }
     ensures { λ r. ⌜ Cuts g (chipWith g (now (img .entry)) level root) key r ⌝ }
@@ -84,7 +86,8 @@ fn insert_made(
     requires { ⌜ (s ≡ surveyOf g n (now img)) × (s .level ≤ 100) × (cuts ≤ 101) × (pageBytes g ≤ longestPage) ⌝ }
     ensures { λ r.
         ⌜ told r (now (img .exit))
-        ≡ madeWith g (insertStoresAt g (chipOf g n (now (img .entry))) key addr (pagesBy g n (now (img .entry))) (maxSeq g n (now (img .entry))) cuts)
+        ≡ madeWith g (insertStoresAt g (chipOf g n (now (img .entry))) key addr (pagesBy g n (now (img .entry)))
+        (maxSeq g n (now (img .entry))) cuts)
         allowance (now (img .entry)) ⌝ }
 {
     let o = open_renew::record_of(g, &*img, n, s);
@@ -129,7 +132,8 @@ fn insert_blocks(
     addr: u32,
     allowance: u32,
 ) -> Answer
-    requires { ⌜ (g ≡ plain) × (n ≡ goodBlocks g (now img)) × (n ≤ 1024) × (n ≡ 0 → ⊥) × (65536 ≤ length (now table)) ⌝ }
+    requires { ⌜ (g ≡ plain) × (n ≡ goodBlocks g (now img)) × (n ≤ 1024) × (n ≡ 0 → ⊥) ×
+        (65536 ≤ length (now table)) ⌝ }
     ensures { λ r. ⌜ told r (now (img .exit)) ≡ plainInsert plain (now (img .entry)) key addr allowance ⌝ }
 {
     let judgement = sound_verdict::judge_image(g, &*img, &mut *table, n);
@@ -182,7 +186,8 @@ fn leaf_loss(g: Geometry, img: &[u8], key: u32, e: Entry) -> Loss
     }
 }
 
-// What it does to the node that an entry names, with `below` levels under it: that loses an entry where the node below is emptied.
+// What it does to the node that an entry names, with `below` levels under it: that loses an entry where the node below
+// is emptied.
 fn count_loss(g: Geometry, img: &[u8], key: u32, below: u32, e: Entry) -> Loss
     requires { ⌜ below < 256 ⌝ }
     ensures { λ r. ⌜ Loses g (now (img .entry)) key below e r ⌝ }
@@ -232,7 +237,8 @@ fn count_left(level: u32, loss: Loss) -> u32
 // ROOM: fewer erased pages are left than the delete needs.
 fn delete_roomless(s: Survey, loss: Loss) -> bool
     requires { ⌜ (s .level ≤ 100) × (loss .emptied ≤ s .level) ⌝ }
-    ensures { λ r. ⌜ r ≡ ltb (s .erased) (suc (pick (leb 1 (s .level) & eqb (loss .left) 1) 0 (s .level - loss .emptied))) ⌝ }
+    ensures { λ r. ⌜ r ≡ ltb (s .erased) (suc (pick (leb 1 (s .level) & eqb (loss .left) 1) 0
+        (s .level - loss .emptied))) ⌝ }
 {
     s.erased < count_left(s.level, loss)
 }
@@ -250,7 +256,8 @@ fn delete_made(
     requires { ⌜ (s ≡ surveyOf g n (now img)) × (s .level ≤ 100) × (pageBytes g ≤ longestPage) ⌝ }
     ensures { λ r.
         ⌜ told r (now (img .exit))
-        ≡ madeWith g (deleteStoresAt g (chipOf g n (now (img .entry))) key (pagesBy g n (now (img .entry))) (maxSeq g n (now (img .entry))) emptied)
+        ≡ madeWith g (deleteStoresAt g (chipOf g n (now (img .entry))) key (pagesBy g n (now (img .entry)))
+        (maxSeq g n (now (img .entry))) emptied)
         allowance (now (img .entry)) ⌝ }
 {
     let o = open_renew::record_of(g, &*img, n, s);
@@ -286,7 +293,8 @@ fn delete_blocks(
     key: u32,
     allowance: u32,
 ) -> Answer
-    requires { ⌜ (g ≡ plain) × (n ≡ goodBlocks g (now img)) × (n ≤ 1024) × (n ≡ 0 → ⊥) × (65536 ≤ length (now table)) ⌝ }
+    requires { ⌜ (g ≡ plain) × (n ≡ goodBlocks g (now img)) × (n ≤ 1024) × (n ≡ 0 → ⊥) ×
+        (65536 ≤ length (now table)) ⌝ }
     ensures { λ r. ⌜ told r (now (img .exit)) ≡ plainDelete plain (now (img .entry)) key allowance ⌝ }
 {
     let judgement = sound_verdict::judge_image(g, &*img, &mut *table, n);

@@ -1,5 +1,5 @@
--- An update of the plain tree (request 12) level by level, as the code makes it, over any pages to come: page i is the i-th of them. Definitions
--- alone; assumes nothing.
+-- An update of the plain tree (request 12) level by level, as the code makes it, over any pages to come: page i is the
+-- i-th of them. Definitions alone; assumes nothing.
 use Prim.Native.Nat.{ℕ, zero, suc, _+_, _-_, _*_, min}
 use mathlib.Core.List.{List, [], _∷_, _++_}
 use lib.Dec.{eqb, leb}

@@ -64,11 +64,13 @@ pub record Halved (g : Geometry) (j : Job) (l z : ℕ) (c : List Entry) (r : Hal
 unfoldable pub halfStores : Geometry → Job → ℕ → List Entry → List Store
 halfStores g j l c = aloneStore g j (leftPlace (j .levels) l) 0 l (take (half g l) c) ∷ aloneStore g j (rightPlace (j .levels) l) 0 l (drop (half g l) c) ∷ []
 
-pub record Parted (g : Geometry) (j : Job) (l z : ℕ) (c : List Entry) (b : Budget) (r : Climbed) (i o : List ℕ) : Type 0 where
-  pub carry : carried (r .carry) ≡ pairOf j l z (next (drop (half g l) c) 0)
-  pub ran : Ran g (halfStores g j l c) b (r .budget) i o
+pub record Parted (g : Geometry) (j : Job) (l z : ℕ) (c : List Entry) (b : Budget) (r : Climbed) (i o : List ℕ) : Type 0
+  where
+    pub carry : carried (r .carry) ≡ pairOf j l z (next (drop (half g l) c) 0)
+    pub ran : Ran g (halfStores g j l c) b (r .budget) i o
 
-pub record Settled (g : Geometry) (j : Job) (w : Change) (l : ℕ) (e : Entry) (c : List Entry) (b : Budget) (r : Climbed) (i o : List ℕ) : Type 0 where
+pub record Settled (g : Geometry) (j : Job) (w : Change) (l : ℕ) (e : Entry) (c : List Entry)
+    (b : Budget) (r : Climbed) (i o : List ℕ) : Type 0 where
   pub carry : carried (r .carry) ≡ nameBy g w j l e c
   pub ran : Ran g (storesBy g w j l c) b (r .budget) i o
 
@@ -86,7 +88,8 @@ unfoldable pub storesUp : Geometry → Job → (ℕ → List Entry) → ℕ → 
 storesUp g j lists zero = []
 storesUp g j lists (suc l) = storesUp g j lists l ++ storesBy g (j .change) j (suc l) (lists (suc l))
 
-pub record Rejoined (g : Geometry) (j : Job) (l : ℕ) (t : Taken) (c : List Entry) (b : Budget) (r : Changed) (i o : List ℕ) : Type 0 where
+pub record Rejoined (g : Geometry) (j : Job) (l : ℕ) (t : Taken) (c : List Entry)
+    (b : Budget) (r : Changed) (i o : List ℕ) : Type 0 where
   pub node : entries (r .node) ≡ replaceBy (t .at) (nameBy g (j .change) j l (t .entry) c) (entries (t .node))
   pub few : r .node .count ≤ 256
   pub ran : Ran g (storesBy g (j .change) j l c) b (r .budget) i o

@@ -25,25 +25,29 @@ use Rattle.plain_levels.specs.Steps.{rootAt, pageAt, aloneStore, leafBy,
 use Rattle.plain_levels.specs.Steps.{topStores, putStores, stayStores, removeStores, Given}
 
 -- ---- a level hangs on the pages at its own places alone
-level-agree : (g : Geometry) (f h : ℕ → ℕ) (seq v l : ℕ) (c : List Entry) → f (leftPlace v l) ≡ h (leftPlace v l) → f (rightPlace v l) ≡ h (rightPlace v l)
+level-agree : (g : Geometry) (f h : ℕ → ℕ) (seq v l : ℕ) (c : List Entry) → f (leftPlace v l) ≡ h (leftPlace v l)
+    → f (rightPlace v l) ≡ h (rightPlace v l)
     → levelStores g f seq v l c ≡ levelStores g h seq v l c
 unfolding levelStores
 level-agree g f h seq v l c el er = rw (el, er)
 
-root-agree : (g : Geometry) (f h : ℕ → ℕ) (seq v l : ℕ) (c : List Entry) → f (leftPlace v l) ≡ h (leftPlace v l) → f (rightPlace v l) ≡ h (rightPlace v l)
+root-agree : (g : Geometry) (f h : ℕ → ℕ) (seq v l : ℕ) (c : List Entry) → f (leftPlace v l) ≡ h (leftPlace v l)
+    → f (rightPlace v l) ≡ h (rightPlace v l)
     → f (leftPlace v (suc l)) ≡ h (leftPlace v (suc l)) → rootStores g f seq v l c ≡ rootStores g h seq v l c
 unfolding rootStores levelStores
 root-agree g f h seq v l c el er eu = rw (el, er, eu)
 
 -- ---- insert
-module _ (g : Geometry) (i : List ℕ) (page : ℕ → ℕ) (seq v l p k a : ℕ) (j : Job) (gj : Given page seq v k (l + v + 2) (Put a) j) where
+module _ (g : Geometry) (i : List ℕ) (page : ℕ → ℕ) (seq v l p k a : ℕ) (j : Job) (gj : Given page seq v k
+    (l + v + 2) (Put a) j) where
   left-is : (x : ℕ) → x ≤ suc (suc l) → pageAt j (leftPlace v x) ≡ page (leftPlace v x)
   left-is x h = gj .pages (leftPlace v x) (omega arith)
 
   right-is : (x : ℕ) → x ≤ suc l → pageAt j (rightPlace v x) ≡ page (rightPlace v x)
   right-is x h = gj .pages (rightPlace v x) (omega arith)
 
-  name-is : (x : ℕ) (e : Entry) (c : List Entry) → 1 ≤ x → x ≤ l → nameBy g (j .change) j x e c ≡ renewedAt g page v k x e c
+  name-is : (x : ℕ) (e : Entry) (c : List Entry) → 1 ≤ x → x ≤ l → nameBy g (j .change) j x e c ≡ renewedAt g page v k x
+      e c
   unfolding nameBy
   name-is x e c lo hi =
       ap (λ (w : Change). nameBy g w j x e c) (gj .change)
@@ -62,9 +66,11 @@ module _ (g : Geometry) (i : List ℕ) (page : ℕ → ℕ) (seq v l p k a : ℕ
 
   top-is : changed g j i l (rootAt p) ≡ lists (suc l)
   unfolding changed pathOf
-  top-is = sym (path-top (nodeAt g i) (j .key) (leafBy (j .change) (j .key)) (nameBy g (j .change) j) l (rootAt p)) ∙ list-is (suc l)
+  top-is = sym (path-top (nodeAt g i) (j .key) (leafBy (j .change) (j .key)) (nameBy g (j .change) j) l (rootAt p))
+      ∙ list-is (suc l)
 
-  stores-is : (x : ℕ) → x ≤ l → storesBy g (j .change) j x (pathOf g j i l (rootAt p) x) ≡ levelStores g page seq v x (lists x)
+  stores-is : (x : ℕ) → x ≤ l → storesBy g (j .change) j x (pathOf g j i l (rootAt p) x) ≡ levelStores g page seq v x
+      (lists x)
   unfolding storesBy
   stores-is x hi =
       ap (λ (w : Change). storesBy g w j x (pathOf g j i l (rootAt p) x)) (gj .change)
@@ -88,11 +94,13 @@ module _ (g : Geometry) (i : List ℕ) (page : ℕ → ℕ) (seq v l p k a : ℕ
   insert-is = λ z. up-is l (omega arith) z ++ root-is z
 
 -- ---- delete
-module _ (g : Geometry) (i : List ℕ) (page : ℕ → ℕ) (seq v l p k : ℕ) (j : Job) (gj : Given page seq v k (l + 1) Remove j) where
+module _ (g : Geometry) (i : List ℕ) (page : ℕ → ℕ) (seq v l p k : ℕ) (j : Job) (gj : Given page seq v k
+    (l + 1) Remove j) where
   kept-is : (x : ℕ) → x ≤ l → pageAt j (x - v) ≡ page (x - v)
   kept-is x h = gj .pages (x - v) (omega arith)
 
-  less-name : (x : ℕ) (e : Entry) (c : List Entry) → 1 ≤ x → x ≤ l → nameBy g (j .change) j x e c ≡ keptOn (λ m. page (m - 1 - v)) x e c
+  less-name : (x : ℕ) (e : Entry) (c : List Entry) → 1 ≤ x → x ≤ l → nameBy g (j .change) j x e c
+      ≡ keptOn (λ m. page (m - 1 - v)) x e c
   unfolding nameBy
   less-name x e c lo hi =
       ap (λ (w : Change). nameBy g w j x e c) (gj .change)
@@ -111,7 +119,8 @@ module _ (g : Geometry) (i : List ℕ) (page : ℕ → ℕ) (seq v l p k : ℕ) 
 
   last-is : changed g j i l (rootAt p) ≡ less (suc l)
   unfolding changed pathOf
-  last-is = sym (path-top (nodeAt g i) (j .key) (leafBy (j .change) (j .key)) (nameBy g (j .change) j) l (rootAt p)) ∙ less-is (suc l)
+  last-is = sym (path-top (nodeAt g i) (j .key) (leafBy (j .change) (j .key)) (nameBy g (j .change) j) l (rootAt p))
+      ∙ less-is (suc l)
 
   -- a node alone, at place x
   alone-is : (x h m : ℕ) (c : List Entry) → pageAt j x ≡ page x → aloneStore g j x h m c ≡ nodeStore g page seq x h m c
@@ -133,13 +142,15 @@ module _ (g : Geometry) (i : List ℕ) (page : ℕ → ℕ) (seq v l p k : ℕ) 
   kept-up zero h = refl
   kept-up (suc x) h = λ z. kept-up x (omega arith) z ++ left-stores x (omega arith) z
 
-  stay-is : stayStores g j l (rootAt p) i ≡ keptStores g page seq v less l ++ (nodeStore g page seq (l - v) (suc l) (suc l) (less (suc l)) ∷ [])
+  stay-is : stayStores g j l (rootAt p) i ≡ keptStores g page seq v less l ++ (nodeStore g page seq (l - v) (suc l)
+      (suc l) (less (suc l)) ∷ [])
   unfolding stayStores
   stay-is =
       (λ z. kept-up l (omega arith) z ++ (aloneStore g j (l - gj .levels z) (suc l) (suc l) (last-is z) ∷ []))
       ∙ rw (alone-is (l - v) (suc l) (suc l) (less (suc l)) (kept-is l (omega arith)))
 
-  fall-is : (t : Top) → aloneStore g j 0 (suc (t .level)) (suc (t .level)) (t .list) ≡ nodeStore g page seq 0 (suc (t .level)) (suc (t .level)) (t .list)
+  fall-is : (t : Top) → aloneStore g j 0 (suc (t .level)) (suc (t .level)) (t .list) ≡ nodeStore g page seq 0
+      (suc (t .level)) (suc (t .level)) (t .list)
   fall-is t = alone-is 0 (suc (t .level)) (suc (t .level)) (t .list) (gj .pages 0 (omega arith))
 
   delete-is : removeStores g j l (rootAt p) i ≡ deleteStoresAt g (chipWith g i l p) k page seq v
@@ -152,11 +163,13 @@ pub insert-by : (g : Geometry) (n : ℕ) (i : List ℕ) (o : Opened) (l v k a : 
     → Ran g (putStores g j l (rootAt (o .root)) i) b r i then
     → Given (pageBy g n i o) (o .most) v k (l + v + 2) (Put a) j
     → Ran g (insertStoresAt g (chipWith g i l (o .root)) k a (pageBy g n i o) (o .most) v) b r i then
-insert-by g n i o l v k a j b r then run gj = rw (insert-is g i (pageBy g n i o) (o .most) v l (o .root) k a j gj) at run
+insert-by g n i o l v k a j b r then run gj =
+    rw (insert-is g i (pageBy g n i o) (o .most) v l (o .root) k a j gj) at run
 
 pub delete-by : (g : Geometry) (n : ℕ) (i : List ℕ) (o : Opened) (l v k : ℕ) (j : Job) (b r : Budget) (then : List ℕ)
     → Ran g (removeStores g j l (rootAt (o .root)) i) b r i then
-    → Given (pageBy g n i o) (o .most) v k (l + 1) Remove j → Ran g (deleteStoresAt g (chipWith g i l (o .root)) k (pageBy g n i o) (o .most) v) b r i then
+    → Given (pageBy g n i o) (o .most) v k (l + 1) Remove j → Ran g (deleteStoresAt g (chipWith g i l (o .root)) k
+    (pageBy g n i o) (o .most) v) b r i then
 delete-by g n i o l v k j b r then run gj = rw (delete-is g i (pageBy g n i o) (o .most) v l (o .root) k j gj) at run
 
 pub ruleset tie-laws = (insert-by, delete-by)

@@ -1,5 +1,5 @@
-// An update of the plain tree (request 12), level by level. All is read on the way down; on the way up each changed node is stored alone on
-// its page among the pages to come.
+// An update of the plain tree (request 12), level by level. All is read on the way down; on the way up each changed
+// node is stored alone on its page among the pages to come.
 ghost use mathlib.Core.Path.{_≡_};
 ghost use mathlib.Core.List.{[], _∷_};
 ghost use Prim.Native.Nat.{suc, _+_, _*_, _-_, _≤_, _<_};
@@ -30,7 +30,8 @@ pub enum Change {
     Remove,
 }
 
-// An update: its key, the largest sequence number, the pages to come, the levels from 1 on that split or are emptied, what it does.
+// An update: its key, the largest sequence number, the pages to come, the levels from 1 on that split or are emptied,
+// what it does.
 pub struct Job {
     pub key: u32,
     pub seq: u64,
@@ -107,7 +108,8 @@ fn store_node(
     n: Node,
 ) -> Budget
     requires { ⌜ (n .count ≤ 256) × (pageBytes g ≤ longestPage) × (job .seq < 8589934592) × (Countable b) ⌝ }
-    ensures { λ r. ⌜ Ran g (aloneStore g job place height level (entries n) ∷ []) b r (now (img .entry)) (now (img .exit)) ⌝ }
+    ensures { λ r. ⌜ Ran g (aloneStore g job place height level (entries n) ∷ []) b r (now (img .entry))
+        (now (img .exit)) ⌝ }
 {
     let bytes = chip_page::only_bytes(g, number(job.seq, place), height, level, n);
     chip_store::put_page(g, &mut *img, b, page_at(job, place), &bytes)
@@ -150,7 +152,8 @@ fn halve(g: Geometry, job: Job, level: u32, low: u32, c: Node) -> Halves
 
 // Programs the halves of a node, the left one first.
 fn part(g: Geometry, img: &mut [u8], b: Budget, job: Job, level: u32, low: u32, c: Node) -> Climbed
-    requires { ⌜ (c .count ≤ 256) × (1 ≤ level) × (level ≤ 102) × (pageBytes g ≤ longestPage) × (job .seq < 8589934592) × (Countable b) ⌝ }
+    requires { ⌜ (c .count ≤ 256) × (1 ≤ level) × (level ≤ 102) × (pageBytes g ≤ longestPage) ×
+        (job .seq < 8589934592) × (Countable b) ⌝ }
     ensures { λ r. ⌜ Parted g job level low (entries c) b r (now (img .entry)) (now (img .exit)) ⌝ }
 {
     let s = halve(g, job, level, low, c);
@@ -178,7 +181,8 @@ fn settle_put(
     e: Entry,
     c: Node,
 ) -> Climbed
-    requires { ⌜ (c .count ≤ 256) × (1 ≤ level) × (level ≤ 102) × (pageBytes g ≤ longestPage) × (job .seq < 8589934592) × (Countable b) ⌝ }
+    requires { ⌜ (c .count ≤ 256) × (1 ≤ level) × (level ≤ 102) × (pageBytes g ≤ longestPage) ×
+        (job .seq < 8589934592) × (Countable b) ⌝ }
     ensures { λ r. ⌜ Settled g job (Change.Put addr) level e (entries c) b r (now (img .entry)) (now (img .exit)) ⌝ }
 {
     let low = tree_split::least(e.key, job.key);
@@ -209,7 +213,8 @@ fn settle_remove(
     e: Entry,
     c: Node,
 ) -> Climbed
-    requires { ⌜ (c .count ≤ 256) × (1 ≤ level) × (pageBytes g ≤ longestPage) × (job .seq < 8589934592) × (Countable b) ⌝ }
+    requires { ⌜ (c .count ≤ 256) × (1 ≤ level) × (pageBytes g ≤ longestPage) × (job .seq < 8589934592) ×
+        (Countable b) ⌝ }
     ensures { λ r. ⌜ Settled g job Change.Remove level e (entries c) b r (now (img .entry)) (now (img .exit)) ⌝ }
 {
     if tree_node::size(c) == 0 {
@@ -240,7 +245,8 @@ fn settle(
     e: Entry,
     c: Node,
 ) -> Climbed
-    requires { ⌜ (c .count ≤ 256) × (1 ≤ level) × (level ≤ 102) × (pageBytes g ≤ longestPage) × (job .seq < 8589934592) × (Countable b) ⌝ }
+    requires { ⌜ (c .count ≤ 256) × (1 ≤ level) × (level ≤ 102) × (pageBytes g ≤ longestPage) ×
+        (job .seq < 8589934592) × (Countable b) ⌝ }
     ensures { λ r. ⌜ Settled g job (job .change) level e (entries c) b r (now (img .entry)) (now (img .exit)) ⌝ }
 {
     let change = job.change;
@@ -251,7 +257,8 @@ fn settle(
 }
 
 fn leaf(g: Geometry, img: &[u8], job: Job, page: u32) -> Node
-    ensures { λ r. ⌜ (entries r ≡ leafBy (job .change) (job .key) (nodeAt g (now (img .entry)) page 1)) × (r .count ≤ 256) ⌝ }
+    ensures { λ r. ⌜ (entries r ≡ leafBy (job .change) (job .key) (nodeAt g (now (img .entry)) page 1)) ×
+        (r .count ≤ 256) ⌝ }
 {
     let change = job.change;
     match change {
@@ -262,7 +269,8 @@ fn leaf(g: Geometry, img: &[u8], job: Job, page: u32) -> Node
 
 // What came of the change below: settled at its level, then put in place of the entry taken.
 fn rejoin(g: Geometry, img: &mut [u8], job: Job, below: u32, t: Taken, u: Changed) -> Changed
-    requires { ⌜ (t .at ≤ t .node .count - 1) × (t .node .count < 256) × (u .node .count ≤ 256) × (1 ≤ below) × (below ≤ 102) × (pageBytes g ≤ longestPage) × (job .seq < 8589934592) × (Countable (u .budget)) ⌝ }
+    requires { ⌜ (t .at ≤ t .node .count - 1) × (t .node .count < 256) × (u .node .count ≤ 256) × (1 ≤ below) ×
+        (below ≤ 102) × (pageBytes g ≤ longestPage) × (job .seq < 8589934592) × (Countable (u .budget)) ⌝ }
     ensures { λ r. ⌜ Rejoined g job below t (entries (u .node)) (u .budget) r (now (img .entry)) (now (img .exit)) ⌝ }
 {
     let c = u.node;
@@ -296,7 +304,8 @@ fn climb(g: Geometry, img: &mut [u8], b: Budget, job: Job, below: u32, e: Entry)
 
 // The halves of a root under a new one.
 fn grow(g: Geometry, img: &mut [u8], b: Budget, job: Job, level: u32, c: Node) -> Budget
-    requires { ⌜ (c .count ≤ 256) × (1 ≤ level) × (level ≤ 101) × (pageBytes g ≤ longestPage) × (job .seq < 8589934592) × (Countable b) ⌝ }
+    requires { ⌜ (c .count ≤ 256) × (1 ≤ level) × (level ≤ 101) × (pageBytes g ≤ longestPage) ×
+        (job .seq < 8589934592) × (Countable b) ⌝ }
     ensures { λ r. ⌜ Ran g (grownStores g job level (entries c)) b r (now (img .entry)) (now (img .exit)) ⌝ }
 {
     let low = tree_node::first_key(c);
@@ -310,7 +319,8 @@ fn grow(g: Geometry, img: &mut [u8], b: Budget, job: Job, level: u32, c: Node) -
 
 // The changed root of an insert: whole on its page, or its halves under a new one.
 fn store_root(g: Geometry, img: &mut [u8], b: Budget, job: Job, level: u32, c: Node) -> Budget
-    requires { ⌜ (c .count ≤ 256) × (1 ≤ level) × (level ≤ 101) × (pageBytes g ≤ longestPage) × (job .seq < 8589934592) × (Countable b) ⌝ }
+    requires { ⌜ (c .count ≤ 256) × (1 ≤ level) × (level ≤ 101) × (pageBytes g ≤ longestPage) ×
+        (job .seq < 8589934592) × (Countable b) ⌝ }
     ensures { λ r. ⌜ Ran g (topStores g job level (entries c)) b r (now (img .entry)) (now (img .exit)) ⌝ }
 {
     let n = tree_node::size(c);
@@ -325,7 +335,8 @@ fn store_root(g: Geometry, img: &mut [u8], b: Budget, job: Job, level: u32, c: N
 // All stores of an insert's job.
 fn insert_with(g: Geometry, img: &mut [u8], b: Budget, job: Job, level: u32, root: u32) -> Budget
     requires { ⌜ (level ≤ 100) × (pageBytes g ≤ longestPage) × (job .seq < fourBytes) × (Countable b) ⌝ }
-    ensures { λ r. ⌜ Ran g (putStores g job level (rootAt root) (now (img .entry))) b r (now (img .entry)) (now (img .exit)) ⌝ }
+    ensures { λ r. ⌜ Ran g (putStores g job level (rootAt root) (now (img .entry))) b r (now (img .entry))
+        (now (img .exit)) ⌝ }
 {
     let u = climb(g, &mut *img, b, job, level, Entry { key: 0, addr: root });
     let c = u.node;
@@ -336,7 +347,8 @@ fn insert_with(g: Geometry, img: &mut [u8], b: Budget, job: Job, level: u32, roo
 // The changed root of a delete before anything is stored: no store is allowed.
 fn look(g: Geometry, img: &mut [u8], job: Job, level: u32, root: u32) -> Node
     requires { ⌜ (level ≤ 100) × (pageBytes g ≤ longestPage) × (job .seq < fourBytes) ⌝ }
-    ensures { λ r. ⌜ (entries r ≡ changed g job (now (img .entry)) level (rootAt root)) × (r .count ≤ 256) × (now (img .exit) ≡ now (img .entry)) ⌝ }
+    ensures { λ r. ⌜ (entries r ≡ changed g job (now (img .entry)) level (rootAt root)) × (r .count ≤ 256) ×
+        (now (img .exit) ≡ now (img .entry)) ⌝ }
 {
     let none = Budget {
         left: 0,
@@ -351,7 +363,8 @@ fn look(g: Geometry, img: &mut [u8], job: Job, level: u32, root: u32) -> Node
 // The stores of a delete's job where the root stays.
 fn store_path(g: Geometry, img: &mut [u8], b: Budget, job: Job, level: u32, root: u32) -> Budget
     requires { ⌜ (level ≤ 100) × (pageBytes g ≤ longestPage) × (job .seq < fourBytes) × (Countable b) ⌝ }
-    ensures { λ r. ⌜ Ran g (stayStores g job level (rootAt root) (now (img .entry))) b r (now (img .entry)) (now (img .exit)) ⌝ }
+    ensures { λ r. ⌜ Ran g (stayStores g job level (rootAt root) (now (img .entry))) b r (now (img .entry))
+        (now (img .exit)) ⌝ }
 {
     let u = climb(g, &mut *img, b, job, level, Entry { key: 0, addr: root });
     let c = u.node;
@@ -363,7 +376,8 @@ fn store_path(g: Geometry, img: &mut [u8], b: Budget, job: Job, level: u32, root
 // All stores of a delete's job: the path's, or where the tree shrinks the new root's alone.
 fn delete_with(g: Geometry, img: &mut [u8], b: Budget, job: Job, level: u32, root: u32) -> Budget
     requires { ⌜ (level ≤ 100) × (pageBytes g ≤ longestPage) × (job .seq < fourBytes) × (Countable b) ⌝ }
-    ensures { λ r. ⌜ Ran g (removeStores g job level (rootAt root) (now (img .entry))) b r (now (img .entry)) (now (img .exit)) ⌝ }
+    ensures { λ r. ⌜ Ran g (removeStores g job level (rootAt root) (now (img .entry))) b r (now (img .entry))
+        (now (img .exit)) ⌝ }
 {
     let c = look(g, &mut *img, job, level, root);
     let t = tree_load::collapse(g, &*img, level, c);
@@ -407,7 +421,8 @@ fn job_of(
     }
 }
 
-// The stores of an insert on an image of n blocks, by its record: `level` levels are below the root, levels 1 to `cuts` split.
+// The stores of an insert on an image of n blocks, by its record: `level` levels are below the root, levels 1 to `cuts`
+// split.
 pub fn insert_pages(
     g: Geometry,
     img: &mut [u8],
@@ -421,7 +436,8 @@ pub fn insert_pages(
 ) -> Budget
     requires { ⌜ (level ≤ 100) × (cuts ≤ 101) × (pageBytes g ≤ longestPage) × (Countable b) ⌝ }
     ensures { λ r.
-        ⌜ Ran g (insertStoresAt g (chipWith g (now (img .entry)) level (o .root)) key addr (pageBy g n (now (img .entry)) o) (o .most) cuts) b r (now (img .entry)) (now (img .exit)) ⌝ }
+        ⌜ Ran g (insertStoresAt g (chipWith g (now (img .entry)) level (o .root)) key addr
+        (pageBy g n (now (img .entry)) o) (o .most) cuts) b r (now (img .entry)) (now (img .exit)) ⌝ }
 {
     let job = job_of(
         g,
@@ -449,7 +465,8 @@ pub fn delete_pages(
 ) -> Budget
     requires { ⌜ (level ≤ 100) × (pageBytes g ≤ longestPage) × (Countable b) ⌝ }
     ensures { λ r.
-        ⌜ Ran g (deleteStoresAt g (chipWith g (now (img .entry)) level (o .root)) key (pageBy g n (now (img .entry)) o) (o .most) emptied) b r (now (img .entry)) (now (img .exit)) ⌝ }
+        ⌜ Ran g (deleteStoresAt g (chipWith g (now (img .entry)) level (o .root)) key (pageBy g n (now (img .entry)) o)
+        (o .most) emptied) b r (now (img .entry)) (now (img .exit)) ⌝ }
 {
     let job = job_of(g, &*img, n, o, emptied, key, level + 1, Change::Remove);
     delete_with(g, &mut *img, b, job, level, o.root)

@@ -40,7 +40,8 @@ some-needed c k = omega arith
 pub plain-insert-same : (n : ℕ) (img : List ℕ) (k a : ℕ) → Held plain n img → k < fourBytes
     → plainNeeds plain (chipOf plain n img) k ≤ count (pagesOf plain n) (chipOf plain n img .er)
     → plainInsertStores plain n img k a
-    ≡ insertStoresAt plain (chipOf plain n img) k a (pagesBy plain n img) (maxSeq plain n img) (plainCuts plain (chipOf plain n img) k)
+    ≡ insertStoresAt plain (chipOf plain n img) k a (pagesBy plain n img) (maxSeq plain n img)
+    (plainCuts plain (chipOf plain n img) k)
 unfolding plainInsertStores
 plain-insert-same n img k a held k-low free =
     let c = chipOf plain n img in
@@ -48,7 +49,8 @@ plain-insert-same n img k a held k-low free =
     (pagesBy plain n img) (maxSeq plain n img) (λ i b. pages-right plain plain-core n img held i (omega (arith, b, free)))
   where
     some-page : 1 ≤ pagesOf plain n
-    some-page = let w = count-most (chipOf plain n img .er) (pagesOf plain n) in omega (arith, w, free, some-needed (chipOf plain n img) k)
+    some-page = let w = count-most (chipOf plain n img .er) (pagesOf plain n) in
+        omega (arith, w, free, some-needed (chipOf plain n img) k)
 
     narrow : rootMost plain (suc (chipOf plain n img .level)) ≡ 2 * half plain (suc (chipOf plain n img .level))
     narrow = plain-single .narrow (suc (chipOf plain n img .level)) (omega arith) (height-most plain plain-core n img some-page held)
@@ -56,22 +58,27 @@ plain-insert-same n img k a held k-low free =
     some-half : 1 ≤ half plain (suc (chipOf plain n img .level))
     some-half = let w = plain-single .two (suc (chipOf plain n img .level)) in omega (arith, w, narrow)
 
-pub plain-delete-same : (n : ℕ) (img : List ℕ) (k : ℕ) → Held plain n img → k < fourBytes → isNone (sought (chipOf plain n img) k) ≡ false
+pub plain-delete-same : (n : ℕ) (img : List ℕ) (k : ℕ) → Held plain n img → k < fourBytes
+    → isNone (sought (chipOf plain n img) k) ≡ false
     → plainLeaves (chipOf plain n img) k ≤ count (pagesOf plain n) (chipOf plain n img .er)
     → plainDeleteStores plain n img k
-    ≡ deleteStoresAt plain (chipOf plain n img) k (pagesBy plain n img) (maxSeq plain n img) (emptied (chipOf plain n img) k)
+    ≡ deleteStoresAt plain (chipOf plain n img) k (pagesBy plain n img) (maxSeq plain n img)
+    (emptied (chipOf plain n img) k)
 unfolding plainDeleteStores
-plain-delete-same n img k held k-low present free = delete-same plain plain-core n k k-low (chipOf plain n img) (held .whole) present
+plain-delete-same n img k held k-low present free =
+    delete-same plain plain-core n k k-low (chipOf plain n img) (held .whole) present
     (pagesBy plain n img) (maxSeq plain n img) (λ i b. pages-right plain plain-core n img held i (omega (arith, b, free)))
 
 -- ---- the calls
 -- stores that program erased pages alone are all made, as far as the allowance goes
-made-same : (g : Geometry) (ss : List Store) (al : ℕ) (img : List ℕ) → Cautious g ss img → madeWith g ss al img ≡ made g ss al img
+made-same : (g : Geometry) (ss : List Store) (al : ℕ) (img : List ℕ) → Cautious g ss img
+    → madeWith g ss al img ≡ made g ss al img
 unfolding madeWith made
 made-same g ss al img h = rw (made-is g ss al img h, all-made ss al) refl
 
 -- stores each of which is legal program erased pages alone
-updated-cautious : (g : Geometry) (n : ℕ) (old new : List Entry) (img : List ℕ) (ss : List Store) → PlainUpdated g n old new img ss → Cautious g ss img
+updated-cautious : (g : Geometry) (n : ℕ) (old new : List Entry) (img : List ℕ) (ss : List Store)
+    → PlainUpdated g n old new img ss → Cautious g ss img
 updated-cautious g n old new img ss u = subst (λ (x : List Store). Cautious g x img) (sym (u .list-is))
     (along-cautious g n (PlainKeeps g n old) img (u .init) (u .last) (u .along) (u .legal))
 
@@ -83,7 +90,8 @@ tested false true z a b d e f h = refl
 tested false false true a b d e f h = refl
 tested false false false a b d e f h = h refl refl refl
 
-module _ (n : ℕ) (some : 1 ≤ n) (few : n ≤ 1024) (img : List ℕ) (held : Held plain n img) (k al : ℕ) (k-low : k < fourBytes) where
+module _ (n : ℕ) (some : 1 ≤ n) (few : n ≤ 1024) (img : List ℕ) (held : Held plain n img)
+    (k al : ℕ) (k-low : k < fourBytes) where
   abbrev c : Chip
   c = chipOf plain n img
 

@@ -1,4 +1,5 @@
--- An insertion into the plain tree on bytes (request 12): each page but the last leaves the map, after the last one it has K. Assumes nothing.
+-- An insertion into the plain tree on bytes (request 12): each page but the last leaves the map, after the last one it
+-- has K. Assumes nothing.
 use mathlib.Core.Path.{_≡_, ap, sym, subst, _∙_}
 use mathlib.Core.List.{List, [], _∷_}
 use mathlib.Core.Bool.{Bool, true, false}
@@ -48,25 +49,29 @@ both-fits : (left right m z : ℕ) (c : List Entry) → left < fourBytes → rig
 both-fits left right m z c x y f h = ((f, x), ((next-fits (drop m c) (all-drop Fits m c h), y), tt))
 
 module _ (k : ℕ) (left right half : ℕ → ℕ) where
-  renewed-fits : ((l : ℕ) → left l < fourBytes) → ((l : ℕ) → right l < fourBytes) → (l : ℕ) (e : Entry) (c : List Entry) → Fits e → All Fits c
+  renewed-fits : ((l : ℕ) → left l < fourBytes) → ((l : ℕ) → right l < fourBytes) → (l : ℕ) (e : Entry) (c : List Entry)
+      → Fits e → All Fits c
       → All Fits (renewed k left right half l e c)
   renewed-fits x y l e c f h = go (leb (length c) (2 * half l))
     where
       low : min (e .key) k < fourBytes
       low = let z = f .0 in omega (arith, z)
 
-      go : (t : Bool) → All Fits (pick t (record { key = min (e .key) k; addr = left l } ∷ []) (both (left l) (right l) (half l) (min (e .key) k) c))
+      go : (t : Bool) → All Fits (pick t (record { key = min (e .key) k; addr = left l } ∷ []) (both (left l) (right l)
+          (half l) (min (e .key) k) c))
       go true = ((low, x l), tt)
       go false = both-fits (left l) (right l) (half l) (min (e .key) k) c (x l) (y l) low h
 
   renewed-most : (l : ℕ) (e : Entry) (c : List Entry) → length (renewed k left right half l e c) ≤ 2
   renewed-most l e c = go (leb (length c) (2 * half l))
     where
-      go : (t : Bool) → length (pick t (record { key = min (e .key) k; addr = left l } ∷ []) (both (left l) (right l) (half l) (min (e .key) k) c)) ≤ 2
+      go : (t : Bool) → length (pick t (record { key = min (e .key) k; addr = left l } ∷ []) (both (left l) (right l)
+          (half l) (min (e .key) k) c)) ≤ 2
       go true = omega arith
       go false = omega arith
 
-module _ (g : Geometry) (core : Core g) (single : Single g) (n : ℕ) (few : pagesOf g n + g .pages < fourBytes) (some-pages : 1 ≤ pagesOf g n) (img : List ℕ)
+module _ (g : Geometry) (core : Core g) (single : Single g)
+    (n : ℕ) (few : pagesOf g n + g .pages < fourBytes) (some-pages : 1 ≤ pagesOf g n) (img : List ℕ)
     (held : Held g n img) (k a : ℕ) (k-low : k < fourBytes) (a-low : a < fourBytes) where
   abbrev c : Chip
   c = chipOf g n img
@@ -112,7 +117,8 @@ module _ (g : Geometry) (core : Core g) (single : Single g) (n : ℕ) (few : pag
       (λ q. path-most (c .nodes) k (putIn k a) (renewed k (leftPage g n c cuts) (rightPage g n c cuts) (half g)) 1 (put-most k a k-low a-low)
       (renewed-most k (leftPage g n c cuts) (rightPage g n c cuts) (half g)) (fitOf (pagesOf g n) (c .er)) (λ l. 2 * half g l) (c .level) fourBytes
       (theRoot c) (λ i. let z = whole .sound .rooted .least i in omega (arith, z)) (whole .sound .rooted .rises) j b q)
-      (λ q. subst (λ i. length (lists i) ≤ 2 * half g i + 1) (let e : suc (c .level) ≡ j = omega (arith, d, q) in e) top)
+      (λ q. subst (λ i. length (lists i) ≤ 2 * half g i + 1) (let e : suc (c .level) ≡ j = omega (arith, d, q) in
+      e) top)
     where
       top : length (lists (suc (c .level))) ≤ 2 * half g (suc (c .level)) + 1
       top =
@@ -125,11 +131,13 @@ module _ (g : Geometry) (core : Core g) (single : Single g) (n : ℕ) (few : pag
   some-half l b d = let x = single .narrow l b d in let y = single .two l in omega (arith, x, y)
 
   -- ---- each plan can be built
-  level-built : (l : ℕ) (es : List Entry) → 1 ≤ l → l ≤ g .top → All Fits es → length es ≤ 2 * half g l + 1 → All (Buildable g) (levelPlans g l es)
+  level-built : (l : ℕ) (es : List Entry) → 1 ≤ l → l ≤ g .top → All Fits es → length es ≤ 2 * half g l + 1
+      → All (Buildable g) (levelPlans g l es)
   unfolding levelPlans
   level-built l es b d fit most = by-test (leb (length es) (2 * half g l)) (λ t. rw t (ok es fit (leb-true (length es) (2 * half g l) t), tt))
       (λ t. rw t (
-        ok (take (half g l) es) (all-take Fits (half g l) es fit) (let x = length-take (half g l) es in omega (arith, x)),
+        ok (take (half g l) es) (all-take Fits (half g l) es fit) (let x = length-take (half g l) es in
+            omega (arith, x)),
         (
           ok (drop (half g l) es) (all-drop Fits (half g l) es fit)
               (let x = length-drop (half g l) es in let y = some-half l b d in omega (arith, x, y, most)),
@@ -191,14 +199,16 @@ module _ (g : Geometry) (core : Core g) (single : Single g) (n : ℕ) (few : pag
   unfolding plainNeeds plainCuts splits plainGrows
   needs-low not-high =
       let w = splits-le k (half g) (c .nodes) (isNone (sought c k)) (c .level) (chosen k (rootNode c)) in
-      by-test (plainGrows g c k) (λ t. let z = grown-in not-high t in let b = ap bit t in omega (arith, w, z, b)) (λ t. let b = ap bit t in omega (arith, w, b, high))
+      by-test (plainGrows g c k) (λ t. let z = grown-in not-high t in let b = ap bit t in omega (arith, w, z, b))
+      (λ t. let b = ap bit t in omega (arith, w, b, high))
 
   needs-some : plainNeeds g c k ≡ suc (plainNeeds g c k - 1)
   unfolding plainNeeds
   needs-some = omega arith
 
   -- the chip after the last of m + 1 pages
-  after-last : (m : ℕ) → plainNeeds g c k ≡ suc m → plainNeeds g c k ≤ count (pagesOf g n) (c .er) → Finishes g n c plans (put k a (mapOf c)) m
+  after-last : (m : ℕ) → plainNeeds g c k ≡ suc m → plainNeeds g c k ≤ count (pagesOf g n) (c .er)
+      → Finishes g n c plans (put k a (mapOf c)) m
   unfolding plainNeeds
   after-last m e room s numbers h = planned g core n k a k-low c whole narrow (some-half (suc (c .level)) (omega arith) high)
       (single .two (suc (suc (c .level)))) room s (λ i b. h .placed i (omega (arith, b, e))) (h .stays) numbers m e
@@ -219,10 +229,12 @@ module _ (g : Geometry) (core : Core g) (single : Single g) (n : ℕ) (few : pag
   insert-length = laid-length g n c (maxSeq g n img) 0 plans ∙ count-is
 
 -- ---- the plain tree
-module _ (n : ℕ) (some : 1 ≤ n) (few : n ≤ 1024) (img : List ℕ) (held : Held plain n img) (k a : ℕ) (k-low : k < fourBytes) (a-low : a < fourBytes) where
+module _ (n : ℕ) (some : 1 ≤ n) (few : n ≤ 1024) (img : List ℕ) (held : Held plain n img)
+    (k a : ℕ) (k-low : k < fourBytes) (a-low : a < fourBytes) where
   pub plain-inserted : worn plain n img ≡ false → plainHigh plain (chipOf plain n img) k ≡ false
       → plainNeeds plain (chipOf plain n img) k ≤ count (pagesOf plain n) (chipOf plain n img .er)
-      → PlainUpdated plain n (mapOf (chipOf plain n img)) (put k a (mapOf (chipOf plain n img))) img (plainInsertStores plain n img k a)
+      → PlainUpdated plain n (mapOf (chipOf plain n img)) (put k a (mapOf (chipOf plain n img))) img
+      (plainInsertStores plain n img k a)
   plain-inserted fresh not-high room = inserted plain plain-core plain-single n (few-pages plain plain-core n few) (plain-pages n some) img held k a k-low a-low
       (not-worn plain n img fresh) not-high room
 
@@ -243,6 +255,7 @@ module _ (n : ℕ) (some : 1 ≤ n) (few : n ≤ 1024) (img : List ℕ) (held : 
   plain-insert-most = needs-low plain plain-core plain-single n (few-pages plain plain-core n few) (plain-pages n some) img held k a k-low a-low
 
   -- a present key: a page a level
-  pub plain-present-programs : isNone (sought (chipOf plain n img) k) ≡ false → programs (plainInsertStores plain n img k a) ≡ suc (chipOf plain n img .level)
+  pub plain-present-programs : isNone (sought (chipOf plain n img) k) ≡ false
+      → programs (plainInsertStores plain n img k a) ≡ suc (chipOf plain n img .level)
   unfolding plainNeeds
   plain-present-programs present = plain-insert-programs ∙ present-pages plain (chipOf plain n img) k present

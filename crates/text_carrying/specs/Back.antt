@@ -1,5 +1,5 @@
--- A text that is read as records is the text of those records; their keys rise, and their numbers have 32 bits. And what a
--- refused insert leaves to those after it. Assumes nothing.
+-- A text that is read as records is the text of those records; their keys rise, and their numbers have 32 bits. And
+-- what a refused insert leaves to those after it. Assumes nothing.
 use mathlib.Core.Path.{_≡_, refl, sym, subst, _∙_}
 use mathlib.Core.List.{List, [], _∷_, _++_, append-assoc}
 use mathlib.Core.Bool.{Bool, true, false}
@@ -61,11 +61,13 @@ record-fits l e h = go (pieces 9 l .ended) (pieces 9 l .rest) (pieces-join 9 l) 
 
     go : (E : List (List ℕ)) (R : List ℕ) → joined 9 E R ≡ l → recordOf (E ++ (R ∷ [])) ≡ some e → Fits l e
     go [] R j i = absurd (Option·none-ne-some e i)
-    go (k ∷ []) R j i = subst (λ m. Fits m e) (sym (append-assoc k (9 ∷ []) R) ∙ j) (both k R (numberOf k) (numberOf R) refl refl i)
+    go (k ∷ []) R j i = subst (λ m. Fits m e) (sym (append-assoc k (9 ∷ []) R)
+        ∙ j) (both k R (numberOf k) (numberOf R) refl refl i)
     go (k ∷ x ∷ []) R j i = absurd (Option·none-ne-some e i)
     go (k ∷ x ∷ y ∷ E) R j i = absurd (Option·none-ne-some e i)
 
--- what a text is read as, after i lines: its records' text is the text, their keys rise, and there are at most 4,096 with those before
+-- what a text is read as, after i lines: its records' text is the text, their keys rise, and there are at most 4,096
+-- with those before
 pub record Read (i low : ℕ) (text : List ℕ) (es : List Entry) : Type 0 where
   pub same : textOf es ≡ text
   pub rises : Rises low es
@@ -81,7 +83,8 @@ reads i low [] [] = record { same = refl; rises = tt; few = λ h. absurd (omega 
 reads i low [] (b ∷ bs) = tt
 reads i low (l ∷ ls) rest = go (recordOf (fields l)) refl (λ above. reads (suc i) above ls rest)
   where
-    more : (e : Entry) (rd : Reading) → Fits l e → i < mostRecords → low ≤ e .key → Good (suc i) (suc (e .key)) (joined 10 ls rest) rd
+    more : (e : Entry) (rd : Reading) → Fits l e → i < mostRecords → low ≤ e .key → Good (suc i) (suc (e .key))
+        (joined 10 ls rest) rd
         → Good i low ((l ++ (10 ∷ [])) ++ joined 10 ls rest) (with e rd)
     more e (records []) f h k r = record {
       same = rw (f .same, r .same) refl;
@@ -95,14 +98,18 @@ reads i low (l ∷ ls) rest = go (recordOf (fields l)) refl (λ above. reads (su
     }
     more e (bad line) f h k r = tt
 
-    test : (e : Entry) (t u : Bool) → ltb i mostRecords ≡ t → leb low (e .key) ≡ u → Fits l e → Good (suc i) (suc (e .key)) (joined 10 ls rest) (readLines (suc i) (suc (e .key)) ls rest)
-        → Good i low ((l ++ (10 ∷ [])) ++ joined 10 ls rest) (pick t (pick u (with e (readLines (suc i) (suc (e .key)) ls rest)) (bad (suc i))) (bad (suc i)))
+    test : (e : Entry) (t u : Bool) → ltb i mostRecords ≡ t → leb low (e .key) ≡ u → Fits l e
+        → Good (suc i) (suc (e .key)) (joined 10 ls rest) (readLines (suc i) (suc (e .key)) ls rest)
+        → Good i low ((l ++ (10 ∷ [])) ++ joined 10 ls rest)
+        (pick t (pick u (with e (readLines (suc i) (suc (e .key)) ls rest)) (bad (suc i))) (bad (suc i)))
     test e true true p q f r = more e (readLines (suc i) (suc (e .key)) ls rest) f (ltb-true i mostRecords p) (leb-true low (e .key) q) r
     test e true false p q f r = tt
     test e false u p q f r = tt
 
-    go : (o : Option Entry) → recordOf (fields l) ≡ o → ((above : ℕ) → Good (suc i) above (joined 10 ls rest) (readLines (suc i) above ls rest))
-        → Good i low ((l ++ (10 ∷ [])) ++ joined 10 ls rest) (readLine i low o (λ above. readLines (suc i) above ls rest))
+    go : (o : Option Entry) → recordOf (fields l) ≡ o → ((above : ℕ) → Good (suc i) above (joined 10 ls rest)
+        (readLines (suc i) above ls rest))
+        → Good i low ((l ++ (10 ∷ [])) ++ joined 10 ls rest)
+        (readLine i low o (λ above. readLines (suc i) above ls rest))
     go none h ih = tt
     go (some e) h ih = test e (ltb i mostRecords) (leb low (e .key)) refl refl (record-fits l e h) (ih (suc (e .key)))
 

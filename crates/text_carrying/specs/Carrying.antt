@@ -1,5 +1,5 @@
--- Request 13 of document 02, "Carry an index across": the text of a map, a text read line by line, and the calls export and import on every
--- image. Definitions alone; assumes nothing.
+-- Request 13 of document 02, "Carry an index across": the text of a map, a text read line by line, and the calls export
+-- and import on every image. Definitions alone; assumes nothing.
 use Prim.Native.Nat.{ℕ, suc, _+_, _%_}
 use mathlib.Core.Bool.{Bool}
 use mathlib.Core.List.{List, [], _∷_, _++_}
@@ -17,7 +17,8 @@ use Rattle.model.specs.Calls.{Outcome, gives, refused, damaged, judged, chosenC
 use Rattle.text_lines.specs.Lines.{lines, fields}
 use Rattle.text_decimals.specs.Decimals.{largest, numberOf, decimal}
 
--- ---- the text of a map: "one line for each record, key, tab, address, rising keys, decimal without leading zeros, each line ended by byte 10"
+-- ---- the text of a map: "one line for each record, key, tab, address, rising keys, decimal without leading zeros,
+-- each line ended by byte 10"
 abbrev pub recordText : Entry → List ℕ
 recordText e = decimal (e .key) ++ (9 ∷ decimal (e .addr))
 
@@ -73,8 +74,8 @@ readText text = readLines 0 0 (lines text .ended) (lines text .rest)
 abbrev pub word : ℕ → ℕ
 word n = n % fourBytes
 
--- export: records, bytes of the whole text, bytes written; the lent text where the others have the image. All of the text or none of it
--- is written: a text of length 0 asks how long it is
+-- export: records, bytes of the whole text, bytes written; the lent text where the others have the image. All of the
+-- text or none of it is written: a text of length 0 asks how long it is
 abbrev pub fits : List ℕ → List ℕ → Bool
 fits text buffer = leb (length text) (length buffer)
 

@@ -138,7 +138,8 @@ module _ (ds : List ℕ) (n : ℕ) where
   unfolding numberOf
   number-is = go (allDigits ds & proper ds & leb (value 0 ds) largest) refl
     where
-      go : (t : Bool) → (allDigits ds & proper ds & leb (value 0 ds) largest) ≡ t → pick t (some (value 0 ds)) none ≡ some n
+      go : (t : Bool) → (allDigits ds & proper ds & leb (value 0 ds) largest) ≡ t → pick t (some (value 0 ds)) none
+          ≡ some n
           → (decimal n ≡ ds) × (n ≤ largest)
       go true e h =
           let q = Option·some-injective (value 0 ds) n h in
@@ -154,4 +155,5 @@ module _ (ds : List ℕ) (n : ℕ) where
 
   -- it has at most ten digits
   pub number-short : numberOf ds ≡ some n → length ds ≤ 10
-  number-short h = let m = number-most h in subst (λ l. length l ≤ 10) (number-back h) (decimal-short 9 n (omega (arith, m)))
+  number-short h = let m = number-most h in
+      subst (λ l. length l ≤ 10) (number-back h) (decimal-short 9 n (omega (arith, m)))

@@ -43,7 +43,8 @@ digits-start s = refl
 -- a turn of the loop
 module _ (s : List ℕ) (v i : ℕ) (inv : numberFrom 0 s ≡ numberFrom v (drop i s)) where
   turn : i < length s → numberFrom 0 s
-      ≡ pick (digit (getD s i 0)) (pick (leb (10 * v + (getD s i 0 - 48)) largest) (numberFrom (10 * v + (getD s i 0 - 48)) (drop (i + 1) s)) none) none
+      ≡ pick (digit (getD s i 0)) (pick (leb (10 * v + (getD s i 0 - 48)) largest)
+      (numberFrom (10 * v + (getD s i 0 - 48)) (drop (i + 1) s)) none) none
   unfolding numberFrom
   turn h = inv ∙ rw (drop-cons s i 0 h, add-one) refl
 
@@ -55,7 +56,8 @@ module _ (s : List ℕ) (v i : ℕ) (inv : numberFrom 0 s ≡ numberFrom v (drop
   unfolding numberIs
   digits-high b e h g = sym (turn h ∙ rw (← e, digit-high b g) refl)
 
-  pub digits-large : (b : ℕ) → b ≡ getD s i 0 → i < length s → 48 ≤ b → b ≤ 57 → largest < 10 * v + (b - 48) → numberIs Nothing ≡ numberFrom 0 s
+  pub digits-large : (b : ℕ) → b ≡ getD s i 0 → i < length s → 48 ≤ b → b ≤ 57 → largest < 10 * v + (b - 48)
+      → numberIs Nothing ≡ numberFrom 0 s
   unfolding numberIs
   digits-large b e h l m g = sym (turn h ∙ rw (← e, digit-in b l m, lt-leb (10 * v + (b - 48)) largest g) refl)
 
@@ -73,20 +75,24 @@ unfolding value
 value-more v [] = omega arith
 value-more v (b ∷ bs) = let h = value-more (10 * v + (b - 48)) bs in omega (arith, h)
 
-from-is : (v : ℕ) (bs : List ℕ) → v ≤ largest → numberFrom v bs ≡ pick (allDigits bs & leb (value v bs) largest) (some (value v bs)) none
+from-is : (v : ℕ) (bs : List ℕ) → v ≤ largest → numberFrom v bs ≡ pick (allDigits bs & leb (value v bs) largest)
+    (some (value v bs)) none
 unfolding numberFrom allDigits value _&_
 from-is v [] h = rw (le-leb v largest h) refl
 from-is v (b ∷ bs) h = go (digit b) (leb (10 * v + (b - 48)) largest) refl (λ q. from-is (10 * v + (b - 48)) bs q)
   where
     go : (t u : Bool) → leb (10 * v + (b - 48)) largest ≡ u
-        → (10 * v + (b - 48) ≤ largest → numberFrom (10 * v + (b - 48)) bs ≡ pick (allDigits bs & leb (value (10 * v + (b - 48)) bs) largest)
+        → (10 * v + (b - 48) ≤ largest → numberFrom (10 * v + (b - 48)) bs
+        ≡ pick (allDigits bs & leb (value (10 * v + (b - 48)) bs) largest)
         (some (value (10 * v + (b - 48)) bs)) none)
-        → pick t (pick u (numberFrom (10 * v + (b - 48)) bs) none) none ≡ pick ((t & allDigits bs) & leb (value (10 * v + (b - 48)) bs) largest)
+        → pick t (pick u (numberFrom (10 * v + (b - 48)) bs) none) none
+        ≡ pick ((t & allDigits bs) & leb (value (10 * v + (b - 48)) bs) largest)
         (some (value (10 * v + (b - 48)) bs)) none
     go true true e i = i (leb-true (10 * v + (b - 48)) largest e)
     go true false e i = rw (
       lt-leb (value (10 * v + (b - 48)) bs) largest
-          (let w = value-more (10 * v + (b - 48)) bs in let z = leb-false (10 * v + (b - 48)) largest e in omega (arith, w, z)),
+          (let w = value-more (10 * v + (b - 48)) bs in let z = leb-false (10 * v + (b - 48)) largest e in
+          omega (arith, w, z)),
       and-none (allDigits bs),
     ) refl
     go false u e i = refl
@@ -95,7 +101,8 @@ whole : (s : List ℕ) (r : Number) → proper s ≡ true → numberIs r ≡ num
 unfolding numberOf _&_
 whole s r p e = e ∙ from-is 0 s (omega arith) ∙ rw p (go (allDigits s))
   where
-    go : (t : Bool) → pick (t & leb (value 0 s) largest) (some (value 0 s)) none ≡ pick (t & true & leb (value 0 s) largest) (some (value 0 s)) none
+    go : (t : Bool) → pick (t & leb (value 0 s) largest) (some (value 0 s)) none
+        ≡ pick (t & true & leb (value 0 s) largest) (some (value 0 s)) none
     go true = refl
     go false = refl
 
@@ -118,13 +125,15 @@ number-one [] r h e = absurd (omega arith)
 number-one (b ∷ []) r h e = whole (b ∷ []) r refl e
 number-one (b ∷ c ∷ s) r h e = absurd (omega arith)
 
-pub number-zero : (s : List ℕ) (b : ℕ) → b ≡ getD s 0 0 → (length s ≡ 0 → ⊥) → (length s ≡ 1 → ⊥) → b ≤ 48 → numberIs Nothing ≡ numberOf s
+pub number-zero : (s : List ℕ) (b : ℕ) → b ≡ getD s 0 0 → (length s ≡ 0 → ⊥) → (length s ≡ 1 → ⊥) → b ≤ 48
+    → numberIs Nothing ≡ numberOf s
 unfolding proper
 number-zero [] b e n h z = absurd (n refl)
 number-zero (c ∷ []) b e n h z = absurd (h refl)
 number-zero (c ∷ d ∷ s) b e n h z = improper (c ∷ d ∷ s) (le-ltb 48 c (omega (arith, e, z)))
 
-pub number-more : (s : List ℕ) (r : Number) (b : ℕ) → b ≡ getD s 0 0 → (length s ≡ 0 → ⊥) → (length s ≡ 1 → ⊥) → 48 < b → numberIs r ≡ numberFrom 0 s
+pub number-more : (s : List ℕ) (r : Number) (b : ℕ) → b ≡ getD s 0 0 → (length s ≡ 0 → ⊥) → (length s ≡ 1 → ⊥) → 48 < b
+    → numberIs r ≡ numberFrom 0 s
     → numberIs r ≡ numberOf s
 unfolding proper
 number-more [] r b e n m g i = absurd (n refl)

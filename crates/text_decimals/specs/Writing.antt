@@ -21,7 +21,8 @@ module _ (buf : List ℕ) (at n : ℕ) where
   bytes-one out b h e f = let q : 48 + n % 10 ≡ 48 + n = omega arith in f ∙ rw (e, q, decimal-one n h) refl
 
   pub length-more : (next : ℕ) → 10 ≤ n → next ≡ at + length (decimal (n / 10)) → next + 1 ≡ at + length (decimal n)
-  length-more next h e = rw (decimal-more n h) (let q = length-append (decimal (n / 10)) ((48 + n % 10) ∷ []) in omega (arith, q, e))
+  length-more next h e = rw (decimal-more n h) (let q = length-append (decimal (n / 10)) ((48 + n % 10) ∷ []) in
+      omega (arith, q, e))
 
   pub bytes-more : (mid out : List ℕ) (next b : ℕ) → 10 ≤ n → next ≡ at + length (decimal (n / 10)) → b ≡ 48 + n % 10
       → mid ≡ sets buf at (decimal (n / 10)) → out ≡ set mid next b → out ≡ sets buf at (decimal n)

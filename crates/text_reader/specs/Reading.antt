@@ -51,7 +51,8 @@ module _ (line : List ℕ) (tab : ℕ) (et : tab ≡ 0 + reach 9 (drop 0 line)) 
     record-more g =
         let r = drop (tab + 1) line in
         let w = rest-long in
-        sym (ap recordOf (first-field h ∙ ap (λ l. take tab line ∷ l) (fields-more r (omega (arith, w, ee, g)))) ∙ three (take tab line) (take (reach 9 r) r) (drop (suc (reach 9 r)) r))
+        sym (ap recordOf (first-field h ∙ ap (λ l. take tab line ∷ l) (fields-more r (omega (arith, w, ee, g))))
+        ∙ three (take tab line) (take (reach 9 r) r) (drop (suc (reach 9 r)) r))
       where
         many : (k a : List ℕ) (xs : List (List ℕ)) (x : List ℕ) → recordOf (k ∷ a ∷ (xs ++ (x ∷ []))) ≡ none
         many k a [] x = refl
@@ -61,7 +62,8 @@ module _ (line : List ℕ) (tab : ℕ) (et : tab ≡ 0 + reach 9 (drop 0 line)) 
         three k a l = many k a (pieces 9 l .ended) (pieces 9 l .rest)
 
     module _ (last : length line ≤ end) where
-      two : recordOf (fields line) ≡ pair (numberOf (take tab line)) (numberOf (take (length line - (tab + 1)) (drop (tab + 1) line)))
+      two : recordOf (fields line) ≡ pair (numberOf (take tab line))
+          (numberOf (take (length line - (tab + 1)) (drop (tab + 1) line)))
       unfolding recordOf
       two =
           let r = drop (tab + 1) line in
@@ -74,7 +76,8 @@ module _ (line : List ℕ) (tab : ℕ) (et : tab ≡ 0 + reach 9 (drop 0 line)) 
         unfolding pairIs numberIs pair
         record-key n = sym (two ∙ ap (λ o. pair o (numberOf (take (length line - (tab + 1)) (drop (tab + 1) line)))) (sym ek ∙ ap numberIs n))
 
-        module _ (v : ℕ) (ev : k ≡ Value v) (a : Number) (ea : numberIs a ≡ numberOf (take (length line - (tab + 1)) (drop (tab + 1) line))) where
+        module _ (v : ℕ) (ev : k ≡ Value v) (a : Number) (ea : numberIs a
+            ≡ numberOf (take (length line - (tab + 1)) (drop (tab + 1) line))) where
           both : recordOf (fields line) ≡ pair (some v) (numberIs a)
           unfolding numberIs
           both = two ∙ (λ i. pair ((sym ek ∙ ap numberIs ev) i) (sym ea i))
@@ -83,7 +86,8 @@ module _ (line : List ℕ) (tab : ℕ) (et : tab ≡ 0 + reach 9 (drop 0 line)) 
           unfolding pairIs numberIs pair
           record-addr n = sym (both ∙ ap (λ x. pair (some v) (numberIs x)) n)
 
-          pub record-both : (w : ℕ) → a ≡ Value w → pairIs (Pair (record { key = v; addr = w })) ≡ recordOf (fields line)
+          pub record-both : (w : ℕ) → a ≡ Value w → pairIs (Pair (record { key = v; addr = w }))
+              ≡ recordOf (fields line)
           unfolding pairIs numberIs pair
           record-both w n = sym (both ∙ ap (λ x. pair (some v) (numberIs x)) n)
 
@@ -93,7 +97,15 @@ module _ (s : Spot) (next k : ℕ) (e : Entry) (ek : k ≡ e .key) where
   unfolding taken
   taken-low r h f = f ∙ rw (lt-leb (s .low) (e .key) (omega (arith, ek, h))) refl
 
-  pub taken-is : s .low ≤ k → record { entry = e; spot = record { at = next; count = s .count + 1; low = k + 1; bad = 0 } } ≡ taken s next e
+  pub taken-is : s .low ≤ k → record {
+    entry = e;
+    spot = record {
+      at = next;
+      count = s .count + 1;
+      low = k + 1;
+      bad = 0;
+    };
+  } ≡ taken s next e
   unfolding taken
   taken-is h = rw (le-leb (s .low) (e .key) (omega (arith, ek, h)), ek) refl
 
@@ -103,7 +115,8 @@ module _ (text : List ℕ) (s : Spot) (end : ℕ) (ee : end ≡ s .at + reach 10
   unfolding lineTurn
   line-open r h f = f ∙ rw (le-ltb (s .at + reach 10 (drop (s .at) text)) (length text) (omega (arith, ee, h))) refl
 
-  module _ (h : end < length text) (l : Line) (el : pairIs l ≡ recordOf (fields (take (end - s .at) (drop (s .at) text)))) where
+  module _ (h : end < length text) (l : Line) (el : pairIs l
+      ≡ recordOf (fields (take (end - s .at) (drop (s .at) text)))) where
     ended : lineTurn text s ≡ recordTurn s (end + 1) (pairIs l)
     unfolding lineTurn
     ended =

@@ -58,7 +58,8 @@ module _ (text : List ℕ) where
   end-reads s h = rw (drop-of-length-le text h) refl
 
   -- the lines from a place on, by the first of them
-  open-reads : (s : Spot) → s .at < length text → length text ≤ s .at + reach 10 (drop (s .at) text) → readFrom text s ≡ bad (suc (s .count))
+  open-reads : (s : Spot) → s .at < length text → length text ≤ s .at + reach 10 (drop (s .at) text)
+      → readFrom text s ≡ bad (suc (s .count))
   unfolding readLines readRest
   open-reads s h g =
       let w = length-drop (s .at) text in
@@ -81,9 +82,11 @@ module _ (text : List ℕ) where
       let bs = drop (s .at) text in
       let w = length-drop (s .at) text in
       let q : s .at + suc (reach 10 bs) ≡ after s = omega arith in
-      let e : drop (suc (reach 10 bs)) bs ≡ drop (after s) text = drop-drop (suc (reach 10 bs)) (s .at) text ∙ ap (λ (m : ℕ). drop m text) q in
+      let e : drop (suc (reach 10 bs)) bs ≡ drop (after s) text = drop-drop (suc (reach 10 bs)) (s .at) text
+      ∙ ap (λ (m : ℕ). drop m text) q in
       ap (λ (p : Pieces). readLines (s .count) (s .low) (p .ended) (p .rest)) (pieces-more 10 bs (omega (arith, w, h)))
-      ∙ ap (λ (l : List ℕ). readLine (s .count) (s .low) (recordOf (fields (take (reach 10 bs) bs))) (λ above. readLines (suc (s .count)) above (pieces 10 l .ended) (pieces 10 l .rest))) e
+      ∙ ap (λ (l : List ℕ). readLine (s .count) (s .low) (recordOf (fields (take (reach 10 bs) bs)))
+      (λ above. readLines (suc (s .count)) above (pieces 10 l .ended) (pieces 10 l .rest))) e
 
   -- line 4,097
   full-reads : (s : Spot) → s .count ≡ mostRecords → s .at < length text → readFrom text s ≡ bad (suc mostRecords)
@@ -94,7 +97,8 @@ module _ (text : List ℕ) where
       over none next = refl
       over (some e) next = rw (le-ltb (s .count) mostRecords (omega (arith, c))) refl
 
-      go : (t : Bool) → ltb (s .at + reach 10 (drop (s .at) text)) (length text) ≡ t → readFrom text s ≡ bad (suc (s .count))
+      go : (t : Bool) → ltb (s .at + reach 10 (drop (s .at) text)) (length text) ≡ t
+          → readFrom text s ≡ bad (suc (s .count))
       go true e = line-reads s (ltb-true _ _ e) ∙ over (recordOf (fields (lineOf text (s .at)))) _
       go false e = open-reads s h (ltb-false _ _ e)
 
@@ -118,7 +122,8 @@ module _ (text : List ℕ) where
       let q = end-stays n s h in (
         subst (λ (t : Spot). s .count ≤ t .count) (sym q) (omega arith),
         end-reads s h ∙ sym (ap (λ (t : Spot). readAs text t (take (t .count - s .count) (noPair ∷ pairsOf text n s))) q
-            ∙ (let d : s .count - s .count ≡ 0 = omega arith in rw (eq-eqb (s .bad) 0 z, le-ltb (s .at) (length text) h, d) refl)),
+            ∙ (let d : s .count - s .count ≡ 0 = omega arith in
+            rw (eq-eqb (s .bad) 0 z, le-ltb (s .at) (length text) h, d) refl)),
       )
 
   -- one record more before what is read
@@ -126,7 +131,8 @@ module _ (text : List ℕ) where
   unfolding readAs with
   with-as e t es = go (eqb (t .bad) 0) (ltb (t .at) (length text))
     where
-      go : (x y : Bool) → with e (pick x (pick y (bad (suc mostRecords)) (records es)) (bad (t .bad))) ≡ pick x (pick y (bad (suc mostRecords)) (records (e ∷ es))) (bad (t .bad))
+      go : (x y : Bool) → with e (pick x (pick y (bad (suc mostRecords)) (records es)) (bad (t .bad))) ≡ pick x
+          (pick y (bad (suc mostRecords)) (records (e ∷ es))) (bad (t .bad))
       go true true = refl
       go true false = refl
       go false y = refl
@@ -140,9 +146,11 @@ module _ (text : List ℕ) where
 
   -- a record that is read, and the turns after it
   came-more : (n : ℕ) (s : Spot) (e : Entry) → s .count < 4096 → leb (s .low) (e .key) ≡ true
-      → readFrom text s ≡ readLine (s .count) (s .low) (some e) (λ above. readLines (suc (s .count)) above (pieces 10 (drop (after s) text) .ended) (pieces 10 (drop (after s) text) .rest))
+      → readFrom text s ≡ readLine (s .count) (s .low) (some e) (λ above. readLines (suc (s .count)) above
+      (pieces 10 (drop (after s) text) .ended) (pieces 10 (drop (after s) text) .rest))
       → (moved s e .count ≤ spotAfter text n (moved s e) .count)
-      × (readFrom text (moved s e) ≡ readAs text (spotAfter text n (moved s e)) (take (spotAfter text n (moved s e) .count - moved s e .count) (pairsOf text n (moved s e))))
+      × (readFrom text (moved s e) ≡ readAs text (spotAfter text n (moved s e))
+      (take (spotAfter text n (moved s e) .count - moved s e .count) (pairsOf text n (moved s e))))
       → Came n s (record { entry = e; spot = moved s e })
   unfolding readLine
   came-more n s e c k r ih =
@@ -151,7 +159,8 @@ module _ (text : List ℕ) where
       let q : t .count - s .count ≡ suc (t .count - (s .count + 1)) = omega (arith, i) in (
         omega (arith, i),
         r ∙ rw (lt-ltb (s .count) mostRecords c, k) (rw (← (add-one (s .count)), ← (add-one (e .key))) (ap (with e) (ih .1)
-            ∙ with-as e t (take (t .count - (s .count + 1)) (pairsOf text n (moved s e))) ∙ ap (λ (m : ℕ). readAs text t (take m (e ∷ pairsOf text n (moved s e)))) (sym q))),
+            ∙ with-as e t (take (t .count - (s .count + 1)) (pairsOf text n (moved s e))) ∙ ap (λ (m : ℕ). readAs text t
+            (take m (e ∷ pairsOf text n (moved s e)))) (sym q))),
       )
 
   -- n turns from s on
@@ -159,18 +168,21 @@ module _ (text : List ℕ) where
   Reads n s = (s .count ≤ spotAfter text n s .count)
       × (readFrom text s ≡ readAs text (spotAfter text n s) (take (spotAfter text n s .count - s .count) (pairsOf text n s)))
 
-  came-line : (n : ℕ) (s : Spot) → s .bad ≡ 0 → s .count < 4096 → s .at < length text → ((e : Entry) → Reads n (moved s e)) → Came n s (lineTurn text s)
+  came-line : (n : ℕ) (s : Spot) → s .bad ≡ 0 → s .count < 4096 → s .at < length text
+      → ((e : Entry) → Reads n (moved s e)) → Came n s (lineTurn text s)
   unfolding lineTurn recordTurn taken readLine
   came-line n s z c h ih = by-end (ltb (s .at + reach 10 (drop (s .at) text)) (length text)) refl
     where
       by-key : (e : Entry) → (t : Bool) → leb (s .low) (e .key) ≡ t
-          → readFrom text s ≡ readLine (s .count) (s .low) (some e) (λ above. readLines (suc (s .count)) above (pieces 10 (drop (after s) text) .ended) (pieces 10 (drop (after s) text) .rest))
+          → readFrom text s ≡ readLine (s .count) (s .low) (some e) (λ above. readLines (suc (s .count)) above
+          (pieces 10 (drop (after s) text) .ended) (pieces 10 (drop (after s) text) .rest))
           → Came n s (pick t (record { entry = e; spot = moved s e }) (refusal s))
       by-key e true k r = came-more n s e c k r (ih e)
       by-key e false k r = came-bad n s (r ∙ rw (lt-ltb (s .count) mostRecords c, k) refl)
 
       by-record : (o : Option Entry)
-          → readFrom text s ≡ readLine (s .count) (s .low) o (λ above. readLines (suc (s .count)) above (pieces 10 (drop (after s) text) .ended) (pieces 10 (drop (after s) text) .rest))
+          → readFrom text s ≡ readLine (s .count) (s .low) o (λ above. readLines (suc (s .count)) above
+          (pieces 10 (drop (after s) text) .ended) (pieces 10 (drop (after s) text) .rest))
           → Came n s (recordTurn s (after s) o)
       by-record none r = came-bad n s r
       by-record (some e) r = by-key e (leb (s .low) (e .key)) refl r
@@ -196,7 +208,8 @@ module _ (text : List ℕ) where
       go false e ih = subst (Came n s) (sym (end-turn s (ltb-false _ _ e))) (came-end n s z (ltb-false _ _ e))
 
   -- the whole text: as many turns as there may be records
-  pub read-turns : (n : ℕ) → n ≡ mostRecords → readText text ≡ readAs text (spotAfter text n start) (take (spotAfter text n start .count) (pairsOf text n start))
+  pub read-turns : (n : ℕ) → n ≡ mostRecords → readText text ≡ readAs text (spotAfter text n start)
+      (take (spotAfter text n start .count) (pairsOf text n start))
   read-turns n h =
       let q : spotAfter text n start .count - 0 ≡ spotAfter text n start .count = omega arith in
       reads n start refl (zero-add n ∙ h) .1 ∙ ap (λ (m : ℕ). readAs text (spotAfter text n start) (take m (pairsOf text n start))) q
@@ -207,7 +220,8 @@ module _ (text : List ℕ) where
   turn-most s = go (eqb (s .bad) 0 & ltb (s .count) 4096 & ltb (s .at) (length text)) (ltb (s .at + reach 10 (drop (s .at) text)) (length text))
       (recordOf (fields (lineOf text (s .at))))
     where
-      by-key : (e : Entry) (t : Bool) → pick t (record { entry = e; spot = moved s e }) (refusal s) .spot .count ≤ s .count + 1
+      by-key : (e : Entry) (t : Bool) → pick t (record { entry = e; spot = moved s e })
+          (refusal s) .spot .count ≤ s .count + 1
       by-key e true = omega arith
       by-key e false = omega arith
 
@@ -215,7 +229,8 @@ module _ (text : List ℕ) where
       by-record none = omega arith
       by-record (some e) = by-key e (leb (s .low) (e .key))
 
-      go : (x y : Bool) (o : Option Entry) → pick x (pick y (recordTurn s (after s) o) (refusal s)) (idle s) .spot .count ≤ s .count + 1
+      go : (x y : Bool) (o : Option Entry) → pick x (pick y (recordTurn s (after s) o) (refusal s))
+          (idle s) .spot .count ≤ s .count + 1
       go true true o = by-record o
       go true false o = omega arith
       go false y o = omega arith

@@ -9,8 +9,8 @@ ghost use Rattle.text_reader.specs.Reader.{pairIs, idle, refusal, taken,
 use geometry::Entry;
 use text_decimals::Number;
 
-// How far the reader has come: the place of the next line, the records so far, the least key that the next one may have, and
-// the number of the line that is refused, 0 if none is.
+// How far the reader has come: the place of the next line, the records so far, the least key that the next one may
+// have, and the number of the line that is refused, 0 if none is.
 pub struct Spot {
     pub at: usize,
     pub count: u32,

@@ -55,7 +55,8 @@ Found full lv b (some v) = Victim full lv b v
 by-last : {C : Type 0} (c b : ℕ) → c < suc b → (c < b → C) → (c ≡ b → C) → C
 by-last c b q f g = by-lt c b f (λ z. g (omega arith))
 
-better-is : (full : ℕ → Bool) (lv : ℕ → ℕ) (b : ℕ) (o : Option ℕ) → Found full lv b o → Found full lv (suc b) (better full lv b o)
+better-is : (full : ℕ → Bool) (lv : ℕ → ℕ) (b : ℕ) (o : Option ℕ) → Found full lv b o → Found full lv (suc b)
+    (better full lv b o)
 unfolding better
 better-is full lv b none h = go (full b) refl
   where
@@ -69,7 +70,8 @@ better-is full lv b none h = go (full b) refl
     go false e = λ c q. by-last c b q (λ z. h c z) (λ z. rw z e)
 better-is full lv b (some v) h = go (full b) (ltb (lv b) (lv v)) refl refl
   where
-    go : (t u : Bool) → full b ≡ t → ltb (lv b) (lv v) ≡ u → Found full lv (suc b) (pick t (pick u (some b) (some v)) (some v))
+    go : (t u : Bool) → full b ≡ t → ltb (lv b) (lv v) ≡ u → Found full lv (suc b) (pick t (pick u (some b) (some v))
+        (some v))
     go true true e i = let w = ltb-true (lv b) (lv v) i in record {
       below = omega arith;
       is-full = e;
@@ -95,21 +97,25 @@ victim-is full lv zero = λ c q. absurd (omega arith)
 victim-is full lv (suc b) = better-is full lv b (victim full lv b) (victim-is full lv b)
 
 -- it hangs on the counts of the blocks below b alone
-better-alike : (full : ℕ → Bool) (lv lw : ℕ → ℕ) (b : ℕ) (o : Option ℕ) → Found full lv b o → ((c : ℕ) → c < suc b → lv c ≡ lw c)
+better-alike : (full : ℕ → Bool) (lv lw : ℕ → ℕ) (b : ℕ) (o : Option ℕ) → Found full lv b o
+    → ((c : ℕ) → c < suc b → lv c ≡ lw c)
     → better full lv b o ≡ better full lw b o
 unfolding better
 better-alike full lv lw b none h e = refl
 better-alike full lv lw b (some v) h e = rw (e b (omega arith), e v (omega (arith, h .below)))
 
-pub victim-alike : (full : ℕ → Bool) (lv lw : ℕ → ℕ) (b : ℕ) → ((c : ℕ) → c < b → lv c ≡ lw c) → victim full lv b ≡ victim full lw b
+pub victim-alike : (full : ℕ → Bool) (lv lw : ℕ → ℕ) (b : ℕ) → ((c : ℕ) → c < b → lv c ≡ lw c)
+    → victim full lv b ≡ victim full lw b
 unfolding victim
 victim-alike full lv lw zero e = refl
 victim-alike full lv lw (suc b) e = better-alike full lv lw b (victim full lv b) (victim-is full lv b) e
     ∙ ap (better full lw b) (victim-alike full lv lw b (λ c q. e c (omega arith)))
 
 -- with room for k more pages and too few erased ones some full block has a dead page; m is the mixed block, or n
-module _ (g k n : ℕ) (er lv dd : ℕ → Bool) (three : (q : ℕ) → bit (er q) + bit (lv q) + bit (dd q) ≡ 1) (full : ℕ → Bool) (m : ℕ)
-    (some-er : m < n → 1 ≤ inBlock g er m) (clean : (b : ℕ) → b < n → full b ≡ false → (b ≡ m → ⊥) → inBlock g dd b ≡ 0) where
+module _ (g k n : ℕ) (er lv dd : ℕ → Bool) (three : (q : ℕ) → bit (er q) + bit (lv q) + bit (dd q) ≡ 1) (full : ℕ
+    → Bool) (m : ℕ)
+    (some-er : m < n → 1 ≤ inBlock g er m) (clean : (b : ℕ) → b < n → full b ≡ false → (b ≡ m → ⊥)
+    → inBlock g dd b ≡ 0) where
   by-block : (b : ℕ) → inBlock g er b + inBlock g lv b + inBlock g dd b ≡ g
   by-block b = count-three g (λ j. er (g * b + j)) (λ j. lv (g * b + j)) (λ j. dd (g * b + j)) (λ j. three (g * b + j))
 

@@ -70,7 +70,8 @@ module _ (g : Geometry) (shape : Shape g) (n k : ℕ) where
     live-kept q e = dead-live q (placesOf c) (all-map (λ x. (1 ≤ x .level) × fitOf (g .pages * n) (c .er) (x .level) (x .page)) (λ x. x .page ≡ q → ⊥)
         (placesOf c)
         (λ x i z. true-false (c .er q) e (subst (λ m. c .er m ≡ false) z
-        (fit-page (g .pages * n) (c .er) (x .level) (x .page) (i .0) (i .1) .1))) (root-fit (fitOf (g .pages * n) (c .er)) (λ l. 2 * half g l) (rootMost g) (c .nodes) (c .level)
+        (fit-page (g .pages * n) (c .er) (x .level) (x .page) (i .0) (i .1) .1)))
+        (root-fit (fitOf (g .pages * n) (c .er)) (λ l. 2 * half g l) (rootMost g) (c .nodes) (c .level)
         (c .root) fourBytes (h .sound .rooted)))
 
     deadPage : ℕ → Bool
@@ -80,14 +81,16 @@ module _ (g : Geometry) (shape : Shape g) (n k : ℕ) where
     unfolding deadPage
     three q = go (c .er q) (live (placesOf c) q) refl refl
       where
-        go : (t u : Bool) → c .er q ≡ t → live (placesOf c) q ≡ u → bit t + bit u + bit (pick t false (pick u false true)) ≡ 1
+        go : (t u : Bool) → c .er q ≡ t → live (placesOf c) q ≡ u
+            → bit t + bit u + bit (pick t false (pick u false true)) ≡ 1
         go true true a b = absurd (true-false (live (placesOf c) q) b (live-kept q a))
         go true false a b = refl
         go false true a b = refl
         go false false a b = refl
 
     -- a full block below n has no erased page
-    pub full-none : (b i : ℕ) → b < n → full (g .pages) (c .er) b ≡ true → i < g .pages → c .er (g .pages * b + i) ≡ false
+    pub full-none : (b i : ℕ) → b < n → full (g .pages) (c .er) b ≡ true → i < g .pages
+        → c .er (g .pages * b + i) ≡ false
     full-none b i q f w = by-test (c .er (g .pages * b + i))
         (λ a. let p = some-page g (shape-core g shape) in absurd (true-false (c .er (g .pages * b + (g .pages - 1)))
         (h .r2 .mono b i (g .pages - 1) q (omega (arith, p)) (omega (arith, p)) a) (not-true (c .er (g .pages * b + (g .pages - 1))) f)))
@@ -104,7 +107,8 @@ module _ (g : Geometry) (shape : Shape g) (n k : ℕ) where
     mixed-last : (b : ℕ) → mixed (g .pages) (c .er) b ≡ true → c .er (g .pages * b + (g .pages - 1)) ≡ true
     mixed-last b z = go (c .er (g .pages * b + 0)) z
       where
-        go : (t : Bool) → pick t false (c .er (g .pages * b + (g .pages - 1))) ≡ true → c .er (g .pages * b + (g .pages - 1)) ≡ true
+        go : (t : Bool) → pick t false (c .er (g .pages * b + (g .pages - 1))) ≡ true
+            → c .er (g .pages * b + (g .pages - 1)) ≡ true
         go true i = absurd (true-false false i refl)
         go false i = i
 
@@ -116,13 +120,15 @@ module _ (g : Geometry) (shape : Shape g) (n k : ℕ) where
     )
 
     -- a block that is neither full nor mixed has no dead page
-    clean : (b : ℕ) → b < n → full (g .pages) (c .er) b ≡ false → (b ≡ mixedBlock → ⊥) → inBlock (g .pages) deadPage b ≡ 0
+    clean : (b : ℕ) → b < n → full (g .pages) (c .er) b ≡ false → (b ≡ mixedBlock → ⊥) → inBlock (g .pages) deadPage b
+        ≡ 0
     unfolding deadPage
     clean b q f d = by-test (c .er (g .pages * b + 0))
         (λ i. count-same (λ j. deadPage (g .pages * b + j)) (λ _. false) (g .pages) (λ j w. rw (h .r2 .mono b 0 j q (omega arith) w i) refl)
         ∙ count-none
         (g .pages))
-        (λ i. let z : mixed (g .pages) (c .er) b ≡ true = rw (i, not-false (c .er (g .pages * b + (g .pages - 1))) f) refl in
+        (λ i. let z : mixed (g .pages) (c .er) b ≡ true =
+        rw (i, not-false (c .er (g .pages * b + (g .pages - 1))) f) refl in
         let w : mixedBlock < n = by-le mixedBlock b (λ y. omega (arith, q, y))
         (λ y. absurd (true-false (mixed (g .pages) (c .er) b) z (mixed-is .before b y))) in
         absurd (d (h .r2 .one b mixedBlock q w z (mixed-is .there w))))
@@ -130,7 +136,8 @@ module _ (g : Geometry) (shape : Shape g) (n k : ℕ) where
     -- the victim of a round
     pub round-victim : R7 g n c → count (g .pages * n) (live (placesOf c)) + (2 * g .pages + k) ≤ suc (g .pages * n)
         → count (g .pages * n) (c .er) < g .pages + k
-        → (v : ℕ) × (theVictim (g .pages) n c ≡ some v) × (v < n) × (full (g .pages) (c .er) v ≡ true) × (livesIn (g .pages) v c < g .pages) ×
+        → (v : ℕ) × (theVictim (g .pages) n c ≡ some v) × (v < n) × (full (g .pages) (c .er) v ≡ true) ×
+        (livesIn (g .pages) v c < g .pages) ×
         (livesIn (g .pages) v c ≤ count (g .pages * n) (c .er))
     round-victim r7 room few = go (theVictim (g .pages) n c) refl (victim-is (full (g .pages) (c .er)) (λ b. livesIn (g .pages) b c) n)
       where
@@ -138,11 +145,14 @@ module _ (g : Geometry) (shape : Shape g) (n k : ℕ) where
         d = dead-block (g .pages) k n (c .er) (live (placesOf c)) deadPage three (full (g .pages) (c .er)) mixedBlock some-er clean
             (some-page g (shape-core g shape)) room few
 
-        go : (o : Option ℕ) → theVictim (g .pages) n c ≡ o → Found (full (g .pages) (c .er)) (λ b. livesIn (g .pages) b c) n o
-            → (v : ℕ) × (theVictim (g .pages) n c ≡ some v) × (v < n) × (full (g .pages) (c .er) v ≡ true) × (livesIn (g .pages) v c < g .pages) ×
+        go : (o : Option ℕ) → theVictim (g .pages) n c ≡ o → Found (full (g .pages) (c .er))
+            (λ b. livesIn (g .pages) b c) n o
+            → (v : ℕ) × (theVictim (g .pages) n c ≡ some v) × (v < n) × (full (g .pages) (c .er) v ≡ true) ×
+            (livesIn (g .pages) v c < g .pages) ×
             (livesIn (g .pages) v c ≤ count (g .pages * n) (c .er))
         go none e f = absurd (true-false (full (g .pages) (c .er) (d .0)) (d .2) (f (d .0) (d .1)))
-        go (some v) e f = let a = f .fewest (d .0) (d .1) (d .2) in (v, e, f .below, f .is-full, omega (arith, a, d .3), bound r7)
+        go (some v) e f = let a = f .fewest (d .0) (d .1) (d .2) in
+            (v, e, f .below, f .is-full, omega (arith, a, d .3), bound r7)
           where
             bound : R7 g n c → livesIn (g .pages) v c ≤ count (g .pages * n) (c .er)
             bound (inl z) = omega (arith, f .fewest (d .0) (d .1) (d .2), d .3)
@@ -150,7 +160,8 @@ module _ (g : Geometry) (shape : Shape g) (n k : ℕ) where
 
     pub round : R7 g n c → count (g .pages * n) (live (placesOf c)) + (2 * g .pages + k) ≤ suc (g .pages * n)
         → count (g .pages * n) (c .er) < g .pages + k
-        → Cleared g n c (clear g n (theVictim (g .pages) n c) c) × (g .pages ≤ count (g .pages * n) (clear g n (theVictim (g .pages) n c) c .er)) ×
+        → Cleared g n c (clear g n (theVictim (g .pages) n c) c) ×
+        (g .pages ≤ count (g .pages * n) (clear g n (theVictim (g .pages) n c) c .er)) ×
         (count (g .pages * n) (c .er) < count (g .pages * n) (clear g n (theVictim (g .pages) n c) c .er))
     unfolding clear
     round r7 room few = go (round-victim r7 room few)
@@ -175,7 +186,8 @@ module _ (g : Geometry) (shape : Shape g) (n k : ℕ) where
               omega (arith, fr, sw .frees, less),
             )
 
-        go : (v : ℕ) × (theVictim (g .pages) n c ≡ some v) × (v < n) × (full (g .pages) (c .er) v ≡ true) × (livesIn (g .pages) v c < g .pages) ×
+        go : (v : ℕ) × (theVictim (g .pages) n c ≡ some v) × (v < n) × (full (g .pages) (c .er) v ≡ true) ×
+            (livesIn (g .pages) v c < g .pages) ×
             (livesIn (g .pages) v c ≤ count (g .pages * n) (c .er)) → Out (clear g n (theVictim (g .pages) n c) c)
         go w = subst (λ o. Out (clear g n o c)) (sym (w .1)) (at (w .0) (w .2) (w .3) (w .4) (w .5))
 
@@ -192,8 +204,10 @@ module _ (g : Geometry) (shape : Shape g) (n k : ℕ) where
       c′ : Chip
       c′ = clear g n (theVictim (g .pages) n c) c
 
-      left : (g .pages + k ≤ count (g .pages * n) (c .er) + suc m) ⊎ (suc k ≤ suc m) → g .pages ≤ count (g .pages * n) (c′ .er)
-          → count (g .pages * n) (c .er) < count (g .pages * n) (c′ .er) → g .pages + k ≤ count (g .pages * n) (c′ .er) + m
+      left : (g .pages + k ≤ count (g .pages * n) (c .er) + suc m) ⊎ (suc k ≤ suc m)
+          → g .pages ≤ count (g .pages * n) (c′ .er)
+          → count (g .pages * n) (c .er) < count (g .pages * n) (c′ .er)
+          → g .pages + k ≤ count (g .pages * n) (c′ .er) + m
       left (inl b) x y = omega (arith, b, y)
       left (inr b) x y = omega (arith, b, x)
 
@@ -201,7 +215,8 @@ module _ (g : Geometry) (shape : Shape g) (n k : ℕ) where
           → (Whole g n c′ → R7 g n c′ → (g .pages + k ≤ count (g .pages * n) (c′ .er) + m) ⊎ (suc k ≤ m)
           → count (g .pages * n) (live (placesOf c′)) + (2 * g .pages + k) ≤ suc (g .pages * n)
           → Cleared g n c′ (collect g n k m c′) × (g .pages + k ≤ count (g .pages * n) (collect g n k m c′ .er)))
-          → Cleared g n c (pick t (collect g n k m c′) c) × (g .pages + k ≤ count (g .pages * n) (pick t (collect g n k m c′) c .er))
+          → Cleared g n c (pick t (collect g n k m c′) c) ×
+          (g .pages + k ≤ count (g .pages * n) (pick t (collect g n k m c′) c .er))
       go false e ih = (
         record { good = h; pairs-are = refl; lives = omega arith; alike = same-self g c },
         omega (arith, ltb-false (count (g .pages * n) (c .er)) (wanted g k) e),
@@ -219,6 +234,7 @@ module _ (g : Geometry) (shape : Shape g) (n k : ℕ) where
           )
 
   -- the collector: k + 1 rounds are enough
-  pub collected : (c : Chip) → Whole g n c → R7 g n c → count (g .pages * n) (live (placesOf c)) + (2 * g .pages + k) ≤ suc (g .pages * n)
+  pub collected : (c : Chip) → Whole g n c → R7 g n c
+      → count (g .pages * n) (live (placesOf c)) + (2 * g .pages + k) ≤ suc (g .pages * n)
       → Cleared g n c (collect g n k (suc k) c) × (g .pages + k ≤ count (g .pages * n) (collect g n k (suc k) c .er))
   collected c h r7 room = rounds (suc k) c h r7 (inr (omega arith)) room

@@ -1,5 +1,5 @@
--- The page after the next one, once that is programmed: the next one of its block, or past the block's end page 0 of the first wholly erased
--- block after it, round past the end to the start. g is a block's pages. Assumes nothing.
+-- The page after the next one, once that is programmed: the next one of its block, or past the block's end page 0 of
+-- the first wholly erased block after it, round past the end to the start. g is a block's pages. Assumes nothing.
 use mathlib.Core.Path.{_≡_, refl, _∙_}
 use mathlib.Core.Bool.{Bool, true, false}
 use Prim.Native.Nat.{ℕ, suc, _+_, _-_, _*_, _/_, _<_, _≤_}
@@ -17,7 +17,8 @@ round-true : (n b : ℕ) (f : ℕ → Bool) → round n b f < n → f (round n b
 unfolding round
 round-true n b f = go (ltb (least n (λ i. ltb b i & f i)) n)
   where
-    go : (t : Bool) → pick t (least n (λ i. ltb b i & f i)) (least n f) < n → f (pick t (least n (λ i. ltb b i & f i)) (least n f)) ≡ true
+    go : (t : Bool) → pick t (least n (λ i. ltb b i & f i)) (least n f) < n
+        → f (pick t (least n (λ i. ltb b i & f i)) (least n f)) ≡ true
     go true h = and-right _ _ (least-is (λ i. ltb b i & f i) n .there h)
     go false h = least-is f n .there h
 

@@ -29,11 +29,13 @@ below-suc n t = go (ltb n t) (eqb t n) refl refl
     go false false e i = let a = eqb-false t n i in let b = ltb-false n t e in rw (le-ltb n (suc t) (omega arith)) refl
 
 -- one page goes, one comes
-count-swap : (t p n : ℕ) (f g : ℕ → Bool) → (p ≡ n → ⊥) → f p ≡ true → g p ≡ false → ((q : ℕ) → (q ≡ n → ⊥) → bit (g q) ≤ bit (f q))
+count-swap : (t p n : ℕ) (f g : ℕ → Bool) → (p ≡ n → ⊥) → f p ≡ true → g p ≡ false
+    → ((q : ℕ) → (q ≡ n → ⊥) → bit (g q) ≤ bit (f q))
     → count t g + bit (ltb p t) ≤ count t f + bit (ltb n t)
 unfolding count
 count-swap zero p n f g d fp gp le = rw (le-ltb p 0 (omega arith), le-ltb n 0 (omega arith)) (omega arith)
-count-swap (suc t) p n f g d fp gp le = let i = count-swap t p n f g d fp gp le in let a = go (eqb t p) (eqb t n) refl refl in
+count-swap (suc t) p n f g d fp gp le = let i = count-swap t p n f g d fp gp le in let a =
+    go (eqb t p) (eqb t n) refl refl in
     omega (arith, below-suc p t, below-suc n t, a, i)
   where
     go : (u v : Bool) → eqb t p ≡ u → eqb t n ≡ v → bit (g t) + bit u ≤ bit (f t) + bit v
@@ -50,7 +52,8 @@ unfolding count
 count-le zero f h le = omega arith
 count-le (suc t) f h le = omega (arith, le t (omega arith), count-le t f h (λ j q. le j (omega arith)))
 
-pub count-drop : (t i : ℕ) (f h : ℕ → Bool) → i < t → f i ≡ true → h i ≡ false → ((j : ℕ) → j < t → bit (h j) ≤ bit (f j))
+pub count-drop : (t i : ℕ) (f h : ℕ → Bool) → i < t → f i ≡ true → h i ≡ false
+    → ((j : ℕ) → j < t → bit (h j) ≤ bit (f j))
     → suc (count t h) ≤ count t f
 unfolding count
 count-drop zero i f h q a b le = absurd (omega arith)
@@ -97,7 +100,8 @@ count-blocks g zero f = rw (mul-zero g) refl
 count-blocks g (suc b) f = rw (mul-suc g b) (omega (arith, count-add (g * b) g f, count-blocks g b f))
 
 -- every page is erased, live or dead
-pub count-three : (t : ℕ) (e l d : ℕ → Bool) → ((q : ℕ) → bit (e q) + bit (l q) + bit (d q) ≡ 1) → count t e + count t l + count t d ≡ t
+pub count-three : (t : ℕ) (e l d : ℕ → Bool) → ((q : ℕ) → bit (e q) + bit (l q) + bit (d q) ≡ 1)
+    → count t e + count t l + count t d ≡ t
 unfolding count
 count-three zero e l d h = refl
 count-three (suc t) e l d h = omega (arith, h t, count-three t e l d h)
@@ -107,7 +111,8 @@ unfolding count
 some-true zero f h = absurd (omega arith)
 some-true (suc t) f h = go (f t) refl h (some-true t f)
   where
-    go : (b : Bool) → f t ≡ b → 1 ≤ bit b + count t f → (1 ≤ count t f → (q : ℕ) × (q < t) × (f q ≡ true)) → (q : ℕ) × (q < suc t) × (f q ≡ true)
+    go : (b : Bool) → f t ≡ b → 1 ≤ bit b + count t f → (1 ≤ count t f → (q : ℕ) × (q < t) × (f q ≡ true)) → (q : ℕ) ×
+        (q < suc t) × (f q ≡ true)
     go true e i k = (t, omega arith, e)
     go false e i k = let w = k (omega arith) in (w .0, omega (arith, w .1), w .2)
 
@@ -119,14 +124,16 @@ count-after (suc t) p f h = go (eqb t p) refl (count-after t p f h)
   where
     go : (u : Bool) → eqb t p ≡ u → count t f ≡ bit (ltb p t) + count t (after p f)
         → bit (f t) + count t f ≡ bit (ltb p (suc t)) + (bit (pick u false (f t)) + count t (after p f))
-    go true e i = let z = eqb-true t p e in let a : bit (f t) ≡ 1 = rw (z, h) refl in omega (arith, below-suc p t, ap bit e, a, i)
+    go true e i = let z = eqb-true t p e in let a : bit (f t) ≡ 1 = rw (z, h) refl in
+        omega (arith, below-suc p t, ap bit e, a, i)
     go false e i = omega (arith, below-suc p t, ap bit e, i)
 
 pub count-gone : (t p : ℕ) (f : ℕ → Bool) → p < t → f p ≡ true → count t f ≡ suc (count t (after p f))
 count-gone t p f q h = omega (arith, count-after t p f h, ap bit (lt-ltb p t q))
 
 -- pages below t: the moved page and the new one are two of them
-pub count-moved : (t p n a : ℕ) (old new : List Place) → p < t → n < t → (p ≡ n → ⊥) → Mem (record { page = p; level = a }) old
+pub count-moved : (t p n a : ℕ) (old new : List Place) → p < t → n < t → (p ≡ n → ⊥)
+    → Mem (record { page = p; level = a }) old
     → All (λ x. x .page ≡ p → ⊥) new → All (λ x. (x .page ≡ n) ⊎ Mem x old) new
     → count t (live new) ≤ count t (live old)
 count-moved t p n a old new pt nt d m dd w =
@@ -155,11 +162,13 @@ unfolding hits
 sum-hits t [] = omega (arith, sum-none t)
 sum-hits t (n ∷ ns) = omega (arith, sum-add t (λ q. bit (eqb q n)) (hits ns), sum-one t n, bit-most (ltb n t), sum-hits t ns)
 
-count-more : (t p : ℕ) (ns : List ℕ) (f h : ℕ → Bool) → f p ≡ true → h p ≡ false → ((q : ℕ) → bit (h q) ≤ bit (f q) + hits ns q)
+count-more : (t p : ℕ) (ns : List ℕ) (f h : ℕ → Bool) → f p ≡ true → h p ≡ false
+    → ((q : ℕ) → bit (h q) ≤ bit (f q) + hits ns q)
     → count t h + bit (ltb p t) ≤ count t f + sum t (hits ns)
 unfolding count sum
 count-more zero p ns f h fp hp le = rw (le-ltb p 0 (omega arith)) (omega arith)
-count-more (suc t) p ns f h fp hp le = let i = count-more t p ns f h fp hp le in let a = go (eqb t p) refl in omega (arith, below-suc p t, a, i)
+count-more (suc t) p ns f h fp hp le = let i = count-more t p ns f h fp hp le in let a = go (eqb t p) refl in
+    omega (arith, below-suc p t, a, i)
   where
     go : (u : Bool) → eqb t p ≡ u → bit (h t) + bit u ≤ bit (f t) + hits ns t
     go true e =
@@ -174,11 +183,13 @@ unfolding live
 within-more ns q old [] h = omega arith
 within-more ns q old (x ∷ new) h = go (eqb (x .page) q) refl (h .0) (within-more ns q old new (h .1))
   where
-    go : (t : Bool) → eqb (x .page) q ≡ t → (1 ≤ hits ns (x .page)) ⊎ Mem x old → bit (live new q) ≤ bit (live old q) + hits ns q
+    go : (t : Bool) → eqb (x .page) q ≡ t → (1 ≤ hits ns (x .page)) ⊎ Mem x old
+        → bit (live new q) ≤ bit (live old q) + hits ns q
         → bit (pick t true (live new q)) ≤ bit (live old q) + hits ns q
     go false e w i = i
     go true e (inl w) i = let a : 1 ≤ hits ns q = rw (← eqb-true (x .page) q e) w in omega arith
-    go true e (inr w) i = let a : bit (live old q) ≡ 1 = rw (← eqb-true (x .page) q e, mem-live x old w) refl in omega arith
+    go true e (inr w) i = let a : bit (live old q) ≡ 1 = rw (← eqb-true (x .page) q e, mem-live x old w) refl in
+        omega arith
 
 pub lives-shifted : (t p : ℕ) (ns : List ℕ) (old new : List Place) → p < t → Shifted ns p old new
     → suc (count t (live new)) ≤ count t (live old) + length ns

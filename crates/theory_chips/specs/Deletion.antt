@@ -127,10 +127,13 @@ module _ (g : Geometry) (shape : Shape g) (n k : ℕ) (k-low : k < fourBytes) (c
     stay h =
         let e = stays-top (c .level) (lists (suc (c .level))) h in
         let lv : collapse r (c .level) (lists (suc (c .level))) .level ≡ c .level = ap (λ (x : Top). x .level) e in
-        let ls : collapse r (c .level) (lists (suc (c .level))) .list ≡ lists (suc (c .level)) = ap (λ (x : Top). x .list) e in
-        let here : s N (suc (c .level)) ≡ rootList = at-N (suc (c .level)) (omega arith) high ∙ rw (lv, eq-eqb (suc (c .level)) (suc (c .level)) refl)
+        let ls : collapse r (c .level) (lists (suc (c .level))) .list ≡ lists (suc (c .level)) =
+        ap (λ (x : Top). x .list) e in
+        let here : s N (suc (c .level)) ≡ rootList = at-N (suc (c .level)) (omega arith) high
+        ∙ rw (lv, eq-eqb (suc (c .level)) (suc (c .level)) refl)
         (ls ∙ root-list) in
-        let made : DeleteMade r s k N (c .level) (chosen k es) = made-from fit roomAt r k (removeIn k) (λ e. remove k (e ∷ [])) (kept N) (remove-as k)
+        let made : DeleteMade r s k N (c .level) (chosen k es) =
+        made-from fit roomAt r k (removeIn k) (λ e. remove k (e ∷ [])) (kept N) (remove-as k)
         (λ j d. 1 ≤ length d → s N j ≡ d) (c .level) fourBytes (theRoot c) k-low (λ _. some-root) (good .sound .rooted .rises)
         (λ j b d _. at-N j b (omega (arith, d, high)) ∙ rw (
           lv,
@@ -140,10 +143,12 @@ module _ (g : Geometry) (shape : Shape g) (n k : ℕ) (k-low : k < fourBytes) (c
           le-leb j (c .level) d,
           and-true true,
         ) refl) in
-        let w = delete-stay N fourBytes (half g) (rootMost g) r s fit fit′ fit-N (keep g (shape-core g shape) n c (good .r2) 1 free) stays new-N k k-low (c .level)
+        let w = delete-stay N fourBytes (half g) (rootMost g) r s fit fit′ fit-N
+        (keep g (shape-core g shape) n c (good .r2) 1 free) stays new-N k k-low (c .level)
         (c .root) (good .sound) some-root made here
         (λ i. rw (← root-list) (two (c .level) i h)) in
-        let z = less-shifted N fourBytes (half g) (rootMost g) r s fit fit′ fit-N (keep g (shape-core g shape) n c (good .r2) 1 free) stays new-N k k-low (c .level)
+        let z = less-shifted N fourBytes (half g) (rootMost g) r s fit fit′ fit-N
+        (keep g (shape-core g shape) n c (good .r2) 1 free) stays new-N k k-low (c .level)
         (c .root) (good .sound) made some-root here in (
           record { r2 = after-r2; sound = w .0 },
           w .1,
@@ -176,7 +181,8 @@ module _ (g : Geometry) (shape : Shape g) (n k : ℕ) (k-low : k < fourBytes) (c
         let sp = split (Ok fit roomAt r (suc l)) k fourBytes ls (omega (arith, b)) k-low (h .rooted .rises) in
         let w = splice-length (Ok fit roomAt r (suc l)) (deleted r k N (suc l)) k fourBytes ls (omega (arith, b)) k-low (h .rooted .rises) in
         let z = ap length e in
-        let made : DeleteMade r s k N (suc l) (chosen k ls) = none-made k N fourBytes (half g) (rootMost g) r s fit fit′ fit-N
+        let made : DeleteMade r s k N (suc l) (chosen k ls) =
+        none-made k N fourBytes (half g) (rootMost g) r s fit fit′ fit-N
         (keep g (shape-core g shape) n c (good .r2) 1 free) stays k-low (suc l) (next (sp .post) fourBytes) (chosen k ls) (sp .under) (sp .here)
         (none-left (deleted r k N (suc l) (chosen k ls)) (omega (arith, w, z, one, b))) in
         let one′ : length (atRoot (removeIn k) (deleted r k N (suc l)) k (suc l) ls) ≡ 1 = omega (arith, z, one) in
@@ -184,9 +190,11 @@ module _ (g : Geometry) (shape : Shape g) (n k : ℕ) (k-low : k < fourBytes) (c
         (collapse r (suc l) x .level) N × (under s (suc (collapse r (suc l) x .level)) (the N) ≡ remove k
         (under r (suc (suc l)) (the (c .root)))) × (count (g .pages * n) (live (places s (suc (collapse r (suc l) x .level)) (the N))) ≤
         count (g .pages * n) (live (places r (suc (suc l)) (the (c .root)))))) (sym e)
-        (λ at. let w = delete-collapse N fourBytes (half g) (rootMost g) r s fit fit′ fit-N (keep g (shape-core g shape) n c (good .r2) 1 free) stays new-N k k-low wide l
+        (λ at. let w = delete-collapse N fourBytes (half g) (rootMost g) r s fit fit′ fit-N
+        (keep g (shape-core g shape) n c (good .r2) 1 free) stays new-N k k-low wide l
         (c .root) h made one′ at in
-        let v = collapse-shifted N fourBytes (half g) (rootMost g) r s fit fit′ fit-N (keep g (shape-core g shape) n c (good .r2) 1 free) stays new-N k k-low wide l
+        let v = collapse-shifted N fourBytes (half g) (rootMost g) r s fit fit′ fit-N
+        (keep g (shape-core g shape) n c (good .r2) 1 free) stays new-N k k-low wide l
         (c .root) h made one′ at in
         let q = bottom-fit fit roomAt r k (rootMost g) fourBytes (suc l) (c .root) k-low (h .rooted) .0 in (
           w .0,
@@ -222,18 +230,22 @@ module _ (g : Geometry) (shape : Shape g) (n k : ℕ) (k-low : k < fourBytes) (c
         leaf-stays zero q = tt
         leaf-stays (suc l) q = absurd (omega arith)
 
-        kept-level : Stays (c .level) (lists (suc (c .level))) → Done (collapse r (c .level) (lists (suc (c .level))) .level)
-        kept-level h = let e : collapse r (c .level) (lists (suc (c .level))) .level ≡ c .level = ap (λ (x : Top). x .level)
+        kept-level : Stays (c .level) (lists (suc (c .level)))
+            → Done (collapse r (c .level) (lists (suc (c .level))) .level)
+        kept-level h = let e : collapse r (c .level) (lists (suc (c .level))) .level ≡ c .level =
+            ap (λ (x : Top). x .level)
             (stays-top (c .level) (lists (suc (c .level))) h) in rw e (stay h)
 
-        lower : 1 ≤ c .level → length (lists (suc (c .level))) < 2 → Done (collapse r (c .level) (lists (suc (c .level))) .level)
+        lower : 1 ≤ c .level → length (lists (suc (c .level))) < 2
+            → Done (collapse r (c .level) (lists (suc (c .level))) .level)
         lower i q =
             let t = collapse r (c .level) (lists (suc (c .level))) in
             let z = ap length root-list in
             let y = some-left (c .level) (good .sound) i in
             let x = top-low in
             let w = drop (c .level) (lists (suc (c .level))) (good .sound) root-list i (omega (arith, q, z, y))
-            (at-N (suc (t .level)) (omega arith) (omega (arith, x, high)) ∙ rw (eq-eqb (suc (t .level)) (suc (t .level)) refl) refl) in
+            (at-N (suc (t .level)) (omega arith) (omega (arith, x, high))
+            ∙ rw (eq-eqb (suc (t .level)) (suc (t .level)) refl) refl) in
             (record { r2 = after-r2; sound = w .0 }, w .1, w .2)
 
   -- the root that is left is within the table: by the nodes that are the old ones but for N
@@ -250,5 +262,6 @@ module _ (g : Geometry) (shape : Shape g) (n k : ℕ) (k-low : k < fourBytes) (c
         let w = delete-done free s (c .seq) (λ j _ _. s-N j) (λ q l h. rw (ne-eqb q N
         (λ z. new-side g (shape-core g shape) n c (good .r2) 1 free 1 l (omega arith) (omega arith)
         (subst (fit (suc l)) z h))) refl) high .0 .sound .rooted .atmost in
-        let e : s N (suc (top .level)) ≡ top .list = s-N (suc (top .level)) ∙ rw (eq-eqb (suc (top .level)) (suc (top .level)) refl) refl in
+        let e : s N (suc (top .level)) ≡ top .list =
+        s-N (suc (top .level)) ∙ rw (eq-eqb (suc (top .level)) (suc (top .level)) refl) refl in
         subst (λ (x : List Entry). length x ≤ rootMost g (suc (top .level))) e w

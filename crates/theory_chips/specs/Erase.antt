@@ -49,7 +49,8 @@ pub other : (g v b j : ℕ) → j < g → (b ≡ v → ⊥) → inB g v (g * b +
 other g v b j h d = go (inB g v (g * b + j)) refl
   where
     go : (t : Bool) → inB g v (g * b + j) ≡ t → t ≡ false
-    go true e = let w = range g v (g * b + j) e in absurd (d (page-inj g b v j (g * b + j - g * v) h (omega (arith, w .0, w .1))
+    go true e = let w = range g v (g * b + j) e in
+        absurd (d (page-inj g b v j (g * b + j - g * v) h (omega (arith, w .0, w .1))
         (omega (arith, w .0)) .0))
     go false e = refl
 
@@ -83,7 +84,8 @@ module _ (g : Geometry) (shape : Shape g) (n : ℕ) (v : ℕ) (v-in : v < n) (c 
   r2′ : R2 (g .pages) n (c′ .er)
   r2′ = record { mono = mono′; one = one′ }
     where
-      mono′ : (b i j : ℕ) → b < n → i ≤ j → j < g .pages → c′ .er (g .pages * b + i) ≡ true → c′ .er (g .pages * b + j) ≡ true
+      mono′ : (b i j : ℕ) → b < n → i ≤ j → j < g .pages → c′ .er (g .pages * b + i) ≡ true
+          → c′ .er (g .pages * b + j) ≡ true
       mono′ b i j p q w h = by-eq b v (λ e. rw e (er-own j w)) (λ e. er-other b j w e ∙ sw .good .r2 .mono b i j p q w
           (sym (er-other b i (omega arith) e) ∙ h))
 
@@ -120,7 +122,8 @@ module _ (g : Geometry) (shape : Shape g) (n : ℕ) (v : ℕ) (v-in : v < n) (c 
   outside = all-map (λ x. Mem x (placesOf c)) (λ x. 1 ≤ x .level → inB (g .pages) v (x .page) ≡ true → ⊥) (placesOf c)
       (λ x m _ i. let w = range (g .pages) v (x .page) i in
       true-false (live (placesOf c) (x .page)) (mem-live x (placesOf c) m)
-      (let e : x .page ≡ g .pages * v + (x .page - g .pages * v) = omega (arith, w .0) in subst (λ q. live (placesOf c) q ≡ false) (sym e)
+      (let e : x .page ≡ g .pages * v + (x .page - g .pages * v) = omega (arith, w .0) in
+      subst (λ q. live (placesOf c) q ≡ false) (sym e)
       (sw .dead (x .page - g .pages * v) (omega (arith, w .0, w .1)))))
       (all-mem (placesOf c))
 
@@ -157,9 +160,11 @@ module _ (g : Geometry) (shape : Shape g) (n : ℕ) (v : ℕ) (v-in : v < n) (c 
 
   pub erased-frees : count (g .pages * n) (c′ .er) ≡ count (g .pages * n) (c .er) + g .pages
   erased-frees =
-      let a : inBlock (g .pages) (c′ .er) v ≡ g .pages = count-same (λ j. c′ .er (g .pages * v + j)) (λ _. true) (g .pages) er-own ∙ count-all
+      let a : inBlock (g .pages) (c′ .er) v ≡ g .pages =
+      count-same (λ j. c′ .er (g .pages * v + j)) (λ _. true) (g .pages) er-own ∙ count-all
       (g .pages) in
-      let b : inBlock (g .pages) (c .er) v ≡ 0 = count-same (λ j. c .er (g .pages * v + j)) (λ _. false) (g .pages) (sw .full) ∙ count-none
+      let b : inBlock (g .pages) (c .er) v ≡ 0 =
+      count-same (λ j. c .er (g .pages * v + j)) (λ _. false) (g .pages) (sw .full) ∙ count-none
       (g .pages) in
       let p = sum-point n v (g .pages) (inBlock (g .pages) (c .er)) (inBlock (g .pages) (c′ .er)) (omega (arith, a, b))
       (λ b d. count-same (λ j. c′ .er (g .pages * b + j)) (λ j. c .er (g .pages * b + j)) (g .pages) (λ j w. er-other b j w d)) .1 v-in in

@@ -44,7 +44,8 @@ sideList g n c k a j = pick (leb j (c .level)) (sideHalf k (half g j) (insertLis
 abbrev pub mainList : Geometry → ℕ → Chip → ℕ → ℕ → ℕ → List Entry
 mainList g n c k a j = insertPart g c k a (sidePage g n c (needs g c k)) (sidePage g n c) j
 
--- the chip e after an insertion of m own pages into c: one node more for each page but N, and one for each level more; still half full
+-- the chip e after an insertion of m own pages into c: one node more for each page but N, and one for each level more;
+-- still half full
 pub record Fuller (g : Geometry) (m : ℕ) (c e : Chip) : Type 0 where
   pub nodes-are : length (nodesBelow e) + c .level + 1 ≡ length (nodesBelow c) + e .level + m
   pub filled : HalfFull g c → HalfFull g e
@@ -104,7 +105,8 @@ module _ (g : Geometry) (shape : Shape g) (n k a : ℕ) (k-low : k < fourBytes) 
       (good .sound .rooted .rises) absent-is
 
   -- the levels below the root that are too long are 1 to cuts
-  pub cut-levels : (j : ℕ) → 1 ≤ j → j ≤ c .level → (roomAt j < length (lists j) → j ≤ cuts) × (j ≤ cuts → roomAt j < length (lists j))
+  pub cut-levels : (j : ℕ) → 1 ≤ j → j ≤ c .level → (roomAt j < length (lists j) → j ≤ cuts) ×
+      (j ≤ cuts → roomAt j < length (lists j))
   unfolding insertList
   cut-levels j b d = splits-are k a N side (half g) r fit absent (c .level) fourBytes (theRoot c) k-low some-root
       (good .sound .rooted .rises) absent-is j b d
@@ -120,7 +122,8 @@ module _ (g : Geometry) (shape : Shape g) (n k a : ℕ) (k-low : k < fourBytes) 
   cuts-le = splits-le k a N side (half g) r fit absent (c .level) (chosen k es)
 
   -- a root that grows has taken an entry, so all levels below split
-  pub grow-all : grows ≡ true → (suc (c .level) < g .top) × (length (lists (suc (c .level))) ≡ 4 * half g (suc (c .level))) × (cuts ≡ c .level)
+  pub grow-all : grows ≡ true → (suc (c .level) < g .top) ×
+      (length (lists (suc (c .level))) ≡ 4 * half g (suc (c .level))) × (cuts ≡ c .level)
   unfolding fills rootMost
   grow-all e =
       let lo = ltb-true (suc (c .level)) (g .top) (and-left _ _ e) in
@@ -140,7 +143,8 @@ module _ (g : Geometry) (shape : Shape g) (n k a : ℕ) (k-low : k < fourBytes) 
       (λ e. omega (arith, needs-is, cuts-le, hi, ap bit e))
 
   -- a root that does not grow stays within the table, unless it is too high
-  pub stay-most : suc (c .level) ≤ g .top → tooHigh g c k ≡ false → grows ≡ false → length (lists (suc (c .level))) ≤ rootMost g (suc (c .level))
+  pub stay-most : suc (c .level) ≤ g .top → tooHigh g c k ≡ false → grows ≡ false
+      → length (lists (suc (c .level))) ≤ rootMost g (suc (c .level))
   unfolding fills rootMost tooHigh rootGains
   stay-most hi small e = by-test (ltb (suc (c .level)) (g .top))
       (λ x. rw (halved g shape, x) (below (ltb-true (suc (c .level)) (g .top) x) (rw (
@@ -151,14 +155,16 @@ module _ (g : Geometry) (shape : Shape g) (n k a : ℕ) (k-low : k < fourBytes) 
       (λ x. rw (halved g shape, x) (at-top (ltb-false (suc (c .level)) (g .top) x) (rw (halved g shape, x) at (good .sound .rooted .atmost))))
     where
       below : suc (c .level) < g .top → eqb (length (lists (suc (c .level)))) (rootSlots g (suc (c .level))) ≡ false
-          → length es ≤ rootSlots g (suc (c .level)) - 1 → length (lists (suc (c .level))) ≤ rootSlots g (suc (c .level)) - 1
+          → length es ≤ rootSlots g (suc (c .level)) - 1 → length (lists (suc (c .level))) ≤ rootSlots g
+          (suc (c .level)) - 1
       below lo ne am =
           let w = eqb-false (length (lists (suc (c .level)))) (rootSlots g (suc (c .level))) ne in
           let d = shape .double (suc (c .level)) (omega arith) lo in
           let s = shape .some (suc (c .level)) (omega arith) lo in
           omega (arith, w, am, d, s, root-length, bit-most gained)
 
-      at-top : g .top ≤ suc (c .level) → length es ≤ rootSlots g (suc (c .level)) → length (lists (suc (c .level))) ≤ rootSlots g (suc (c .level))
+      at-top : g .top ≤ suc (c .level) → length es ≤ rootSlots g (suc (c .level))
+          → length (lists (suc (c .level))) ≤ rootSlots g (suc (c .level))
       at-top lo am = by-test gained
           (λ z. by-eq (length es) (rootSlots g (suc (c .level)))
           (λ y. absurd (true-false _ (and-both _ _ (and-both _ _ (eq-eqb (suc (c .level)) (g .top) (omega (arith, lo, hi)))
@@ -170,14 +176,17 @@ module _ (g : Geometry) (shape : Shape g) (n k a : ℕ) (k-low : k < fourBytes) 
   pub two-root : suc (c .level) < g .top → 2 ≤ rootMost g (suc (suc (c .level)))
   unfolding rootMost
   two-root lo = by-test (ltb (suc (suc (c .level))) (g .top))
-      (λ x. let y = ltb-true (suc (suc (c .level))) (g .top) x in let d = shape .double (suc (suc (c .level))) (omega arith) y in let z = shape .some
+      (λ x. let y = ltb-true (suc (suc (c .level))) (g .top) x in let d =
+      shape .double (suc (suc (c .level))) (omega arith) y in let z = shape .some
       (suc (suc (c .level))) (omega arith) y in rw (halved g shape, x) (omega (arith, d, z)))
-      (λ x. let y : suc (suc (c .level)) ≡ g .top = omega (arith, lo, ltb-false (suc (suc (c .level))) (g .top) x) in let d = ap (rootSlots g) y in
+      (λ x. let y : suc (suc (c .level)) ≡ g .top = omega (arith, lo, ltb-false (suc (suc (c .level))) (g .top) x) in
+      let d = ap (rootSlots g) y in
       let z = shape .top-slots in rw (halved g shape, x) (omega (arith, d, z)))
 
   -- ---- the nodes s after the m pages
   module _ (free : m ≤ count (g .pages * n) (c .er)) (s : Nodes) (numbers : ℕ → ℕ)
-      (at-N : (j : ℕ) → 1 ≤ j → j ≤ g .top → s N j ≡ mainList g n c k a j) (at-side : (j : ℕ) → 1 ≤ j → j < m → s (side j) j ≡ sideList g n c k a j)
+      (at-N : (j : ℕ) → 1 ≤ j → j ≤ g .top → s N j ≡ mainList g n c k a j) (at-side : (j : ℕ) → 1 ≤ j → j < m
+      → s (side j) j ≡ sideList g n c k a j)
       (stays : (q l : ℕ) → fit (suc l) q → s q (suc l) ≡ r q (suc l)) (high : suc (c .level) ≤ g .top) where
     abbrev fit′ : ℕ → ℕ → Type 0
     fit′ = fitOf (g .pages * n) (taken (g .pages) n (ahead g n c) m .er)
@@ -193,7 +202,8 @@ module _ (g : Geometry) (shape : Shape g) (n k a : ℕ) (k-low : k < fourBytes) 
         (λ j b d. at j b d _ refl)
       where
         at : (j : ℕ) → 1 ≤ j → j ≤ c .level → (d : List Entry) → lists j ≡ d
-            → (s N j ≡ pathPart k (half g) j d) × (roomAt j < length d → (s (side j) j ≡ sideHalf k (half g j) d) × fit′ j (side j) × Cut j)
+            → (s N j ≡ pathPart k (half g) j d) × (roomAt j < length d → (s (side j) j ≡ sideHalf k (half g j) d) ×
+            fit′ j (side j) × Cut j)
         at j b d ds e = (
           at-N j b (omega (arith, d, high)) ∙ rw (le-leb j (c .level) d) (ap (pathPart k (half g) j) e),
           λ f. let w = cut-levels j b d .0 (rw e f) in let lt : j < m = omega (arith, needs-is, w) in (
@@ -208,7 +218,8 @@ module _ (g : Geometry) (shape : Shape g) (n k a : ℕ) (k-low : k < fourBytes) 
     some-m = omega (arith, needs-is)
 
     apart : (l : ℕ) → Cut l → side l ≡ N → ⊥
-    apart l h e = let z = side-inj g (shape-core g shape) n c (good .r2) m free l m (h .0) (omega (arith, h .1)) some-m (omega arith) e in omega (arith, h .1, z)
+    apart l h e = let z = side-inj g (shape-core g shape) n c (good .r2) m free l m (h .0) (omega (arith, h .1)) some-m
+        (omega arith) e in omega (arith, h .1, z)
 
     inj : (i j : ℕ) → Cut i → Cut j → side i ≡ side j → i ≡ j
     inj i j h h′ e = side-inj g (shape-core g shape) n c (good .r2) m free i j (h .0) (omega (arith, h .1)) (h′ .0) (omega (arith, h′ .1)) e
@@ -230,7 +241,8 @@ module _ (g : Geometry) (shape : Shape g) (n k a : ℕ) (k-low : k < fourBytes) 
         absent-is made
 
     list-filled : HalfFull g c → All (Filled (half g) s) (gather (places s (c .level)) rootList)
-    list-filled h = root-filled k a N fourBytes side (half g) (rootMost g) r s fit fit′ Cut (λ l. fit-side g (shape-core g shape) n c (good .r2) m free m (suc l)
+    list-filled h = root-filled k a N fourBytes side (half g) (rootMost g) r s fit fit′ Cut
+        (λ l. fit-side g (shape-core g shape) n c (good .r2) m free m (suc l)
         some-m (omega arith)) tt (keep g (shape-core g shape) n c (good .r2) m free) stays k-low (c .level) es some-root (good .sound .rooted .rises) h made
 
     -- the page of the leaf that K goes to
@@ -253,11 +265,13 @@ module _ (g : Geometry) (shape : Shape g) (n k a : ℕ) (k-low : k < fourBytes) 
         let here : s N (suc (c .level)) ≡ rootList = at-N (suc (c .level)) (omega arith) high
         ∙ rw (lt-leb (suc (c .level)) (c .level) (omega arith), e, eq-eqb (suc (c .level)) (suc (c .level)) refl) root-list in
         let w = insert-stay N fourBytes (half g) (rootMost g) r s fit fit′ (λ l. fit-side g (shape-core g shape) n c (good .r2) m free m (suc l) some-m
-        (omega arith)) (keep g (shape-core g shape) n c (good .r2) m free) stays (λ l. new-side g (shape-core g shape) n c (good .r2) m free m l some-m (omega arith))
+        (omega arith)) (keep g (shape-core g shape) n c (good .r2) m free) stays
+        (λ l. new-side g (shape-core g shape) n c (good .r2) m free m l some-m (omega arith))
         k a side Cut tt k-low apart inj (λ l j h. new-side g (shape-core g shape) n c (good .r2) m free l j (h .0) (omega (arith, h .1)))
         (c .level) (c .root) (good .sound) made here (rw (← root-list) (stay-most high small e)) in
         let z = stay-shifted N fourBytes (half g) (rootMost g) r s fit fit′ (λ l. fit-side g (shape-core g shape) n c (good .r2) m free m (suc l) some-m
-        (omega arith)) (keep g (shape-core g shape) n c (good .r2) m free) stays (λ l. new-side g (shape-core g shape) n c (good .r2) m free m l some-m (omega arith))
+        (omega arith)) (keep g (shape-core g shape) n c (good .r2) m free) stays
+        (λ l. new-side g (shape-core g shape) n c (good .r2) m free m l some-m (omega arith))
         k k-low (c .level) (c .root) (good .sound) a (m - 1) side Cut cut-in tt
         (λ l j h. new-side g (shape-core g shape) n c (good .r2) m free l j (h .0) (omega (arith, h .1))) made here in (
           record { r2 = after-r2; sound = w .0 },
@@ -269,7 +283,8 @@ module _ (g : Geometry) (shape : Shape g) (n k a : ℕ) (k-low : k < fourBytes) 
             many,
           ),
           record {
-            nodes-are = (let x = ap (λ (d : List Entry). length (gather (places s (c .level)) d)) here in omega (arith, x, list-nodes, needs-is, ap bit e));
+            nodes-are = (let x = ap (λ (d : List Entry). length (gather (places s (c .level)) d)) here in
+                omega (arith, x, list-nodes, needs-is, ap bit e));
             filled = λ h. subst (λ (d : List Entry). All (Filled (half g) s) (gather (places s (c .level)) d)) (sym here) (list-filled h);
           },
         )
@@ -285,20 +300,24 @@ module _ (g : Geometry) (shape : Shape g) (n k a : ℕ) (k-low : k < fourBytes) 
         let small : leb (suc l) l ≡ false = lt-leb (suc l) l (omega arith) in
         let small′ : leb (suc (suc l)) l ≡ false = lt-leb (suc (suc l)) l (omega arith) in
         let ne : eqb (suc (suc l)) (suc l) ≡ false = ne-eqb (suc (suc l)) (suc l) (λ z. omega (arith, z)) in
-        let path : s N (suc l) ≡ pathHalf k (2 * h) rootList = at-N (suc l) (omega arith) high ∙ rw (small, e, eq-eqb (suc l) (suc l) refl)
+        let path : s N (suc l) ≡ pathHalf k (2 * h) rootList = at-N (suc l) (omega arith) high
+        ∙ rw (small, e, eq-eqb (suc l) (suc l) refl)
         (ap (pathHalf k (2 * h)) root-list) in
         let other : s (side (suc l)) (suc l) ≡ sideHalf k (2 * h) rootList = at-side (suc l) (omega arith) lt ∙ rw small
         (ap (sideHalf k (2 * h)) root-list) in
         let crown : s N (suc (suc l)) ≡ two k N (side (suc l)) (2 * h) (next rootList 0) rootList =
-        at-N (suc (suc l)) (omega arith) (omega (arith, u .0)) ∙ rw (small′, e, ne, eq-eqb (suc (suc l)) (suc (suc l)) refl)
+        at-N (suc (suc l)) (omega arith) (omega (arith, u .0))
+        ∙ rw (small′, e, ne, eq-eqb (suc (suc l)) (suc (suc l)) refl)
         (ap (λ x. two k N (side (suc l)) (2 * h) (next x 0) x) root-list) in
         let w = insert-grow N fourBytes (half g) (rootMost g) r s fit fit′ (λ l. fit-side g (shape-core g shape) n c (good .r2) m free m (suc l) some-m
-        (omega arith)) (keep g (shape-core g shape) n c (good .r2) m free) stays (λ l. new-side g (shape-core g shape) n c (good .r2) m free m l some-m (omega arith))
+        (omega arith)) (keep g (shape-core g shape) n c (good .r2) m free) stays
+        (λ l. new-side g (shape-core g shape) n c (good .r2) m free m l some-m (omega arith))
         k a side Cut tt k-low apart inj (λ l j h. new-side g (shape-core g shape) n c (good .r2) m free l j (h .0) (omega (arith, h .1)))
         l (c .root) (good .sound) made (path, other, fit-side g (shape-core g shape) n c (good .r2) m free (suc l) (suc l) (omega arith) (omega (arith, lt)))
         (omega arith, lt) crown (sym (ap length root-list) ∙ u .1) (two-root (u .0)) in
         let z = grow-shifted N fourBytes (half g) (rootMost g) r s fit fit′ (λ l. fit-side g (shape-core g shape) n c (good .r2) m free m (suc l) some-m
-        (omega arith)) (keep g (shape-core g shape) n c (good .r2) m free) stays (λ l. new-side g (shape-core g shape) n c (good .r2) m free m l some-m (omega arith))
+        (omega arith)) (keep g (shape-core g shape) n c (good .r2) m free) stays
+        (λ l. new-side g (shape-core g shape) n c (good .r2) m free m l some-m (omega arith))
         k k-low l (c .root) (good .sound) a (m - 1) side Cut cut-in tt
         (λ l j h. new-side g (shape-core g shape) n c (good .r2) m free l j (h .0) (omega (arith, h .1))) made
         (path, other, fit-side g (shape-core g shape) n c (good .r2) m free (suc l) (suc l) (omega arith) (omega (arith, lt))) (omega arith, lt)
@@ -313,7 +332,8 @@ module _ (g : Geometry) (shape : Shape g) (n k a : ℕ) (k-low : k < fourBytes) 
           ),
           record {
             nodes-are = (let x = ap (λ (d : List Entry). length (gather (places s (suc l)) d)) crown in
-                let y = two-nodes k a N fourBytes side (half g) (rootMost g) r s fit fit′ Cut (λ l. fit-side g (shape-core g shape) n c (good .r2) m free m (suc l)
+                let y = two-nodes k a N fourBytes side (half g) (rootMost g) r s fit fit′ Cut
+                (λ l. fit-side g (shape-core g shape) n c (good .r2) m free m (suc l)
                 some-m (omega arith)) tt (keep g (shape-core g shape) n c (good .r2) m free) stays k-low l (2 * h) (next rootList 0) rootList
                 (path, other, fit-side g (shape-core g shape) n c (good .r2) m free (suc l) (suc l) (omega arith) (omega (arith, lt))) in
                 omega (arith, x, y, list-nodes, needs-is, ap bit e));

@@ -1,5 +1,6 @@
--- "after each move the table equals the one worked out afresh", on every chip that keeps R2, R5 and R6: the lowest live levels after a move are
--- those before, but for the new page and the pages whose lowest live node stands on the path. Assumes nothing.
+-- "after each move the table equals the one worked out afresh", on every chip that keeps R2, R5 and R6: the lowest live
+-- levels after a move are those before, but for the new page and the pages whose lowest live node stands on the path.
+-- Assumes nothing.
 use Prim.Native.Nat.{ℕ, suc, _*_, _≤_}
 use mathlib.Core.Path.{_≡_, refl}
 use mathlib.Core.List.{List}
@@ -23,12 +24,14 @@ use Rattle.theory_chips.specs.Moves.{moveTo, keep, not-new, stays, low, 
 abbrev pub movePath : Chip → ℕ → List Place
 movePath c p = pathPlaces (c .nodes) (moveKey c p) (lowLevel (placesOf c) p) (suc (c .level)) (theRoot c)
 
-module _ (g : Geometry) (shape : Shape g) (n : ℕ) (c : Chip) (good : Whole g n c) (p : ℕ) (alive : live (placesOf c) p ≡ true)
+module _ (g : Geometry) (shape : Shape g) (n : ℕ) (c : Chip) (good : Whole g n c)
+    (p : ℕ) (alive : live (placesOf c) p ≡ true)
     (free : 1 ≤ count (g .pages * n) (c .er)) where
   abbrev new : ℕ
   new = nextPage (g .pages) n (ahead g n c)
 
-  pub low-moved : Lowered new (lowLevel (placesOf c) p) (placesOf c) (movePath c p) (placesOf (moveTo (g .pages * n) c p new))
+  pub low-moved : Lowered new (lowLevel (placesOf c) p) (placesOf c) (movePath c p)
+      (placesOf (moveTo (g .pages * n) c p new))
   unfolding moveTo
   low-moved = lowered p (lowLevel (placesOf c) p) new fourBytes (half g) (rootMost g) (c .nodes) (moveTo (g .pages * n) c p new .nodes)
       (fitOf (g .pages * n) (c .er)) (fitOf (g .pages * n) (after new (c .er))) (fit-new g shape n c good p alive free)

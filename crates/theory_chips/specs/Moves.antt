@@ -42,7 +42,8 @@ moveTo t c p m = record {
   root = m;
 }
 
--- what a move does: sound again, the same pairs, p dead, nothing else come alive but the new page, one page fewer erased
+-- what a move does: sound again, the same pairs, p dead, nothing else come alive but the new page, one page fewer
+-- erased
 pub record MoveStep (g : Geometry) (n : ℕ) (c c′ : Chip) (p new : ℕ) : Type 0 where
   pub good : Whole g n c′
   pub pairs-are : mapOf c′ ≡ mapOf c
@@ -54,7 +55,8 @@ pub record MoveStep (g : Geometry) (n : ℕ) (c c′ : Chip) (p new : ℕ) : Typ
   pub alike : Same g c c′
   pub frees : count (g .pages * n) (c .er) ≡ suc (count (g .pages * n) (c′ .er))
 
-module _ (g : Geometry) (shape : Shape g) (n : ℕ) (c : Chip) (good : Whole g n c) (p : ℕ) (alive : live (placesOf c) p ≡ true)
+module _ (g : Geometry) (shape : Shape g) (n : ℕ) (c : Chip) (good : Whole g n c)
+    (p : ℕ) (alive : live (placesOf c) p ≡ true)
     (free : 1 ≤ count (g .pages * n) (c .er)) where
   abbrev new : ℕ
   new = nextPage (g .pages) n (ahead g n c)
@@ -62,7 +64,8 @@ module _ (g : Geometry) (shape : Shape g) (n : ℕ) (c : Chip) (good : Whole g n
   abbrev c′ : Chip
   c′ = moveTo (g .pages * n) c p new
 
-  found : (nextBlock (g .pages) n (ahead g n c) < n) × (firstIn (g .pages) (c .er) (nextBlock (g .pages) n (ahead g n c)) < g .pages) × (c .er new ≡ true)
+  found : (nextBlock (g .pages) n (ahead g n c) < n) ×
+      (firstIn (g .pages) (c .er) (nextBlock (g .pages) n (ahead g n c)) < g .pages) × (c .er new ≡ true)
   found = next-found (g .pages) n (ahead g n c) (some-page g (shape-core g shape)) (good .r2) free
 
   new-in : new < g .pages * n
@@ -82,7 +85,8 @@ module _ (g : Geometry) (shape : Shape g) (n : ℕ) (c : Chip) (good : Whole g n
   unfolding moveTo
   on-new j = rw (eq-eqb new new refl) refl
 
-  pub low : Mem (record { page = p; level = lowLevel (placesOf c) p }) (placesOf c) × All (λ x. x .page ≡ p → lowLevel (placesOf c) p ≤ x .level)
+  pub low : Mem (record { page = p; level = lowLevel (placesOf c) p }) (placesOf c) ×
+      All (λ x. x .page ≡ p → lowLevel (placesOf c) p ≤ x .level)
       (placesOf c)
   low = low-is (placesOf c) p alive
 
@@ -126,7 +130,8 @@ module _ (g : Geometry) (shape : Shape g) (n : ℕ) (c : Chip) (good : Whole g n
   pub fit-new : (l : ℕ) → fitOf (g .pages * n) (after new (c .er)) (suc l) new
   fit-new l = (new-in, rw (eq-eqb new new refl) refl)
 
-  the-move : Moved p (lowLevel (placesOf c) p) new fourBytes (half g) (rootMost g) (c .nodes) (c′ .nodes) (fitOf (g .pages * n) (c .er))
+  the-move : Moved p (lowLevel (placesOf c) p) new fourBytes (half g) (rootMost g) (c .nodes) (c′ .nodes)
+      (fitOf (g .pages * n) (c .er))
       (fitOf (g .pages * n) (after new (c .er))) fit-new keep stays (λ l h. not-new new l h refl) (c .level) (c .root) (good .sound) (low .0) (low .1)
   the-move = move-sound p (lowLevel (placesOf c) p) new fourBytes (half g) (rootMost g) (c .nodes) (c′ .nodes) (fitOf (g .pages * n) (c .er))
       (fitOf (g .pages * n) (after new (c .er))) fit-new keep stays (λ l h. not-new new l h refl) (c .level) (c .root) (good .sound) (low .0)

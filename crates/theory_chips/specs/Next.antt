@@ -25,7 +25,8 @@ page-inj g b c i j p q e = go (ltb b c) (ltb c b) refl refl
     go : (t u : Bool) → ltb b c ≡ t → ltb c b ≡ u → (b ≡ c) × (i ≡ j)
     go true u x y = absurd (omega (arith, block-in g b c (ltb-true b c x)))
     go false true x y = absurd (omega (arith, block-in g c b (ltb-true c b y)))
-    go false false x y = let z : b ≡ c = omega (arith, ltb-false b c x, ltb-false c b y) in let w = ap (λ m. g * m) z in (z, omega (arith, w))
+    go false false x y = let z : b ≡ c = omega (arith, ltb-false b c x, ltb-false c b y) in let w = ap (λ m. g * m) z in
+        (z, omega (arith, w))
 
 pub in-range : (g n b j : ℕ) → b < n → j < g → g * b + j < g * n
 in-range g n b j p q = omega (arith, block-in g b n p)
@@ -65,9 +66,11 @@ pub round-found : (n b c : ℕ) (f : ℕ → Bool) → c < n → f c ≡ true �
 unfolding round
 round-found n b c f q h = go (ltb (least n (λ i. ltb b i & f i)) n) refl (least-is (λ i. ltb b i & f i) n) (least-is f n)
   where
-    go : (t : Bool) → ltb (least n (λ i. ltb b i & f i)) n ≡ t → Least (λ i. ltb b i & f i) n (least n (λ i. ltb b i & f i))
+    go : (t : Bool) → ltb (least n (λ i. ltb b i & f i)) n ≡ t → Least (λ i. ltb b i & f i) n
+        (least n (λ i. ltb b i & f i))
         → Least f n (least n f)
-        → (pick t (least n (λ i. ltb b i & f i)) (least n f) < n) × (f (pick t (least n (λ i. ltb b i & f i)) (least n f)) ≡ true)
+        → (pick t (least n (λ i. ltb b i & f i)) (least n f) < n) ×
+        (f (pick t (least n (λ i. ltb b i & f i)) (least n f)) ≡ true)
     go true e l k = let z = ltb-true (least n (λ i. ltb b i & f i)) n e in (z, and-right _ _ (l .there z))
     go false e l k = let z = inside (ltb c (least n f)) refl in (z, k .there z)
       where
@@ -84,13 +87,15 @@ pub round-first : (n b i : ℕ) (f : ℕ → Bool) → b < n → i < n → f i �
 unfolding round
 round-first n b i f q h e = go (ltb (least n (λ i. ltb b i & f i)) n) refl (least-is (λ i. ltb b i & f i) n) (least-is f n)
   where
-    higher : Least (λ i. ltb b i & f i) n (least n (λ i. ltb b i & f i)) → ltb b i ≡ true → least n (λ i. ltb b i & f i) ≤ i
+    higher : Least (λ i. ltb b i & f i) n (least n (λ i. ltb b i & f i)) → ltb b i ≡ true
+        → least n (λ i. ltb b i & f i) ≤ i
     higher l x = by-lt i (least n (λ i. ltb b i & f i)) (λ z. absurd (true-false _ (and-both _ _ x e) (l .before i z))) (λ z. z)
 
     lowest : Least f n (least n f) → least n f ≤ i
     lowest k = by-lt i (least n f) (λ z. absurd (true-false (f i) e (k .before i z))) (λ z. z)
 
-    go : (t : Bool) → ltb (least n (λ i. ltb b i & f i)) n ≡ t → Least (λ i. ltb b i & f i) n (least n (λ i. ltb b i & f i))
+    go : (t : Bool) → ltb (least n (λ i. ltb b i & f i)) n ≡ t → Least (λ i. ltb b i & f i) n
+        (least n (λ i. ltb b i & f i))
         → Least f n (least n f) → steps n b (pick t (least n (λ i. ltb b i & f i)) (least n f)) ≤ steps n b i
     go true x l k =
         let z = ltb-true (least n (λ i. ltb b i & f i)) n x in
@@ -128,7 +133,8 @@ module _ (g n : ℕ) (w : Ahead) (g-pos : 1 ≤ g) (r2 : R2 g n (w .er)) where
   mixed-first : (b : ℕ) → mixed g er b ≡ true → (er (g * b + 0) ≡ false) × (er (g * b + (g - 1)) ≡ true)
   mixed-first b h = go (er (g * b + 0)) refl h
     where
-      go : (t : Bool) → er (g * b + 0) ≡ t → pick t false (er (g * b + (g - 1))) ≡ true → (er (g * b + 0) ≡ false) × (er (g * b + (g - 1)) ≡ true)
+      go : (t : Bool) → er (g * b + 0) ≡ t → pick t false (er (g * b + (g - 1))) ≡ true → (er (g * b + 0) ≡ false) ×
+          (er (g * b + (g - 1)) ≡ true)
       go true e i = absurd (true-false false i refl)
       go false e i = (e, i)
 
@@ -167,13 +173,15 @@ module _ (g n : ℕ) (w : Ahead) (g-pos : 1 ≤ g) (r2 : R2 g n (w .er)) where
           let f = first-in b 0 (omega arith) (k .1) in
           (k .0, omega (arith, f .0), f .1)
         where
-          is-blank : (t : Bool) → er (g * c + 0) ≡ t → pick t false (er (g * c + (g - 1))) ≡ false → er (g * c + (g - 1)) ≡ true
+          is-blank : (t : Bool) → er (g * c + 0) ≡ t → pick t false (er (g * c + (g - 1))) ≡ false
+              → er (g * c + (g - 1)) ≡ true
               → er (g * c + 0) ≡ true
           is-blank true x y v = x
           is-blank false x y v = absurd (true-false (er (g * c + (g - 1))) v y)
 
   -- it is one while there is one
-  pub next-found : 1 ≤ count (g * n) er → (nextBlock g n w < n) × (firstIn g er (nextBlock g n w) < g) × (er (nextPage g n w) ≡ true)
+  pub next-found : 1 ≤ count (g * n) er → (nextBlock g n w < n) × (firstIn g er (nextBlock g n w) < g) ×
+      (er (nextPage g n w) ≡ true)
   next-found h =
       let f = some-true (g * n) er h in
       let v = by-block g n (f .0) (f .1) in
@@ -190,10 +198,11 @@ module _ (g n : ℕ) (w : Ahead) (g-pos : 1 ≤ g) (r2 : R2 g n (w .er)) where
       go : (t : Bool) → ltb (least n (mixed g er)) n ≡ t → Least (mixed g er) n (least n (mixed g er))
           → b ≡ pick t (least n (mixed g er)) (round n (w .last / g) (λ b. er (g * b + 0)))
       go true e l = let z = ltb-true (least n (mixed g er)) n e in r2 .one b (least n (mixed g er)) q z h (l .there z)
-      go false e l = let z = ltb-false (least n (mixed g er)) n e in absurd (true-false (mixed g er b) h (l .before b (omega arith)))
+      go false e l = let z = ltb-false (least n (mixed g er)) n e in
+          absurd (true-false (mixed g er b) h (l .before b (omega arith)))
 
-  -- request 2: where no block is partly programmed, the first wholly erased block met from the one after the block of the page
-  -- with the largest number on, round past the end to the start, is taken
+  -- request 2: where no block is partly programmed, the first wholly erased block met from the one after the block of
+  -- the page with the largest number on, round past the end to the start, is taken
   module _ (none : (b : ℕ) → b < n → mixed g er b ≡ false) where
     abbrev heads : ℕ → Bool
     heads b = er (g * b + 0)
@@ -204,7 +213,8 @@ module _ (g n : ℕ) (w : Ahead) (g-pos : 1 ≤ g) (r2 : R2 g n (w .er)) where
       where
         go : (t : Bool) → ltb (least n (mixed g er)) n ≡ t → Least (mixed g er) n (least n (mixed g er))
             → pick t (least n (mixed g er)) (round n (w .last / g) heads) ≡ round n (w .last / g) heads
-        go true e l = let z = ltb-true (least n (mixed g er)) n e in absurd (true-false _ (l .there z) (none (least n (mixed g er)) z))
+        go true e l = let z = ltb-true (least n (mixed g er)) n e in
+            absurd (true-false _ (l .there z) (none (least n (mixed g er)) z))
         go false e l = refl
 
     pub next-first : w .last < g * n → (c : ℕ) → c < n → Wholly g er c → First g n w c
@@ -226,14 +236,16 @@ module _ (g n : ℕ) (w : Ahead) (g-pos : 1 ≤ g) (r2 : R2 g n (w .er)) where
     abbrev er′ : ℕ → Bool
     er′ = after (nextPage g n w) er
 
-    pub elsewhere : (b j : ℕ) → j < g → ((b ≡ nextBlock g n w) → (j ≡ firstIn g er (nextBlock g n w)) → ⊥) → er′ (g * b + j) ≡ er (g * b + j)
+    pub elsewhere : (b j : ℕ) → j < g → ((b ≡ nextBlock g n w) → (j ≡ firstIn g er (nextBlock g n w)) → ⊥)
+        → er′ (g * b + j) ≡ er (g * b + j)
     elsewhere b j q d = rw (ne-eqb (g * b + j) (nextPage g n w) (λ e. let z = page-inj g b (nextBlock g n w) j
         (firstIn g er (nextBlock g n w)) q inside e in d (z .0) (z .1))) refl
 
     true-old : (q : ℕ) → er′ q ≡ true → (er q ≡ true) × (q ≡ nextPage g n w → ⊥)
     true-old q h = go (eqb q (nextPage g n w)) refl h
       where
-        go : (t : Bool) → eqb q (nextPage g n w) ≡ t → pick t false (er q) ≡ true → (er q ≡ true) × (q ≡ nextPage g n w → ⊥)
+        go : (t : Bool) → eqb q (nextPage g n w) ≡ t → pick t false (er q) ≡ true → (er q ≡ true) ×
+            (q ≡ nextPage g n w → ⊥)
         go true e i = absurd (true-false false i refl)
         go false e i = (i, eqb-false q (nextPage g n w) e)
 

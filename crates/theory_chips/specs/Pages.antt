@@ -50,7 +50,8 @@ fit-after t p er zero q h = tt
 fit-after t p er (suc l) q h = (h .0, after-false p q er (h .1))
 
 -- m pages are left
-module _ (g : Geometry) (core : Core g) (n : ℕ) (c : Chip) (r2 : R2 (g .pages) n (c .er)) (m : ℕ) (free : m ≤ count (g .pages * n) (c .er)) where
+module _ (g : Geometry) (core : Core g) (n : ℕ) (c : Chip) (r2 : R2 (g .pages) n (c .er))
+    (m : ℕ) (free : m ≤ count (g .pages * n) (c .er)) where
   abbrev side : ℕ → ℕ
   side = sidePage g n c
 

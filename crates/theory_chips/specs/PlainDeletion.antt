@@ -1,4 +1,5 @@
--- The plain tree's deletion on an abstract chip (request 12): R2, R5, R6 hold again, and the map is without K. Assumes nothing.
+-- The plain tree's deletion on an abstract chip (request 12): R2, R5, R6 hold again, and the map is without K. Assumes
+-- nothing.
 use mathlib.Core.Path.{_≡_, refl, ap, sym, subst, _∙_}
 use mathlib.Core.List.{List, [], _∷_, _++_}
 use mathlib.Core.Bool.{Bool, true, false}
@@ -39,7 +40,8 @@ use Rattle.theory_chips.specs.PlainEmptied.{path-length, none-same, some
 use Rattle.theory_chips.specs.PlainPlans.{noPlan, planAt, at-right, Empty, kept-length, kept-at}
 
 -- a root that has two entries, or is a leaf, stays
-collapse-stays : (r : Nodes) (l : ℕ) (cs : List Entry) → (1 ≤ l → 2 ≤ length cs) → collapse r l cs ≡ record { level = l; list = cs }
+collapse-stays : (r : Nodes) (l : ℕ) (cs : List Entry) → (1 ≤ l → 2 ≤ length cs)
+    → collapse r l cs ≡ record { level = l; list = cs }
 unfolding collapse
 collapse-stays r zero cs h = refl
 collapse-stays r (suc l) [] h = absurd (let w = h (omega arith) in omega (arith, w))
@@ -120,7 +122,8 @@ module _ (g : Geometry) (core : Core g) (n k : ℕ) (k-low : k < fourBytes) (c :
       ∙ count-all (c .level)
 
   -- the new root then goes to the next page
-  first-page : 1 ≤ c .level → length (lists (suc (c .level))) ≡ 1 → P (suc (top .level)) ≡ nth (g .pages) n (ahead g n c) 0
+  first-page : 1 ≤ c .level → length (lists (suc (c .level))) ≡ 1 → P (suc (top .level)) ≡ nth (g .pages) n
+      (ahead g n c) 0
   unfolding plainTop keptPage
   first-page i one =
       let lo = collapse-low r (c .level) (lists (suc (c .level))) in
@@ -158,7 +161,8 @@ module _ (g : Geometry) (core : Core g) (n k : ℕ) (k-low : k < fourBytes) (c :
         (sym (h .1) ∙ u .1) in omega (arith, e)
 
     -- the root stays at its level
-    module _ (pages : m ≡ suc (c .level) - emptied c k) (at : (j : ℕ) → 1 ≤ j → j ≤ c .level → 1 ≤ length (lists j) → s (P j) j ≡ lists j)
+    module _ (pages : m ≡ suc (c .level) - emptied c k) (at : (j : ℕ) → 1 ≤ j → j ≤ c .level → 1 ≤ length (lists j)
+        → s (P j) j ≡ lists j)
         (at-root : s (P (suc (c .level))) (suc (c .level)) ≡ lists (suc (c .level))) where
       -- the new page of level l
       abbrev N : ℕ → ℕ → Type 0
@@ -181,7 +185,8 @@ module _ (g : Geometry) (core : Core g) (n k : ℕ) (k-low : k < fourBytes) (c :
       unfolding plainLess
       made = made-from fit roomAt r k (removeIn k) (λ e. remove k (e ∷ [])) (keptOn P) (remove-as k) (λ j d. KeptHeld P s fit′ N j (theRoot c) d) (c .level)
           fourBytes (theRoot c) k-low (λ _. some-root) (good .sound .rooted .rises)
-          (λ j b d h. let x : N j (P j) = (left-high j b d h, omega (arith, d), refl) in (at j b d h, fits j j (P j) x, x))
+          (λ j b d h. let x : N j (P j) = (left-high j b d h, omega (arith, d), refl) in
+          (at j b d h, fits j j (P j) x, x))
 
       pub less : (1 ≤ c .level → 2 ≤ length (lists (suc (c .level)))) → Done (c .level) (P (suc (c .level)))
       less b =
@@ -198,7 +203,8 @@ module _ (g : Geometry) (core : Core g) (n k : ℕ) (k-low : k < fourBytes) (c :
     -- one entry is left of a root above level 1: the new root, an old list, stands on q
     drop : (lv : ℕ) (xs : List Entry) → Proper fit roomAt (rootMost g) fourBytes r lv (c .root)
         → xs ≡ atRoot (removeIn k) (deletedOn r k P lv) k lv (r (c .root) (suc lv)) → 1 ≤ lv → length xs ≡ 1
-        → Coming 0 (P (suc (collapse r lv xs .level))) → s (P (suc (collapse r lv xs .level))) (suc (collapse r lv xs .level)) ≡ collapse r lv xs .list
+        → Coming 0 (P (suc (collapse r lv xs .level))) → s (P (suc (collapse r lv xs .level)))
+        (suc (collapse r lv xs .level)) ≡ collapse r lv xs .list
         → Proper fit′ roomAt (rootMost g) fourBytes s (collapse r lv xs .level) (P (suc (collapse r lv xs .level))) ×
         (under s (suc (collapse r lv xs .level)) (the (P (suc (collapse r lv xs .level)))) ≡ remove k (under r (suc lv) (the (c .root))))
     unfolding atRoot
@@ -217,14 +223,16 @@ module _ (g : Geometry) (core : Core g) (n k : ℕ) (k-low : k < fourBytes) (c :
         let one′ : length (atRoot (removeIn k) (deletedOn r k P (suc l)) k (suc l) ls) ≡ 1 = omega (arith, z, one) in
         subst (λ (x : List Entry). Coming 0 (P (suc (collapse r (suc l) x .level)))
         → s (P (suc (collapse r (suc l) x .level))) (suc (collapse r (suc l) x .level)) ≡ collapse r (suc l) x .list
-        → Proper fit′ roomAt (rootMost g) fourBytes s (collapse r (suc l) x .level) (P (suc (collapse r (suc l) x .level))) ×
+        → Proper fit′ roomAt (rootMost g) fourBytes s (collapse r (suc l) x .level)
+        (P (suc (collapse r (suc l) x .level))) ×
         (under s (suc (collapse r (suc l) x .level)) (the (P (suc (collapse r (suc l) x .level)))) ≡ remove k (under r (suc (suc l)) (the (c .root)))))
         (sym e)
         (λ first at. plain-collapse k P fourBytes (half g) (rootMost g) r s fit fit′ N (keep g core n c (good .r2) m free) stays k-low
         (λ i j p x y. x .0 ∙ sym (y .0)) (λ i l q x. coming-new 0 l q (x .1)) wide l (c .root) h made one′ at
         (coming-fits 0 (suc (t .level)) (P (suc (t .level))) first) (refl, first))
 
-    pub fall : 1 ≤ m → 1 ≤ c .level → length (lists (suc (c .level))) ≡ 1 → s (P (suc (top .level))) (suc (top .level)) ≡ top .list
+    pub fall : 1 ≤ m → 1 ≤ c .level → length (lists (suc (c .level))) ≡ 1 → s (P (suc (top .level))) (suc (top .level))
+        ≡ top .list
         → Done (top .level) (P (suc (top .level)))
     unfolding plainTop
     fall some i one at =
@@ -265,14 +273,16 @@ module _ (g : Geometry) (core : Core g) (n k : ℕ) (k-low : k < fourBytes) (c :
         (λ z. absurd (true-false (noneLeft (lists j)) t (some-left (lists j) (left-above fit roomAt r k P (c .level) fourBytes (theRoot c) k-low
         (λ _. some-root) (good .sound .rooted .rises) j (suc i) (omega arith) (omega (arith, x)) d (left-some (lists (suc i)) z)))))) in
         omega (arith, w, emptied-is)),
-    (λ h. by-test (noneLeft (lists j)) (λ z. z) (λ z. absurd (let w = left-high j b d (left-some (lists j) z) in omega (arith, w, h)))),
+    (λ h. by-test (noneLeft (lists j)) (λ z. z) (λ z. absurd (let w = left-high j b d (left-some (lists j) z) in
+        omega (arith, w, h)))),
   )
 
   pub kept-count : length (keptPlans lists (c .level)) ≡ c .level - emptied c k
   kept-count = kept-length lists (emptied c k) (c .level) empties
 
   pub stay-count : Stays → length plans ≡ suc (c .level) - emptied c k
-  stay-count h = let e = ap length (stay-plans h) in let w = length-append (keptPlans lists (c .level)) (rootPlan top ∷ []) in
+  stay-count h = let e = ap length (stay-plans h) in let w =
+      length-append (keptPlans lists (c .level)) (rootPlan top ∷ []) in
       omega (arith, e, w, kept-count, emptied-low)
 
   -- a root above level 1 keeps an entry
@@ -290,7 +300,8 @@ module _ (g : Geometry) (core : Core g) (n k : ℕ) (k-low : k < fourBytes) (c :
   pub by-root : {C : Type 0} → (Stays → C) → (1 ≤ c .level → length (lists (suc (c .level))) ≡ 1 → C) → C
   by-root f h = by-le 1 (c .level)
       (λ i. by-le 2 (length (lists (suc (c .level)))) (λ q. f (λ _. q))
-      (λ q. h i (let z = root-left (c .level) (good .sound) i in let w = ap length root-list in omega (arith, z, w, q))))
+      (λ q. h i (let z = root-left (c .level) (good .sound) i in let w = ap length root-list in
+      omega (arith, z, w, q))))
       (λ i. f (λ z. absurd (omega (arith, i, z))))
 
   -- as many as the pages that the deletion leaves
@@ -301,12 +312,20 @@ module _ (g : Geometry) (core : Core g) (n k : ℕ) (k-low : k < fourBytes) (c :
   pub plans-count : length plans ≡ plainLeaves c k
   unfolding plainLeaves plainShrinks
   plans-count = by-root
-      (λ h. stay-count h ∙ let e : plainShrinks c k ≡ false = not-shrinks h in let w = emptied-low in rw e (omega (arith, w)))
-      (λ i one. let x = ap length (fall-plans i one) in rw (le-leb 1 (c .level) i, eq-eqb (length (deleteList c k 0 (suc (c .level)))) 1 (root-size ∙ one), and-true true) x)
+      (λ h. stay-count h ∙ let e : plainShrinks c k ≡ false = not-shrinks h in let w = emptied-low in
+      rw e (omega (arith, w)))
+      (λ i one. let x = ap length (fall-plans i one) in
+      rw (
+        le-leb 1 (c .level) i,
+        eq-eqb (length (deleteList c k 0 (suc (c .level)))) 1 (root-size
+            ∙ one),
+        and-true true,
+      ) x)
     where
       not-shrinks : Stays → plainShrinks c k ≡ false
       not-shrinks h = by-le 1 (c .level)
-          (λ i. rw (ne-eqb (length (deleteList c k 0 (suc (c .level)))) 1 (λ z. let w = h i in let y = root-size in omega (arith, z, w, y))) (and-none (leb 1 (c .level))))
+          (λ i. rw (ne-eqb (length (deleteList c k 0 (suc (c .level)))) 1 (λ z. let w = h i in let y = root-size in
+          omega (arith, z, w, y))) (and-none (leb 1 (c .level))))
           (λ i. rw (lt-leb 1 (c .level) i) (and-false (eqb (length (deleteList c k 0 (suc (c .level)))) 1)))
 
   -- the new root that was a node below is within the table: by the nodes that are the old ones but for its page
@@ -316,7 +335,8 @@ module _ (g : Geometry) (core : Core g) (n k : ℕ) (k-low : k < fourBytes) (c :
       let q = P (suc (top .level)) in
       let s : Nodes = λ p j. pick (eqb p q) (top .list) (r p j) in
       let here : (j : ℕ) → s q j ≡ top .list = λ j. rw (eq-eqb q q refl) refl in
-      let stays : (p l : ℕ) → fit (suc l) p → s p (suc l) ≡ r p (suc l) = λ p l h. rw (ne-eqb p q (λ z. new-side g core n c (good .r2) 1 free 1 l
+      let stays : (p l : ℕ) → fit (suc l) p → s p (suc l) ≡ r p (suc l) =
+      λ p l h. rw (ne-eqb p q (λ z. new-side g core n c (good .r2) 1 free 1 l
       (omega arith) (omega arith) (subst (fit (suc l)) (z ∙ first-page i one) h))) refl in
       let w = fall 1 free s (c .seq) stays (omega arith) i one (here (suc (top .level))) .0 .sound .rooted .atmost in
       subst (λ (x : List Entry). length x ≤ rootMost g (suc (top .level))) (here (suc (top .level))) w
@@ -340,20 +360,23 @@ module _ (g : Geometry) (core : Core g) (n k : ℕ) (k-low : k < fourBytes) (c :
       (λ h.
       let z = stay-count h in
       let y = ap (λ (x : Top). x .level) (top-stays h) in
-      ap (nth (g .pages) n (ahead g n c)) (let w : suc (top .level) - 1 - emptied c k ≡ i = omega (arith, z, y, e, emptied-low) in w))
+      ap (nth (g .pages) n (ahead g n c)) (let w : suc (top .level) - 1 - emptied c k ≡ i =
+      omega (arith, z, y, e, emptied-low) in w))
       (λ l one.
       let x = ap length (fall-plans l one) in
       first-page l one ∙ ap (nth (g .pages) n (ahead g n c)) (let w : 0 ≡ i = omega (arith, x, e) in w))
 
   -- the i-th plan's node stands on the i-th page to come
   module _ (free : length plans ≤ count (g .pages * n) (c .er)) (s : Nodes)
-      (placed : (i : ℕ) → i < length plans → s (nth (g .pages) n (ahead g n c) i) (planAt plans i .level) ≡ planAt plans i .list)
+      (placed : (i : ℕ) → i < length plans → s (nth (g .pages) n (ahead g n c) i) (planAt plans i .level) ≡ planAt plans
+      i .list)
       (stays : (q l : ℕ) → fit (suc l) q → s q (suc l) ≡ r q (suc l)) (numbers : ℕ → ℕ) where
     abbrev Deleted : ℕ → ℕ → Type 0
     Deleted l p = Whole g n (record { er = taken (g .pages) n (ahead g n c) (length plans) .er; seq = numbers; nodes = s; level = l; root = p }) ×
         (under s (suc l) (the p) ≡ remove k (mapOf c))
 
-    at-plan : (q i : ℕ) (p : Plan) → i < length plans → q ≡ nth (g .pages) n (ahead g n c) i → planAt plans i ≡ p → s q (p .level) ≡ p .list
+    at-plan : (q i : ℕ) (p : Plan) → i < length plans → q ≡ nth (g .pages) n (ahead g n c) i → planAt plans i ≡ p
+        → s q (p .level) ≡ p .list
     at-plan q i p b z e = subst (λ (x : Plan). s q (x .level) ≡ x .list) e
         (subst (λ y. s y (planAt plans i .level) ≡ planAt plans i .list) (sym z) (placed i b))
 
@@ -363,7 +386,8 @@ module _ (g : Geometry) (core : Core g) (n k : ℕ) (k-low : k < fourBytes) (c :
     kept-on h (suc l) b d u =
         let v = emptied c k in
         let w = left-high (suc l) b d u in
-        at-plan (P (suc l)) (l - v) (record { level = suc l; list = lists (suc l) }) (let z = stay-count h in omega (arith, z, d, w))
+        at-plan (P (suc l)) (l - v) (record { level = suc l; list = lists (suc l) }) (let z = stay-count h in
+        omega (arith, z, d, w))
         (ap (nth (g .pages) n (ahead g n c)) (let z : suc l - 1 - v ≡ l - v = omega arith in z))
         (ap (λ ps. planAt ps (l - v)) (stay-plans h)
         ∙ List·getD-append (keptPlans lists (c .level)) (rootPlan top ∷ []) noPlan (l - v) (omega (arith, kept-count, d, w))

@@ -1,4 +1,5 @@
--- The plain tree's insertion on an abstract chip (request 12): R2, R5, R6 hold again, and the map has K. Assumes nothing.
+-- The plain tree's insertion on an abstract chip (request 12): R2, R5, R6 hold again, and the map has K. Assumes
+-- nothing.
 use mathlib.Core.Path.{_≡_, refl, ap, sym, subst, _∙_}
 use mathlib.Core.List.{List, [], _∷_}
 use mathlib.Core.Bool.{Bool, true, false}
@@ -128,7 +129,8 @@ module _ (g : Geometry) (core : Core g) (n k a : ℕ) (k-low : k < fourBytes) (c
       (good .sound .rooted .rises) absent-is j b q in (
         (λ h. let x = w .0 h in omega (arith, x)),
         (λ h. w .1 (by-test grows
-            (λ t. let x = all-below k (half g) r absent (c .level) (chosen k es) (and-right _ _ t) in omega (arith, x, q))
+            (λ t. let x = all-below k (half g) r absent (c .level) (chosen k es) (and-right _ _ t) in
+            omega (arith, x, q))
             (λ t. let x = ap bit t in omega (arith, x, h)))),
       ))
       (λ q. let e : suc (c .level) ≡ j = omega (arith, d, q) in subst (Cut g lists cuts) e top-cut)
@@ -138,9 +140,11 @@ module _ (g : Geometry) (core : Core g) (n k a : ℕ) (k-low : k < fourBytes) (c
 
       top-cut : Cut g lists cuts (suc (c .level))
       top-cut = (
-        (λ h. by-test grows (λ t. let x = grow-cuts t in omega (arith, x)) (λ t. absurd (let x = stay-short t in omega (arith, x, h, len)))),
+        (λ h. by-test grows (λ t. let x = grow-cuts t in omega (arith, x)) (λ t. absurd (let x = stay-short t in
+            omega (arith, x, h, len)))),
         (λ h. by-test grows (λ t. let x = grow-long t in omega (arith, x, len))
-            (λ t. absurd (let x = splits-le k (half g) r absent (c .level) (chosen k es) in let y = ap bit t in omega (arith, x, y, h)))),
+            (λ t. absurd (let x = splits-le k (half g) r absent (c .level) (chosen k es) in let y = ap bit t in
+            omega (arith, x, y, h)))),
       )
 
   cut-level : (j : ℕ) → 1 ≤ j → j ≤ c .level → roomAt j < length (lists j) → j ≤ cuts
@@ -148,9 +152,11 @@ module _ (g : Geometry) (core : Core g) (n k a : ℕ) (k-low : k < fourBytes) (c
 
   module _ (free : m ≤ count (g .pages * n) (c .er)) (s : Nodes)
       (whole : (j : ℕ) → 1 ≤ j → j ≤ suc (c .level) → length (lists j) ≤ roomAt j → s (L j) j ≡ lists j)
-      (halves : (j : ℕ) → 1 ≤ j → j ≤ suc (c .level) → roomAt j < length (lists j) → (s (L j) j ≡ take (half g j) (lists j)) ×
+      (halves : (j : ℕ) → 1 ≤ j → j ≤ suc (c .level) → roomAt j < length (lists j)
+      → (s (L j) j ≡ take (half g j) (lists j)) ×
       (s (R j) j ≡ drop (half g j) (lists j)))
-      (crown : grows ≡ true → s (L (suc (suc (c .level)))) (suc (suc (c .level))) ≡ both (L (suc (c .level))) (R (suc (c .level)))
+      (crown : grows ≡ true → s (L (suc (suc (c .level)))) (suc (suc (c .level))) ≡ both (L (suc (c .level)))
+      (R (suc (c .level)))
       (half g (suc (c .level))) (next (lists (suc (c .level))) 0) (lists (suc (c .level))))
       (stays : (q l : ℕ) → fit (suc l) q → s q (suc l) ≡ r q (suc l)) (numbers : ℕ → ℕ) where
     abbrev er′ : ℕ → Bool
@@ -173,7 +179,8 @@ module _ (g : Geometry) (core : Core g) (n k a : ℕ) (k-low : k < fourBytes) (c
     place l q (b, d, inl e) = (l - 1 + min (l - 1) cuts, e, low, omega arith, omega (arith, b), λ z. absurd (omega (arith, z)))
       where
         low : l - 1 + min (l - 1) cuts < suc (c .level) + cuts + bit grows
-        low = by-test grows (λ t. let w = grow-cuts t in omega (arith, b, d, w, ap bit t)) (λ t. omega (arith, b, d, ap bit t))
+        low = by-test grows (λ t. let w = grow-cuts t in
+            omega (arith, b, d, w, ap bit t)) (λ t. omega (arith, b, d, ap bit t))
     place l q (b, d, inr e) = (l - 1 + min l cuts, e .1, omega (arith, b, e .0, cuts-low), omega (arith, b, e .0), omega (arith, b, e .0), λ z. e .0)
 
     apart : (i j : ℕ) → i < m → j < m → nth (g .pages) n (ahead g n c) i ≡ nth (g .pages) n (ahead g n c) j → i ≡ j
@@ -211,7 +218,8 @@ module _ (g : Geometry) (core : Core g) (n k a : ℕ) (k-low : k < fourBytes) (c
         (λ j d. RenewHeld L R (half g) s fit′ N j (theRoot c) d) (c .level) fourBytes (theRoot c) k-low some-root (good .sound .rooted .rises)
         (λ j b d. let x = new-left j b (omega (arith, d)) in (
           (λ h. (whole j b (omega (arith, d)) h, fits j j (L j) x, x)),
-          (λ h. let y : N j (R j) = (b, omega (arith, d), inr (cut-level j b d h, refl)) in let z = halves j b (omega (arith, d)) h in
+          (λ h. let y : N j (R j) = (b, omega (arith, d), inr (cut-level j b d h, refl)) in let z =
+              halves j b (omega (arith, d)) h in
               ((z .0, z .1, fits j j (L j) x, fits j j (R j) y), x, y)),
         ))
 
@@ -226,9 +234,11 @@ module _ (g : Geometry) (core : Core g) (n k a : ℕ) (k-low : k < fourBytes) (c
         let l = c .level in
         let short = stay-short e in
         let nn = new-left (suc l) (omega arith) (omega arith) in
-        let here : s (L (suc l)) (suc l) ≡ rootList = whole (suc l) (omega arith) (omega arith) (let w = ap length root-list in omega (arith, w, short))
+        let here : s (L (suc l)) (suc l) ≡ rootList = whole (suc l) (omega arith) (omega arith) (let w =
+        ap length root-list in omega (arith, w, short))
         ∙ root-list in
-        let w = plain-stay k a fourBytes L R (half g) (rootMost g) r s fit fit′ N tt (keep g core n c (good .r2) m free) stays k-low alone fresh l (c .root) (L (suc l)) (good .sound)
+        let w = plain-stay k a fourBytes L R (half g) (rootMost g) r s fit fit′ N tt (keep g core n c (good .r2) m free)
+        stays k-low alone fresh l (c .root) (L (suc l)) (good .sound)
         made here (fits (suc l) (suc l) (L (suc l)) nn) nn (omega (arith, short, narrow)) in
         (record { r2 = after-r2; sound = w .0 }, w .1)
 
@@ -244,7 +254,8 @@ module _ (g : Geometry) (core : Core g) (n k a : ℕ) (k-low : k < fourBytes) (c
         let nn = new-left (suc (suc l)) (omega arith) (omega (arith, ap bit e)) in
         let cr : s (L (suc (suc l))) (suc (suc l)) ≡ both (L (suc l)) (R (suc l)) h (next rootList 0) rootList =
         crown e ∙ ap (λ x. both (L (suc l)) (R (suc l)) h (next x 0) x) root-list in
-        let w = plain-grow k a fourBytes L R (half g) (rootMost g) r s fit fit′ N tt (keep g core n c (good .r2) m free) stays k-low alone fresh l (c .root) (L (suc (suc l)))
+        let w = plain-grow k a fourBytes L R (half g) (rootMost g) r s fit fit′ N tt (keep g core n c (good .r2) m free)
+        stays k-low alone fresh l (c .root) (L (suc (suc l)))
         (L (suc l)) (R (suc l)) (good .sound) made
         (hs .0 ∙ ap (take h) root-list, hs .1 ∙ ap (drop h) root-list, fits (suc l) (suc l) (L (suc l)) nx, fits (suc l) (suc l) (R (suc l)) ny) nx ny
         cr (fits (suc (suc l)) (suc (suc l)) (L (suc (suc l))) nn) nn some-half (omega (arith, long)) (omega (arith, long, some-half)) two-most in
@@ -266,12 +277,14 @@ module _ (g : Geometry) (core : Core g) (n k a : ℕ) (k-low : k < fourBytes) (c
   crown-one : grows ≡ true → rootPlans ≡ newRoot ∷ []
   unfolding crownPlans
   crown-one t = let x = grow-long t in
-      rw (lt-leb (length (lists (suc (c .level)))) (roomAt (suc (c .level))) (let w = ap length root-list in omega (arith, x, w))) refl
+      rw (lt-leb (length (lists (suc (c .level)))) (roomAt (suc (c .level))) (let w = ap length root-list in
+      omega (arith, x, w))) refl
 
   pub crown-none : grows ≡ false → rootPlans ≡ []
   unfolding crownPlans
   crown-none t = let x = stay-short t in
-      rw (le-leb (length (lists (suc (c .level)))) (roomAt (suc (c .level))) (let w = ap length root-list in omega (arith, x, w))) refl
+      rw (le-leb (length (lists (suc (c .level)))) (roomAt (suc (c .level))) (let w = ap length root-list in
+      omega (arith, x, w))) refl
 
   plans-below : length (plansTo g lists (suc (c .level))) ≡ suc (c .level) + min (suc (c .level)) cuts
   plans-below = plans-length g lists cuts (suc (c .level)) cut-levels
@@ -282,18 +295,21 @@ module _ (g : Geometry) (core : Core g) (n k a : ℕ) (k-low : k < fourBytes) (c
   plans-count =
       let w = length-append (plansTo g lists (suc (c .level))) rootPlans in
       by-test grows
-      (λ t. let x = ap length (crown-one t) in let y = grow-cuts t in let z = ap bit t in omega (arith, plans-below, w, x, y, z))
+      (λ t. let x = ap length (crown-one t) in let y = grow-cuts t in let z = ap bit t in
+      omega (arith, plans-below, w, x, y, z))
       (λ t. let x = ap length (crown-none t) in let z = ap bit t in omega (arith, plans-below, w, x, z, cuts-low))
 
   inside : (l i : ℕ) → l ≤ c .level → i < length (levelPlans g (suc l) (lists (suc l)))
       → l + min l cuts + i < suc (c .level) + min (suc (c .level)) cuts
-  inside l i b d = let v = level-length g lists cuts l (cut-levels (suc l) (omega arith) (omega (arith, b))) in omega (arith, v, d, b)
+  inside l i b d = let v = level-length g lists cuts l (cut-levels (suc l) (omega arith) (omega (arith, b))) in
+      omega (arith, v, d, b)
 
   level-at : (l i : ℕ) → l ≤ c .level → i < length (levelPlans g (suc l) (lists (suc l)))
       → planAt plans (l + min l cuts + i) ≡ planAt (levelPlans g (suc l) (lists (suc l))) i
   unfolding insertPlans
   level-at l i b d =
-      List·getD-append (plansTo g lists (suc (c .level))) rootPlans noPlan (l + min l cuts + i) (let w = inside l i b d in omega (arith, w, plans-below))
+      List·getD-append (plansTo g lists (suc (c .level))) rootPlans noPlan (l + min l cuts + i) (let w =
+      inside l i b d in omega (arith, w, plans-below))
       ∙ plans-at g lists cuts (suc (c .level)) l i cut-levels (omega (arith, b)) d
 
   crown-place : grows ≡ true → planAt plans (suc (c .level) + min (suc (c .level)) cuts + 0) ≡ newRoot
@@ -309,15 +325,18 @@ module _ (g : Geometry) (core : Core g) (n k a : ℕ) (k-low : k < fourBytes) (c
       omega (arith, x, y, w)))
 
   -- the last plan is the root's
-  stay-last : (i : ℕ) → m ≡ suc i → grows ≡ false → (planAt plans i .level ≡ suc (c .level)) × (L (suc (c .level)) ≡ nth (g .pages) n (ahead g n c) i)
+  stay-last : (i : ℕ) → m ≡ suc i → grows ≡ false → (planAt plans i .level ≡ suc (c .level)) ×
+      (L (suc (c .level)) ≡ nth (g .pages) n (ahead g n c) i)
   unfolding leftPage
   stay-last i e t =
       let l = c .level in
       let b = ap bit t in
-      let short : length (lists (suc l)) ≤ roomAt (suc l) = let x = stay-short t in let w = ap length root-list in omega (arith, x, w) in
+      let short : length (lists (suc l)) ≤ roomAt (suc l) = let x = stay-short t in let w = ap length root-list in
+      omega (arith, x, w) in
       let wp = whole-plan g lists cuts (suc l) short in
       let at : l + min l cuts + 0 ≡ i = let x = stay-cuts t in omega (arith, x, e, b) in (
-        ap (λ j. planAt plans j .level) (sym at) ∙ ap (λ (p : Plan). p .level) (level-at l 0 (omega arith) (let x = ap length wp in omega (arith, x))
+        ap (λ j. planAt plans j .level) (sym at) ∙ ap (λ (p : Plan). p .level) (level-at l 0 (omega arith) (let x =
+            ap length wp in omega (arith, x))
             ∙ ap (λ ps. planAt ps 0) wp),
         ap (nth (g .pages) n (ahead g n c)) (let w : suc l - 1 + min (suc l - 1) cuts ≡ i = omega (arith, at) in w),
       )
@@ -337,13 +356,16 @@ module _ (g : Geometry) (core : Core g) (n k a : ℕ) (k-low : k < fourBytes) (c
   module _ (free : m ≤ count (g .pages * n) (c .er)) (s : Nodes)
       (placed : (i : ℕ) → i < m → s (nth (g .pages) n (ahead g n c) i) (planAt plans i .level) ≡ planAt plans i .list)
       (stays : (q l : ℕ) → fit (suc l) q → s q (suc l) ≡ r q (suc l)) (numbers : ℕ → ℕ) where
-    at-plan : (q i : ℕ) (p : Plan) → i < m → q ≡ nth (g .pages) n (ahead g n c) i → planAt plans i ≡ p → s q (p .level) ≡ p .list
+    at-plan : (q i : ℕ) (p : Plan) → i < m → q ≡ nth (g .pages) n (ahead g n c) i → planAt plans i ≡ p
+        → s q (p .level) ≡ p .list
     at-plan q i p b z e = subst (λ (x : Plan). s q (x .level) ≡ x .list) e
         (subst (λ y. s y (planAt plans i .level) ≡ planAt plans i .list) (sym z) (placed i b))
 
     on-level : (q l i : ℕ) (p : Plan) → l ≤ c .level → i < length (levelPlans g (suc l) (lists (suc l)))
-        → q ≡ nth (g .pages) n (ahead g n c) (l + min l cuts + i) → planAt (levelPlans g (suc l) (lists (suc l))) i ≡ p → s q (p .level) ≡ p .list
-    on-level q l i p b d z e = at-plan q (l + min l cuts + i) p (let w = inside l i b d in omega (arith, w)) z (level-at l i b d ∙ e)
+        → q ≡ nth (g .pages) n (ahead g n c) (l + min l cuts + i) → planAt (levelPlans g (suc l) (lists (suc l))) i ≡ p
+        → s q (p .level) ≡ p .list
+    on-level q l i p b d z e = at-plan q (l + min l cuts + i) p (let w = inside l i b d in
+        omega (arith, w)) z (level-at l i b d ∙ e)
 
     whole-at : (j : ℕ) → 1 ≤ j → j ≤ suc (c .level) → length (lists j) ≤ roomAt j → s (L j) j ≡ lists j
     unfolding leftPage
@@ -352,9 +374,11 @@ module _ (g : Geometry) (core : Core g) (n k a : ℕ) (k-low : k < fourBytes) (c
         let e = whole-plan g lists cuts (suc l) h in
         let x = ap length e in
         on-level (L (suc l)) l 0 (record { level = suc l; list = lists (suc l) }) (omega (arith, d)) (omega (arith, x))
-        (ap (nth (g .pages) n (ahead g n c)) (let w : suc l - 1 + min (suc l - 1) cuts ≡ l + min l cuts + 0 = omega arith in w)) (ap (λ ps. planAt ps 0) e)
+        (ap (nth (g .pages) n (ahead g n c)) (let w : suc l - 1 + min (suc l - 1) cuts ≡ l + min l cuts + 0 =
+        omega arith in w)) (ap (λ ps. planAt ps 0) e)
 
-    halves-at : (j : ℕ) → 1 ≤ j → j ≤ suc (c .level) → roomAt j < length (lists j) → (s (L j) j ≡ take (half g j) (lists j)) ×
+    halves-at : (j : ℕ) → 1 ≤ j → j ≤ suc (c .level) → roomAt j < length (lists j)
+        → (s (L j) j ≡ take (half g j) (lists j)) ×
         (s (R j) j ≡ drop (half g j) (lists j))
     unfolding leftPage rightPage
     halves-at zero b d h = absurd (omega (arith, b))
@@ -363,10 +387,12 @@ module _ (g : Geometry) (core : Core g) (n k a : ℕ) (k-low : k < fourBytes) (c
         let y = cut-levels (suc l) b d .0 h in
         let x = ap length e in (
           on-level (L (suc l)) l 0 (record { level = suc l; list = take (half g (suc l)) (lists (suc l)) }) (omega (arith, d)) (omega (arith, x))
-              (ap (nth (g .pages) n (ahead g n c)) (let w : suc l - 1 + min (suc l - 1) cuts ≡ l + min l cuts + 0 = omega arith in w))
+              (ap (nth (g .pages) n (ahead g n c)) (let w : suc l - 1 + min (suc l - 1) cuts ≡ l + min l cuts + 0 =
+              omega arith in w))
               (ap (λ ps. planAt ps 0) e),
           on-level (R (suc l)) l 1 (record { level = suc l; list = drop (half g (suc l)) (lists (suc l)) }) (omega (arith, d)) (omega (arith, x))
-              (ap (nth (g .pages) n (ahead g n c)) (let w : suc l - 1 + min (suc l) cuts ≡ l + min l cuts + 1 = omega (arith, y) in w))
+              (ap (nth (g .pages) n (ahead g n c)) (let w : suc l - 1 + min (suc l) cuts ≡ l + min l cuts + 1 =
+              omega (arith, y) in w))
               (ap (λ ps. planAt ps 1) e),
         )
 
@@ -377,7 +403,8 @@ module _ (g : Geometry) (core : Core g) (n k a : ℕ) (k-low : k < fourBytes) (c
         let y = grow-cuts t in
         let z = ap bit t in
         at-plan (L (suc l)) (l + min l cuts + 0) newRoot (omega (arith, y, z))
-        (ap (nth (g .pages) n (ahead g n c)) (let w : suc l - 1 + min (suc l - 1) cuts ≡ l + min l cuts + 0 = omega arith in w))
+        (ap (nth (g .pages) n (ahead g n c)) (let w : suc l - 1 + min (suc l - 1) cuts ≡ l + min l cuts + 0 =
+        omega arith in w))
         (crown-place t)
 
     abbrev Inserted : ℕ → ℕ → Type 0

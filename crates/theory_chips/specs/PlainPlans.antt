@@ -1,4 +1,5 @@
--- The plan of pages of the plain tree (request 12): each node's plan stands at the place that its page's number says. Assumes nothing.
+-- The plan of pages of the plain tree (request 12): each node's plan stands at the place that its page's number says.
+-- Assumes nothing.
 use mathlib.Core.Path.{_≡_, refl, ap, subst, _∙_}
 use mathlib.Core.List.{List, [], _∷_, _++_}
 use mathlib.Core.Bool.{true}
@@ -35,16 +36,21 @@ module _ (g : Geometry) (lists : ℕ → List Entry) (cuts : ℕ) where
   abbrev roomAt : ℕ → ℕ
   roomAt l = 2 * half g l
 
-  pub whole-plan : (l : ℕ) → length (lists l) ≤ roomAt l → levelPlans g l (lists l) ≡ record { level = l; list = lists l } ∷ []
+  pub whole-plan : (l : ℕ) → length (lists l) ≤ roomAt l
+      → levelPlans g l (lists l) ≡ record { level = l; list = lists l } ∷ []
   unfolding levelPlans
   whole-plan l h = rw (le-leb (length (lists l)) (roomAt l) h) refl
 
   pub half-plans : (l : ℕ) → roomAt l < length (lists l)
-      → levelPlans g l (lists l) ≡ record { level = l; list = take (half g l) (lists l) } ∷ record { level = l; list = drop (half g l) (lists l) } ∷ []
+      → levelPlans g l (lists l) ≡ record { level = l; list = take (half g l) (lists l) } ∷ record {
+        level = l;
+        list = drop (half g l) (lists l);
+      } ∷ []
   unfolding levelPlans
   half-plans l h = rw (lt-leb (length (lists l)) (roomAt l) h) refl
 
-  pub level-length : (l : ℕ) → Cut g lists cuts (suc l) → l + min l cuts + length (levelPlans g (suc l) (lists (suc l))) ≡ suc l + min (suc l) cuts
+  pub level-length : (l : ℕ) → Cut g lists cuts (suc l) → l + min l cuts + length (levelPlans g (suc l) (lists (suc l)))
+      ≡ suc l + min (suc l) cuts
   unfolding levelPlans
   level-length l h = by-le (suc l) cuts
       (λ z. let b = h .1 z in rw (lt-leb (length (lists (suc l))) (roomAt (suc l)) b) (omega (arith, z)))
@@ -52,7 +58,8 @@ module _ (g : Geometry) (lists : ℕ → List Entry) (cuts : ℕ) where
       (λ b. absurd (omega (arith, h .0 b, z))))
 
   -- the plans up to level l
-  pub plans-length : (l : ℕ) → ((j : ℕ) → 1 ≤ j → j ≤ l → Cut g lists cuts j) → length (plansTo g lists l) ≡ l + min l cuts
+  pub plans-length : (l : ℕ) → ((j : ℕ) → 1 ≤ j → j ≤ l → Cut g lists cuts j) → length (plansTo g lists l) ≡ l + min l
+      cuts
   unfolding plansTo
   plans-length zero h = omega arith
   plans-length (suc l) h =
@@ -62,7 +69,8 @@ module _ (g : Geometry) (lists : ℕ → List Entry) (cuts : ℕ) where
       omega (arith, i, w, v)
 
   -- those of level suc l begin at l and one more for each level below that splits
-  pub plans-at : (m l i : ℕ) → ((j : ℕ) → 1 ≤ j → j ≤ m → Cut g lists cuts j) → suc l ≤ m → i < length (levelPlans g (suc l) (lists (suc l)))
+  pub plans-at : (m l i : ℕ) → ((j : ℕ) → 1 ≤ j → j ≤ m → Cut g lists cuts j) → suc l ≤ m
+      → i < length (levelPlans g (suc l) (lists (suc l)))
       → planAt (plansTo g lists m) (l + min l cuts + i) ≡ planAt (levelPlans g (suc l) (lists (suc l))) i
   unfolding plansTo
   plans-at zero l i h b d = absurd (omega (arith, b))
@@ -86,7 +94,8 @@ module _ (lists : ℕ → List Entry) (v : ℕ) where
       let e = h (suc l) (omega arith) (omega arith) in
       by-le (suc l) v (λ z. let w = length-append (keptPlans lists l) [] in rw (e .1 z) (omega (arith, i, w, z)))
       (λ z. by-test (noneLeft (lists (suc l))) (λ t. absurd (omega (arith, e .0 t, z)))
-      (λ t. let w = length-append (keptPlans lists l) (record { level = suc l; list = lists (suc l) } ∷ []) in rw t (omega (arith, i, w, z))))
+      (λ t. let w = length-append (keptPlans lists l) (record { level = suc l; list = lists (suc l) } ∷ []) in
+      rw t (omega (arith, i, w, z))))
 
   pub kept-at : (m l : ℕ) → ((j : ℕ) → 1 ≤ j → j ≤ m → Empty lists v j) → suc l ≤ m → v ≤ l
       → planAt (keptPlans lists m) (l - v) ≡ record { level = suc l; list = lists (suc l) }
@@ -97,7 +106,8 @@ module _ (lists : ℕ → List Entry) (v : ℕ) where
       let e = h (suc m) (omega arith) (omega arith) in
       by-eq l m
       (λ z. by-test (noneLeft (lists (suc m))) (λ t. absurd (omega (arith, e .0 t, z, d)))
-      (λ t. rw (t, z) (subst (λ i. planAt (keptPlans lists m ++ (record { level = suc m; list = lists (suc m) } ∷ [])) i ≡ record { level = suc m; list = lists (suc m) })
+      (λ t. rw (t, z) (subst (λ i. planAt (keptPlans lists m ++ (record { level = suc m; list = lists (suc m) } ∷ [])) i
+      ≡ record { level = suc m; list = lists (suc m) })
       (let w : m - v + 0 ≡ m - v = omega arith in w)
       (at-right (keptPlans lists m) (record { level = suc m; list = lists (suc m) } ∷ []) (m - v) 0 len))))
       (λ z. List·getD-append (keptPlans lists m) (pick (noneLeft (lists (suc m))) [] (record { level = suc m; list = lists (suc m) } ∷ [])) noPlan (l - v)

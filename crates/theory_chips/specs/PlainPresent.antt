@@ -1,4 +1,5 @@
--- An insert of a present key into the plain tree (request 12) programs exactly as many pages as its height. Assumes nothing.
+-- An insert of a present key into the plain tree (request 12) programs exactly as many pages as its height. Assumes
+-- nothing.
 use mathlib.Core.Path.{_≡_, refl, ap, _∙_}
 use mathlib.Core.List.{List, [], _∷_}
 use mathlib.Core.Bool.{Bool, true, false}
@@ -35,25 +36,31 @@ no-gain r k half (suc l) e = go (eqb (length (r (e .addr) (suc l))) (2 * half (s
 no-splits : (r : Nodes) (k : ℕ) (half : ℕ → ℕ) (l : ℕ) (e : Entry) → splits r k half false l e ≡ 0
 unfolding splits
 no-splits r k half zero e = refl
-no-splits r k half (suc l) e = let x = ap bit (no-gain r k half (suc l) e) in let y = no-splits r k half l (chosen k (r (e .addr) (suc l))) in
+no-splits r k half (suc l) e = let x = ap bit (no-gain r k half (suc l) e) in let y =
+    no-splits r k half l (chosen k (r (e .addr) (suc l))) in
     omega (arith, x, y)
 
 pub present-pages : (g : Geometry) (c : Chip) (k : ℕ) → isNone (sought c k) ≡ false → insertPages g c k ≡ suc (c .level)
 unfolding plainCuts plainGrows
 present-pages g c k present =
-    let x = ap (λ t. splits (c .nodes) k (half g) t (suc (c .level)) (theRoot c)) present ∙ no-splits (c .nodes) k (half g) (suc (c .level)) (theRoot c) in
-    let y = ap bit (ap (λ t. gains (c .nodes) k (half g) t (suc (c .level)) (theRoot c)) present ∙ no-gain (c .nodes) k (half g) (suc (c .level)) (theRoot c)) in
+    let x = ap (λ t. splits (c .nodes) k (half g) t (suc (c .level)) (theRoot c)) present
+    ∙ no-splits (c .nodes) k (half g) (suc (c .level)) (theRoot c) in
+    let y = ap bit (ap (λ t. gains (c .nodes) k (half g) t (suc (c .level)) (theRoot c)) present ∙ no-gain (c .nodes) k
+    (half g) (suc (c .level)) (theRoot c)) in
     omega (arith, x, y)
 
 -- every plan is one program
-pub laid-programs : (g : Geometry) (n : ℕ) (c : Chip) (seq i : ℕ) (ps : List Plan) → programs (laid g n c seq i ps) ≡ length ps
+pub laid-programs : (g : Geometry) (n : ℕ) (c : Chip) (seq i : ℕ) (ps : List Plan) → programs (laid g n c seq i ps)
+    ≡ length ps
 unfolding laid programs
 laid-programs g n c seq i [] = refl
 laid-programs g n c seq i (x ∷ []) = refl
 laid-programs g n c seq i (x ∷ y ∷ ps) = let h = laid-programs g n c seq (suc i) (y ∷ ps) in omega (arith, h)
 
 pub present-programs : (g : Geometry) → Core g → (n k a : ℕ) → k < fourBytes → (c : Chip) → Whole g n c
-    → rootMost g (suc (c .level)) ≡ 2 * half g (suc (c .level)) → 1 ≤ half g (suc (c .level)) → 2 ≤ rootMost g (suc (suc (c .level)))
+    → rootMost g (suc (c .level)) ≡ 2 * half g (suc (c .level)) → 1 ≤ half g (suc (c .level))
+    → 2 ≤ rootMost g (suc (suc (c .level)))
     → isNone (sought c k) ≡ false → (seq : ℕ) → programs (laid g n c seq 0 (insertPlans g n c k a)) ≡ suc (c .level)
-present-programs g core n k a k-low c good narrow some two present seq = laid-programs g n c seq 0 (insertPlans g n c k a)
+present-programs g core n k a k-low c good narrow some two present seq =
+    laid-programs g n c seq 0 (insertPlans g n c k a)
     ∙ plans-count g core n k a k-low c good narrow some two ∙ present-pages g c k present

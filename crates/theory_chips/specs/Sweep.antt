@@ -42,11 +42,14 @@ pub record Swept (g : Geometry) (n : ℕ) (v : ℕ) (c c′ : Chip) : Type 0 whe
 
 module _ (g : Geometry) (shape : Shape g) (n : ℕ) (v : ℕ) where
   -- one move within the sweep
-  pub moved-on : (j : ℕ) (c : Chip) → suc j ≤ g .pages → Sweeping g n v (suc j) c → live (placesOf c) (g .pages * v + (g .pages - suc j)) ≡ true
-      → Sweeping g n v j (moveTo (g .pages * n) c (g .pages * v + (g .pages - suc j)) (nextPage (g .pages) n (ahead g n c))) × MoveStep g n c
+  pub moved-on : (j : ℕ) (c : Chip) → suc j ≤ g .pages → Sweeping g n v (suc j) c → live (placesOf c)
+      (g .pages * v + (g .pages - suc j)) ≡ true
+      → Sweeping g n v j (moveTo (g .pages * n) c (g .pages * v + (g .pages - suc j))
+      (nextPage (g .pages) n (ahead g n c))) × MoveStep g n c
       (moveTo (g .pages * n) c (g .pages * v + (g .pages - suc j)) (nextPage (g .pages) n (ahead g n c))) (g .pages * v + (g .pages - suc j))
       (nextPage (g .pages) n (ahead g n c))
-      × (suc (livesIn (g .pages) v (moveTo (g .pages * n) c (g .pages * v + (g .pages - suc j)) (nextPage (g .pages) n (ahead g n c)))) ≤ livesIn (g .pages) v c)
+      × (suc (livesIn (g .pages) v (moveTo (g .pages * n) c (g .pages * v + (g .pages - suc j))
+      (nextPage (g .pages) n (ahead g n c)))) ≤ livesIn (g .pages) v c)
   moved-on j c q h a = (record { good = m .good; full = full′; few = omega (arith, m .frees, fewer, h .few); dead = dead′ }, m, fewer)
     where
       p : ℕ
@@ -91,7 +94,8 @@ module _ (g : Geometry) (shape : Shape g) (n : ℕ) (v : ℕ) where
       c′ = moveTo (g .pages * n) c (g .pages * v + (g .pages - suc j)) (nextPage (g .pages) n (ahead g n c))
 
       go : (t : Bool) → live (placesOf c) (g .pages * v + (g .pages - suc j)) ≡ t
-          → ((d : Chip) → Sweeping g n v j d → Swept g n v d (sweep g n v j d)) → Swept g n v c (pick t (sweep g n v j c′) (sweep g n v j c))
+          → ((d : Chip) → Sweeping g n v j d → Swept g n v d (sweep g n v j d))
+          → Swept g n v c (pick t (sweep g n v j c′) (sweep g n v j c))
       go true e ih =
           let m = moved-on j c q h e in
           let w = ih c′ (m .0) in

@@ -43,7 +43,8 @@ module _ (p n : ℕ) (er : ℕ → Bool) where
       (none-passes (λ j. ltb (firstIn p er b) j & not (er (p * b + j))) p (not-true (any p (λ j. ltb (firstIn p er b) j & not (er (p * b + j)))) h) j
       w)))
 
-  in-order : (b : ℕ) → ((i j : ℕ) → i ≤ j → j < p → er (p * b + i) ≡ true → er (p * b + j) ≡ true) → inOrder p er b ≡ true
+  in-order : (b : ℕ) → ((i j : ℕ) → i ≤ j → j < p → er (p * b + i) ≡ true → er (p * b + j) ≡ true)
+      → inOrder p er b ≡ true
   unfolding inOrder
   in-order b h = ap not
       (any-clear (λ j. ltb (firstIn p er b) j & not (er (p * b + j))) p (λ j w. go j w (ltb (firstIn p er b) j) refl))
@@ -112,7 +113,8 @@ module _ (g : Geometry) (n : ℕ) (c : Chip) where
 module _ (g : Geometry) (pos : 1 ≤ g .pages) (n : ℕ) (c : Chip) where
   pub r8-holds : r8 (g .pages) n c ≡ Good → R8 g n c
   unfolding r8 ample
-  r8-holds h = let z = leb-true (2 * g .pages) (g .pages * n - livePages (g .pages * n) c) (good-unless _ _ _ h .0) in omega (arith, z, pos)
+  r8-holds h = let z = leb-true (2 * g .pages) (g .pages * n - livePages (g .pages * n) c) (good-unless _ _ _ h .0) in
+      omega (arith, z, pos)
 
   pub holds-r8 : R8 g n c → r8 (g .pages) n c ≡ Good
   unfolding r8 ample

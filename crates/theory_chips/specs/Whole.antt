@@ -28,15 +28,18 @@ some-page g core = let z = core .pages-low in omega (arith, z)
 
 pub record Whole (g : Geometry) (n : ℕ) (c : Chip) : Type 0 where
   pub r2 : R2 (g .pages) n (c .er)
-  pub sound : Proper (fitOf (g .pages * n) (c .er)) (λ l. 2 * half g l) (rootMost g) fourBytes (c .nodes) (c .level) (c .root)
+  pub sound : Proper (fitOf (g .pages * n) (c .er)) (λ l. 2 * half g l) (rootMost g) fourBytes (c .nodes) (c .level)
+      (c .root)
 
 -- lookup answers as the map does
-pub sought-map : (g : Geometry) (n : ℕ) (c : Chip) → Whole g n c → (k : ℕ) → k < fourBytes → sought c k ≡ find k (mapOf c)
+pub sought-map : (g : Geometry) (n : ℕ) (c : Chip) → Whole g n c → (k : ℕ) → k < fourBytes → sought c k ≡ find k
+    (mapOf c)
 sought-map g n c h k q = find-root (fitOf (g .pages * n) (c .er)) (λ l. 2 * half g l) (c .nodes) k (rootMost g) fourBytes (c .level) (c .root) q
     (h .sound .rooted)
 
 -- a present key: the root has entries
-pub some-entry : (g : Geometry) (n : ℕ) (c : Chip) → Whole g n c → (k : ℕ) → k < fourBytes → isNone (sought c k) ≡ false → 0 < length (rootNode c)
+pub some-entry : (g : Geometry) (n : ℕ) (c : Chip) → Whole g n c → (k : ℕ) → k < fourBytes → isNone (sought c k) ≡ false
+    → 0 < length (rootNode c)
 unfolding under gather find
 some-entry g n c h k q present = go (rootNode c) refl
   where
@@ -57,7 +60,8 @@ nodesBelow c = gather (places (c .nodes) (c .level)) (rootNode c)
 abbrev pub HalfFull : Geometry → Chip → Type 0
 HalfFull g c = All (Filled (half g) (c .nodes)) (nodesBelow c)
 
--- c′ needs as many pages as c, and is too high where c is; it has as many nodes, as many levels, and is filled where c is
+-- c′ needs as many pages as c, and is too high where c is; it has as many nodes, as many levels, and is filled where c
+-- is
 pub record Same (g : Geometry) (c c′ : Chip) : Type 0 where
   pub needs-is : (k : ℕ) → k < fourBytes → needs g c′ k ≡ needs g c k
   pub high-is : (k : ℕ) → k < fourBytes → tooHigh g c′ k ≡ tooHigh g c k
@@ -78,7 +82,8 @@ same-then g c d e h i = record {
 }
 
 module _ (g : Geometry) (t : ℕ) (er er′ : ℕ → Bool) (numbers numbers′ : ℕ → ℕ) (r s : Nodes) (l p p′ : ℕ)
-    (root : Rooted (fitOf t er) (λ l. 2 * half g l) (rootMost g) fourBytes r l p) (alike : Likes (Like r s l) (r p (suc l)) (s p′ (suc l))) where
+    (root : Rooted (fitOf t er) (λ l. 2 * half g l) (rootMost g) fourBytes r l p)
+    (alike : Likes (Like r s l) (r p (suc l)) (s p′ (suc l))) where
   abbrev c : Chip
   c = record { er = er; seq = numbers; nodes = r; level = l; root = p }
 

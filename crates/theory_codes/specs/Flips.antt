@@ -59,7 +59,8 @@ module _ (img : List ℕ) (at n : ℕ) where
   flip-here h =
       ap (λ (b : ℕ). odd (b / 2 ^ (n % 8))) (getD-set-same img (at + n / 8) (byteAt img (at + n / 8) ⊕ 2 ^ (n % 8)) 0 h)
       ∙ turned-bit (byteAt img (at + n / 8)) (n % 8) (n % 8)
-      ∙ ap (differs (isSet img at n)) (power (n % 8) (n % 8) (mod-lt n (lit< tt)) (mod-lt n (lit< tt)) ∙ eq-eqb (n % 8) (n % 8) refl)
+      ∙ ap (differs (isSet img at n)) (power (n % 8) (n % 8) (mod-lt n (lit< tt)) (mod-lt n (lit< tt))
+      ∙ eq-eqb (n % 8) (n % 8) refl)
       ∙ differs-true (isSet img at n)
 
   -- a byte elsewhere
@@ -76,7 +77,8 @@ module _ (img : List ℕ) (at n : ℕ) where
         ∙ ap (λ (b : ℕ). odd (b / 2 ^ (m % 8))) (getD-set-same img (at + n / 8) (byteAt img (at + n / 8) ⊕ 2 ^ (n % 8)) 0 h)
         ∙ turned-bit (byteAt img (at + n / 8)) (n % 8) (m % 8)
         ∙ ap (differs (odd (byteAt img (at + n / 8) / 2 ^ (m % 8))))
-        (power (n % 8) (m % 8) (mod-lt n (lit< tt)) (mod-lt m (lit< tt)) ∙ ne-eqb (n % 8) (m % 8) (λ f. o (omega arith)))
+        (power (n % 8) (m % 8) (mod-lt n (lit< tt)) (mod-lt m (lit< tt))
+        ∙ ne-eqb (n % 8) (m % 8) (λ f. o (omega arith)))
         ∙ differs-false (odd (byteAt img (at + n / 8) / 2 ^ (m % 8)))
         ∙ ap (λ (k : ℕ). odd (byteAt img (at + k) / 2 ^ (m % 8))) (sym e)
     | no e ↦ ap (λ (b : ℕ). odd (b / 2 ^ (m % 8))) (flip-apart (at + m / 8) (λ f. e (omega arith)))
@@ -93,7 +95,8 @@ module _ (img : List ℕ) (at n : ℕ) where
       set-set img (at + n / 8) (byteAt img (at + n / 8) ⊕ 2 ^ (n % 8)) (byteAt (flipBit img at n) (at + n / 8) ⊕ 2 ^ (n % 8))
       ∙ ap (λ (b : ℕ). set img (at + n / 8) (b ⊕ 2 ^ (n % 8))) (getD-set-same img (at + n / 8) (byteAt img (at + n / 8) ⊕ 2 ^ (n % 8)) 0 h)
       ∙ ap (set img (at + n / 8))
-      (assoc (byteAt img (at + n / 8)) (2 ^ (n % 8)) (2 ^ (n % 8)) ∙ ap (λ (x : ℕ). byteAt img (at + n / 8) ⊕ x) (self (2 ^ (n % 8))) ∙ none-right (byteAt img (at + n / 8)))
+      (assoc (byteAt img (at + n / 8)) (2 ^ (n % 8)) (2 ^ (n % 8)) ∙ ap (λ (x : ℕ). byteAt img (at + n / 8) ⊕ x)
+      (self (2 ^ (n % 8))) ∙ none-right (byteAt img (at + n / 8)))
       ∙ set-getD img (at + n / 8) 0
 
   -- E and G

@@ -1,5 +1,5 @@
--- "Proved: any one flipped bit in the 256 bytes or the 3 code bytes is put right; any two flipped data bits under an intact
--- code are told as beyond repair." Assumes nothing.
+-- "Proved: any one flipped bit in the 256 bytes or the 3 code bytes is put right; any two flipped data bits under an
+-- intact code are told as beyond repair." Assumes nothing.
 use mathlib.Core.Path.{_≡_, refl, sym, ap, ap₂, _∙_}
 use mathlib.Core.Logic.{_⊎_, inl, inr, ⊎-elim}
 use mathlib.Core.Bool.{Bool, true, false}
@@ -38,7 +38,8 @@ unfolding numberG
 G-below img at = xor-below 11 (λ n. pick (isSet img at n) (2047 - n) 0) 2048 (λ n h. pick-below (isSet img at n) (2047 - n) 2048 (omega arith))
 
 -- the same 256 bytes at another place, or in another list
-pub fresh-same : (img other : List ℕ) (at to : ℕ) → ((i : ℕ) → i < 256 → byteAt other (to + i) ≡ byteAt img (at + i)) → freshCode other to ≡ freshCode img at
+pub fresh-same : (img other : List ℕ) (at to : ℕ) → ((i : ℕ) → i < 256 → byteAt other (to + i) ≡ byteAt img (at + i))
+    → freshCode other to ≡ freshCode img at
 unfolding freshCode numberE numberG isSet
 fresh-same img other at to e =
     ap₂ (λ (x y : ℕ). 16777215 - (x + 2048 * y))
@@ -57,7 +58,8 @@ inverted-code img at =
     let turn : numberE img at + 2048 * numberG img at ≡ numberG img at * 2048 + numberE img at = omega arith in
     rw turn (inverted 24 (numberG img at * 2048 + numberE img at) (omega arith))
 
-fresh-differ : (img other : List ℕ) (at : ℕ) → freshCode img at ⊕ freshCode other at ≡ (numberG img at ⊕ numberG other at) * 2048 + (numberE img at ⊕ numberE other at)
+fresh-differ : (img other : List ℕ) (at : ℕ) → freshCode img at ⊕ freshCode other at
+    ≡ (numberG img at ⊕ numberG other at) * 2048 + (numberE img at ⊕ numberE other at)
 fresh-differ img other at =
     ap₂ _⊕_ (inverted-code img at) (inverted-code other at)
     ∙ four (numberG img at * 2048 + numberE img at) 16777215 (numberG other at * 2048 + numberE other at) 16777215
@@ -68,7 +70,8 @@ fresh-differ img other at =
 -- two numbers and the two inverted
 both-inverted : (n m : ℕ) → n < 2048 → m < 2048 → (2047 - n) ⊕ (2047 - m) ≡ n ⊕ m
 both-inverted n m h k =
-    ap₂ _⊕_ (inverted 11 n h) (inverted 11 m k) ∙ four n 2047 m 2047 ∙ ap (λ (x : ℕ). (n ⊕ m) ⊕ x) (self 2047) ∙ none-right (n ⊕ m)
+    ap₂ _⊕_ (inverted 11 n h) (inverted 11 m k) ∙ four n 2047 m 2047 ∙ ap (λ (x : ℕ). (n ⊕ m) ⊕ x) (self 2047)
+    ∙ none-right (n ⊕ m)
 
 two-differ : (n m : ℕ) → (n ≡ m → ⊥) → n ⊕ m ≡ 0 → ⊥
 two-differ n m o e = o (sym (none-right n) ∙ ap (λ (x : ℕ). n ⊕ x) (sym e) ∙ cancel n m)
@@ -85,10 +88,12 @@ part j i = pick (eqb (j / 8) i) (2 ^ (j % 8)) 0
 word : ℕ → ℕ → ℕ → ℕ
 word b₀ b₁ b₂ = (b₂ * 256 + b₁) * 256 + b₀
 
-word-xor : (a₀ a₁ a₂ b₀ b₁ b₂ : ℕ) → a₀ < 256 → a₁ < 256 → b₀ < 256 → b₁ < 256 → word a₀ a₁ a₂ ⊕ word b₀ b₁ b₂ ≡ word (a₀ ⊕ b₀) (a₁ ⊕ b₁) (a₂ ⊕ b₂)
+word-xor : (a₀ a₁ a₂ b₀ b₁ b₂ : ℕ) → a₀ < 256 → a₁ < 256 → b₀ < 256 → b₁ < 256 → word a₀ a₁ a₂ ⊕ word b₀ b₁ b₂
+    ≡ word (a₀ ⊕ b₀) (a₁ ⊕ b₁) (a₂ ⊕ b₂)
 unfolding word
 word-xor a₀ a₁ a₂ b₀ b₁ b₂ h₀ h₁ k₀ k₁ =
-    block 8 (a₂ * 256 + a₁) (b₂ * 256 + b₁) a₀ b₀ h₀ k₀ ∙ ap (λ (x : ℕ). x * 256 + (a₀ ⊕ b₀)) (block 8 a₂ b₂ a₁ b₁ h₁ k₁)
+    block 8 (a₂ * 256 + a₁) (b₂ * 256 + b₁) a₀ b₀ h₀ k₀
+    ∙ ap (λ (x : ℕ). x * 256 + (a₀ ⊕ b₀)) (block 8 a₂ b₂ a₁ b₁ h₁ k₁)
 
 -- each of the 24 bits, computed
 part-words : (j : ℕ) → j < 24 → 2 ^ j ≡ word (part j 0) (part j 1) (part j 2)
@@ -103,16 +108,19 @@ code-word : (img : List ℕ) (c : ℕ) → codeAt img c ≡ word (byteAt img c) 
 unfolding codeAt word
 code-word img c = omega arith
 
-flip-part : (img : List ℕ) (c j i : ℕ) → c + j / 8 < length img → byteAt (flipBit img c j) (c + i) ≡ byteAt img (c + i) ⊕ part j i
+flip-part : (img : List ℕ) (c j i : ℕ) → c + j / 8 < length img → byteAt (flipBit img c j) (c + i) ≡ byteAt img
+    (c + i) ⊕ part j i
 unfolding flipBit
 flip-part img c j i h = elim (ℕ-discrete (j / 8) i) [
   | yes e ↦ rw (← e, eq-eqb (j / 8) (j / 8) refl) (getD-set-same img (c + j / 8) (byteAt img (c + j / 8) ⊕ 2 ^ (j % 8)) 0 h)
   | no e ↦ rw (ne-eqb (j / 8) i e, none-right) (flip-apart img c j (c + i) (λ f. e (omega arith)))
 ]
 
-flip-code : (img : List ℕ) (c j : ℕ) → j < 24 → c + 3 ≤ length img → ((i : ℕ) → byteAt img i < 256) → codeAt (flipBit img c j) c ≡ codeAt img c ⊕ 2 ^ j
+flip-code : (img : List ℕ) (c j : ℕ) → j < 24 → c + 3 ≤ length img → ((i : ℕ) → byteAt img i < 256)
+    → codeAt (flipBit img c j) c ≡ codeAt img c ⊕ 2 ^ j
 flip-code img c j h in-list bytes =
-    let b₀ : byteAt (flipBit img c j) c ≡ byteAt img c ⊕ part j 0 = rw add-zero at (flip-part img c j 0 (omega arith)) in
+    let b₀ : byteAt (flipBit img c j) c ≡ byteAt img c ⊕ part j 0 =
+    rw add-zero at (flip-part img c j 0 (omega arith)) in
     code-word (flipBit img c j) c
     ∙ rw (b₀, flip-part img c j 1 (omega arith), flip-part img c j 2 (omega arith))
     (sym (word-xor (byteAt img c) (byteAt img (c + 1)) (byteAt img (c + 2)) (part j 0) (part j 1) (part j 2)
@@ -143,9 +151,11 @@ three-back img other c in-list len e =
     rest : (i : ℕ) → (i ≡ c → ⊥) → (i ≡ c + 1 → ⊥) → (i ≡ c + 2 → ⊥) → byteAt other i ≡ byteAt img i
     rest i a b d = elim (decLt i c) [ yes h ↦ e i (inl h) | no h ↦ e i (inr (omega arith)) ]
 
-    place : (i : ℕ) → byteAt (set (set (set other c (byteAt img c)) (c + 1) (byteAt img (c + 1))) (c + 2) (byteAt img (c + 2))) i ≡ byteAt img i
+    place : (i : ℕ) → byteAt (set (set (set other c (byteAt img c)) (c + 1) (byteAt img (c + 1))) (c + 2) (byteAt img
+        (c + 2))) i ≡ byteAt img i
     place i = elim (ℕ-discrete i (c + 2)) [
-      | yes q ↦ rw q (getD-set-same (set (set other c (byteAt img c)) (c + 1) (byteAt img (c + 1))) (c + 2) (byteAt img (c + 2)) 0 (simp length-set (omega arith)))
+      | yes q ↦ rw q (getD-set-same (set (set other c (byteAt img c)) (c + 1) (byteAt img (c + 1))) (c + 2) (byteAt img
+          (c + 2)) 0 (simp length-set (omega arith)))
       | no d ↦ getD-set-other (set (set other c (byteAt img c)) (c + 1) (byteAt img (c + 1))) (c + 2) i (byteAt img (c + 2)) 0 d
           ∙ elim (ℕ-discrete i (c + 1)) [
             | yes q ↦ rw q (getD-set-same (set other c (byteAt img c)) (c + 1) (byteAt img (c + 1)) 0 (simp length-set (omega arith)))
@@ -158,7 +168,8 @@ three-back img other c in-list len e =
     ]
 
 -- a code written where it stood before
-put-back : (img other : List ℕ) (c : ℕ) → c + 3 ≤ length img → length other ≡ length img → ((i : ℕ) → byteAt img i < 256)
+put-back : (img other : List ℕ) (c : ℕ) → c + 3 ≤ length img → length other ≡ length img
+    → ((i : ℕ) → byteAt img i < 256)
     → ((i : ℕ) → (i < c) ⊎ (c + 3 ≤ i) → byteAt other i ≡ byteAt img i) → putCode other c (codeAt img c) ≡ img
 unfolding putCode codeAt
 put-back img other c in-list len bytes e =
@@ -184,11 +195,13 @@ module _ (img : List ℕ) (at c : ℕ) (ok : fits img at c ≡ true) where
   pub clean : (found img at c ≡ Clean) × (after img at c ≡ img)
   unfolding found mended
   clean =
-      let e : found img at c ≡ Clean = ap (λ (x : ℕ). diagnosis (x ⊕ freshCode img at)) stored ∙ ap diagnosis (self (freshCode img at)) ∙ told-clean in
+      let e : found img at c ≡ Clean = ap (λ (x : ℕ). diagnosis (x ⊕ freshCode img at)) stored
+      ∙ ap diagnosis (self (freshCode img at)) ∙ told-clean in
       (e, rw e)
 
   module _ (in-list : at + 256 ≤ length img) (apart : (c + 3 ≤ at) ⊎ (at + 256 ≤ c)) where
-    code-kept : (other : List ℕ) → ((i : ℕ) → (i < at) ⊎ (at + 256 ≤ i) → byteAt other i ≡ byteAt img i) → codeAt other c ≡ codeAt img c
+    code-kept : (other : List ℕ) → ((i : ℕ) → (i < at) ⊎ (at + 256 ≤ i) → byteAt other i ≡ byteAt img i)
+        → codeAt other c ≡ codeAt img c
     unfolding codeAt
     code-kept other e = rw (
       e c (⊎-elim (λ (h : c + 3 ≤ at). inl (omega arith)) (λ (h : at + 256 ≤ c). inr (omega arith)) apart),
@@ -201,34 +214,45 @@ module _ (img : List ℕ) (at c : ℕ) (ok : fits img at c ≡ true) where
     outside n i h (inr l) e = omega arith
 
     -- one flipped data bit
-    pub data-bit : (n : ℕ) → n < 2048 → (found (flipBit img at n) at c ≡ DataMended n) × (after (flipBit img at n) at c ≡ img)
+    pub data-bit : (n : ℕ) → n < 2048 → (found (flipBit img at n) at c ≡ DataMended n) ×
+        (after (flipBit img at n) at c ≡ img)
     unfolding found mended
     data-bit n h =
-        let e : numberE img at ⊕ numberE (flipBit img at n) at ≡ n = ap (λ (x : ℕ). numberE img at ⊕ x) (flip-E img at n in-list h) ∙ cancel (numberE img at) n in
-        let g : numberG img at ⊕ numberG (flipBit img at n) at ≡ 2047 - n = ap (λ (x : ℕ). numberG img at ⊕ x) (flip-G img at n in-list h) ∙ cancel (numberG img at) (2047 - n) in
-        let kept : codeAt (flipBit img at n) c ≡ freshCode img at = code-kept (flipBit img at n) (λ i o. flip-apart img at n i (outside n i h o)) ∙ stored in
+        let e : numberE img at ⊕ numberE (flipBit img at n) at ≡ n = ap (λ (x : ℕ). numberE img at ⊕ x)
+        (flip-E img at n in-list h) ∙ cancel (numberE img at) n in
+        let g : numberG img at ⊕ numberG (flipBit img at n) at ≡ 2047 - n = ap (λ (x : ℕ). numberG img at ⊕ x)
+        (flip-G img at n in-list h) ∙ cancel (numberG img at) (2047 - n) in
+        let kept : codeAt (flipBit img at n) c ≡ freshCode img at =
+        code-kept (flipBit img at n) (λ i o. flip-apart img at n i (outside n i h o)) ∙ stored in
         let d : codeAt (flipBit img at n) c ⊕ freshCode (flipBit img at n) at ≡ (2047 - n) * 2048 + n
-        = ap (λ (x : ℕ). x ⊕ freshCode (flipBit img at n) at) kept ∙ fresh-differ img (flipBit img at n) at ∙ ap₂ (λ (x y : ℕ). x * 2048 + y) g e in
+        = ap (λ (x : ℕ). x ⊕ freshCode (flipBit img at n) at) kept ∙ fresh-differ img (flipBit img at n) at
+        ∙ ap₂ (λ (x y : ℕ). x * 2048 + y) g e in
         let t : found (flipBit img at n) at c ≡ DataMended n = ap diagnosis d ∙ told-data n h in
         (t, rw t (flip-twice img at n (omega arith)))
 
     -- two flipped data bits
     pub two-data-bits : (n m : ℕ) → n < 2048 → m < 2048 → (n ≡ m → ⊥)
-        → (found (flipBit (flipBit img at n) at m) at c ≡ Beyond) × (after (flipBit (flipBit img at n) at m) at c ≡ flipBit (flipBit img at n) at m)
+        → (found (flipBit (flipBit img at n) at m) at c ≡ Beyond) ×
+        (after (flipBit (flipBit img at n) at m) at c ≡ flipBit (flipBit img at n) at m)
     unfolding found mended
     two-data-bits n m h k o =
         let len : at + 256 ≤ length (flipBit img at n) = rw (flip-length img at n) in-list in
         let e : numberE img at ⊕ numberE (flipBit (flipBit img at n) at m) at ≡ n ⊕ m
-        = ap (λ (x : ℕ). numberE img at ⊕ x) (flip-E (flipBit img at n) at m len k ∙ ap (λ (x : ℕ). x ⊕ m) (flip-E img at n in-list h)) ∙ cancel-two (numberE img at) n m in
+        = ap (λ (x : ℕ). numberE img at ⊕ x) (flip-E (flipBit img at n) at m len k ∙ ap (λ (x : ℕ). x ⊕ m)
+        (flip-E img at n in-list h)) ∙ cancel-two (numberE img at) n m in
         let g : numberG img at ⊕ numberG (flipBit (flipBit img at n) at m) at ≡ n ⊕ m
-        = ap (λ (x : ℕ). numberG img at ⊕ x) (flip-G (flipBit img at n) at m len k ∙ ap (λ (x : ℕ). x ⊕ (2047 - m)) (flip-G img at n in-list h))
+        = ap (λ (x : ℕ). numberG img at ⊕ x) (flip-G (flipBit img at n) at m len k
+        ∙ ap (λ (x : ℕ). x ⊕ (2047 - m)) (flip-G img at n in-list h))
         ∙ cancel-two (numberG img at) (2047 - n) (2047 - m) ∙ both-inverted n m h k in
         let kept : codeAt (flipBit (flipBit img at n) at m) c ≡ freshCode img at
         = code-kept (flipBit (flipBit img at n) at m)
-        (λ i w. flip-apart (flipBit img at n) at m i (outside m i k w) ∙ flip-apart img at n i (outside n i h w)) ∙ stored in
+        (λ i w. flip-apart (flipBit img at n) at m i (outside m i k w) ∙ flip-apart img at n i (outside n i h w))
+        ∙ stored in
         let d : codeAt (flipBit (flipBit img at n) at m) c ⊕ freshCode (flipBit (flipBit img at n) at m) at ≡ (n ⊕ m) * 2048 + (n ⊕ m)
-        = ap (λ (x : ℕ). x ⊕ freshCode (flipBit (flipBit img at n) at m) at) kept ∙ fresh-differ img (flipBit (flipBit img at n) at m) at ∙ ap₂ (λ (x y : ℕ). x * 2048 + y) g e in
-        let t : found (flipBit (flipBit img at n) at m) at c ≡ Beyond = ap diagnosis d ∙ told-two (n ⊕ m) (two-differ n m o) (below 11 n m h k) in
+        = ap (λ (x : ℕ). x ⊕ freshCode (flipBit (flipBit img at n) at m) at) kept ∙ fresh-differ img
+        (flipBit (flipBit img at n) at m) at ∙ ap₂ (λ (x y : ℕ). x * 2048 + y) g e in
+        let t : found (flipBit (flipBit img at n) at m) at c ≡ Beyond =
+        ap diagnosis d ∙ told-two (n ⊕ m) (two-differ n m o) (below 11 n m h k) in
         (t, rw t)
 
   -- one flipped bit of the code

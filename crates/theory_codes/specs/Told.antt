@@ -24,7 +24,8 @@ pub told-clean : diagnosis 0 ≡ Clean
 unfolding diagnosis
 told-clean = refl
 
-each-more : (k n p : ℕ) → n < p * 2 → oneOfEach k (n / 2) ((p - 1) - n / 2) ≡ true → oneOfEach (suc k) n ((p * 2 - 1) - n) ≡ true
+each-more : (k n p : ℕ) → n < p * 2 → oneOfEach k (n / 2) ((p - 1) - n / 2) ≡ true → oneOfEach (suc k) n
+    ((p * 2 - 1) - n) ≡ true
 unfolding oneOfEach
 each-more k n p l rest =
     let one : n % 2 + ((p * 2 - 1) - n) % 2 ≡ 1 = omega arith in
@@ -77,7 +78,8 @@ told-two x o h =
     let low : (x * 2048 + x) % 2048 ≡ x = powers.low x 11 h in
     let high : (x * 2048 + x) / 2048 ≡ x = powers.high x 11 h in
     let whole : x % 2048 ≡ x = mod-eq-of-lt h in
-    let counted : onesIn 24 (x * 2048 + x) ≡ ones x + ones x = count-ones 24 (x * 2048 + x) (omega arith) ∙ ones-cat 11 x x h in
+    let counted : onesIn 24 (x * 2048 + x) ≡ ones x + ones x = count-ones 24 (x * 2048 + x) (omega arith)
+    ∙ ones-cat 11 x x h in
     let many : eqb (ones x + ones x) 1 ≡ false = twice-not-one (ones x) in
     rw (some, low, high, whole, none-each 10 x, and-false, counted, many)
 
@@ -109,7 +111,8 @@ unfolding trailingZeros
 trailing-more zero m n o h = absurd (o (lt-one h))
 trailing-more (suc k) m n o h =
     let l : n < 2 ^ k * 2 = rw pow-suc at h in
-    rw suc-add (under-same (n % 2) (trailingZeros (k + m) (n / 2)) (trailingZeros k (n / 2)) (λ e. trailing-more k m (n / 2) (λ z. o (omega arith)) (omega arith)))
+    rw suc-add (under-same (n % 2) (trailingZeros (k + m) (n / 2)) (trailingZeros k (n / 2)) (λ e. trailing-more k m
+    (n / 2) (λ z. o (omega arith)) (omega arith)))
 
 -- ---- the pairs, by exclusive or
 
@@ -124,12 +127,14 @@ unfolding _&_
 on true = refl
 on false = refl
 
-digits-each : (x y q p : ℕ) → x < 2 → y < 2 → 0 < p → (eqb (x + y) 1 & eqb q (p - 1)) ≡ eqb (q * 2 + differ x y) (p * 2 - 1)
+digits-each : (x y q p : ℕ) → x < 2 → y < 2 → 0 < p → (eqb (x + y) 1 & eqb q (p - 1)) ≡ eqb (q * 2 + differ x y)
+    (p * 2 - 1)
 digits-each zero zero q p h k l = and-false (eqb q (p - 1)) ∙ sym (ne-eqb (q * 2 + 0) (p * 2 - 1) (λ e. omega arith))
 digits-each zero (suc zero) q p h k l = and-true (eqb q (p - 1)) ∙ top-bit q p l
 digits-each zero (suc (suc y)) q p h k l = absurd (omega arith)
 digits-each (suc zero) zero q p h k l = and-true (eqb q (p - 1)) ∙ top-bit q p l
-digits-each (suc zero) (suc zero) q p h k l = and-false (eqb q (p - 1)) ∙ sym (ne-eqb (q * 2 + 0) (p * 2 - 1) (λ e. omega arith))
+digits-each (suc zero) (suc zero) q p h k l =
+    and-false (eqb q (p - 1)) ∙ sym (ne-eqb (q * 2 + 0) (p * 2 - 1) (λ e. omega arith))
 digits-each (suc zero) (suc (suc y)) q p h k l = absurd (omega arith)
 digits-each (suc (suc x)) y q p h k l = absurd (omega arith)
 

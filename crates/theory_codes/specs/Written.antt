@@ -20,7 +20,8 @@ fresh-below img at = omega arith
 
 -- the same 256 bytes and the same three, in another list or at another place
 pub fits-same : (img other : List ℕ) (at to c d : ℕ) → ((i : ℕ) → i < 256 → byteAt other (to + i) ≡ byteAt img (at + i))
-    → byteAt other d ≡ byteAt img c → byteAt other (d + 1) ≡ byteAt img (c + 1) → byteAt other (d + 2) ≡ byteAt img (c + 2)
+    → byteAt other d ≡ byteAt img c → byteAt other (d + 1) ≡ byteAt img (c + 1) → byteAt other (d + 2) ≡ byteAt img
+    (c + 2)
     → fits other to d ≡ fits img at c
 unfolding fits codeAt
 fits-same img other at to c d e e₀ e₁ e₂ = rw (e₀, e₁, e₂, fresh-same img other at to e)
@@ -41,7 +42,8 @@ put-other img c v i w =
     here (inl l) e = omega arith
     here (inr l) e = omega arith
 
-digits : (v a b p q r : ℕ) → a * 256 + p ≡ v → b * 256 + q ≡ a → b % 256 ≡ r → v < 16777216 → p < 256 → q < 256 → p + 256 * q + 65536 * r ≡ v
+digits : (v a b p q r : ℕ) → a * 256 + p ≡ v → b * 256 + q ≡ a → b % 256 ≡ r → v < 16777216 → p < 256 → q < 256
+    → p + 256 * q + 65536 * r ≡ v
 digits v a b p q r x y z h i j = omega arith
 
 pub put-read : (img : List ℕ) (c v : ℕ) → c + 3 ≤ length img → v < 16777216 → codeAt (putCode img c v) c ≡ v
@@ -49,7 +51,8 @@ unfolding codeAt putCode
 put-read img c v h k =
     let b₀ : byteAt (set (set (set img c (v % 256)) (c + 1) (v / 256 % 256)) (c + 2) (v / 65536 % 256)) c ≡ v % 256
     = getD-set-other (set (set img c (v % 256)) (c + 1) (v / 256 % 256)) (c + 2) c (v / 65536 % 256) 0 (λ e. omega arith)
-    ∙ getD-set-other (set img c (v % 256)) (c + 1) c (v / 256 % 256) 0 (λ e. omega arith) ∙ getD-set-same img c (v % 256) 0 (omega arith) in
+    ∙ getD-set-other (set img c (v % 256)) (c + 1) c (v / 256 % 256) 0 (λ e. omega arith)
+    ∙ getD-set-same img c (v % 256) 0 (omega arith) in
     let b₁ : byteAt (set (set (set img c (v % 256)) (c + 1) (v / 256 % 256)) (c + 2) (v / 65536 % 256)) (c + 1) ≡ v / 256 % 256
     = getD-set-other (set (set img c (v % 256)) (c + 1) (v / 256 % 256)) (c + 2) (c + 1) (v / 65536 % 256) 0 (λ e. omega arith)
     ∙ getD-set-same (set img c (v % 256)) (c + 1) (v / 256 % 256) 0 (simp length-set (omega arith)) in
@@ -62,7 +65,8 @@ put-read img c v h k =
         (rw (shr-shr v 8 8) at (div-add-mod' (v / 256) 256)) refl k (omega arith) (omega arith)
 
 -- "R1 now asks for fitting codes": what a page is programmed with fits
-pub put-fits : (img : List ℕ) (at c : ℕ) → c + 3 ≤ length img → (c + 3 ≤ at) ⊎ (at + 256 ≤ c) → fits (putCode img c (freshCode img at)) at c ≡ true
+pub put-fits : (img : List ℕ) (at c : ℕ) → c + 3 ≤ length img → (c + 3 ≤ at) ⊎ (at + 256 ≤ c)
+    → fits (putCode img c (freshCode img at)) at c ≡ true
 unfolding fits
 put-fits img at c h apart =
     eq-eqb (codeAt (putCode img c (freshCode img at)) c) (freshCode (putCode img c (freshCode img at)) at)

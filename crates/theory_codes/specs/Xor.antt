@@ -112,4 +112,5 @@ odd-digits (suc zero) (suc (suc y)) h k = absurd (omega arith)
 odd-digits (suc (suc x)) y h k = absurd (omega arith)
 
 pub odd-xor : (a b : ℕ) → odd (a ⊕ b) ≡ differs (odd a) (odd b)
-odd-xor a b = ap (λ (x : ℕ). eqb x 1) (low-bit a b) ∙ odd-digits (a % 2) (b % 2) (mod-lt a (lit< tt)) (mod-lt b (lit< tt))
+odd-xor a b = ap (λ (x : ℕ). eqb x 1) (low-bit a b)
+    ∙ odd-digits (a % 2) (b % 2) (mod-lt a (lit< tt)) (mod-lt b (lit< tt))

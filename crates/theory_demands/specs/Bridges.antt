@@ -37,10 +37,12 @@ module _ (g : Geometry) (shape : Shape g) (img : List ℕ) (ready : Ready g img)
   few = few-pages g (shape-core g shape) n (blocks .most)
 
   pub some-pages : 1 ≤ pagesOf g n
-  some-pages = let w = block-in (g .pages) 2 n (blocks .least) in let z = some-page g (shape-core g shape) in omega (arith, w, z)
+  some-pages = let w = block-in (g .pages) 2 n (blocks .least) in let z = some-page g (shape-core g shape) in
+      omega (arith, w, z)
 
   pub ready-keeps : Keeps g n (mapAt g img) img
-  ready-keeps = let z = sound-held g shape n img (let w = blocks .least in omega (arith, w)) (blocks .image) (ready .bytes) (ready .is-sound) in
+  ready-keeps = let z = sound-held g shape n img (let w = blocks .least in
+      omega (arith, w)) (blocks .image) (ready .bytes) (ready .is-sound) in
       record { held = z .0; r7 = z .1; r8 = z .2; map-is = refl }
 
   -- the map's keys rise
@@ -60,14 +62,16 @@ module _ (g : Geometry) (shape : Shape g) (img : List ℕ) (ready : Ready g img)
         map-is = ap (λ m. mapOf (chipOf g m x)) b ∙ h .map-is;
       }
 
-pub along-lawful : (g : Geometry) (n : ℕ) (P : List ℕ → Type 0) (img : List ℕ) (ss : List Store) (s : Store) → Along g n P img ss
+pub along-lawful : (g : Geometry) (n : ℕ) (P : List ℕ → Type 0) (img : List ℕ) (ss : List Store) (s : Store)
+    → Along g n P img ss
     → Legal g n (applyAll g ss img) s → Lawful g n img (ss ++ (s ∷ []))
 unfolding Along Lawful applyAll
 along-lawful g n P img [] s h l = (l, tt)
 along-lawful g n P img (x ∷ ss) s h l = (h .1, along-lawful g n P (applyStore g x img) ss s (h .2) l)
 
 -- an update's list meets demand 3
-pub updated-kept : (g : Geometry) (shape : Shape g) (img : List ℕ) (ready : Ready g img) (Z : Chip → Type 0) (old new : List Entry) (ss : List Store) (m : ℕ) → m ≤ g .top
+pub updated-kept : (g : Geometry) (shape : Shape g) (img : List ℕ) (ready : Ready g img) (Z : Chip → Type 0)
+    (old new : List Entry) (ss : List Store) (m : ℕ) → m ≤ g .top
     → Updated g (blocksOf g img) Z old new img ss (programMost g m) (suc m) → Kept g old new img ss
 updated-kept g shape img ready Z old new ss m h u =
     let n = blocksOf g img in
@@ -77,7 +81,8 @@ updated-kept g shape img ready Z old new ss m h u =
     (let z : suc m ≤ g .top + 1 = omega (arith, h) in z) in
     record {
       lawful = subst (Lawful g n img) (sym e) (along-lawful g n (Keeps g n old) img (u .init) (u .last) (u .along) (u .legal));
-      before = λ j q. let f : take j ss ≡ take j (u .init) = ap (take j) e ∙ take-append-le j (u .init) (u .last ∷ []) (omega (arith, q, len)) in
+      before = λ j q. let f : take j ss ≡ take j (u .init) =
+          ap (take j) e ∙ take-append-le j (u .init) (u .last ∷ []) (omega (arith, q, len)) in
           keeps-holds g shape img ready old (applyAll g (take j ss) img) (length-all g (take j ss) img)
           (subst (λ (x : List Store). Keeps g n old (applyAll g x img)) (sym f) (along-take g n (Keeps g n old) img (u .init) j (u .along)));
       end = keeps-holds g shape img ready new (applyAll g ss img) (length-all g ss img) (u .end);

@@ -1,5 +1,5 @@
--- The bad builds that document 01 names, excluded on a formatted image: no single answer fits, and a finished insertion has
--- written. An update that has room finishes if its allowance is large enough. Assumes nothing.
+-- The bad builds that document 01 names, excluded on a formatted image: no single answer fits, and a finished insertion
+-- has written. An update that has room finishes if its allowance is large enough. Assumes nothing.
 use mathlib.Core.Path.{_≡_, refl, ap, sym, subst, _∙_}
 use mathlib.Core.List.{List, [], _∷_}
 use mathlib.Core.Bool.{true, false}
@@ -60,7 +60,8 @@ module _ (g : Geometry) (shape : Shape g) (img : List ℕ) (ready : Ready g img)
   unfolding made
   enough ss al p e h = rw (le-leb (length ss) al (omega (arith, stores-length ss, p, e, h))) refl
 
-  -- with room and enough stores allowed an insertion is DONE; ROOM looks at live pages alone, so dead ones are used again
+  -- with room and enough stores allowed an insertion is DONE; ROOM looks at live pages alone, so dead ones are used
+  -- again
   pub insert-finishes : (a al : ℕ) → a < fourBytes → storesMost g ≤ al → worn g n img ≡ false → tooHigh g c k ≡ false
       → roomless g (freePages g n c) (needs g c k) ≡ false → insert g img k a al .answer ≡ 0
   insert-finishes a al a-low h x y z =
@@ -80,7 +81,8 @@ module _ (g : Geometry) (shape : Shape g) (img : List ℕ) (ready : Ready g img)
       ap (λ (o : Outcome). o .answer) e ∙ enough ss al (kept .programmed) (kept .wiped) h
 
 -- ---- a formatted image
-module _ (g : Geometry) (shape : Shape g) (some-worn : 1 ≤ g .worn) (img : List ℕ) (length-good : goodLength g img ≡ true)
+module _ (g : Geometry) (shape : Shape g) (some-worn : 1 ≤ g .worn) (img : List ℕ)
+    (length-good : goodLength g img ≡ true)
     (bytes : (i : ℕ) → byteAt img i < 256) where
   abbrev new : List ℕ
   new = format g img .image
@@ -106,7 +108,8 @@ module _ (g : Geometry) (shape : Shape g) (some-worn : 1 ≤ g .worn) (img : Lis
   new-ready : Ready g new
   new-ready = record {
     length-good = length-same g img new new-length ∙ length-good;
-    is-sound = ap (λ m. verdict g m new) new-blocks ∙ held-sound g shape b new (keeps-new .held) (keeps-new .r7) (keeps-new .r8);
+    is-sound = ap (λ m. verdict g m new) new-blocks
+        ∙ held-sound g shape b new (keeps-new .held) (keeps-new .r7) (keeps-new .r8);
     bytes = keeps-new .held .bytes;
   }
 
@@ -118,24 +121,29 @@ module _ (g : Geometry) (shape : Shape g) (some-worn : 1 ≤ g .worn) (img : Lis
     -- a lookup answers ABSENT
     pub first-lookup : lookup g new k ≡ refused 4 new
     unfolding answered find
-    first-lookup = lookup-answers g shape new new-ready k k-low ∙ ap (λ (m : List Entry). answered (find k m) new) (format-holds .map-is)
+    first-lookup = lookup-answers g shape new new-ready k k-low
+        ∙ ap (λ (m : List Entry). answered (find k m) new) (format-holds .map-is)
 
     abbrev fresh : Chip
     fresh = chipOf g b new
 
     level-is : fresh .level ≡ 0
-    level-is = ap (λ (x : List ℕ). chipOf g b x .level) new-is ∙ formatted-level g (shape-core g shape) b (good .least) img (good .image) bytes
+    level-is = ap (λ (x : List ℕ). chipOf g b x .level) new-is
+        ∙ formatted-level g (shape-core g shape) b (good .least) img (good .image) bytes
 
     root-is : rootNode fresh ≡ []
-    root-is = ap (λ (x : List ℕ). rootNode (chipOf g b x)) new-is ∙ formatted-root g (shape-core g shape) b (good .least) img (good .image) bytes
+    root-is = ap (λ (x : List ℕ). rootNode (chipOf g b x)) new-is
+        ∙ formatted-root g (shape-core g shape) b (good .least) img (good .image) bytes
 
     lives-are : livePages (pagesOf g b) fresh ≤ 1
-    lives-are = let e = ap (λ (x : List ℕ). livePages (pagesOf g b) (chipOf g b x)) new-is in let z = formatted-lives g (shape-core g shape) b (good .least) img
+    lives-are = let e = ap (λ (x : List ℕ). livePages (pagesOf g b) (chipOf g b x)) new-is in let z =
+        formatted-lives g (shape-core g shape) b (good .least) img
         (good .image) bytes in omega (arith, e, z)
 
     not-worn-new : worn g b new ≡ false
     unfolding worn
-    not-worn-new = let e = ap (maxSeq g b) new-is in let z = formatted-max g (shape-core g shape) b (good .least) img (good .image) bytes in le-ltb (g .worn)
+    not-worn-new = let e = ap (maxSeq g b) new-is in let z =
+        formatted-max g (shape-core g shape) b (good .least) img (good .image) bytes in le-ltb (g .worn)
         (maxSeq g b new) (omega (arith, e, z, some-worn))
 
     not-high-new : tooHigh g fresh k ≡ false
@@ -158,11 +166,13 @@ module _ (g : Geometry) (shape : Shape g) (some-worn : 1 ≤ g .worn) (img : Lis
         let dd = shape .double 1 (omega arith) (omega (arith, t)) in
         let ss = shape .some 1 (omega arith) (omega (arith, t)) in
         let l = ap length root-is in
-        let f : eqb (length (rootNode fresh) + bit (rootGains g fresh k)) (rootSlots g (suc (fresh .level))) ≡ false = ne-eqb
+        let f : eqb (length (rootNode fresh) + bit (rootGains g fresh k)) (rootSlots g (suc (fresh .level))) ≡ false =
+        ne-eqb
         (length (rootNode fresh) + bit (rootGains g fresh k)) (rootSlots g (suc (fresh .level)))
         (λ z. let y = bit-most (rootGains g fresh k) in omega (arith, z, y, l, r, dd, ss)) in
         let h : (ltb (suc (fresh .level)) (g .top) & eqb (length (rootNode fresh) + bit (rootGains g fresh k))
-        (rootSlots g (suc (fresh .level)))) ≡ false = rw (lt-ltb (suc (fresh .level)) (g .top) (omega (arith, one, t)), f, and-true false) refl in
+        (rootSlots g (suc (fresh .level)))) ≡ false =
+        rw (lt-ltb (suc (fresh .level)) (g .top) (omega (arith, one, t)), f, and-true false) refl in
         let z = ap bit h in
         omega (arith, s, level-is, z)
 
@@ -187,4 +197,5 @@ module _ (g : Geometry) (shape : Shape g) (some-worn : 1 ≤ g .worn) (img : Lis
 
     pub second-lookup : lookup g (insert g new k a al .image) k ≡ answered (some a) (insert g new k a al .image)
     second-lookup = lookup-answers g shape (insert g new k a al .image) (first-map .ready) k k-low
-        ∙ ap (λ (o : Option ℕ). answered o (insert g new k a al .image)) (ap (find k) (first-map .map-is) ∙ find-put k a [])
+        ∙ ap (λ (o : Option ℕ). answered o (insert g new k a al .image)) (ap (find k) (first-map .map-is)
+        ∙ find-put k a [])

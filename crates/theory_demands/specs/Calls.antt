@@ -27,7 +27,8 @@ pub judged-ready : (g : Geometry) (img : List ℕ) (rest : Outcome) → Ready g 
 unfolding judged byVerdict
 judged-ready g img rest r = rw (r .length-good, r .is-sound) refl
 
-pub judged-untouched : (g : Geometry) (img : List ℕ) (rest : Outcome) → Untouched img rest → Untouched img (judgedCall g img rest)
+pub judged-untouched : (g : Geometry) (img : List ℕ) (rest : Outcome) → Untouched img rest
+    → Untouched img (judgedCall g img rest)
 unfolding judged byVerdict
 judged-untouched g img rest h = go (goodLength g img) (verdict g (blocksOf g img) img)
   where
@@ -100,7 +101,8 @@ module _ (g : Geometry) (img : List ℕ) (k a al : ℕ) where
     -- a call that has begun has met none of its tests
     pub insert-passed : Began (insert g img k a al) → All Unmet insertTests × (insert g img k a al ≡ ins)
     insert-passed b =
-        let p = tested-passed img insertTests ins ((omega arith, omega arith), ((omega arith, omega arith), ((omega arith, omega arith), tt))) (subst Began insert-is b) in
+        let p = tested-passed img insertTests ins
+        ((omega arith, omega arith), ((omega arith, omega arith), ((omega arith, omega arith), tt))) (subst Began insert-is b) in
         (p .0, insert-is ∙ p .1)
 
     pub delete-passed : Began (delete g img k al) → All Unmet deleteTests × (delete g img k al ≡ del)

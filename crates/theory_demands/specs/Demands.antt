@@ -1,7 +1,7 @@
--- The demands, about the definitions `lookup`, `insert` and `delete` of crate model, whose outcome has an answer number, an
--- address, two counts and the image afterwards. g is any geometry with `Shape g`, so the small and the large chip; k, the key, and
--- a, the address, are below 2^32 = 4294967296; al is the store allowance. `Words` has the words: Ready, mapAt, Rising, Holds,
--- Kept, Began, OneOf, Own. Every proof here is one citation; assumes nothing.
+-- The demands, about the definitions `lookup`, `insert` and `delete` of crate model, whose outcome has an answer
+-- number, an address, two counts and the image afterwards. g is any geometry with `Shape g`, so the small and the large
+-- chip; k, the key, and a, the address, are below 2^32 = 4294967296; al is the store allowance. `Words` has the words:
+-- Ready, mapAt, Rising, Holds, Kept, Began, OneOf, Own. Every proof here is one citation; assumes nothing.
 use mathlib.Core.Path.{_≡_}
 use mathlib.Core.List.{List, [], _∷_}
 use mathlib.Core.Logic.{_⊎_}
@@ -62,14 +62,17 @@ module _ (g : Geometry) (shape : Shape g) (img : List ℕ) (ready : Ready g img)
   pub delete-absent : (al : ℕ) → delete g img k al .answer ≡ 4 → find k (mapAt g img) ≡ none
   delete-absent al h = absent-answer g shape img ready k k-low al h
 
-  pub absent-delete : (al : ℕ) → find k (mapAt g img) ≡ none → (delete g img k al .answer ≡ 3) ⊎ (delete g img k al .answer ≡ 4)
+  pub absent-delete : (al : ℕ) → find k (mapAt g img) ≡ none → (delete g img k al .answer ≡ 3) ⊎
+      (delete g img k al .answer ≡ 4)
   absent-delete al h = answer-absent g shape img ready k k-low al h
 
   -- an update that answers 0 leaves a sound image, its map with K put in or taken out
-  pub insert-done : (a al : ℕ) → a < fourBytes → insert g img k a al .answer ≡ 0 → Holds g (put k a (mapAt g img)) (insert g img k a al .image)
+  pub insert-done : (a al : ℕ) → a < fourBytes → insert g img k a al .answer ≡ 0 → Holds g (put k a (mapAt g img))
+      (insert g img k a al .image)
   insert-done a al a-low h = insert-ends g shape img ready k k-low a al a-low h
 
-  pub delete-done : (al : ℕ) → delete g img k al .answer ≡ 0 → Holds g (remove k (mapAt g img)) (delete g img k al .image)
+  pub delete-done : (al : ℕ) → delete g img k al .answer ≡ 0 → Holds g (remove k (mapAt g img))
+      (delete g img k al .image)
   delete-done al h = delete-ends g shape img ready k k-low al h
 
   -- what `put` and `remove` do to a map: K is found with A, or no more; every other key is found as before
@@ -85,8 +88,9 @@ module _ (g : Geometry) (shape : Shape g) (img : List ℕ) (ready : Ready g img)
   pub remove-others : (j : ℕ) → (j ≡ k → ⊥) → find j (remove k (mapAt g img)) ≡ find j (mapAt g img)
   remove-others j d = find-remove-other k j (mapAt g img) d
 
-  -- ---- Demand 3: the stores of an update that begins (answers 0 or 7), by `Kept`: each is legal; after each of them stands a
-  -- sound image that holds the old map, or the new one once the last store is made; programs and erases are bounded
+  -- ---- Demand 3: the stores of an update that begins (answers 0 or 7), by `Kept`: each is legal; after each of them
+  -- stands a sound image that holds the old map, or the new one once the last store is made; programs and erases are
+  -- bounded
   pub insert-stores : (a al : ℕ) → a < fourBytes → Began (insert g img k a al)
       → Kept g (mapAt g img) (put k a (mapAt g img)) img (insertStores g (blocksOf g img) img k a)
   insert-stores a al a-low b = insert-kept g shape img ready k k-low a al a-low b
@@ -96,28 +100,34 @@ module _ (g : Geometry) (shape : Shape g) (img : List ℕ) (ready : Ready g img)
   delete-stores al b = delete-kept g shape img ready k k-low al b
 
   -- the call's image and counts are those of the list, cut at the allowance
-  pub insert-made : (a al : ℕ) → Began (insert g img k a al) → insert g img k a al ≡ made g (insertStores g (blocksOf g img) img k a) al img
+  pub insert-made : (a al : ℕ) → Began (insert g img k a al) → insert g img k a al ≡ made g
+      (insertStores g (blocksOf g img) img k a) al img
   insert-made a al b = insert-passed g img k a al ready b .1
 
-  pub delete-made : (al : ℕ) → Began (delete g img k al) → delete g img k al ≡ made g (deleteStores g (blocksOf g img) img k) al img
+  pub delete-made : (al : ℕ) → Began (delete g img k al) → delete g img k al ≡ made g
+      (deleteStores g (blocksOf g img) img k) al img
   delete-made al b = delete-passed g img k 0 al ready b .1
 
   -- so a stopped update leaves a sound image with the old map
-  pub insert-stopped : (a al : ℕ) → a < fourBytes → insert g img k a al .answer ≡ 7 → Holds g (mapAt g img) (insert g img k a al .image)
+  pub insert-stopped : (a al : ℕ) → a < fourBytes → insert g img k a al .answer ≡ 7 → Holds g (mapAt g img)
+      (insert g img k a al .image)
   insert-stopped a al a-low h = insert-stops g shape img ready k k-low a al a-low h
 
   pub delete-stopped : (al : ℕ) → delete g img k al .answer ≡ 7 → Holds g (mapAt g img) (delete g img k al .image)
   delete-stopped al h = delete-stops g shape img ready k k-low al h
 
-  -- own pages: 1 + splits + 1 if the tree grows, of a delete 1; the rest of the list is collection, which ends because it is done
+  -- own pages: 1 + splits + 1 if the tree grows, of a delete 1; the rest of the list is collection, which ends because
+  -- it is done
   pub insert-own : (a al : ℕ) → a < fourBytes → Began (insert g img k a al)
       → Own g (blocksOf g img) img (needs g (chipOf g (blocksOf g img) img) k) (insertStores g (blocksOf g img) img k a)
   insert-own a al a-low b = insert-pages g shape img ready k k-low a al a-low b
 
-  pub delete-own : (al : ℕ) → Began (delete g img k al) → Own g (blocksOf g img) img 1 (deleteStores g (blocksOf g img) img k)
+  pub delete-own : (al : ℕ) → Began (delete g img k al) → Own g (blocksOf g img) img 1
+      (deleteStores g (blocksOf g img) img k)
   delete-own al b = delete-pages g shape img ready k k-low al b
 
-  -- so at most 5 own pages, 191 programmed and 6 erased on the small chip, 7, 511 and 8 on the large one: `small-most`, `large-most`
+  -- so at most 5 own pages, 191 programmed and 6 erased on the small chip, 7, 511 and 8 on the large one: `small-most`,
+  -- `large-most`
   pub insert-bounds : (a al : ℕ) → a < fourBytes → Began (insert g img k a al)
       → (needs g (chipOf g (blocksOf g img) img) k ≤ ownMost g) ×
       (programs (insertStores g (blocksOf g img) img k a) ≤ programmedMost g) ×

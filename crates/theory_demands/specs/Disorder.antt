@@ -141,7 +141,8 @@ module _ (p n : ℕ) (er : ℕ → Bool) where
     test-mixed : (b : ℕ) → b < n → mixed p er b ≡ true → Mixed b
     test-mixed b q e =
         let w = test-parts (er (p * b + 0)) (er (p * b + (p - 1))) e in
-        let some : 1 ≤ p = by-le 1 p (λ z. z) (λ z. absurd (true-false _ (w .1) (let y : p - 1 ≡ 0 = omega (arith, z) in rw y (w .0)))) in
+        let some : 1 ≤ p = by-le 1 p (λ z. z) (λ z. absurd (true-false _ (w .1) (let y : p - 1 ≡ 0 = omega (arith, z) in
+        rw y (w .0)))) in
         record {
           block-in = q;
           erased-at = p - 1;
@@ -175,9 +176,11 @@ module _ (p n : ℕ) (er : ℕ → Bool) where
           higher = under;
           one-mixed = test-mixed one-is (omega (arith, under, h)) (l .there (omega (arith, under, h)));
           second-mixed = test-mixed s h m;
-          no-other = λ b q x. by-eq b one-is (λ z. z) (λ z. absurd (true-false _ (and-both _ _ (mixed-test b x) (ap not (ne-eqb b one-is z))) (least-is other n .before b q)));
+          no-other = λ b q x. by-eq b one-is (λ z. z)
+              (λ z. absurd (true-false _ (and-both _ _ (mixed-test b x) (ap not (ne-eqb b one-is z))) (least-is other n .before b q)));
           page-is = refl;
-          programmed-is = (let z : p * s + 0 ≡ p * s = omega arith in subst (λ j. er j ≡ false) z (test-parts _ _ m .0));
+          programmed-is = (let z : p * s + 0 ≡ p * s = omega arith in
+              subst (λ j. er j ≡ false) z (test-parts _ _ m .0));
         }
 
   pub r2-names : (q : ℕ) → r2 p n er ≡ Bad q → FirstErased q ⊎ SecondMixed q
@@ -185,12 +188,15 @@ module _ (p n : ℕ) (er : ℕ → Bool) where
   r2-names q e = go (bad-unless _ _ q _ e)
     where
       none : leb n disordered ≡ true → (b i : ℕ) → Before b i → ⊥
-      none h b i x = true-false _ (ap not (before-late b i x)) (least-is (λ b. not (inOrder p er b)) n .before b (omega (arith, leb-true n disordered h, x .block-in)))
+      none h b i x = true-false _ (ap not (before-late b i x)) (least-is (λ b. not (inOrder p er b)) n .before b
+          (omega (arith, leb-true n disordered h, x .block-in)))
 
-      then : leb n disordered ≡ true → ((leb n (secondMixed p n er) ≡ false) × (p * secondMixed p n er ≡ q)) ⊎ ((leb n (secondMixed p n er) ≡ true) × (Good ≡ Bad q)) → FirstErased q ⊎ SecondMixed q
+      then : leb n disordered ≡ true → ((leb n (secondMixed p n er) ≡ false) × (p * secondMixed p n er ≡ q)) ⊎
+          ((leb n (secondMixed p n er) ≡ true) × (Good ≡ Bad q)) → FirstErased q ⊎ SecondMixed q
       then h (inl w) = inr (subst SecondMixed (w .1) (second-found (none h) (leb-false n (secondMixed p n er) (w .0))))
       then h (inr w) = absurd (bad-good q (sym (w .1)))
 
-      go : ((leb n disordered ≡ false) × (p * disordered + firstIn p er disordered ≡ q)) ⊎ ((leb n disordered ≡ true) × (unless (leb n (secondMixed p n er)) (p * secondMixed p n er) Good ≡ Bad q)) → FirstErased q ⊎ SecondMixed q
+      go : ((leb n disordered ≡ false) × (p * disordered + firstIn p er disordered ≡ q)) ⊎
+          ((leb n disordered ≡ true) × (unless (leb n (secondMixed p n er)) (p * secondMixed p n er) Good ≡ Bad q)) → FirstErased q ⊎ SecondMixed q
       go (inl w) = inl (subst FirstErased (w .1) (first-erased (leb-false n disordered (w .0))))
       go (inr w) = then (w .0) (bad-unless _ _ q _ (w .1))

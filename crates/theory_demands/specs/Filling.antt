@@ -1,5 +1,5 @@
--- Request 10's proof: after n insertions with x pages beyond them the tree has x + height − 1 nodes below its root, each at least
--- half full, and half-full nodes are few. Assumes nothing.
+-- Request 10's proof: after n insertions with x pages beyond them the tree has x + height − 1 nodes below its root,
+-- each at least half full, and half-full nodes are few. Assumes nothing.
 use mathlib.Core.Path.{_≡_, refl, ap, sym, subst, _∙_}
 use mathlib.Core.List.{List, [], _∷_}
 use mathlib.Core.Bool.{true}
@@ -49,7 +49,8 @@ module _ (g : Geometry) (shape : Shape g) where
   needs-are c k = refl
 
   -- X is the splits and growths together
-  pub beyond-is : (xs : List Item) (img : List ℕ) → Ready g img → Finished g xs img → beyond g xs img ≡ splitsAndGrowths g xs img
+  pub beyond-is : (xs : List Item) (img : List ℕ) → Ready g img → Finished g xs img
+      → beyond g xs img ≡ splitsAndGrowths g xs img
   unfolding Finished beyond splitsAndGrowths
   beyond-is [] img h f = refl
   beyond-is (x ∷ xs) img h f =
@@ -66,7 +67,8 @@ module _ (g : Geometry) (shape : Shape g) where
     pub nodes : length (nodesBelow (chipAt g img)) ≡ x + chipAt g img .level
     pub filled : HalfFull g (chipAt g img)
 
-  one-more : (img : List ℕ) (x : Item) (n y : ℕ) → x .key < fourBytes → x .addr < fourBytes → find (x .key) (mapAt g img) ≡ none
+  one-more : (img : List ℕ) (x : Item) (n y : ℕ) → x .key < fourBytes → x .addr < fourBytes
+      → find (x .key) (mapAt g img) ≡ none
       → done g img x .answer ≡ 0 → Stands img n y → Stands (done g img x .image) (suc n) (ownPages g img x - 1 + y)
   one-more img x n y k a none′ e h =
       let next = insert-done g shape img (h .ready) (x .key) k (x .addr) (x .allowance) a e in
@@ -98,18 +100,21 @@ module _ (g : Geometry) (shape : Shape g) where
       (subst (λ m. Stands (filledBy g xs (done g img x .image)) (suc n + length xs) m) b i)
 
   -- a formatted image
-  pub format-stands : 1 ≤ g .worn → (img : List ℕ) → goodLength g img ≡ true → ((i : ℕ) → byteAt img i < 256) → Stands (format g img .image) 0 0
+  pub format-stands : 1 ≤ g .worn → (img : List ℕ) → goodLength g img ≡ true → ((i : ℕ) → byteAt img i < 256)
+      → Stands (format g img .image) 0 0
   format-stands some img good bytes =
       let new = format g img .image in
       let holds = format-holds g shape some img good bytes in
       let b = good-blocks g img good in
       let nb = new-blocks g shape some img good bytes in
-      let low : chipAt g new .level ≡ 0 = ap (λ m. chipOf g m new .level) nb ∙ ap (λ (x : List ℕ). chipOf g (blocksOf g img) x .level)
+      let low : chipAt g new .level ≡ 0 = ap (λ m. chipOf g m new .level) nb
+      ∙ ap (λ (x : List ℕ). chipOf g (blocksOf g img) x .level)
       (new-is g shape some img good bytes) ∙ formatted-level g (shape-core g shape) (blocksOf g img) (b .least) img (b .image) bytes in
       record {
         ready = holds .ready;
         pairs = ap length (holds .map-is);
-        nodes = (let z = bare-nodes (chipAt g new .nodes) (chipAt g new .level) (rootNode (chipAt g new)) low in omega (arith, z, low));
+        nodes = (let z = bare-nodes (chipAt g new .nodes) (chipAt g new .level) (rootNode (chipAt g new)) low in
+            omega (arith, z, low));
         filled = bare-all (Filled (half g) (chipAt g new .nodes)) (chipAt g new .nodes) (chipAt g new .level) (rootNode (chipAt g new)) low;
       }
 

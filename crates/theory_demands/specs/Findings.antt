@@ -33,7 +33,8 @@ unfolding pageIn
 bad-same p q e = ap pageIn e
 
 -- ---- the ways to join findings
-pub bad-unless : (t : Bool) (p q : ℕ) (v : Finding) → unless t p v ≡ Bad q → ((t ≡ false) × (p ≡ q)) ⊎ ((t ≡ true) × (v ≡ Bad q))
+pub bad-unless : (t : Bool) (p q : ℕ) (v : Finding) → unless t p v ≡ Bad q → ((t ≡ false) × (p ≡ q)) ⊎
+    ((t ≡ true) × (v ≡ Bad q))
 unfolding unless
 bad-unless true p q v e = inr (refl, e)
 bad-unless false p q v e = inl (refl, bad-same p q e)
@@ -46,7 +47,8 @@ zero-page t p e = go (bad-unless t 0 p Good e)
     go (inr w) = absurd (bad-good p (sym (w .1)))
 
 -- a bad finding of the first, or of the rest as it is told further
-pub or-led : {own : Type 0} {other : Type 0} {bad : Type 0} {then : Type 0} → own ⊎ (other × bad) → (bad → then) → own ⊎ (other × then)
+pub or-led : {own : Type 0} {other : Type 0} {bad : Type 0} {then : Type 0} → own ⊎ (other × bad) → (bad → then) → own ⊎
+    (other × then)
 or-led (inl w) f = inl w
 or-led (inr w) f = inr (w .0, f (w .1))
 
@@ -136,7 +138,8 @@ led sub (e ∷ es) hi p h = go (bad-first _ _ p h) (led sub es hi p)
       bad = w .bad;
     }
 
-    go : (sub (e .addr) (e .key) (next es hi) ≡ Bad p) ⊎ ((sub (e .addr) (e .key) (next es hi) ≡ Good) × (judgeEntries sub es hi ≡ Bad p))
+    go : (sub (e .addr) (e .key) (next es hi) ≡ Bad p) ⊎ ((sub (e .addr) (e .key) (next es hi) ≡ Good) ×
+        (judgeEntries sub es hi ≡ Bad p))
         → (judgeEntries sub es hi ≡ Bad p → Led sub es hi p) → Led sub (e ∷ es) hi p
     go (inl b) f = here b
     go (inr w) f = further (w .0) (f (w .1))
@@ -152,7 +155,8 @@ unfolding lowestPage
 lowest-place f [] t = record { most = omega arith; none-lower = tt; there = λ h. absurd (omega arith) }
 lowest-place f (x ∷ xs) t = go (f x & ltb (x .page) t) refl (lowest-place f xs)
   where
-    further : (m : ℕ) → ((y : Place) × (Mem y xs × (f y ≡ true) × (y .page ≡ m))) → (y : Place) × (Mem y (x ∷ xs) × (f y ≡ true) × (y .page ≡ m))
+    further : (m : ℕ) → ((y : Place) × (Mem y xs × (f y ≡ true) × (y .page ≡ m))) → (y : Place) ×
+        (Mem y (x ∷ xs) × (f y ≡ true) × (y .page ≡ m))
     further m w = (w .0, (inr (w .1 .0), w .1 .1, w .1 .2))
 
     go : (b : Bool) → (f x & ltb (x .page) t) ≡ b → ((u : ℕ) → LowestPlace f xs u (lowestPage f xs u))
@@ -163,7 +167,8 @@ lowest-place f (x ∷ xs) t = go (f x & ltb (x .page) t) refl (lowest-place f xs
         record {
           most = omega (arith, w .most, low);
           none-lower = ((λ h. w .most), w .none-lower);
-          there = λ h. by-le (x .page) (lowestPage f xs (x .page)) (λ q. (x, (inl refl, and-left _ _ e, omega (arith, q, w .most)))) (λ q. further _ (w .there q));
+          there = λ h. by-le (x .page) (lowestPage f xs (x .page))
+              (λ q. (x, (inl refl, and-left _ _ e, omega (arith, q, w .most)))) (λ q. further _ (w .there q));
         }
     go false e i =
         let w = i t in
@@ -174,7 +179,8 @@ lowest-place f (x ∷ xs) t = go (f x & ltb (x .page) t) refl (lowest-place f xs
         }
 
 -- ---- a node whose own test passes names programmed pages below t, where it is no leaf
-pub rising-names : (ok : ℕ → Bool) (es : List Entry) (lo hi : ℕ) → rising ok es lo hi ≡ true → All (λ e. ok (e .addr) ≡ true) es
+pub rising-names : (ok : ℕ → Bool) (es : List Entry) (lo hi : ℕ) → rising ok es lo hi ≡ true
+    → All (λ e. ok (e .addr) ≡ true) es
 unfolding rising
 rising-names ok [] lo hi h = tt
 rising-names ok (e ∷ es) lo hi h = (and-right _ _ (and-left _ _ h), rising-names ok es (e .key + 1) hi (and-right _ _ h))
@@ -186,12 +192,14 @@ names-below er t l a h = ltb-true a t (and-left _ _ (rw (ne-eqb (suc (suc l)) 1 
 module _ (g : Geometry) (er : ℕ → Bool) (r : Nodes) (t : ℕ) where
   -- so a page that is named of the nodes below a page below t is below t
   pub entries-below : (l : ℕ) (es : List Entry) (hi p : ℕ) → All (λ e. names er t (suc l) (e .addr) ≡ true) es
-      → ((q lo y : ℕ) → q < t → judgeNode g er r t l q lo y ≡ Bad p → p < t) → judgeEntries (judgeNode g er r t l) es hi ≡ Bad p → p < t
+      → ((q lo y : ℕ) → q < t → judgeNode g er r t l q lo y ≡ Bad p → p < t) → judgeEntries (judgeNode g er r t l) es hi
+      ≡ Bad p → p < t
   unfolding judgeNode
   entries-below zero es hi p a f e = absurd (bad-good p (sym (led (judgeNode g er r t 0) es hi p e .bad)))
   entries-below (suc l) es hi p a f e =
       let w = led (judgeNode g er r t (suc l)) es hi p e in
-      let fit = all-right (λ e. names er t (suc (suc l)) (e .addr) ≡ true) (w .left) (w .entry ∷ w .right) (subst (All (λ e. names er t (suc (suc l)) (e .addr) ≡ true)) (w .whole) a) .0 in
+      let fit = all-right (λ e. names er t (suc (suc l)) (e .addr) ≡ true) (w .left) (w .entry ∷ w .right)
+      (subst (All (λ e. names er t (suc (suc l)) (e .addr) ≡ true)) (w .whole) a) .0 in
       f (w .entry .addr) (w .entry .key) (next (w .right) hi) (names-below er t l (w .entry .addr) fit) (w .bad)
 
   pub node-below : (l q lo hi p : ℕ) → q < t → judgeNode g er r t l q lo hi ≡ Bad p → p < t
@@ -199,7 +207,8 @@ module _ (g : Geometry) (er : ℕ → Bool) (r : Nodes) (t : ℕ) where
   node-below zero q lo hi p h e = absurd (bad-good p (sym e))
   node-below (suc l) q lo hi p h e = go (bad-unless _ _ p _ e) (λ a b c. node-below l a b c p)
     where
-      go : ((own g er r t (suc l) q lo hi ≡ false) × (q ≡ p)) ⊎ ((own g er r t (suc l) q lo hi ≡ true) × (judgeEntries (judgeNode g er r t l) (r q (suc l)) hi ≡ Bad p))
+      go : ((own g er r t (suc l) q lo hi ≡ false) × (q ≡ p)) ⊎ ((own g er r t (suc l) q lo hi ≡ true) ×
+          (judgeEntries (judgeNode g er r t l) (r q (suc l)) hi ≡ Bad p))
           → ((a b c : ℕ) → a < t → judgeNode g er r t l a b c ≡ Bad p → p < t) → p < t
       go (inl w) f = omega (arith, h, w .1)
       go (inr w) f = entries-below l (r q (suc l)) hi p (rising-names (names er t (suc l)) (r q (suc l)) lo hi (and-right _ _ (w .0))) f (w .1)

@@ -1,5 +1,6 @@
--- The words of request 10: inserts of absent keys, one after the other, accepted and finished, with nothing else between; X, the
--- pages programmed beyond one for each, the collector's moves left out; the splits and growths. Definitions alone; assumes nothing.
+-- The words of request 10: inserts of absent keys, one after the other, accepted and finished, with nothing else
+-- between; X, the pages programmed beyond one for each, the collector's moves left out; the splits and growths.
+-- Definitions alone; assumes nothing.
 use mathlib.Core.Path.{_≡_}
 use mathlib.Core.List.{List, [], _∷_}
 use mathlib.Core.Option.{none}

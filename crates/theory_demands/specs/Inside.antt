@@ -26,7 +26,8 @@ use Rattle.theory_demands.specs.Named.{findings, first-broken, page-of-1
 use Rattle.theory_demands.specs.Disorder.{FirstErased, SecondMixed}
 
 -- pages below t, of each finding of a list
-bad-within : (t : ℕ) (fs : List Finding) → All (λ f. (p : ℕ) → f ≡ Bad p → p < t) fs → (i p : ℕ) → getD fs i Good ≡ Bad p → p < t
+bad-within : (t : ℕ) (fs : List Finding) → All (λ f. (p : ℕ) → f ≡ Bad p → p < t) fs → (i p : ℕ)
+    → getD fs i Good ≡ Bad p → p < t
 bad-within t [] a i p e = absurd (bad-good p (sym e))
 bad-within t (f ∷ fs) a zero p e = a .0 p e
 bad-within t (f ∷ fs) a (suc i) p e = bad-within t fs (a .1) i p e
@@ -61,8 +62,10 @@ module _ (g : Geometry) (n : ℕ) (img : List ℕ) where
       inside b i h k = omega (arith, block-in (g .pages) b n h, k)
 
       go : FirstErased (g .pages) n (erased g img) p ⊎ SecondMixed (g .pages) n (erased g img) p → p < t
-      go (inl x) = subst (λ q. q < t) (sym (x .page-is)) (inside (x .block) (x .place) (x .before .block-in) (omega (arith, x .before .after, x .before .place-in)))
-      go (inr x) = subst (λ q. q < t) (sym (x .page-is)) (let w = inside (x .second) 0 (x .second-mixed .block-in) (omega (arith, x .second-mixed .erased-in)) in omega (arith, w))
+      go (inl x) = subst (λ q. q < t) (sym (x .page-is)) (inside (x .block) (x .place) (x .before .block-in)
+          (omega (arith, x .before .after, x .before .place-in)))
+      go (inr x) = subst (λ q. q < t) (sym (x .page-is)) (let w = inside (x .second) 0 (x .second-mixed .block-in)
+          (omega (arith, x .second-mixed .erased-in)) in omega (arith, w))
 
   zero-below : 1 ≤ t → (f : Finding) → ((p : ℕ) → f ≡ Bad p → p ≡ 0) → (p : ℕ) → f ≡ Bad p → p < t
   zero-below h f z p e = omega (arith, h, z p e)
@@ -88,7 +91,8 @@ module _ (g : Geometry) (n : ℕ) (img : List ℕ) where
         ),
       )
 
-pub page-inside : (g : Geometry) → Shape g → (img : List ℕ) → goodLength g img ≡ true → (rule page : ℕ) → verdict g (blocksOf g img) img ≡ Broken rule page
+pub page-inside : (g : Geometry) → Shape g → (img : List ℕ) → goodLength g img ≡ true → (rule page : ℕ)
+    → verdict g (blocksOf g img) img ≡ Broken rule page
     → page < pagesOf g (blocksOf g img)
 page-inside g shape img good rule page e =
     let w = block-in (g .pages) 0 (blocksOf g img) (omega (arith, good-blocks g img good .least)) in

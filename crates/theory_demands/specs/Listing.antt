@@ -1,6 +1,6 @@
--- Request 1, "Frames between two keys", about the definition `listing` of crate model: what it gives for every image, and on a sound image.
--- `between` is the part of a map, `lists` and `listsNone` are what a listing gives (crate model); Ready, mapAt, Rising are the words of the
--- demands. g is any geometry with `Shape g`. Assumes nothing.
+-- Request 1, "Frames between two keys", about the definition `listing` of crate model: what it gives for every image,
+-- and on a sound image. `between` is the part of a map, `lists` and `listsNone` are what a listing gives (crate model);
+-- Ready, mapAt, Rising are the words of the demands. g is any geometry with `Shape g`. Assumes nothing.
 use mathlib.Core.Path.{_≡_, ap, subst}
 use mathlib.Core.List.{List, []}
 use mathlib.Core.Bool.{true, false}
@@ -53,7 +53,8 @@ module _ (g : Geometry) (shape : Shape g) (img : List ℕ) (ready : Ready g img)
   walk-between = ranged-root (fitOf (pagesOf g (blocksOf g img)) (c .er)) (λ l. 2 * half g l) (c .nodes) low high (c .level) fourBytes (c .root)
       (ready-keeps g shape img ready .held .whole .sound .rooted .rises)
 
-  -- "The list is exactly the map's part between the keys": answer 0, how many pairs of it there are, how many were written, and the buffer
+  -- "The list is exactly the map's part between the keys": answer 0, how many pairs of it there are, how many were
+  -- written, and the buffer
   pub listing-lists : (buffer : List ℕ) → listing g img low high buffer ≡ lists part buffer
   unfolding listing judged byVerdict
   listing-lists buffer = rw (ready .length-good, ready .is-sound) (ap (λ (es : List Entry). lists es buffer) walk-between)

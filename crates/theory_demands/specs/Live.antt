@@ -1,6 +1,6 @@
--- Request 7: on a sound image of n blocks, with its record and the table worked out from it, insert and delete by these have the outcome of the
--- model's calls, leave the record of the image that is left, and the words worked out afresh from it; and what the calls with lent words promise
--- of them. Assumes nothing.
+-- Request 7: on a sound image of n blocks, with its record and the table worked out from it, insert and delete by these
+-- have the outcome of the model's calls, leave the record of the image that is left, and the words worked out afresh
+-- from it; and what the calls with lent words promise of them. Assumes nothing.
 use mathlib.Core.Path.{_≡_, refl, ap, sym, subst, _∙_}
 use mathlib.Core.List.{List, [], _∷_}
 use mathlib.Core.Bool.{Bool, true, false}
@@ -60,7 +60,8 @@ known-tall _ is-large = lit≤ tt
 
 -- ---- by the record and the table
 module _ (g : Geometry) (shape : Shape g) (whole : g .pages ≡ 32 * blockWords g) (n : ℕ) (img : List ℕ)
-    (good : goodLength g img ≡ true) (blocks : n ≡ blocksOf g img) (bytes : (i : ℕ) → byteAt img i < 256) (sound : verdict g n img ≡ Sound)
+    (good : goodLength g img ≡ true) (blocks : n ≡ blocksOf g img)
+    (bytes : (i : ℕ) → byteAt img i < 256) (sound : verdict g n img ≡ Sound)
     (h : Held) (tells : Tells g n img h) (known : Known g) where
   ready : Ready g img
   ready = record { length-good = good; is-sound = subst (λ m. verdict g m img ≡ Sound) blocks sound; bytes = bytes }
@@ -72,7 +73,8 @@ module _ (g : Geometry) (shape : Shape g) (whole : g .pages ≡ 32 * blockWords 
   abbrev left : ℕ → Outcome → Returned
   left m o = returned o (openedIn g m (o .image)) (liveWords g m (o .image) (h .table .words))
 
-  pub insert-by : (k a al : ℕ) → k < fourBytes → a < fourBytes → insertBy g n h img k a al ≡ left n (insertRest g n img k a al)
+  pub insert-by : (k a al : ℕ) → k < fourBytes → a < fourBytes → insertBy g n h img k a al ≡ left n
+      (insertRest g n img k a al)
   insert-by k a al k-low a-low =
       subst (λ m. insertBy g m h img k a al ≡ left m (insertRest g m img k a al))
       (sym blocks) (inserts g shape (blocksOf g img) (few g shape img ready) (mapAt g img) img (ready-keeps g shape img ready)
@@ -92,10 +94,12 @@ module _ (g : Geometry) (shape : Shape g) (whole : g .pages ≡ 32 * blockWords 
     past′ : Past (wordsOf g b) old (h .table .words)
     past′ = subst (λ m. Past (wordsOf g m) old (h .table .words)) blocks past
 
-    replies : (o : Outcome) → (o .answer ≡ 1 → ⊥) → (o .answer ≡ 2 → ⊥) → reply o (liveWords g b (o .image) (h .table .words)) ≡ withWords g img old o
+    replies : (o : Outcome) → (o .answer ≡ 1 → ⊥) → (o .answer ≡ 2 → ⊥)
+        → reply o (liveWords g b (o .image) (h .table .words)) ≡ withWords g img old o
     unfolding withWords liveWords
     replies o p q =
-        let room : wordsOf g b ≤ length old = (let x = tells′ .right .told .room in let y = past′ .long in omega (arith, x, y)) in
+        let room : wordsOf g b ≤ length old = (let x = tells′ .right .told .room in let y = past′ .long in
+        omega (arith, x, y)) in
         rw (le-leb (wordsOf g b) (length old) room, changes (o .answer) p q)
         (ap (reply o) (filled-same (live (placesOf (chipOf g b (o .image)))) (wordsOf g b) old (h .table .words) past′))
 
@@ -103,13 +107,15 @@ module _ (g : Geometry) (shape : Shape g) (whole : g .pages ≡ 32 * blockWords 
     abbrev told : Returned → Reply
     told x = reply (x .outcome) (x .words)
 
-    pub insert-replies : (k a al : ℕ) → k < fourBytes → a < fourBytes → told (insertBy g n h img k a al) ≡ insertLive g img old k a al
+    pub insert-replies : (k a al : ℕ) → k < fourBytes → a < fourBytes → told (insertBy g n h img k a al) ≡ insertLive g
+        img old k a al
     unfolding insertLive insert
     insert-replies k a al k-low a-low =
         let o = insertRest g b img k a al in
         let e : insert g img k a al ≡ o = judged-ready g img o ready in
         let one = subst (λ (x : Outcome). OneOf (x .answer) (0 ∷ 3 ∷ 5 ∷ 6 ∷ 7 ∷ [])) e (insert-one g shape img ready k a al) in
-        let no : (j : ℕ) → 1 ≤ j → j ≤ 2 → o .answer ≡ j → ⊥ = λ j p q. other-answer (o .answer) (0 ∷ 3 ∷ 5 ∷ 6 ∷ 7 ∷ []) one j (
+        let no : (j : ℕ) → 1 ≤ j → j ≤ 2 → o .answer ≡ j → ⊥ =
+        λ j p q. other-answer (o .answer) (0 ∷ 3 ∷ 5 ∷ 6 ∷ 7 ∷ []) one j (
           (λ z. omega (arith, z, p)),
           (
             (λ z. omega (arith, z, q)),
@@ -123,7 +129,8 @@ module _ (g : Geometry) (shape : Shape g) (whole : g .pages ≡ 32 * blockWords 
           ),
         ) in
         ap told (insert-by k a al k-low a-low ∙ ap (λ m. left m (insertRest g m img k a al)) blocks)
-        ∙ replies o (no 1 (omega arith) (omega arith)) (no 2 (omega arith) (omega arith)) ∙ ap (withWords g img old) (sym e)
+        ∙ replies o (no 1 (omega arith) (omega arith)) (no 2 (omega arith) (omega arith))
+        ∙ ap (withWords g img old) (sym e)
 
     pub delete-replies : (k al : ℕ) → k < fourBytes → told (deleteBy g n h img k al) ≡ deleteLive g img old k al
     unfolding deleteLive delete
@@ -131,10 +138,12 @@ module _ (g : Geometry) (shape : Shape g) (whole : g .pages ≡ 32 * blockWords 
         let o = deleteRest g b img k al in
         let e : delete g img k al ≡ o = judged-ready g img o ready in
         let one = subst (λ (x : Outcome). OneOf (x .answer) (0 ∷ 3 ∷ 4 ∷ 7 ∷ [])) e (delete-one g shape img ready k al) in
-        let no : (j : ℕ) → 1 ≤ j → j ≤ 2 → o .answer ≡ j → ⊥ = λ j p q. other-answer (o .answer) (0 ∷ 3 ∷ 4 ∷ 7 ∷ []) one j
+        let no : (j : ℕ) → 1 ≤ j → j ≤ 2 → o .answer ≡ j → ⊥ =
+        λ j p q. other-answer (o .answer) (0 ∷ 3 ∷ 4 ∷ 7 ∷ []) one j
         ((λ z. omega (arith, z, p)), ((λ z. omega (arith, z, q)), ((λ z. omega (arith, z, q)), ((λ z. omega (arith, z, q)), tt)))) in
         ap told (delete-by k al k-low ∙ ap (λ m. left m (deleteRest g m img k al)) blocks)
-        ∙ replies o (no 1 (omega arith) (omega arith)) (no 2 (omega arith) (omega arith)) ∙ ap (withWords g img old) (sym e)
+        ∙ replies o (no 1 (omega arith) (omega arith)) (no 2 (omega arith) (omega arith))
+        ∙ ap (withWords g img old) (sym e)
 
 -- ---- what a call with lent words promises, for every image: o is the outcome of the call without them
 pub record Lent (g : Geometry) (img old : List ℕ) (o : Outcome) (r : Reply) : Type 0 where
@@ -164,7 +173,8 @@ module _ (g : Geometry) (img old : List ℕ) (o : Outcome) where
       R : Bool → Bool → Reply
       R u v = pick u (reply o (pick v old (liveWords g (blocksOf g img) (o .image) old))) (reply (refused 1 img) old)
 
-      left : (u v : Bool) → leavesWords (o .answer) ≡ v → (R u v .outcome .answer ≡ 1) ⊎ (R u v .outcome .answer ≡ 2) → R u v .words ≡ old
+      left : (u v : Bool) → leavesWords (o .answer) ≡ v → (R u v .outcome .answer ≡ 1) ⊎ (R u v .outcome .answer ≡ 2)
+          → R u v .words ≡ old
       left true true e h = refl
       left true false e h = absurd (true-false (leavesWords (o .answer)) (leaves (o .answer) h) e)
       left false v e h = refl
@@ -176,22 +186,26 @@ module _ (g : Geometry) (img old : List ℕ) (o : Outcome) where
 
       told : (u v : Bool) → leb (wordsOf g (blocksOf g img)) (length old) ≡ u → leavesWords (o .answer) ≡ v
           → (R u v .outcome .answer ≡ 1 → ⊥) → (R u v .outcome .answer ≡ 2 → ⊥)
-          → Told (live (placesOf (chipOf g (blocksOf g img) (R u v .outcome .image)))) (wordsOf g (blocksOf g img)) (R u v .words)
+          → Told (live (placesOf (chipOf g (blocksOf g img) (R u v .outcome .image)))) (wordsOf g (blocksOf g img))
+          (R u v .words)
       told true true d e p q = absurd (true-false (leavesWords (o .answer)) e (changes (o .answer) p q))
       told true false d e p q = filled-told (live (placesOf (chipOf g (blocksOf g img) (o .image)))) (wordsOf g (blocksOf g img)) old
           (leb-true (wordsOf g (blocksOf g img)) (length old) d)
       told false v d e p q = absurd (p refl)
 
-pub insert-live : (g : Geometry) (img old : List ℕ) (k a al : ℕ) → Lent g img old (insert g img k a al) (insertLive g img old k a al)
+pub insert-live : (g : Geometry) (img old : List ℕ) (k a al : ℕ) → Lent g img old (insert g img k a al)
+    (insertLive g img old k a al)
 unfolding insertLive
 insert-live g img old k a al = with-lent g img old (insert g img k a al)
 
-pub delete-live : (g : Geometry) (img old : List ℕ) (k al : ℕ) → Lent g img old (delete g img k al) (deleteLive g img old k al)
+pub delete-live : (g : Geometry) (img old : List ℕ) (k al : ℕ) → Lent g img old (delete g img k al)
+    (deleteLive g img old k al)
 unfolding deleteLive
 delete-live g img old k al = with-lent g img old (delete g img k al)
 
 -- "A block's live pages are then the count of ones in its word": after every answer but LENGTH and DAMAGED
-pub live-counts : (g : Geometry) → g .pages ≡ 32 * blockWords g → (img old : List ℕ) (o : Outcome) (r : Reply) → Lent g img old o r
+pub live-counts : (g : Geometry) → g .pages ≡ 32 * blockWords g → (img old : List ℕ) (o : Outcome) (r : Reply)
+    → Lent g img old o r
     → (r .outcome .answer ≡ 1 → ⊥) → (r .outcome .answer ≡ 2 → ⊥) → (b : ℕ) → b < blocksOf g img
     → blockOnes g (r .words) b ≡ livesIn (g .pages) b (chipOf g (blocksOf g img) (r .outcome .image))
 live-counts g whole img old o r h p q b b-in =

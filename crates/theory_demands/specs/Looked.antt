@@ -59,42 +59,55 @@ module _ (fit : ℕ → ℕ → Type 0) (room : ℕ → ℕ) (r : Nodes) (low hi
   upto-none y [] h = refl
   upto-none y (e ∷ es) h = rw (lt-leb (e .key) high h) refl
 
-  -- from an entry on, where the low key lies before the next one: only that entry's range and the last one's have an end inside
-  head-few : (l top : ℕ) (e : Entry) (es : List Entry) → Rises (Ok fit room r l) top (e ∷ es) → low < next es top → Few l
+  -- from an entry on, where the low key lies before the next one: only that entry's range and the last one's have an
+  -- end inside
+  head-few : (l top : ℕ) (e : Entry) (es : List Entry) → Rises (Ok fit room r l) top (e ∷ es) → low < next es top
+      → Few l
       → nodesIn l (upTo high es) ≤ l * (bit (ltb (suc high) top) + pairsIn l (upTo high es))
       → nodesIn l (upTo high (e ∷ es)) ≤ l * (ends (e .key) top + pairsIn l (upTo high (e ∷ es)))
   unfolding upTo gather
   head-few l top e es h q step tail = go (leb (e .key) high) refl
     where
-      own : e .key ≤ high → length (looked r low high l e) ≤ l * (ends (e .key) (next es top) + length (ranged r low high l e))
+      own : e .key ≤ high → length (looked r low high l e) ≤ l * (ends (e .key)
+          (next es top) + length (ranged r low high l e))
       own c = step (next es top) e (h .0) c q (h .1)
 
       joined : (us : List Entry)
-          → (nodesIn l (e ∷ us) ≡ length (looked r low high l e) + nodesIn l us) × (pairsIn l (e ∷ us) ≡ length (ranged r low high l e) + pairsIn l us)
-      joined us = (length-append (looked r low high l e) (gather (looked r low high l) us), length-append (ranged r low high l e) (gather (ranged r low high l) us))
+          → (nodesIn l (e ∷ us) ≡ length (looked r low high l e) + nodesIn l us) ×
+          (pairsIn l (e ∷ us) ≡ length (ranged r low high l e) + pairsIn l us)
+      joined us = (
+        length-append (looked r low high l e) (gather (looked r low high l) us),
+        length-append
+            (ranged r low high l e) (gather (ranged r low high l) us),
+      )
 
       -- the range of this entry has the high end: it is the last
-      last : e .key ≤ high → suc high < next es top → nodesIn l (e ∷ upTo high es) ≤ l * (ends (e .key) top + pairsIn l (e ∷ upTo high es))
+      last : e .key ≤ high → suc high < next es top → nodesIn l (e ∷ upTo high es) ≤ l * (ends (e .key) top + pairsIn l
+          (e ∷ upTo high es))
       last c z =
           let w = next-le (Ok fit room r l) top es (h .2) in
           let j = joined [] in
-          let x : bit (ltb (suc high) (next es top)) ≡ bit (ltb (suc high) top) = ap bit (lt-ltb (suc high) (next es top) z ∙ sym (lt-ltb (suc high) top (omega (arith, z, w)))) in
+          let x : bit (ltb (suc high) (next es top)) ≡ bit (ltb (suc high) top) =
+          ap bit (lt-ltb (suc high) (next es top) z ∙ sym (lt-ltb (suc high) top (omega (arith, z, w)))) in
           rw (upto-none top es (omega (arith, z))) (same l (length (looked r low high l e)) _ _ _ (own c) (omega (arith, j .0)) (omega (arith, j .1, x)))
 
       -- it has not: the others come after it
-      later : e .key ≤ high → next es top ≤ suc high → nodesIn l (e ∷ upTo high es) ≤ l * (ends (e .key) top + pairsIn l (e ∷ upTo high es))
+      later : e .key ≤ high → next es top ≤ suc high → nodesIn l (e ∷ upTo high es) ≤ l * (ends (e .key) top + pairsIn l
+          (e ∷ upTo high es))
       later c z =
           let j = joined (upTo high es) in
           let x : bit (ltb (suc high) (next es top)) ≡ 0 = ap bit (le-ltb (suc high) (next es top) z) in
           same l _ _ _ _ (both l (length (looked r low high l e)) (nodesIn l (upTo high es)) (ends (e .key) (next es top) + length (ranged r low high l e))
           (bit (ltb (suc high) top) + pairsIn l (upTo high es)) (own c) tail) (omega (arith, j .0)) (omega (arith, j .1, x))
 
-      by-end : e .key ≤ high → (t : Bool) → ltb (suc high) (next es top) ≡ t → nodesIn l (e ∷ upTo high es) ≤ l * (ends (e .key) top + pairsIn l (e ∷ upTo high es))
+      by-end : e .key ≤ high → (t : Bool) → ltb (suc high) (next es top) ≡ t
+          → nodesIn l (e ∷ upTo high es) ≤ l * (ends (e .key) top + pairsIn l (e ∷ upTo high es))
       by-end c true z = last c (ltb-true (suc high) (next es top) z)
       by-end c false z = later c (ltb-false (suc high) (next es top) z)
 
       go : (t : Bool) → leb (e .key) high ≡ t
-          → nodesIn l (pick t (e ∷ upTo high es) []) ≤ l * (ends (e .key) top + pairsIn l (pick t (e ∷ upTo high es) []))
+          → nodesIn l (pick t (e ∷ upTo high es) []) ≤ l * (ends (e .key) top + pairsIn l
+          (pick t (e ∷ upTo high es) []))
       go true x = by-end (leb-true (e .key) high x) (ltb (suc high) (next es top)) refl
       go false x = omega arith
 
@@ -108,17 +121,20 @@ module _ (fit : ℕ → ℕ → Type 0) (room : ℕ → ℕ) (r : Nodes) (low hi
       let z : low < next es top = omega (arith, q, h .0) in
       same l _ _ _ _ (head-few l top e es h z step (tail-few l top es (h .2) z step)) refl (omega (arith, w))
 
-  list-few : (l top : ℕ) (e : Entry) (es : List Entry) → Rises (Ok fit room r l) top (e ∷ es) → low < next es top → Few l
+  list-few : (l top : ℕ) (e : Entry) (es : List Entry) → Rises (Ok fit room r l) top (e ∷ es) → low < next es top
+      → Few l
       → nodesIn l (upTo high (e ∷ es)) ≤ l * (ends (e .key) top + pairsIn l (upTo high (e ∷ es)))
   list-few l top e es h q step = head-few l top e es h q step (tail-few l top es (h .2) q step)
 
   -- ---- a node
-  first-least : (P : ℕ → Entry → Type 0) (y i : ℕ) (es : List Entry) → Rises P y es → i < length es → next es y ≤ entryOf es i .key
+  first-least : (P : ℕ → Entry → Type 0) (y i : ℕ) (es : List Entry) → Rises P y es → i < length es
+      → next es y ≤ entryOf es i .key
   first-least P y i [] h b = absurd (omega arith)
   first-least P y zero (e ∷ es) h b = omega arith
   first-least P y (suc i) (e ∷ es) h b = let w = first-least P y i es (h .2) (omega arith) in omega (arith, w, h .0)
 
-  next-after : (y i : ℕ) (es : List Entry) → low < y → (i < length es → low < entryOf es i .key) → low < next (drop i es) y
+  next-after : (y i : ℕ) (es : List Entry) → low < y → (i < length es → low < entryOf es i .key)
+      → low < next (drop i es) y
   next-after y i es q f = by-lt i (length es)
       (λ b. subst (λ (xs : List Entry). low < next xs y) (sym (drop-cons es i (record { key = 0; addr = 0 }) b)) (f b))
       (λ b. subst (λ (xs : List Entry). low < next xs y) (sym (drop-of-length-le es {i = i} b)) q)
@@ -132,7 +148,8 @@ module _ (fit : ℕ → ℕ → Type 0) (room : ℕ → ℕ) (r : Nodes) (low hi
       go false true x z = absurd (let a = leb-false k low x in let b = leb-true m low z in omega (arith, a, b, h))
       go false false x z = omega arith
 
-  from-few : (l y k i : ℕ) (es : List Entry) → Placed low es i → Rises (Ok fit room r l) y es → k ≤ next es y → low < y → Few l
+  from-few : (l y k i : ℕ) (es : List Entry) → Placed low es i → Rises (Ok fit room r l) y es → k ≤ next es y → low < y
+      → Few l
       → nodesIn l (upTo high (drop i es)) ≤ l * (ends k y + pairsIn l (upTo high (drop i es)))
   from-few l y k i es at h b q step =
       let x = entryOf es i in
@@ -150,7 +167,8 @@ module _ (fit : ℕ → ℕ → Type 0) (room : ℕ → ℕ) (r : Nodes) (low hi
       → nodesIn l (reached low high es) ≤ l * (ends k y + pairsIn l (reached low high es))
   unfolding gather upTo
   node-few l y k [] h b q step =
-      subst (λ (us : List Entry). nodesIn l (upTo high us) ≤ l * (ends k y + pairsIn l (upTo high us))) (sym (drop-nil {A = Entry} (place low []))) (omega arith)
+      subst (λ (us : List Entry). nodesIn l (upTo high us) ≤ l * (ends k y + pairsIn l (upTo high us)))
+      (sym (drop-nil {A = Entry} (place low []))) (omega arith)
   node-few l y k (e ∷ es) h b q step = from-few l y k (place low (e ∷ es)) (e ∷ es) (place-is low (e ∷ es) (omega arith)) h b q step
 
   -- ---- some pair stands under each entry
@@ -169,15 +187,18 @@ module _ (fit : ℕ → ℕ → Type 0) (room : ℕ → ℕ) (r : Nodes) (low hi
   under-some (suc l) y e h = list-some l y (r (e .addr) (suc l)) (h .1) (h .4) (under-some l)
 
   -- an entry whose range has no end inside is listed whole
-  some-here : (l y : ℕ) (e : Entry) → e .key < y → e .key ≤ high → Ok fit room r l y e → 1 ≤ ends (e .key) y + length (ranged r low high l e)
+  some-here : (l y : ℕ) (e : Entry) → e .key < y → e .key ≤ high → Ok fit room r l y e
+      → 1 ≤ ends (e .key) y + length (ranged r low high l e)
   some-here l y e b c h = go (leb (e .key) low) (ltb (suc high) y) refl refl
     where
-      go : (t u : Bool) → leb (e .key) low ≡ t → ltb (suc high) y ≡ u → 1 ≤ bit t + bit u + length (ranged r low high l e)
+      go : (t u : Bool) → leb (e .key) low ≡ t → ltb (suc high) y ≡ u
+          → 1 ≤ bit t + bit u + length (ranged r low high l e)
       go true u x z = omega arith
       go false true x z = omega arith
       go false false x z =
           let whole = ap length (ranged-is fit room r low high l y e b c h
-          ∙ between-all low high (e .key) y (under r l e) (let w = leb-false (e .key) low x in omega (arith, w)) (ltb-false (suc high) y z)
+          ∙ between-all low high (e .key) y (under r l e) (let w = leb-false (e .key) low x in
+          omega (arith, w)) (ltb-false (suc high) y z)
           (under-in fit room r l y e b h)) in
           let i = under-some l y e h in
           omega (arith, whole, i)
@@ -199,7 +220,8 @@ module _ (fit : ℕ → ℕ → Type 0) (room : ℕ → ℕ) (r : Nodes) (low hi
       let es = r p (suc l) in
       let n = node-few l top 0 es h (omega arith) q (few-below l) in
       let two = bits (leb 0 low) (ltb (suc high) top) in
-      let m = more l (nodesIn l (reached low high es)) (ends 0 top + pairsIn l (reached low high es)) (2 + pairsIn l (reached low high es)) n (omega (arith, two)) in
+      let m = more l (nodesIn l (reached low high es)) (ends 0 top + pairsIn l (reached low high es))
+      (2 + pairsIn l (reached low high es)) n (omega (arith, two)) in
       let w = suc-mul l (2 + pairsIn l (reached low high es)) in
       omega (arith, m, w)
     where

@@ -1,6 +1,6 @@
--- Request 10: from a formatted image of the small geometry let n inserts of absent keys be accepted and finished, with nothing else
--- between, and let X be the pages programmed beyond n, moves of the collector left out. Then 1,024 X ≤ 75 n, and X is the splits
--- and growths together. `Inserts` has the words. Assumes nothing.
+-- Request 10: from a formatted image of the small geometry let n inserts of absent keys be accepted and finished, with
+-- nothing else between, and let X be the pages programmed beyond n, moves of the collector left out. Then 1,024 X ≤ 75
+-- n, and X is the splits and growths together. `Inserts` has the words. Assumes nothing.
 use mathlib.Core.Path.{_≡_}
 use mathlib.Core.List.{List}
 use mathlib.Core.Bool.{true}
@@ -15,7 +15,8 @@ use Rattle.model.specs.Calls.{format}
 use Rattle.theory_demands.specs.Inserts.{Item, chipAt, Finished, filledBy, beyond, splitsAndGrowths}
 use Rattle.theory_demands.specs.Filling.{Stands, beyond-is, stands-after, format-stands, small-most}
 
-module _ (img : List ℕ) (length-good : goodLength small img ≡ true) (bytes : (i : ℕ) → byteAt img i < 256) (xs : List Item)
+module _ (img : List ℕ) (length-good : goodLength small img ≡ true) (bytes : (i : ℕ)
+    → byteAt img i < 256) (xs : List Item)
     (finished : Finished small xs (format small img .image)) where
   abbrev new : List ℕ
   new = format small img .image

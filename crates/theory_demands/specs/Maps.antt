@@ -35,7 +35,8 @@ find-put-other k a j [] d = rw (ne-eqb k j (λ z. d (sym z))) refl
 find-put-other k a j (e ∷ es) d = go (ltb (e .key) k) (eqb (e .key) k) refl (find-put-other k a j es d)
   where
     go : (t u : Bool) → eqb (e .key) k ≡ u → find j (put k a es) ≡ find j es
-        → find j (pick t (e ∷ put k a es) (record { key = k; addr = a } ∷ pick u es (e ∷ es))) ≡ pick (eqb (e .key) j) (some (e .addr)) (find j es)
+        → find j (pick t (e ∷ put k a es) (record { key = k; addr = a } ∷ pick u es (e ∷ es))) ≡ pick (eqb (e .key) j)
+        (some (e .addr)) (find j es)
     go true u z i = rw i refl
     go false true z i = rw (ne-eqb k j (λ y. d (sym y)), ne-eqb (e .key) j (λ y. d (sym y ∙ eqb-true (e .key) k z))) refl
     go false false z i = rw (ne-eqb k j (λ y. d (sym y))) refl

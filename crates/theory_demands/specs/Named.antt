@@ -1,4 +1,5 @@
--- Request 5, of the definitions: which rule and which page a damaged image's answer names, in the request's words. Assumes nothing.
+-- Request 5, of the definitions: which rule and which page a damaged image's answer names, in the request's words.
+-- Assumes nothing.
 use mathlib.Core.Path.{_≡_, ap, sym, subst}
 use mathlib.Core.List.{List, [], _∷_}
 use mathlib.Core.Logic.{_⊎_, inl, inr}
@@ -66,7 +67,8 @@ module _ (g : Geometry) (n : ℕ) (img : List ℕ) where
   unfolding r1
   page-of-1 p e = bad-lowest t (λ q. not (wellFormed g img q)) p e
 
-  -- ---- R2: "the first erased page before a programmed one, or else the first programmed page of the second mixed block"
+  -- ---- R2: "the first erased page before a programmed one, or else the first programmed page of the second mixed
+  -- block"
   pub page-of-2 : (p : ℕ) → r2 (g .pages) n (erased g img) ≡ Bad p
       → FirstErased (g .pages) n (erased g img) p ⊎ SecondMixed (g .pages) n (erased g img) p
   page-of-2 p e = r2-names (g .pages) n (erased g img) p e
@@ -125,8 +127,8 @@ module _ (g : Geometry) (n : ℕ) (img : List ℕ) where
   unfolding r8
   page-of-8 p e = zero-page _ _ (asked-bad _ p e)
 
-  -- ---- R5: "the page of the first node, each before its subtrees and those left to right, whose own counts, keys or page numbers
-  -- break it". First the root
+  -- ---- R5: "the page of the first node, each before its subtrees and those left to right, whose own counts, keys or
+  -- page numbers break it". First the root
   pub page-of-5 : (p : ℕ) → r5 g t c ≡ Bad p
       → ((ownRoot g (c .er) (c .nodes) t (suc (c .level)) (c .root) ≡ false) × (c .root ≡ p)) ⊎
       ((ownRoot g (c .er) (c .nodes) t (suc (c .level)) (c .root) ≡ true) ×

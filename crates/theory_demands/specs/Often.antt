@@ -1,5 +1,6 @@
--- Request 8, "Open once, call often": a sound image is opened, and each call takes the record and the words that the call before it returned. Every
--- outcome is that of the old call on the image as it then stands, and the record stays what opening would give. Assumes nothing.
+-- Request 8, "Open once, call often": a sound image is opened, and each call takes the record and the words that the
+-- call before it returned. Every outcome is that of the old call on the image as it then stands, and the record stays
+-- what opening would give. Assumes nothing.
 use mathlib.Core.Path.{_≡_, refl, ap, sym, subst, _∙_}
 use mathlib.Core.List.{List, [], _∷_}
 use Prim.Native.Nat.{ℕ, _<_, _≤_}
@@ -65,29 +66,35 @@ pub record Open (g : Geometry) (r : Returned) : Type 0 where
   pub enough : wordsOf g (blocksOf g (r .outcome .image)) ≤ length (r .words)
 
 -- so it is after opening
-pub open-first : (g : Geometry) (img words : List ℕ) → Ready g img → wordsOf g (blocksOf g img) ≤ length words → Open g (openedFirst g img words)
+pub open-first : (g : Geometry) (img words : List ℕ) → Ready g img → wordsOf g (blocksOf g img) ≤ length words
+    → Open g (openedFirst g img words)
 open-first g img words r room = subst (λ (o : Outcome). Open g (returned o (opened g img) words)) (sym (opening-done g img r))
     (record { ready = r; record-is = refl; enough = room })
 
 module _ (g : Geometry) (known : Known g) where
   -- what is left by an outcome o on an image of b blocks with words enough
-  open-after : (img lent : List ℕ) (o : Outcome) (words : List ℕ) → wordsOf g (blocksOf g img) ≤ length lent → length (o .image) ≡ length img → Ready g (o .image)
+  open-after : (img lent : List ℕ) (o : Outcome) (words : List ℕ) → wordsOf g (blocksOf g img) ≤ length lent
+      → length (o .image) ≡ length img → Ready g (o .image)
       → Past (wordsOf g (blocksOf g img)) lent words → Open g (returned o (opened g (o .image)) words)
   open-after img lent o words room long r past = record {
     ready = r;
     record-is = refl;
-    enough = (let e = ap (wordsOf g) (blocks-same g img (o .image) long) in let z = past .long in omega (arith, e, z, room));
+    enough = (let e = ap (wordsOf g) (blocks-same g img (o .image) long) in let z = past .long in
+        omega (arith, e, z, room));
   }
 
   -- one call: the old outcome, and the session stays open
-  pub call-again : (r : Returned) (x : Update) → Low x → Open g r → (again g r x .outcome ≡ old g (r .outcome .image) x) × Open g (again g r x)
+  pub call-again : (r : Returned) (x : Update) → Low x → Open g r
+      → (again g r x .outcome ≡ old g (r .outcome .image) x) × Open g (again g r x)
   unfolding insert delete
   call-again r (put k a al) low h =
       let img = r .outcome .image in
       let o = insert g img k a al in
       let e : insertWith g img (r .words) (r .opened) k a al ≡ returned o (opened g (o .image)) (insertLive g img (r .words) k a al .words)
-      = ap (λ (v : Opened). insertWith g img (r .words) v k a al) (h .record-is) ∙ insert-same g known img (h .ready) (r .words) (h .enough) k a al (low .0) (low .1) in
-      let long = ap (λ (v : Outcome). length (v .image)) (judged-ready g img _ (h .ready)) ∙ insert-long g (blocksOf g img) img k a al in (
+      = ap (λ (v : Opened). insertWith g img (r .words) v k a al) (h .record-is) ∙ insert-same g known img (h .ready)
+      (r .words) (h .enough) k a al (low .0) (low .1) in
+      let long = ap (λ (v : Outcome). length (v .image)) (judged-ready g img _ (h .ready))
+      ∙ insert-long g (blocksOf g img) img k a al in (
         ap (λ (v : Returned). v .outcome) e,
         subst (Open g) (sym e) (open-after img (r .words) o (insertLive g img (r .words) k a al .words) (h .enough) long
             (insert-ready g (shape g known) img (h .ready) k a al (low .0) (low .1)) (insert-live g img (r .words) k a al .words-past)),
@@ -96,15 +103,18 @@ module _ (g : Geometry) (known : Known g) where
       let img = r .outcome .image in
       let o = delete g img k al in
       let e : deleteWith g img (r .words) (r .opened) k al ≡ returned o (opened g (o .image)) (deleteLive g img (r .words) k al .words)
-      = ap (λ (v : Opened). deleteWith g img (r .words) v k al) (h .record-is) ∙ delete-same g known img (h .ready) (r .words) (h .enough) k al low in
-      let long = ap (λ (v : Outcome). length (v .image)) (judged-ready g img _ (h .ready)) ∙ delete-long g (blocksOf g img) img k al in (
+      = ap (λ (v : Opened). deleteWith g img (r .words) v k al) (h .record-is)
+      ∙ delete-same g known img (h .ready) (r .words) (h .enough) k al low in
+      let long = ap (λ (v : Outcome). length (v .image)) (judged-ready g img _ (h .ready))
+      ∙ delete-long g (blocksOf g img) img k al in (
         ap (λ (v : Returned). v .outcome) e,
         subst (Open g) (sym e) (open-after img (r .words) o (deleteLive g img (r .words) k al .words) (h .enough) long
             (delete-ready g (shape g known) img (h .ready) k al low) (delete-live g img (r .words) k al .words-past)),
       )
 
   -- all of them: the image of the old calls, and the record that opening would then give
-  pub calls-often : (xs : List Update) (r : Returned) → All Low xs → Open g r → (often g xs r .outcome .image ≡ olden g xs (r .outcome .image)) × Open g (often g xs r)
+  pub calls-often : (xs : List Update) (r : Returned) → All Low xs → Open g r
+      → (often g xs r .outcome .image ≡ olden g xs (r .outcome .image)) × Open g (often g xs r)
   unfolding often olden
   calls-often [] r low h = (refl, h)
   calls-often (x ∷ xs) r low h =

@@ -1,5 +1,6 @@
--- Request 8, "Open once, call often", about the definitions of crate opened: what opening gives, when a record is STALE, and that lookup and
--- listing with the record that opening gives are the old calls. g is one of the two chips where `Known g` is asked. Assumes nothing.
+-- Request 8, "Open once, call often", about the definitions of crate opened: what opening gives, when a record is
+-- STALE, and that lookup and listing with the record that opening gives are the old calls. g is one of the two chips
+-- where `Known g` is asked. Assumes nothing.
 use mathlib.Core.Path.{_≡_, refl, ap, _∙_}
 use mathlib.Core.List.{List}
 use mathlib.Core.Bool.{Bool, true, false, not}
@@ -46,7 +47,8 @@ module _ (g : Geometry) (img : List ℕ) where
   unfolding opening judged byVerdict
   opening-reads = go (goodLength g img) (verdict g (blocksOf g img) img)
     where
-      go : (x : Bool) (v : Verdict) → pick x (byVerdict v (damaged img) (gives 0 0 0 0 img)) (refused 1 img) .image ≡ img
+      go : (x : Bool) (v : Verdict) → pick x (byVerdict v (damaged img) (gives 0 0 0 0 img)) (refused 1 img) .image
+          ≡ img
       go true Sound = refl
       go true (Broken rule page) = refl
       go false v = refl
@@ -56,21 +58,25 @@ module _ (g : Geometry) (img : List ℕ) where
   unfolding opened judged byVerdict
   opened-ready r = rw (r .length-good, r .is-sound) refl
 
--- ---- STALE: "If the named page isn't programmed with that sequence number and height, the answer is 8 STALE, right after LENGTH, nothing written"
+-- ---- STALE: "If the named page isn't programmed with that sequence number and height, the answer is 8 STALE, right
+-- after LENGTH, nothing written"
 module _ (g : Geometry) (img : List ℕ) (o : Opened) where
   pub lookup-length : (k : ℕ) → goodLength g img ≡ false → lookupWith g img o k ≡ refused 1 img
   unfolding lookupWith openedCall
   lookup-length k e = rw e refl
 
-  pub lookup-stale : (k : ℕ) → goodLength g img ≡ true → standing g (blocksOf g img) img o ≡ false → lookupWith g img o k ≡ refused 8 img
+  pub lookup-stale : (k : ℕ) → goodLength g img ≡ true → standing g (blocksOf g img) img o ≡ false
+      → lookupWith g img o k ≡ refused 8 img
   unfolding lookupWith openedCall
   lookup-stale k e s = rw (e, s) refl
 
-  pub list-length : (low high : ℕ) (buffer : List ℕ) → goodLength g img ≡ false → listWith g img o low high buffer ≡ listsNone 1 0 0 buffer
+  pub list-length : (low high : ℕ) (buffer : List ℕ) → goodLength g img ≡ false → listWith g img o low high buffer
+      ≡ listsNone 1 0 0 buffer
   unfolding listWith openedCall
   list-length low high buffer e = rw e refl
 
-  pub list-stale : (low high : ℕ) (buffer : List ℕ) → goodLength g img ≡ true → standing g (blocksOf g img) img o ≡ false
+  pub list-stale : (low high : ℕ) (buffer : List ℕ) → goodLength g img ≡ true → standing g (blocksOf g img) img o
+      ≡ false
       → listWith g img o low high buffer ≡ listsNone 8 0 0 buffer
   unfolding listWith openedCall
   list-stale low high buffer e s = rw (e, s) refl
@@ -94,7 +100,8 @@ module _ (g : Geometry) (shape : Shape g) (img : List ℕ) (ready : Ready g img)
 
   -- what is seen by the record is what the rules see
   pub chip-opened : chipBy g img (opened g img) ≡ chipOf g n img
-  chip-opened = ap (chipBy g img) (opened-ready g img ready) ∙ chip-right g (shape-core g shape) n img (ready-keeps g shape img ready .held)
+  chip-opened = ap (chipBy g img) (opened-ready g img ready)
+      ∙ chip-right g (shape-core g shape) n img (ready-keeps g shape img ready .held)
 
   -- "answers and bytes equal the old calls'"
   pub lookup-same : (k : ℕ) → lookupWith g img (opened g img) k ≡ lookup g img k

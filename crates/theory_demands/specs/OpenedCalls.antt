@@ -1,6 +1,7 @@
--- Request 8: insert and delete with the record. On a sound image with the record that opening gives for it, "answers and bytes equal the old
--- calls', and the record returned is what opening would then give", for every answer and every allowance; the lent words are those of the old
--- calls. LENGTH and STALE leave all as it was. g is one of the two chips where `Known g` is asked. Assumes nothing.
+-- Request 8: insert and delete with the record. On a sound image with the record that opening gives for it, "answers
+-- and bytes equal the old calls', and the record returned is what opening would then give", for every answer and every
+-- allowance; the lent words are those of the old calls. LENGTH and STALE leave all as it was. g is one of the two chips
+-- where `Known g` is asked. Assumes nothing.
 use mathlib.Core.Path.{_≡_, refl, ap, sym, subst, _∙_}
 use mathlib.Core.List.{List}
 use mathlib.Core.Bool.{true, false}
@@ -41,11 +42,13 @@ use Rattle.theory_demands.specs.Opened.{opened-ready, standing-opened}
 -- ---- LENGTH and STALE: "nothing written; both return the record as given", and the words too
 module _ (g : Geometry) (img old : List ℕ) (o : Opened) where
   -- a bad length, or "Fewer than B words"
-  bad-length : (rest : Returned) → goodLength g img ≡ false → updateWith g img old o rest ≡ returned (refused 1 img) o old
+  bad-length : (rest : Returned) → goodLength g img ≡ false → updateWith g img old o rest ≡ returned (refused 1 img) o
+      old
   unfolding updateWith
   bad-length rest e = rw (e, and-false _) refl
 
-  few-words : (rest : Returned) → length old < wordsOf g (blocksOf g img) → updateWith g img old o rest ≡ returned (refused 1 img) o old
+  few-words : (rest : Returned) → length old < wordsOf g (blocksOf g img) → updateWith g img old o rest
+      ≡ returned (refused 1 img) o old
   unfolding updateWith
   few-words rest h = rw (lt-leb (wordsOf g (blocksOf g img)) (length old) h, and-none (goodLength g img)) refl
 
@@ -54,33 +57,40 @@ module _ (g : Geometry) (img old : List ℕ) (o : Opened) where
   unfolding updateWith
   stale rest e h s = rw (and-both _ _ e (le-leb (wordsOf g (blocksOf g img)) (length old) h), s) refl
 
-  standing-rest : (rest : Returned) → goodLength g img ≡ true → wordsOf g (blocksOf g img) ≤ length old → standing g (blocksOf g img) img o ≡ true
+  standing-rest : (rest : Returned) → goodLength g img ≡ true → wordsOf g (blocksOf g img) ≤ length old
+      → standing g (blocksOf g img) img o ≡ true
       → updateWith g img old o rest ≡ rest
   unfolding updateWith
   standing-rest rest e h s = rw (and-both _ _ e (le-leb (wordsOf g (blocksOf g img)) (length old) h), s) refl
 
-  pub insert-length : (k a al : ℕ) → goodLength g img ≡ false → insertWith g img old o k a al ≡ returned (refused 1 img) o old
+  pub insert-length : (k a al : ℕ) → goodLength g img ≡ false → insertWith g img old o k a al ≡ returned (refused 1 img)
+      o old
   unfolding insertWith
   insert-length k a al e = bad-length _ e
 
-  pub insert-few-words : (k a al : ℕ) → length old < wordsOf g (blocksOf g img) → insertWith g img old o k a al ≡ returned (refused 1 img) o old
+  pub insert-few-words : (k a al : ℕ) → length old < wordsOf g (blocksOf g img) → insertWith g img old o k a al
+      ≡ returned (refused 1 img) o old
   unfolding insertWith
   insert-few-words k a al h = few-words _ h
 
-  pub insert-stale : (k a al : ℕ) → goodLength g img ≡ true → wordsOf g (blocksOf g img) ≤ length old → standing g (blocksOf g img) img o ≡ false
+  pub insert-stale : (k a al : ℕ) → goodLength g img ≡ true → wordsOf g (blocksOf g img) ≤ length old
+      → standing g (blocksOf g img) img o ≡ false
       → insertWith g img old o k a al ≡ returned (refused 8 img) o old
   unfolding insertWith
   insert-stale k a al e h s = stale _ e h s
 
-  pub delete-length : (k al : ℕ) → goodLength g img ≡ false → deleteWith g img old o k al ≡ returned (refused 1 img) o old
+  pub delete-length : (k al : ℕ) → goodLength g img ≡ false → deleteWith g img old o k al ≡ returned (refused 1 img) o
+      old
   unfolding deleteWith
   delete-length k al e = bad-length _ e
 
-  pub delete-few-words : (k al : ℕ) → length old < wordsOf g (blocksOf g img) → deleteWith g img old o k al ≡ returned (refused 1 img) o old
+  pub delete-few-words : (k al : ℕ) → length old < wordsOf g (blocksOf g img) → deleteWith g img old o k al
+      ≡ returned (refused 1 img) o old
   unfolding deleteWith
   delete-few-words k al h = few-words _ h
 
-  pub delete-stale : (k al : ℕ) → goodLength g img ≡ true → wordsOf g (blocksOf g img) ≤ length old → standing g (blocksOf g img) img o ≡ false
+  pub delete-stale : (k al : ℕ) → goodLength g img ≡ true → wordsOf g (blocksOf g img) ≤ length old
+      → standing g (blocksOf g img) img o ≡ false
       → deleteWith g img old o k al ≡ returned (refused 8 img) o old
   unfolding deleteWith
   delete-stale k al e h s = stale _ e h s
@@ -95,7 +105,8 @@ unfolding noLevels
 no-long = length-replicate {A = ℕ} 65536 0
 
 -- ---- on a sound image with enough words
-module _ (g : Geometry) (known : Known g) (img : List ℕ) (ready : Ready g img) (old : List ℕ) (enough : wordsOf g (blocksOf g img) ≤ length old) where
+module _ (g : Geometry) (known : Known g) (img : List ℕ) (ready : Ready g img) (old : List ℕ)
+    (enough : wordsOf g (blocksOf g img) ≤ length old) where
   abbrev n : ℕ
   n = blocksOf g img
 
@@ -140,8 +151,10 @@ module _ (g : Geometry) (known : Known g) (img : List ℕ) (ready : Ready g img)
       ∙ ap f (opened-ready g img ready)
 
   -- the record that is left is what opening then gives
-  record-is : (x y : Outcome) → x ≡ y → length (y .image) ≡ length img → Ready g (x .image) → openedIn g n (y .image) ≡ opened g (x .image)
-  record-is x y e long r = sym (opened-ready g (x .image) r ∙ ap (λ (z : Outcome). openedIn g (blocksOf g (z .image)) (z .image)) e
+  record-is : (x y : Outcome) → x ≡ y → length (y .image) ≡ length img → Ready g (x .image)
+      → openedIn g n (y .image) ≡ opened g (x .image)
+  record-is x y e long r = sym (opened-ready g (x .image) r
+      ∙ ap (λ (z : Outcome). openedIn g (blocksOf g (z .image)) (z .image)) e
       ∙ ap (λ m. openedIn g m (y .image)) (blocks-same g img (y .image) long))
 
   pub insert-same : (k a al : ℕ) → k < fourBytes → a < fourBytes
@@ -160,13 +173,15 @@ module _ (g : Geometry) (known : Known g) (img : List ℕ) (ready : Ready g img)
       given (λ r. insertBy g n (heldBy g n r img old) img k a al) ∙ by ∙ (λ i. returned (sym e i) (left i) (words i))
 
   pub delete-same : (k al : ℕ) → k < fourBytes
-      → deleteWith g img old (opened g img) k al ≡ returned (delete g img k al) (opened g (delete g img k al .image)) (deleteLive g img old k al .words)
+      → deleteWith g img old (opened g img) k al ≡ returned (delete g img k al) (opened g (delete g img k al .image))
+      (deleteLive g img old k al .words)
   unfolding deleteWith delete
   delete-same k al k-low =
       let h = heldBy g n o img old in
       let rest = deleteRest g n img k al in
       let by = delete-by g shaped (whole-words g known) n img (ready .length-good) refl (ready .bytes) (ready .is-sound) h tells known k al k-low in
-      let says = delete-replies g shaped (whole-words g known) n img (ready .length-good) refl (ready .bytes) (ready .is-sound) h tells known old past-is k al k-low in
+      let says = delete-replies g shaped (whole-words g known) n img (ready .length-good) refl (ready .bytes)
+      (ready .is-sound) h tells known old past-is k al k-low in
       let words = sym (ap (λ (x : Returned). x .words) by) ∙ ap (λ (x : Reply). x .words) says in
       let e : delete g img k al ≡ rest = judged-ready g img rest ready in
       let left = record-is (delete g img k al) rest e (delete-long g n img k al) (delete-ready g shaped img ready k al k-low) in

@@ -37,7 +37,8 @@ pub lookup-image : (g : Geometry) (img : List ℕ) (k : ℕ) → lookup g img k 
 unfolding lookup judged byVerdict answered
 lookup-image g img k = go (goodLength g img) (verdict g (blocksOf g img) img) (sought (chipOf g (blocksOf g img) img) k)
   where
-    go : (x : Bool) (v : Verdict) (o : Option ℕ) → pick x (byVerdict v (damaged img) (answered o img)) (refused 1 img) .image ≡ img
+    go : (x : Bool) (v : Verdict) (o : Option ℕ) → pick x (byVerdict v (damaged img) (answered o img))
+        (refused 1 img) .image ≡ img
     go true Sound none = refl
     go true Sound (some a) = refl
     go true (Broken rule page) o = refl
@@ -48,10 +49,12 @@ none-is none h = refl
 none-is (some a) h = absurd (true-false false h refl)
 
 -- an entry gains only where K is absent
-gains-absent : (r : Nodes) (k : ℕ) (half : ℕ → ℕ) (absent : Bool) (l : ℕ) (e : Entry) → gains r k half absent l e ≡ true → absent ≡ true
+gains-absent : (r : Nodes) (k : ℕ) (half : ℕ → ℕ) (absent : Bool) (l : ℕ) (e : Entry) → gains r k half absent l e ≡ true
+    → absent ≡ true
 unfolding gains
 gains-absent r k half absent zero e h = h
-gains-absent r k half absent (suc l) e h = gains-absent r k half absent l (chosen k (r (e .addr) (suc l))) (and-right _ _ h)
+gains-absent r k half absent (suc l) e h =
+    gains-absent r k half absent l (chosen k (r (e .addr) (suc l))) (and-right _ _ h)
 
 module _ (g : Geometry) (shape : Shape g) (img : List ℕ) (ready : Ready g img) (k : ℕ) where
   abbrev n : ℕ
@@ -105,7 +108,8 @@ module _ (g : Geometry) (shape : Shape g) (img : List ℕ) (ready : Ready g img)
         go (inr (inl e)) = e .1
         go (inr (inr e)) = absurd e
 
-    pub answer-absent : (al : ℕ) → find k (mapAt g img) ≡ none → (delete g img k al .answer ≡ 3) ⊎ (delete g img k al .answer ≡ 4)
+    pub answer-absent : (al : ℕ) → find k (mapAt g img) ≡ none → (delete g img k al .answer ≡ 3) ⊎
+        (delete g img k al .answer ≡ 4)
     answer-absent al h = subst (λ (o : Outcome). (o .answer ≡ 3) ⊎ (o .answer ≡ 4)) (sym (delete-is g img k 0 al ready))
         (go (worn g n img) (isNone (sought c k)) (ap isNone (found ∙ h)))
       where
@@ -139,11 +143,13 @@ module _ (g : Geometry) (shape : Shape g) (img : List ℕ) (ready : Ready g img)
         (insert-updated g shape n f (mapAt g img) img keeps w s k a k-low a-low (p .0 .1 .0) (p .0 .1 .1 .0))
 
     -- what an insertion that answers 0 adds to the tree
-    pub insert-fuller : (a al : ℕ) → a < fourBytes → insert g img k a al .answer ≡ 0 → Fuller g (needs g c k) c (chipOf g n (insert g img k a al .image))
+    pub insert-fuller : (a al : ℕ) → a < fourBytes → insert g img k a al .answer ≡ 0 → Fuller g (needs g c k) c
+        (chipOf g n (insert g img k a al .image))
     insert-fuller a al a-low h =
         let p = insert-passed g img k a al ready (inl h) in
         let ss = insertStores g n img k a in
-        let e = ap (λ (o : Outcome). o .image) (p .1) ∙ made-done g ss al img (sym (ap (λ (o : Outcome). o .answer) (p .1)) ∙ h) in
+        let e = ap (λ (o : Outcome). o .image) (p .1)
+        ∙ made-done g ss al img (sym (ap (λ (o : Outcome). o .answer) (p .1)) ∙ h) in
         subst (λ (x : List ℕ). Fuller g (needs g c k) c (chipOf g n x)) (sym e)
         (insert-updated g shape n (few g shape img ready) (mapAt g img) img keeps (not-worn g n img (p .0 .0)) (some-pages g shape img ready) k a k-low
         a-low (p .0 .1 .0) (p .0 .1 .1 .0) .also)
@@ -152,10 +158,12 @@ module _ (g : Geometry) (shape : Shape g) (img : List ℕ) (ready : Ready g img)
     insert-blocks a al h =
         let p = insert-passed g img k a al ready (inl h) in
         let ss = insertStores g n img k a in
-        let e = ap (λ (o : Outcome). o .image) (p .1) ∙ made-done g ss al img (sym (ap (λ (o : Outcome). o .answer) (p .1)) ∙ h) in
+        let e = ap (λ (o : Outcome). o .image) (p .1)
+        ∙ made-done g ss al img (sym (ap (λ (o : Outcome). o .answer) (p .1)) ∙ h) in
         ap (blocksOf g) e ∙ blocks-same g img (applyAll g ss img) (length-all g ss img)
 
-    pub insert-pages : (a al : ℕ) → a < fourBytes → Began (insert g img k a al) → Own g n img (needs g c k) (insertStores g n img k a)
+    pub insert-pages : (a al : ℕ) → a < fourBytes → Began (insert g img k a al) → Own g n img (needs g c k)
+        (insertStores g n img k a)
     unfolding insertStores
     insert-pages a al a-low b =
         let p = insert-passed g img k a al ready b in
@@ -185,29 +193,36 @@ module _ (g : Geometry) (shape : Shape g) (img : List ℕ) (ready : Ready g img)
               k-low (p .0 .1 .0);
         }
 
-    pub delete-kept : (al : ℕ) → Began (delete g img k al) → Kept g (mapAt g img) (remove k (mapAt g img)) img (deleteStores g n img k)
+    pub delete-kept : (al : ℕ) → Began (delete g img k al) → Kept g (mapAt g img) (remove k (mapAt g img)) img
+        (deleteStores g n img k)
     delete-kept al b =
         let p = delete-passed g img k 0 al ready b in
-        updated-kept g shape img ready _ (mapAt g img) (remove k (mapAt g img)) (deleteStores g n img k) 1 (let z = shape .top-low in omega (arith, z))
+        updated-kept g shape img ready _ (mapAt g img) (remove k (mapAt g img)) (deleteStores g n img k) 1 (let z =
+        shape .top-low in omega (arith, z))
         (delete-updated g shape n (few g shape img ready) (mapAt g img) img keeps (not-worn g n img (p .0 .0)) (some-pages g shape img ready) k k-low
         (p .0 .1 .0))
 
     -- the image of a finished call, and of a stopped one
-    pub insert-ends : (a al : ℕ) → a < fourBytes → insert g img k a al .answer ≡ 0 → Holds g (put k a (mapAt g img)) (insert g img k a al .image)
+    pub insert-ends : (a al : ℕ) → a < fourBytes → insert g img k a al .answer ≡ 0 → Holds g (put k a (mapAt g img))
+        (insert g img k a al .image)
     insert-ends a al a-low h =
         let p = insert-passed g img k a al ready (inl h) in
         let ss = insertStores g n img k a in
-        let e = ap (λ (o : Outcome). o .image) (p .1) ∙ made-done g ss al img (sym (ap (λ (o : Outcome). o .answer) (p .1)) ∙ h) in
+        let e = ap (λ (o : Outcome). o .image) (p .1)
+        ∙ made-done g ss al img (sym (ap (λ (o : Outcome). o .answer) (p .1)) ∙ h) in
         subst (Holds g (put k a (mapAt g img))) (sym e) (insert-kept a al a-low (inl h) .end)
 
-    pub delete-ends : (al : ℕ) → delete g img k al .answer ≡ 0 → Holds g (remove k (mapAt g img)) (delete g img k al .image)
+    pub delete-ends : (al : ℕ) → delete g img k al .answer ≡ 0 → Holds g (remove k (mapAt g img))
+        (delete g img k al .image)
     delete-ends al h =
         let p = delete-passed g img k 0 al ready (inl h) in
         let ss = deleteStores g n img k in
-        let e = ap (λ (o : Outcome). o .image) (p .1) ∙ made-done g ss al img (sym (ap (λ (o : Outcome). o .answer) (p .1)) ∙ h) in
+        let e = ap (λ (o : Outcome). o .image) (p .1)
+        ∙ made-done g ss al img (sym (ap (λ (o : Outcome). o .answer) (p .1)) ∙ h) in
         subst (Holds g (remove k (mapAt g img))) (sym e) (delete-kept al (inl h) .end)
 
-    pub insert-stops : (a al : ℕ) → a < fourBytes → insert g img k a al .answer ≡ 7 → Holds g (mapAt g img) (insert g img k a al .image)
+    pub insert-stops : (a al : ℕ) → a < fourBytes → insert g img k a al .answer ≡ 7 → Holds g (mapAt g img)
+        (insert g img k a al .image)
     insert-stops a al a-low h =
         let p = insert-passed g img k a al ready (inr h) in
         let ss = insertStores g n img k a in

@@ -1,5 +1,6 @@
--- Images reached from format by insertions and deletions, with the record that opening gives or without one, each with any allowance, so stopped
--- and refused ones too: they are sound by R1 to R8, so T − L is at least twice a block's pages. Assumes nothing.
+-- Images reached from format by insertions and deletions, with the record that opening gives or without one, each with
+-- any allowance, so stopped and refused ones too: they are sound by R1 to R8, so T − L is at least twice a block's
+-- pages. Assumes nothing.
 use mathlib.Core.Path.{_≡_, refl, sym, subst}
 use mathlib.Core.List.{List, [], _∷_}
 use mathlib.Core.Bool.{true, false}
@@ -27,8 +28,8 @@ use Rattle.theory_demands.specs.Builds.{format-holds}
 use Rattle.theory_demands.specs.Stays.{insert-ready, delete-ready}
 use Rattle.theory_demands.specs.OpenedCalls.{insert-few-words, delete-few-words, insert-same, delete-same}
 
--- a call with its arguments; `allowance` is the most stores it may make. Without a record, or with the lent words and the record that opening
--- gives for the image (request 8)
+-- a call with its arguments; `allowance` is the most stores it may make. Without a record, or with the lent words and
+-- the record that opening gives for the image (request 8)
 pub data Call : Type 0 where
   put : ℕ → ℕ → ℕ → Call
   take : ℕ → ℕ → Call
@@ -55,11 +56,13 @@ reached g (x ∷ xs) img = reached g xs (outcome g img x .image)
 
 module _ (g : Geometry) (shape : Shape g) where
   -- R8 of a sound image
-  pub sound-room : (img : List ℕ) → Ready g img → 2 * g .pages ≤ freePages g (blocksOf g img) (chipOf g (blocksOf g img) img)
+  pub sound-room : (img : List ℕ) → Ready g img → 2 * g .pages ≤ freePages g (blocksOf g img)
+      (chipOf g (blocksOf g img) img)
   sound-room img h = let z = ready-keeps g shape img h .r8 in omega (arith, z)
 
   -- so a deletion, which needs one page, is never short of room
-  pub delete-roomy : (img : List ℕ) → Ready g img → roomless g (freePages g (blocksOf g img) (chipOf g (blocksOf g img) img)) 1 ≡ false
+  pub delete-roomy : (img : List ℕ) → Ready g img
+      → roomless g (freePages g (blocksOf g img) (chipOf g (blocksOf g img) img)) 1 ≡ false
   unfolding roomless
   delete-roomy img h = let z = sound-room img h in let p = some-page g (shape-core g shape) in
       le-ltb (freePages g (blocksOf g img) (chipOf g (blocksOf g img) img)) (2 * g .pages - 1 + 1) (omega (arith, z, p))
@@ -84,7 +87,8 @@ module _ (g : Geometry) (known : Known g) where
   calls-ready (x ∷ xs) img low h = calls-ready xs (outcome g img x .image) (low .1) (call-ready img x (low .0) h)
 
   -- from format: sound, and T − L at least two blocks' pages
-  module _ (some-worn : 1 ≤ g .worn) (img : List ℕ) (length-good : goodLength g img ≡ true) (bytes : (i : ℕ) → byteAt img i < 256)
+  module _ (some-worn : 1 ≤ g .worn) (img : List ℕ) (length-good : goodLength g img ≡ true) (bytes : (i : ℕ)
+      → byteAt img i < 256)
       (xs : List Call) (low : All Low xs) where
     abbrev after : List ℕ
     after = reached g xs (format g img .image)

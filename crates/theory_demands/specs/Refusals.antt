@@ -1,5 +1,6 @@
--- Demand 1's words: bad lengths and damaged trees are refused by number, and nothing else is, for every image, key, address and
--- allowance; a refusal leaves the image, and that of a damaged tree has the verdict's rule and page. Assumes nothing.
+-- Demand 1's words: bad lengths and damaged trees are refused by number, and nothing else is, for every image, key,
+-- address and allowance; a refusal leaves the image, and that of a damaged tree has the verdict's rule and page.
+-- Assumes nothing.
 use mathlib.Core.Path.{_≡_, refl}
 use mathlib.Core.List.{List}
 use mathlib.Core.Bool.{true, false}
@@ -17,14 +18,17 @@ use Rattle.model.specs.Update.{insertStores, deleteStores, formatStores}
 use Rattle.theory_demands.specs.Tests.{tested-later}
 use Rattle.theory_demands.specs.Calls.{insertTests, deleteTests, insert-rest, delete-rest, made-began}
 
--- LENGTH for a bad length, DAMAGED with rule and page for an image that is not sound, neither otherwise; both leave the image
+-- LENGTH for a bad length, DAMAGED with rule and page for an image that is not sound, neither otherwise; both leave the
+-- image
 pub record Refuses (g : Geometry) (img : List ℕ) (o : Outcome) : Type 0 where
   pub bad-length : goodLength g img ≡ false → o ≡ refused 1 img
-  pub not-sound : (rule page : ℕ) → goodLength g img ≡ true → verdict g (blocksOf g img) img ≡ Broken rule page → o ≡ damaged img rule page
+  pub not-sound : (rule page : ℕ) → goodLength g img ≡ true → verdict g (blocksOf g img) img ≡ Broken rule page
+      → o ≡ damaged img rule page
   pub neither : goodLength g img ≡ true → verdict g (blocksOf g img) img ≡ Sound → 1 ≤ o .answer → 3 ≤ o .answer
 
 -- a call of any kind that is judged first
-pub judged-refuses : (g : Geometry) (img : List ℕ) (rest : Outcome) → (1 ≤ rest .answer → 3 ≤ rest .answer) → Refuses g img (judgedCall g img rest)
+pub judged-refuses : (g : Geometry) (img : List ℕ) (rest : Outcome) → (1 ≤ rest .answer → 3 ≤ rest .answer)
+    → Refuses g img (judgedCall g img rest)
 unfolding judged byVerdict
 judged-refuses g img rest h = record {
   bad-length = λ e. rw e;
@@ -45,7 +49,8 @@ module _ (g : Geometry) (img : List ℕ) (k : ℕ) where
   pub insert-refuses : (a al : ℕ) → Refuses g img (insert g img k a al)
   unfolding insert
   insert-refuses a al = judged-refuses g img (insertRest g (blocksOf g img) img k a al) (rw (insert-rest g img k a al)
-      (tested-later img (insertTests g img k a al) _ (omega arith, (omega arith, (omega arith, tt))) (made-began g (insertStores g (blocksOf g img) img k a) al img)))
+      (tested-later img (insertTests g img k a al) _ (omega arith, (omega arith, (omega arith, tt)))
+      (made-began g (insertStores g (blocksOf g img) img k a) al img)))
 
   pub delete-refuses : (al : ℕ) → Refuses g img (delete g img k al)
   unfolding delete
@@ -61,6 +66,7 @@ pub format-answers : (g : Geometry) (img : List ℕ) → goodLength g img ≡ tr
 unfolding format
 format-answers g img e = rw e
 
-pub format-image : (g : Geometry) (img : List ℕ) → goodLength g img ≡ true → format g img .image ≡ applyAll g (formatStores g (blocksOf g img)) img
+pub format-image : (g : Geometry) (img : List ℕ) → goodLength g img ≡ true → format g img .image ≡ applyAll g
+    (formatStores g (blocksOf g img)) img
 unfolding format
 format-image g img e = rw e refl

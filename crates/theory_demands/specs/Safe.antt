@@ -1,5 +1,6 @@
--- Request 8, "On other pairs the calls stay memory-safe and program erased pages only": for every geometry, image, record, words, key, address
--- and allowance, what an update with the record does is a list of stores, each program of a page that is then erased. Assumes nothing.
+-- Request 8, "On other pairs the calls stay memory-safe and program erased pages only": for every geometry, image,
+-- record, words, key, address and allowance, what an update with the record does is a list of stores, each program of a
+-- page that is then erased. Assumes nothing.
 use mathlib.Core.Path.{_≡_, refl}
 use mathlib.Core.List.{List, [], _∷_, _++_}
 use mathlib.Core.Bool.{Bool, true, false}
@@ -35,7 +36,8 @@ safe-refused : (g : Geometry) (img : List ℕ) (answer : ℕ) → Safe g img (re
 unfolding applyAll Cautious programs erases
 safe-refused g img answer = record { stores = []; image-is = refl; cautious = tt; programmed-is = refl; erased-is = refl }
 
-safe-made : (g : Geometry) (n : ℕ) (ss : List Store) (o : Opened) (m : ℕ) (t : Crest) (al : ℕ) (img old : List ℕ) → Safe g img (madeBy g n ss o m t al img old .outcome)
+safe-made : (g : Geometry) (n : ℕ) (ss : List Store) (o : Opened) (m : ℕ) (t : Crest) (al : ℕ) (img old : List ℕ)
+    → Safe g img (madeBy g n ss o m t al img old .outcome)
 unfolding madeBy
 safe-made g n ss o m t al img old = record {
   stores = madeOf g ss al img;
@@ -58,7 +60,8 @@ module _ (g : Geometry) (n : ℕ) (h : Held) (img : List ℕ) where
           (h .table .words)
 
       go : (x y z : Bool)
-          → Safe g img (pick x (refusedBy 3 h img) (pick y (refusedBy 5 h img) (pick z (refusedBy 6 h img) made)) .outcome)
+          → Safe g img (pick x (refusedBy 3 h img) (pick y (refusedBy 5 h img)
+          (pick z (refusedBy 6 h img) made)) .outcome)
       go true y z = safe-refused g img 3
       go false true z = safe-refused g img 5
       go false false true = safe-refused g img 6
@@ -95,7 +98,8 @@ module _ (g : Geometry) (img old : List ℕ) (o : Opened) where
   unfolding updateWith
   safe-with rest s = go (goodLength g img & leb (wordsOf g (blocksOf g img)) (length old)) (standing g (blocksOf g img) img o)
     where
-      go : (x y : Bool) → Safe g img (pick x (pick y rest (returned (refused 8 img) o old)) (returned (refused 1 img) o old) .outcome)
+      go : (x y : Bool) → Safe g img (pick x (pick y rest (returned (refused 8 img) o old))
+          (returned (refused 1 img) o old) .outcome)
       go true true = s
       go true false = safe-refused g img 8
       go false y = safe-refused g img 1

@@ -1,4 +1,5 @@
--- An update on a sound image leaves a sound image of the same length, whatever its answer and its allowance. Assumes nothing.
+-- An update on a sound image leaves a sound image of the same length, whatever its answer and its allowance. Assumes
+-- nothing.
 use mathlib.Core.Path.{_≡_, refl, sym, subst}
 use mathlib.Core.List.{List, [], _∷_}
 use mathlib.Core.Bool.{Bool, true, false}
@@ -52,22 +53,26 @@ made-length : (g : Geometry) (ss : List Store) (al : ℕ) (img : List ℕ) → l
 unfolding made
 made-length g ss al img = length-all g (take al ss) img
 
-pub insert-long : (g : Geometry) (n : ℕ) (img : List ℕ) (k a al : ℕ) → length (insertRest g n img k a al .image) ≡ length img
+pub insert-long : (g : Geometry) (n : ℕ) (img : List ℕ) (k a al : ℕ) → length (insertRest g n img k a al .image)
+    ≡ length img
 unfolding insertRest
 insert-long g n img k a al = go (worn g n img) (tooHigh g (chipOf g n img) k) (roomless g (freePages g n (chipOf g n img)) (needs g (chipOf g n img) k))
   where
-    go : (x y z : Bool) → length (pick x (refused 3 img) (pick y (refused 5 img) (pick z (refused 6 img) (made g (insertStores g n img k a) al img))) .image)
+    go : (x y z : Bool) → length (pick x (refused 3 img)
+        (pick y (refused 5 img) (pick z (refused 6 img) (made g (insertStores g n img k a) al img))) .image)
         ≡ length img
     go true y z = refl
     go false true z = refl
     go false false true = refl
     go false false false = made-length g (insertStores g n img k a) al img
 
-pub delete-long : (g : Geometry) (n : ℕ) (img : List ℕ) (k al : ℕ) → length (deleteRest g n img k al .image) ≡ length img
+pub delete-long : (g : Geometry) (n : ℕ) (img : List ℕ) (k al : ℕ) → length (deleteRest g n img k al .image)
+    ≡ length img
 unfolding deleteRest
 delete-long g n img k al = go (worn g n img) (isNone (sought (chipOf g n img) k))
   where
-    go : (x y : Bool) → length (pick x (refused 3 img) (pick y (refused 4 img) (made g (deleteStores g n img k) al img)) .image) ≡ length img
+    go : (x y : Bool) → length (pick x (refused 3 img)
+        (pick y (refused 4 img) (made g (deleteStores g n img k) al img)) .image) ≡ length img
     go true y = refl
     go false true = refl
     go false false = made-length g (deleteStores g n img k) al img

@@ -23,7 +23,8 @@ use Rattle.text_carrying.specs.Back.{Rises, refused-stays}
 use Rattle.theory_demands.specs.Words.{Holds, OneOf}
 use Rattle.theory_demands.specs.Demands.{insert-refused, insert-answers, insert-done, insert-stopped}
 
--- what the inserts of records leave: a sound image with the first of them, as many as are stored; all of them where the answer is 0
+-- what the inserts of records leave: a sound image with the first of them, as many as are stored; all of them where the
+-- answer is 0
 pub record Stored (g : Geometry) (es : List Entry) (o : Outcome) : Type 0 where
   pub some : o .address ≤ length es
   pub holds : Holds g (take (o .address) es) (o .image)
@@ -41,7 +42,8 @@ put-end k a m h = sym (ap (put k a) (append-nil m)) ∙ put-local k a .after 0 m
 abbrev pub inserted : Geometry → Outcome → Entry → Outcome
 inserted g s e = insert g (s .image) (e .key) (e .addr) largest
 
-pub store-more : (g : Geometry) (s : Outcome) (e : Entry) (es : List Entry) → s .answer ≡ 0 → storeAll g s (e ∷ es) ≡ storeAll g (counted s (inserted g s e)) es
+pub store-more : (g : Geometry) (s : Outcome) (e : Entry) (es : List Entry) → s .answer ≡ 0
+    → storeAll g s (e ∷ es) ≡ storeAll g (counted s (inserted g s e)) es
 unfolding storeAll storeOne
 store-more g s e es h = rw (eq-eqb (s .answer) 0 h) refl
 
@@ -54,10 +56,12 @@ module _ (g : Geometry) (shape : Shape g) where
       old : (insert g img k a largest .image ≡ img) → Holds g m (insert g img k a largest .image)
       old e = subst (Holds g m) (sym e) h
 
-      low : 1 ≤ insert g img k a largest .answer → insert g img k a largest .answer ≤ 6 → Holds g m (insert g img k a largest .image)
+      low : 1 ≤ insert g img k a largest .answer → insert g img k a largest .answer ≤ 6
+          → Holds g m (insert g img k a largest .image)
       low p q = old (insert-refused g img k a largest p q)
 
-      go : OneOf (insert g img k a largest .answer) (0 ∷ 3 ∷ 5 ∷ 6 ∷ 7 ∷ []) → Holds g m (insert g img k a largest .image)
+      go : OneOf (insert g img k a largest .answer) (0 ∷ 3 ∷ 5 ∷ 6 ∷ 7 ∷ [])
+          → Holds g m (insert g img k a largest .image)
       go (inl z) = absurd (n z)
       go (inr (inl z)) = low (omega (arith, z)) (omega (arith, z))
       go (inr (inr (inl z))) = low (omega (arith, z)) (omega (arith, z))
@@ -67,8 +71,10 @@ module _ (g : Geometry) (shape : Shape g) where
       go (inr (inr (inr (inr (inr z))))) = absurd z
 
   -- the inserts of es after those of xs, whose keys are below low
-  pub stored-all : (es xs : List Entry) (low : ℕ) (s : Outcome) → Rises low es → All (In 0 low) xs → Holds g xs (s .image)
-      → s .answer ≡ 0 → s .address ≡ length xs → length xs + length es < fourBytes → Stored g (xs ++ es) (storeAll g s es)
+  pub stored-all : (es xs : List Entry) (low : ℕ) (s : Outcome) → Rises low es → All (In 0 low) xs
+      → Holds g xs (s .image)
+      → s .answer ≡ 0 → s .address ≡ length xs → length xs + length es < fourBytes
+      → Stored g (xs ++ es) (storeAll g s es)
   unfolding storeAll counted
   stored-all [] xs low s r h i z n few = record {
     some = let w = length-append xs [] in omega (arith, w, n);
@@ -77,7 +83,8 @@ module _ (g : Geometry) (shape : Shape g) where
     answers = inl z;
   }
   stored-all (e ∷ es) xs low s r h i z n few =
-      subst (Stored g (xs ++ (e ∷ es))) (sym (store-more g s e es z)) (go (eqb (inserted g s e .answer) 0) refl (λ xs low s r h i z n few. stored-all es xs low s r h i z n few))
+      subst (Stored g (xs ++ (e ∷ es))) (sym (store-more g s e es z)) (go (eqb (inserted g s e .answer) 0) refl
+      (λ xs low s r h i z n few. stored-all es xs low s r h i z n few))
     where
       below : All (In 0 (e .key)) xs
       below = all-map (In 0 low) (In 0 (e .key)) xs (λ x j. omega (arith, j, r .0)) h
@@ -90,7 +97,8 @@ module _ (g : Geometry) (shape : Shape g) where
       long = length-append xs (e ∷ []) ∙ omega arith
 
       held : inserted g s e .answer ≡ 0 → Holds g (xs ++ (e ∷ [])) (inserted g s e .image)
-      held q = subst (λ x. Holds g x (inserted g s e .image)) (ap (put (e .key) (e .addr)) (i .map-is) ∙ put-end (e .key) (e .addr) xs below)
+      held q = subst (λ x. Holds g x (inserted g s e .image)) (ap (put (e .key) (e .addr)) (i .map-is)
+          ∙ put-end (e .key) (e .addr) xs below)
           (insert-done g shape (s .image) (i .ready) (e .key) (r .1) (e .addr) largest (r .2) q)
 
       one : inserted g s e .answer ≡ 0 → counted s (inserted g s e) .address ≡ length (xs ++ (e ∷ []))
@@ -100,7 +108,8 @@ module _ (g : Geometry) (shape : Shape g) where
       none q = rw (ne-eqb (inserted g s e .answer) 0 q) (omega (arith, n, few))
 
       go : (t : Bool) → eqb (inserted g s e .answer) 0 ≡ t
-          → ((xs : List Entry) (low : ℕ) (s : Outcome) → Rises low es → All (In 0 low) xs → Holds g xs (s .image) → s .answer ≡ 0 → s .address ≡ length xs
+          → ((xs : List Entry) (low : ℕ) (s : Outcome) → Rises low es → All (In 0 low) xs → Holds g xs (s .image)
+          → s .answer ≡ 0 → s .address ≡ length xs
           → length xs + length es < fourBytes → Stored g (xs ++ es) (storeAll g s es))
           → Stored g (xs ++ (e ∷ es)) (storeAll g (counted s (inserted g s e)) es)
       go true q ih =
@@ -113,7 +122,8 @@ module _ (g : Geometry) (shape : Shape g) where
           let c = none a in
           subst (Stored g (xs ++ (e ∷ es))) (sym (refused-stays g (counted s (inserted g s e)) es a)) (record {
             some = omega (arith, w, c);
-            holds = subst (λ x. Holds g x (inserted g s e .image)) (sym (ap (λ m. take m (xs ++ (e ∷ es))) c ∙ take-at xs (e ∷ es) (length xs) refl))
+            holds = subst (λ x. Holds g x (inserted g s e .image)) (sym (ap (λ m. take m (xs ++ (e ∷ es))) c
+                ∙ take-at xs (e ∷ es) (length xs) refl))
                 (refused-holds (s .image) xs (e .key) (e .addr) i (r .1) (r .2) a);
             whole = λ b. absurd (a b);
             answers = insert-answers g shape (s .image) (i .ready) (e .key) (r .1) (e .addr) largest;

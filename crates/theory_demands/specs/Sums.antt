@@ -1,4 +1,5 @@
--- Request 13: an import's counts are the sums of format's and its inserts' counts. Proofs for Carrying. Assumes nothing.
+-- Request 13: an import's counts are the sums of format's and its inserts' counts. Proofs for Carrying. Assumes
+-- nothing.
 use mathlib.Core.Path.{_≡_, refl, ap, sym, _∙_}
 use mathlib.Core.List.{List, [], _∷_}
 use mathlib.Core.Logic.{inl}
@@ -64,7 +65,8 @@ module _ (g : Geometry) (shape : Shape g) (allowed : storesMost g ≤ largest) w
     pub insert-limits : Limits g (insert g img k a largest) × (insert g img k a largest .answer ≡ 7 → ⊥)
     insert-limits = go (worn g n img) (tooHigh g (chipOf g n img) k) (roomless g (freePages g n (chipOf g n img)) (needs g (chipOf g n img) k)) refl refl refl
       where
-        small : (j : ℕ) → j ≤ 6 → insert g img k a largest ≡ refused j img → Limits g (insert g img k a largest) × (insert g img k a largest .answer ≡ 7 → ⊥)
+        small : (j : ℕ) → j ≤ 6 → insert g img k a largest ≡ refused j img → Limits g (insert g img k a largest) ×
+            (insert g img k a largest .answer ≡ 7 → ⊥)
         small j h e = (
           record {
             programmed = let q = ap (λ (o : Outcome). o .programmed) e in omega (arith, q);
@@ -74,7 +76,8 @@ module _ (g : Geometry) (shape : Shape g) (allowed : storesMost g ≤ largest) w
         )
 
         go : (x y z : Bool) → worn g n img ≡ x → tooHigh g (chipOf g n img) k ≡ y
-            → roomless g (freePages g n (chipOf g n img)) (needs g (chipOf g n img) k) ≡ z → Limits g (insert g img k a largest) × (insert g img k a largest .answer ≡ 7 → ⊥)
+            → roomless g (freePages g n (chipOf g n img)) (needs g (chipOf g n img) k) ≡ z
+            → Limits g (insert g img k a largest) × (insert g img k a largest .answer ≡ 7 → ⊥)
         go true y z p q r = small 3 (omega arith) (insert-is g img k a largest ready ∙ rw p refl)
         go false true z p q r = small 5 (omega arith) (insert-is g img k a largest ready ∙ rw (p, q) refl)
         go false false true p q r = small 6 (omega arith) (insert-is g img k a largest ready ∙ rw (p, q, r) refl)
@@ -85,7 +88,8 @@ module _ (g : Geometry) (shape : Shape g) (allowed : storesMost g ≤ largest) w
   -- any count that an import adds up, at most `most` an insert
   module _ (count : Outcome → ℕ) (most : ℕ) (adds : (s o : Outcome) → count (counted s o) ≡ word (count s + count o))
       (limits : (o : Outcome) → Limits g o → count o ≤ most) where
-    pub sums : (es : List Entry) (low : ℕ) (s : Outcome) → Rises low es → Ready g (s .image) → s .answer ≡ 0 → count s + most * length es < fourBytes
+    pub sums : (es : List Entry) (low : ℕ) (s : Outcome) → Rises low es → Ready g (s .image) → s .answer ≡ 0
+        → count s + most * length es < fourBytes
         → count (storeAll g s es) ≡ count s + sumOf g count (s .image) es
     unfolding storeAll sumOf counted
     sums [] low s r h z few = omega arith
@@ -102,14 +106,16 @@ module _ (g : Geometry) (shape : Shape g) (allowed : storesMost g ≤ largest) w
         next = let q = adds s (inserted g s e) in let l = lim in let w = room in omega (arith, q, l, w, few)
 
         go : (t : Bool) → eqb (inserted g s e .answer) 0 ≡ t
-            → ((low : ℕ) (s : Outcome) → Rises low es → Ready g (s .image) → s .answer ≡ 0 → count s + most * length es < fourBytes
+            → ((low : ℕ) (s : Outcome) → Rises low es → Ready g (s .image) → s .answer ≡ 0
+            → count s + most * length es < fourBytes
             → count (storeAll g s es) ≡ count s + sumOf g count (s .image) es)
             → count (storeAll g (counted s (inserted g s e)) es)
             ≡ count s + (count (inserted g s e) + pick t (sumOf g count (inserted g s e .image) es) 0)
         go true q ih =
             let a = eqb-true _ 0 q in
             let done = insert-done g shape (s .image) h (e .key) (r .1) (e .addr) largest (r .2) a in
-            let i = ih (suc (e .key)) (counted s (inserted g s e)) (r .3) (done .ready) a (let w = room in let l = lim in let m = next in omega (arith, few, w, l, m)) in
+            let i = ih (suc (e .key)) (counted s (inserted g s e)) (r .3) (done .ready) a (let w = room in let l =
+            lim in let m = next in omega (arith, few, w, l, m)) in
             let m = next in
             omega (arith, i, m)
         go false q ih =

@@ -1,5 +1,5 @@
--- Tests in a row, each with the answer it gives, then the rest of a call: which test an answer stands for, said once over
--- any list of tests. Assumes nothing.
+-- Tests in a row, each with the answer it gives, then the rest of a call: which test an answer stands for, said once
+-- over any list of tests. Assumes nothing.
 use mathlib.Core.Path.{_≡_, refl}
 use mathlib.Core.List.{List, [], _∷_, _++_, map}
 use mathlib.Core.Bool.{Bool, true, false}
@@ -41,12 +41,14 @@ module _ (img : List ℕ) where
   tested-untouched [] o h = h
   tested-untouched (t ∷ ts) o h = go (t .met) (tested-untouched ts o h)
     where
-      go : (x : Bool) → Untouched img (tested img ts o) → Untouched img (pick x (refused (t .number) img) (tested img ts o))
+      go : (x : Bool) → Untouched img (tested img ts o)
+          → Untouched img (pick x (refused (t .number) img) (tested img ts o))
       go true w = λ p q. refl
       go false w = w
 
   -- a call that has begun has met none of them
-  pub tested-passed : (ts : List Test) (o : Outcome) → All Refusal ts → Began (tested img ts o) → All Unmet ts × (tested img ts o ≡ o)
+  pub tested-passed : (ts : List Test) (o : Outcome) → All Refusal ts → Began (tested img ts o) → All Unmet ts ×
+      (tested img ts o ≡ o)
   tested-passed [] o r b = (tt, refl)
   tested-passed (t ∷ ts) o r b = go (t .met) refl b (tested-passed ts o (r .1))
     where
@@ -62,33 +64,39 @@ module _ (img : List ℕ) where
   one-more x i ns (inr w) = inr (inr w)
 
   -- the answer is 0, a test's number or 7
-  pub tested-one : (ts : List Test) (o : Outcome) → Began o → OneOf (tested img ts o .answer) (0 ∷ (map (λ (t : Test). t .number) ts ++ (7 ∷ [])))
+  pub tested-one : (ts : List Test) (o : Outcome) → Began o → OneOf (tested img ts o .answer)
+      (0 ∷ (map (λ (t : Test). t .number) ts ++ (7 ∷ [])))
   tested-one [] o (inl h) = inl h
   tested-one [] o (inr h) = inr (inl h)
   tested-one (t ∷ ts) o b = go (t .met) (one-more (tested img ts o .answer) (t .number) (map (λ (u : Test). u .number) ts ++ (7 ∷ [])) (tested-one ts o b))
     where
       go : (x : Bool) → OneOf (tested img ts o .answer) (0 ∷ t .number ∷ (map (λ (u : Test). u .number) ts ++ (7 ∷ [])))
-          → OneOf (pick x (refused (t .number) img) (tested img ts o) .answer) (0 ∷ t .number ∷ (map (λ (u : Test). u .number) ts ++ (7 ∷ [])))
+          → OneOf (pick x (refused (t .number) img) (tested img ts o) .answer)
+          (0 ∷ t .number ∷ (map (λ (u : Test). u .number) ts ++ (7 ∷ [])))
       go true w = inr (inl refl)
       go false w = w
 
   -- a refusal is the number of a test that is met
-  pub tested-met : (j : ℕ) (ts : List Test) (o : Outcome) → Began o → 1 ≤ j → j ≤ 6 → tested img ts o .answer ≡ j → Met j ts
+  pub tested-met : (j : ℕ) (ts : List Test) (o : Outcome) → Began o → 1 ≤ j → j ≤ 6 → tested img ts o .answer ≡ j
+      → Met j ts
   tested-met j [] o (inl b) p q e = absurd (omega (arith, b, p, e))
   tested-met j [] o (inr b) p q e = absurd (omega (arith, b, q, e))
   tested-met j (t ∷ ts) o b p q e = go (t .met) refl e (tested-met j ts o b p q)
     where
-      go : (x : Bool) → t .met ≡ x → pick x (refused (t .number) img) (tested img ts o) .answer ≡ j → (tested img ts o .answer ≡ j → Met j ts) → Met j (t ∷ ts)
+      go : (x : Bool) → t .met ≡ x → pick x (refused (t .number) img) (tested img ts o) .answer ≡ j
+          → (tested img ts o .answer ≡ j → Met j ts) → Met j (t ∷ ts)
       go true d h f = inl (h, d)
       go false d h f = inr (f h)
 
   -- where every number is 3 or more, so is a refusal
-  pub tested-later : (ts : List Test) (o : Outcome) → All (λ t. 3 ≤ t .number) ts → Began o → 1 ≤ tested img ts o .answer → 3 ≤ tested img ts o .answer
+  pub tested-later : (ts : List Test) (o : Outcome) → All (λ t. 3 ≤ t .number) ts → Began o
+      → 1 ≤ tested img ts o .answer → 3 ≤ tested img ts o .answer
   tested-later [] o h (inl b) p = absurd (omega (arith, b, p))
   tested-later [] o h (inr b) p = omega (arith, b)
   tested-later (t ∷ ts) o h b p = go (t .met) p (tested-later ts o (h .1) b)
     where
-      go : (x : Bool) → 1 ≤ pick x (refused (t .number) img) (tested img ts o) .answer → (1 ≤ tested img ts o .answer → 3 ≤ tested img ts o .answer)
+      go : (x : Bool) → 1 ≤ pick x (refused (t .number) img) (tested img ts o) .answer
+          → (1 ≤ tested img ts o .answer → 3 ≤ tested img ts o .answer)
           → 3 ≤ pick x (refused (t .number) img) (tested img ts o) .answer
       go true q f = h .0
       go false q f = f q

@@ -79,12 +79,13 @@ abbrev pub OneOf : ℕ → List ℕ → Type 0
 OneOf x [] = ⊥
 OneOf x (y ∷ ys) = (x ≡ y) ⊎ OneOf x ys
 
--- own pages: the list is the collection's stores, then stores with m programs and no erase, m at most `ownMost`. The collection ends because
--- it is done: a block's pages and m more are then erased
+-- own pages: the list is the collection's stores, then stores with m programs and no erase, m at most `ownMost`. The
+-- collection ends because it is done: a block's pages and m more are then erased
 pub record Own (g : Geometry) (n : ℕ) (img : List ℕ) (m : ℕ) (ss : List Store) : Type 0 where
   pub own : List Store
   pub list-is : ss ≡ collectStores g n m (suc m) img ++ own
   pub programs-are : programs own ≡ m
   pub no-erase : erases own ≡ 0
   pub atmost : m ≤ ownMost g
-  pub collected : g .pages + m ≤ erasedPages (pagesOf g n) (chipOf g n (applyAll g (collectStores g n m (suc m) img) img))
+  pub collected : g .pages + m ≤ erasedPages (pagesOf g n)
+      (chipOf g n (applyAll g (collectStores g n m (suc m) img) img))

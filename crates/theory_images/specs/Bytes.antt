@@ -1,4 +1,5 @@
--- Bytes: what is put is read, and what is read hangs on the bytes read alone. Over any list and any place. Assumes nothing.
+-- Bytes: what is put is read, and what is read hangs on the bytes read alone. Over any list and any place. Assumes
+-- nothing.
 use mathlib.Core.Path.{_≡_, refl, sym, _∙_}
 use mathlib.Core.List.{List, [], _∷_}
 use mathlib.Core.Bool.{true}
@@ -97,7 +98,8 @@ module _ (b : List ℕ) (i w x y z : ℕ) where
   four-length = length-set b₃ (i + 3) z ∙ length-set b₂ (i + 2) y ∙ length-set b₁ (i + 1) x ∙ length-set b i w
 
   four-off : (k : ℕ) → Off k i 4 → byteAt b₄ k ≡ byteAt b k
-  four-off k h = other (i + 3) b₃ z (λ e. out k h 3 (omega arith) e) ∙ other (i + 2) b₂ y (λ e. out k h 2 (omega arith) e) ∙ other (i + 1) b₁ x
+  four-off k h = other (i + 3) b₃ z (λ e. out k h 3 (omega arith) e)
+      ∙ other (i + 2) b₂ y (λ e. out k h 2 (omega arith) e) ∙ other (i + 1) b₁ x
       (λ e. out k h 1 (omega arith) e) ∙ other i b w (λ e. out k h 0 (omega arith) (e ∙ sym (add-zero i)))
     where
       other : (at : ℕ) (l : List ℕ) (v : ℕ) → (k ≡ at → ⊥) → byteAt (set l at v) k ≡ byteAt l k
@@ -107,16 +109,20 @@ module _ (b : List ℕ) (i w x y z : ℕ) where
       out k (inl h) o q e = omega arith
       out k (inr h) o q e = omega arith
 
-  four-in : i + 4 ≤ length b → (byteAt b₄ i ≡ w) × (byteAt b₄ (i + 1) ≡ x) × (byteAt b₄ (i + 2) ≡ y) × (byteAt b₄ (i + 3) ≡ z)
+  four-in : i + 4 ≤ length b → (byteAt b₄ i ≡ w) × (byteAt b₄ (i + 1) ≡ x) × (byteAt b₄ (i + 2) ≡ y) ×
+      (byteAt b₄ (i + 3) ≡ z)
   four-in h =
       let l₁ = length-set b i w in
       let l₂ = length-set b₁ (i + 1) x in
       let l₃ = length-set b₂ (i + 2) y in (
-        getD-set-other b₃ (i + 3) i z 0 (λ e. omega (arith, e)) ∙ getD-set-other b₂ (i + 2) i y 0 (λ e. omega (arith, e)) ∙ getD-set-other b₁
+        getD-set-other b₃ (i + 3) i z 0 (λ e. omega (arith, e))
+            ∙ getD-set-other b₂ (i + 2) i y 0 (λ e. omega (arith, e)) ∙ getD-set-other b₁
             (i + 1) i x 0 (λ e. omega (arith, e)) ∙ getD-set-same b i w 0 (omega (arith, h)),
-        getD-set-other b₃ (i + 3) (i + 1) z 0 (λ e. omega (arith, e)) ∙ getD-set-other b₂ (i + 2) (i + 1) y 0 (λ e. omega (arith, e))
+        getD-set-other b₃ (i + 3) (i + 1) z 0 (λ e. omega (arith, e))
+            ∙ getD-set-other b₂ (i + 2) (i + 1) y 0 (λ e. omega (arith, e))
             ∙ getD-set-same b₁ (i + 1) x 0 (omega (arith, h, l₁)),
-        getD-set-other b₃ (i + 3) (i + 2) z 0 (λ e. omega (arith, e)) ∙ getD-set-same b₂ (i + 2) y 0 (omega (arith, h, l₁, l₂)),
+        getD-set-other b₃ (i + 3) (i + 2) z 0 (λ e. omega (arith, e))
+            ∙ getD-set-same b₂ (i + 2) y 0 (omega (arith, h, l₁, l₂)),
         getD-set-same b₃ (i + 3) z 0 (omega (arith, h, l₁, l₂, l₃)),
       )
 
@@ -139,19 +145,26 @@ length-entries b at (e ∷ es) = length-entries (putEntry b at e) (at + 8) es �
 
 pub entry-off : (b : List ℕ) (i : ℕ) (e : Entry) (k : ℕ) → Off k i 8 → byteAt (putEntry b i e) k ≡ byteAt b k
 unfolding putEntry
-entry-off b i e k (inl h) = word-off (putU32 b i (e .key)) (i + 4) (e .addr) k (inl (omega arith)) ∙ word-off b i (e .key) k (inl h)
-entry-off b i e k (inr h) = word-off (putU32 b i (e .key)) (i + 4) (e .addr) k (inr (omega arith)) ∙ word-off b i (e .key) k (inr (omega arith))
+entry-off b i e k (inl h) = word-off (putU32 b i (e .key)) (i + 4) (e .addr) k (inl (omega arith))
+    ∙ word-off b i (e .key) k (inl h)
+entry-off b i e k (inr h) = word-off (putU32 b i (e .key)) (i + 4) (e .addr) k (inr (omega arith))
+    ∙ word-off b i (e .key) k (inr (omega arith))
 
-pub entries-off : (b : List ℕ) (at : ℕ) (es : List Entry) (k : ℕ) → Off k at (8 * length es) → byteAt (putEntries b at es) k ≡ byteAt b k
+pub entries-off : (b : List ℕ) (at : ℕ) (es : List Entry) (k : ℕ) → Off k at (8 * length es)
+    → byteAt (putEntries b at es) k ≡ byteAt b k
 unfolding putEntries
 entries-off b at [] k h = refl
-entries-off b at (e ∷ es) k (inl h) = entries-off (putEntry b at e) (at + 8) es k (inl (omega arith)) ∙ entry-off b at e k (inl h)
-entries-off b at (e ∷ es) k (inr h) = entries-off (putEntry b at e) (at + 8) es k (inr (omega arith)) ∙ entry-off b at e k (inr (omega arith))
+entries-off b at (e ∷ es) k (inl h) = entries-off (putEntry b at e) (at + 8) es k (inl (omega arith))
+    ∙ entry-off b at e k (inl h)
+entries-off b at (e ∷ es) k (inr h) = entries-off (putEntry b at e) (at + 8) es k (inr (omega arith))
+    ∙ entry-off b at e k (inr (omega arith))
 
-digits : (v a b c p q r : ℕ) → a * 256 + p ≡ v → b * 256 + q ≡ a → c * 256 + r ≡ b → p + 256 * q + 65536 * r + 16777216 * c ≡ v
+digits : (v a b c p q r : ℕ) → a * 256 + p ≡ v → b * 256 + q ≡ a → c * 256 + r ≡ b
+    → p + 256 * q + 65536 * r + 16777216 * c ≡ v
 digits v a b c p q r x y z = omega arith
 
-four-bytes : (v : ℕ) → v < fourBytes → v % 256 + 256 * (v / 256 % 256) + 65536 * (v / 65536 % 256) + 16777216 * (v / 16777216 % 256) ≡ v
+four-bytes : (v : ℕ) → v < fourBytes → v % 256 + 256 * (v / 256 % 256) + 65536 * (v / 65536 % 256) + 16777216 *
+    (v / 16777216 % 256) ≡ v
 four-bytes v h =
     let top : v / 16777216 < 256 = omega arith in
     rw (mod-eq-of-lt top) (digits v (v / 256) (v / 65536) (v / 16777216) _ _ _ (div-add-mod' v 256)
@@ -159,20 +172,23 @@ four-bytes v h =
 
 pub word-same : (b : List ℕ) (i v : ℕ) → i + 4 ≤ length b → v < fourBytes → u32At (putU32 b i v) i ≡ v
 unfolding putU32 u32At
-word-same b i v h hv = let w = four-in b i (v % 256) (v / 256 % 256) (v / 65536 % 256) (v / 16777216 % 256) h in rw (w .0, w .1, w .2, w .3)
+word-same b i v h hv = let w = four-in b i (v % 256) (v / 256 % 256) (v / 65536 % 256) (v / 16777216 % 256) h in
+    rw (w .0, w .1, w .2, w .3)
     (four-bytes v hv)
 
 abbrev pub Fits : Entry → Type 0
 Fits e = (e .key < fourBytes) × (e .addr < fourBytes)
 
-pub entry-key : (b : List ℕ) (i : ℕ) (e : Entry) → i + 8 ≤ length b → e .key < fourBytes → u32At (putEntry b i e) i ≡ e .key
+pub entry-key : (b : List ℕ) (i : ℕ) (e : Entry) → i + 8 ≤ length b → e .key < fourBytes
+    → u32At (putEntry b i e) i ≡ e .key
 unfolding putEntry
 entry-key b i e h f =
     let b₁ = putU32 b i (e .key) in
     copy-u32 b₁ i (putU32 b₁ (i + 4) (e .addr)) i 4 (λ k q. word-off b₁ (i + 4) (e .addr) (i + k) (inl (omega arith))) 0 i i (omega arith)
     (omega arith) (omega arith) ∙ word-same b i (e .key) (omega arith) f
 
-pub entry-addr : (b : List ℕ) (i : ℕ) (e : Entry) → i + 8 ≤ length b → e .addr < fourBytes → u32At (putEntry b i e) (i + 4) ≡ e .addr
+pub entry-addr : (b : List ℕ) (i : ℕ) (e : Entry) → i + 8 ≤ length b → e .addr < fourBytes → u32At (putEntry b i e)
+    (i + 4) ≡ e .addr
 unfolding putEntry
 entry-addr b i e h f = word-same (putU32 b i (e .key)) (i + 4) (e .addr) (omega (arith, length-word b i (e .key))) f
 
@@ -185,8 +201,10 @@ entries-same b at (e ∷ es) h f =
     let b₁ = putEntry b at e in
     let b₂ = putEntries b₁ (at + 8) es in
     let same : Copy b₁ at b₂ at 8 = λ k q. entries-off b₁ (at + 8) es (at + k) (inl (omega arith)) in
-    let k : u32At b₂ at ≡ e .key = copy-u32 b₁ at b₂ at 8 same 0 at at (omega arith) (omega arith) (omega arith) ∙ entry-key b at e (omega arith)
+    let k : u32At b₂ at ≡ e .key = copy-u32 b₁ at b₂ at 8 same 0 at at (omega arith) (omega arith) (omega arith)
+    ∙ entry-key b at e (omega arith)
     (f .0 .0) in
-    let a : u32At b₂ (at + 4) ≡ e .addr = copy-u32 b₁ at b₂ at 8 same 4 (at + 4) (at + 4) refl refl (omega arith) ∙ entry-addr b at e (omega arith)
+    let a : u32At b₂ (at + 4) ≡ e .addr = copy-u32 b₁ at b₂ at 8 same 4 (at + 4) (at + 4) refl refl (omega arith)
+    ∙ entry-addr b at e (omega arith)
     (f .0 .1) in
     rw (k, a, entries-same b₁ (at + 8) es (omega (arith, length-entry b at e)) (f .1))

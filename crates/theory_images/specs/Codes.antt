@@ -18,13 +18,17 @@ use Rattle.theory_images.specs.Bytes.{Copy, copy-byte}
 
 module _ (g : Geometry) where
   -- whether codes fit hangs on the bytes of the halves and the codes
-  pub copy-codes : (a : List ℕ) (p : ℕ) (b : List ℕ) (q n : ℕ) → Copy a p b q n → (k : ℕ) → k ≤ halves g → codePlace g k ≤ n → codesFit g b q k ≡ codesFit g a p k
+  pub copy-codes : (a : List ℕ) (p : ℕ) (b : List ℕ) (q n : ℕ) → Copy a p b q n → (k : ℕ) → k ≤ halves g
+      → codePlace g k ≤ n → codesFit g b q k ≡ codesFit g a p k
   unfolding codesFit
   copy-codes a p b q n c zero h l = refl
   copy-codes a p b q n c (suc k) h l =
-      let c₀ : byteAt b (q + codePlace g k) ≡ byteAt a (p + codePlace g k) = copy-byte a p b q n c (codePlace g k) (p + codePlace g k) (q + codePlace g k) refl refl (omega arith) in
-      let c₁ : byteAt b (q + codePlace g k + 1) ≡ byteAt a (p + codePlace g k + 1) = copy-byte a p b q n c (codePlace g k + 1) (p + codePlace g k + 1) (q + codePlace g k + 1) (omega arith) (omega arith) (omega arith) in
-      let c₂ : byteAt b (q + codePlace g k + 2) ≡ byteAt a (p + codePlace g k + 2) = copy-byte a p b q n c (codePlace g k + 2) (p + codePlace g k + 2) (q + codePlace g k + 2) (omega arith) (omega arith) (omega arith) in
+      let c₀ : byteAt b (q + codePlace g k) ≡ byteAt a (p + codePlace g k) = copy-byte a p b q n c (codePlace g k)
+      (p + codePlace g k) (q + codePlace g k) refl refl (omega arith) in
+      let c₁ : byteAt b (q + codePlace g k + 1) ≡ byteAt a (p + codePlace g k + 1) = copy-byte a p b q n c
+      (codePlace g k + 1) (p + codePlace g k + 1) (q + codePlace g k + 1) (omega arith) (omega arith) (omega arith) in
+      let c₂ : byteAt b (q + codePlace g k + 2) ≡ byteAt a (p + codePlace g k + 2) = copy-byte a p b q n c
+      (codePlace g k + 2) (p + codePlace g k + 2) (q + codePlace g k + 2) (omega arith) (omega arith) (omega arith) in
       rw (
         copy-codes a p b q n c k (omega arith) (omega arith),
         fits-same a b (p + 256 * k) (q + 256 * k) (p + codePlace g k) (q + codePlace g k)
@@ -37,7 +41,8 @@ module _ (g : Geometry) where
   length-coded (suc k) b = simp length-set (length-coded k b)
 
   -- the bytes before the first code and after the last one stay
-  pub coded-off : (k : ℕ) (b : List ℕ) (i : ℕ) → (i < codePlace g 0) ⊎ (codePlace g k ≤ i) → byteAt (coded g k b) i ≡ byteAt b i
+  pub coded-off : (k : ℕ) (b : List ℕ) (i : ℕ) → (i < codePlace g 0) ⊎ (codePlace g k ≤ i)
+      → byteAt (coded g k b) i ≡ byteAt b i
   unfolding coded
   coded-off zero b i o = refl
   coded-off (suc k) b i o =

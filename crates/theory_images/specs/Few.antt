@@ -24,14 +24,17 @@ unfoldable pub nodesUnder : (ℕ → ℕ) → ℕ → ℕ
 nodesUnder room zero = 0
 nodesUnder room (suc l) = suc (room (suc l) * nodesUnder room l)
 
-gather-few : {A : Type 0} (f : Entry → List A) (m : ℕ) (es : List Entry) → All (λ e. length (f e) ≤ m) es → length (gather f es) ≤ length es * m
+gather-few : {A : Type 0} (f : Entry → List A) (m : ℕ) (es : List Entry) → All (λ e. length (f e) ≤ m) es
+    → length (gather f es) ≤ length es * m
 unfolding gather
 gather-few f m [] h = omega arith
-gather-few f m (e ∷ es) h = let i = gather-few f m es (h .1) in let w = length-append (f e) (gather f es) in omega (arith, i, w, h .0)
+gather-few f m (e ∷ es) h = let i = gather-few f m es (h .1) in let w = length-append (f e) (gather f es) in
+    omega (arith, i, w, h .0)
 
 module _ (fit : ℕ → ℕ → Type 0) (room : ℕ → ℕ) (r : Nodes) where
   list-few : (l top n : ℕ) (es : List Entry) → Rises (Ok fit room r l) top es → length es ≤ n
-      → ((y : ℕ) (e : Entry) → Ok fit room r l y e → length (places r l e) ≤ nodesUnder room l) → length (gather (places r l) es) ≤ n * nodesUnder room l
+      → ((y : ℕ) (e : Entry) → Ok fit room r l y e → length (places r l e) ≤ nodesUnder room l)
+      → length (gather (places r l) es) ≤ n * nodesUnder room l
   list-few l top n es h few step =
       let a = gather-few (places r l) (nodesUnder room l) es
       (rises-all (Ok fit room r l) (λ e. length (places r l e) ≤ nodesUnder room l) top es (λ y e _ _ i. step y e i) h) in
@@ -41,12 +44,14 @@ module _ (fit : ℕ → ℕ → Type 0) (room : ℕ → ℕ) (r : Nodes) where
   places-few : (l y : ℕ) (e : Entry) → Ok fit room r l y e → length (places r l e) ≤ nodesUnder room l
   unfolding places Ok nodesUnder
   places-few zero y e h = omega arith
-  places-few (suc l) y e h = let z = list-few l y (room (suc l)) (r (e .addr) (suc l)) (h .4) (h .2) (places-few l) in omega (arith, z)
+  places-few (suc l) y e h = let z = list-few l y (room (suc l)) (r (e .addr) (suc l)) (h .4) (h .2) (places-few l) in
+      omega (arith, z)
 
   root-few : (most : ℕ → ℕ) (top l p : ℕ) → Rooted fit room most top r l p
       → length (places r (suc l) (record { key = 0; addr = p })) ≤ suc (most (suc l) * nodesUnder room l)
   unfolding places
-  root-few most top l p h = let z = list-few l top (most (suc l)) (r p (suc l)) (h .rises) (h .atmost) (places-few l) in omega (arith, z)
+  root-few most top l p h = let z = list-few l top (most (suc l)) (r p (suc l)) (h .rises) (h .atmost) (places-few l) in
+      omega (arith, z)
 
 -- the most nodes and the most pairs of a tree with l levels below its root
 abbrev pub mostNodes : Geometry → ℕ → ℕ
@@ -60,14 +65,16 @@ pub record Few (g : Geometry) : Type 0 where
   pub nodes : (l : ℕ) → l < g .top → mostNodes g l ≤ 8388608
   pub pairs : (l : ℕ) → l < g .top → mostPairs g l ≤ 536870912
 
-module _ (g : Geometry) (shape : Shape g) (few : Few g) (n : ℕ) (img : List ℕ) (some-pages : 1 ≤ pagesOf g n) (held : Held g n img) where
+module _ (g : Geometry) (shape : Shape g) (few : Few g) (n : ℕ) (img : List ℕ) (some-pages : 1 ≤ pagesOf g n)
+    (held : Held g n img) where
   abbrev c : Chip
   c = chipOf g n img
 
   low : c .level < g .top
   low = let z = height-most g (shape-core g shape) n img some-pages held in omega (arith, z)
 
-  abbrev root : Rooted (fitOf (pagesOf g n) (c .er)) (λ l. 2 * half g l) (rootMost g) fourBytes (c .nodes) (c .level) (c .root)
+  abbrev root : Rooted (fitOf (pagesOf g n) (c .er)) (λ l. 2 * half g l) (rootMost g) fourBytes (c .nodes) (c .level)
+      (c .root)
   root = held .whole .sound .rooted
 
   pub few-places : length (placesOf c) ≤ 8388608

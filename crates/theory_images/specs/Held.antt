@@ -104,7 +104,8 @@ module _ (g : Geometry) (n : ℕ) (img : List ℕ) where
   unfolding viewFrom erased
   er-at p = refl
 
-  repeat : (p q : ℕ) → q < p → v p .er ≡ false → v q .er ≡ false → v p .seq ≡ v q .seq → repeated (erased g img) (seqAt g img) p ≡ true
+  repeat : (p q : ℕ) → q < p → v p .er ≡ false → v q .er ≡ false → v p .seq ≡ v q .seq → repeated (erased g img)
+      (seqAt g img) p ≡ true
   unfolding repeated
   repeat p q w ep eq e =
       let f : ℕ → Bool = λ q. not (erased g img q) & eqb (seqAt g img q) (seqAt g img p) in
@@ -123,12 +124,15 @@ module _ (g : Geometry) (n : ℕ) (img : List ℕ) where
   unfolding repeated
   no-repeat h p hp = go (erased g img p) refl
     where
-      inner : (q : ℕ) → q < p → erased g img p ≡ false → (b : Bool) → erased g img q ≡ b → (not b & eqb (seqAt g img q) (seqAt g img p)) ≡ false
+      inner : (q : ℕ) → q < p → erased g img p ≡ false → (b : Bool) → erased g img q ≡ b
+          → (not b & eqb (seqAt g img q) (seqAt g img p)) ≡ false
       inner q w ep true eq = and-false _
-      inner q w ep false eq = and-true _ ∙ ne-eqb _ _ (λ z. let x = h .differ p q hp (omega (arith, w, hp)) (er-at p ∙ ep) (er-at q ∙ eq)
+      inner q w ep false eq = and-true _ ∙ ne-eqb _ _ (λ z. let x =
+          h .differ p q hp (omega (arith, w, hp)) (er-at p ∙ ep) (er-at q ∙ eq)
           (seq-at p (er-at p ∙ ep) ∙ sym z ∙ sym (seq-at q (er-at q ∙ eq))) in omega (arith, x, w))
 
-      go : (b : Bool) → erased g img p ≡ b → (not b & any p (λ q. not (erased g img q) & eqb (seqAt g img q) (seqAt g img p))) ≡ false
+      go : (b : Bool) → erased g img p ≡ b → (not b & any p (λ q. not (erased g img q) & eqb (seqAt g img q)
+          (seqAt g img p))) ≡ false
       go true e = and-false _
       go false e = and-true _ ∙ any-clear (λ q. not (erased g img q) & eqb (seqAt g img q) (seqAt g img p)) p
           (λ q w. inner q w e (erased g img q) refl)
@@ -176,7 +180,8 @@ module _ (g : Geometry) (core : Core g) (n : ℕ) (img : List ℕ) where
       let t = pagesOf g n in
       let chip = chipOf g n img in
       let high = leb-true 1 (heightOf g img (rootOf g n img)) (good-unless _ _ _ (h .fourth) .0) in
-      let pages : 1 ≤ t = let z = block-in (g .pages) 0 n pos in let w = some-page g core in omega (arith, z, w, mul-zero (g .pages)) in
+      let pages : 1 ≤ t = let z = block-in (g .pages) 0 n pos in let w = some-page g core in
+      omega (arith, z, w, mul-zero (g .pages)) in
       let root = r5-rooted g core t chip (root-below g n img pages, root-er g n img high) (h .fifth) in
       let fits = root-fit (fitOf t (chip .er)) (λ l. 2 * half g l) (rootMost g) (chip .nodes) (chip .level) (chip .root) fourBytes root in
       let tied = r6-tied t chip (all-map (λ x. (1 ≤ x .level) × fitOf t (chip .er) (x .level) (x .page)) (λ x. x .page < t) (placesOf chip)
@@ -205,7 +210,8 @@ module _ (g : Geometry) (core : Core g) (n : ℕ) (img : List ℕ) where
 
   -- a sound image is held, and R7 and R8 hold where they are asked
   sound-asked : 1 ≤ n → Image g n img → Small img → verdict g n img ≡ Sound
-      → Held g n img × (asked g (r7 (g .pages) n (chipOf g n img)) ≡ Good) × (asked g (r8 (g .pages) n (chipOf g n img)) ≡ Good)
+      → Held g n img × (asked g (r7 (g .pages) n (chipOf g n img)) ≡ Good) ×
+      (asked g (r8 (g .pages) n (chipOf g n img)) ≡ Good)
   unfolding verdict
   sound-asked pos image bytes h =
       let a = or-sound _ _ _ h in
@@ -221,7 +227,8 @@ module _ (g : Geometry) (core : Core g) (n : ℕ) (img : List ℕ) where
         m .0,
       )
 
-  asked-sound : Held g n img → asked g (r7 (g .pages) n (chipOf g n img)) ≡ Good → asked g (r8 (g .pages) n (chipOf g n img)) ≡ Good
+  asked-sound : Held g n img → asked g (r7 (g .pages) n (chipOf g n img)) ≡ Good
+      → asked g (r8 (g .pages) n (chipOf g n img)) ≡ Good
       → verdict g n img ≡ Sound
   unfolding verdict
   asked-sound h s u =
@@ -252,7 +259,8 @@ module _ (g : Geometry) (shape : Shape g) (n : ℕ) (img : List ℕ) where
   unfolding asked
   is-asked f = rw (halved g shape) refl
 
-  pub sound-held : 1 ≤ n → Image g n img → Small img → verdict g n img ≡ Sound → Held g n img × R7 g n (chipOf g n img) × R8 g n (chipOf g n img)
+  pub sound-held : 1 ≤ n → Image g n img → Small img → verdict g n img ≡ Sound → Held g n img ×
+      R7 g n (chipOf g n img) × R8 g n (chipOf g n img)
   sound-held pos image bytes h = let z = sound-asked g core n img pos image bytes h in (
     z .0,
     r7-holds g n (chipOf g n img) (sym (is-asked _) ∙ z .1),

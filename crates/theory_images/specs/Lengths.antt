@@ -23,7 +23,8 @@ base-zero g = zero-mul (pageBytes g)
 
 pub base-blocks : (g : Geometry) (n : ℕ) → pageBase g (g .pages * n) ≡ n * pageBase g (g .pages)
 base-blocks g zero = ap (pageBase g) (mul-zero (g .pages)) ∙ base-zero g ∙ sym (zero-mul (pageBase g (g .pages)))
-base-blocks g (suc n) = ap (pageBase g) (mul-suc (g .pages) n) ∙ base-add g (g .pages * n) (g .pages) ∙ ap (λ m. m + pageBase g (g .pages))
+base-blocks g (suc n) = ap (pageBase g) (mul-suc (g .pages) n) ∙ base-add g (g .pages * n) (g .pages)
+    ∙ ap (λ m. m + pageBase g (g .pages))
     (base-blocks g n) ∙ sym (suc-mul n (pageBase g (g .pages)))
 
 pub record Blocks (g : Geometry) (img : List ℕ) : Type 0 where
@@ -37,7 +38,8 @@ good-blocks g img h =
     let a = and-left _ _ h in
     let z = eqb-true (length img % blockBytes g) 0 (and-left _ _ a) in
     record {
-      image = sym (base-blocks g (length img / blockBytes g) ∙ (let w : length img / blockBytes g * blockBytes g ≡ length img / blockBytes g *
+      image = sym (base-blocks g (length img / blockBytes g)
+          ∙ (let w : length img / blockBytes g * blockBytes g ≡ length img / blockBytes g *
           blockBytes g + length img % blockBytes g = omega (arith, z) in w) ∙ div-add-mod' (length img) (blockBytes g));
       least = leb-true 3 _ (and-right _ _ a);
       most = leb-true _ 1024 (and-right _ _ h);

@@ -66,24 +66,28 @@ view-max g n img = refl
 
 module _ (g : Geometry) (core : Core g) where
   -- what is read of a page hangs on the page's bytes alone
-  pub copy-node : (a : List ℕ) (p : ℕ) (b : List ℕ) (q : ℕ) → Copy a p b q (pageBytes g) → (l : ℕ) → nodeFrom g b q l ≡ nodeFrom g a p l
+  pub copy-node : (a : List ℕ) (p : ℕ) (b : List ℕ) (q : ℕ) → Copy a p b q (pageBytes g) → (l : ℕ)
+      → nodeFrom g b q l ≡ nodeFrom g a p l
   unfolding nodeFrom rootSlots entriesAt
   copy-node a p b q c l = go (inTable g l) refl
     where
       at : (1 ≤ l) × (l ≤ g .top)
-          → entriesAt b (q + 8 * firstSlot g l) (min (byteAt b (q + g .main + 4 + l)) (suc (slots g - firstSlot g l))) ≡ entriesAt a
+          → entriesAt b (q + 8 * firstSlot g l) (min (byteAt b (q + g .main + 4 + l)) (suc (slots g - firstSlot g l)))
+          ≡ entriesAt a
           (p + 8 * firstSlot g l) (min (byteAt a (p + g .main + 4 + l)) (suc (slots g - firstSlot g l)))
       at h =
           let s = core .spare-low in
           let r = core .room l (h .1) in
           let m = core .main-is in
-          let e : byteAt b (q + g .main + 4 + l) ≡ byteAt a (p + g .main + 4 + l) = copy-byte a p b q (pageBytes g) c (g .main + 4 + l)
+          let e : byteAt b (q + g .main + 4 + l) ≡ byteAt a (p + g .main + 4 + l) =
+          copy-byte a p b q (pageBytes g) c (g .main + 4 + l)
           (p + g .main + 4 + l) (q + g .main + 4 + l) (omega arith) (omega arith) (omega (arith, s, h)) in
           rw e (copy-entries a p b q (pageBytes g) c (min (byteAt a (p + g .main + 4 + l)) (suc (slots g - firstSlot g l))) (8 * firstSlot g l)
           (p + 8 * firstSlot g l) (q + 8 * firstSlot g l) refl refl (omega (arith, s, r, m)))
 
       go : (t : Bool) → inTable g l ≡ t
-          → entriesAt b (q + 8 * firstSlot g l) (pick t (min (byteAt b (q + g .main + 4 + l)) (suc (slots g - firstSlot g l))) 0) ≡ entriesAt a
+          → entriesAt b (q + 8 * firstSlot g l) (pick t
+          (min (byteAt b (q + g .main + 4 + l)) (suc (slots g - firstSlot g l))) 0) ≡ entriesAt a
           (p + 8 * firstSlot g l) (pick t (min (byteAt a (p + g .main + 4 + l)) (suc (slots g - firstSlot g l))) 0)
       go true e = at (table-in g l e)
       go false e = refl
@@ -98,15 +102,19 @@ module _ (g : Geometry) (core : Core g) where
         copy-codes g a p b q (pageBytes g) c (halves g) (omega arith) r,
       )
 
-  pub copy-view : (a : List ℕ) (p : ℕ) (b : List ℕ) (q : ℕ) → Copy a p b q (pageBytes g) → viewFrom g b q ≡ viewFrom g a p
+  pub copy-view : (a : List ℕ) (p : ℕ) (b : List ℕ) (q : ℕ) → Copy a p b q (pageBytes g)
+      → viewFrom g b q ≡ viewFrom g a p
   unfolding viewFrom
   copy-view a p b q c =
       let s = core .spare-low in
-      let e₁ : blank b q (pageBytes g) ≡ blank a p (pageBytes g) = copy-blank a p b q (pageBytes g) c (pageBytes g) 0 p q (omega arith) (omega arith)
+      let e₁ : blank b q (pageBytes g) ≡ blank a p (pageBytes g) =
+      copy-blank a p b q (pageBytes g) c (pageBytes g) 0 p q (omega arith) (omega arith)
       (omega arith) in
-      let e₂ : u32At b (q + g .main) ≡ u32At a (p + g .main) = copy-u32 a p b q (pageBytes g) c (g .main) (p + g .main) (q + g .main) refl refl
+      let e₂ : u32At b (q + g .main) ≡ u32At a (p + g .main) =
+      copy-u32 a p b q (pageBytes g) c (g .main) (p + g .main) (q + g .main) refl refl
       (omega (arith, s)) in
-      let e₃ : byteAt b (q + g .main + 4) ≡ byteAt a (p + g .main + 4) = copy-byte a p b q (pageBytes g) c (g .main + 4) (p + g .main + 4)
+      let e₃ : byteAt b (q + g .main + 4) ≡ byteAt a (p + g .main + 4) =
+      copy-byte a p b q (pageBytes g) c (g .main + 4) (p + g .main + 4)
       (q + g .main + 4) (omega arith) (omega arith) (omega (arith, s)) in
       let e₄ : tailFrom g b q ≡ tailFrom g a p = copy-tail a p b q c in
       λ i. record {
@@ -132,7 +140,8 @@ module _ (g : Geometry) (core : Core g) where
 
   bare-view : viewFrom g bare 0 ≡ noView g
   unfolding viewFrom
-  bare-view = let e : blank bare 0 (pageBytes g) ≡ true = blank-all bare (pageBytes g) 0 (λ k h. rw zero-add (bare-at k h)) in
+  bare-view = let e : blank bare 0 (pageBytes g) ≡ true =
+      blank-all bare (pageBytes g) 0 (λ k h. rw zero-add (bare-at k h)) in
       λ i. record {
         er = e i;
         seq = pick (e i) 0 (u32At bare (0 + g .main));
@@ -141,7 +150,8 @@ module _ (g : Geometry) (core : Core g) where
         node = λ l. bare-node l i;
       }
 
-  pub view-erased : (img : List ℕ) (b : ℕ) → ((k : ℕ) → k < pageBytes g → byteAt img (b + k) ≡ 255) → viewFrom g img b ≡ noView g
+  pub view-erased : (img : List ℕ) (b : ℕ) → ((k : ℕ) → k < pageBytes g → byteAt img (b + k) ≡ 255)
+      → viewFrom g img b ≡ noView g
   view-erased img b h = copy-view bare 0 img b (λ k q. h k q ∙ sym (rw zero-add (bare-at k q))) ∙ bare-view
 
   pub view-none : (img : List ℕ) (b : ℕ) → viewFrom g img b .er ≡ true → viewFrom g img b ≡ noView g
@@ -153,10 +163,12 @@ pub record Parts (g : Geometry) (parts : ℕ → List Entry) : Type 0 where
   pub fits : (l : ℕ) → 1 ≤ l → l ≤ g .top → All Fits (parts l)
   pub inside : (l : ℕ) → 1 ≤ l → l ≤ g .top → firstSlot g l + length (parts l) ≤ slots g
   pub bytes : (l : ℕ) → 1 ≤ l → l ≤ g .top → length (parts l) < 256
-  pub apart : (l m : ℕ) → 1 ≤ l → l < m → m ≤ g .top → (length (parts m) ≡ 0) ⊎ (firstSlot g l + length (parts l) ≤ firstSlot g m)
+  pub apart : (l m : ℕ) → 1 ≤ l → l < m → m ≤ g .top → (length (parts m) ≡ 0) ⊎
+      (firstSlot g l + length (parts l) ≤ firstSlot g m)
 
 -- levels below h within the table, level h within its full slots, nothing above
-pub parts-table : (g : Geometry) → Shape g → (h : ℕ) (parts : ℕ → List Entry) → ((l : ℕ) → 1 ≤ l → l ≤ g .top → All Fits (parts l))
+pub parts-table : (g : Geometry) → Shape g → (h : ℕ) (parts : ℕ → List Entry)
+    → ((l : ℕ) → 1 ≤ l → l ≤ g .top → All Fits (parts l))
     → ((l : ℕ) → 1 ≤ l → l < h → length (parts l) ≤ slotsOf g l)
     → (h ≤ g .top → firstSlot g h + length (parts h) ≤ slots g) → ((l : ℕ) → h < l → length (parts l) ≡ 0)
     → ((l : ℕ) → 1 ≤ l → l ≤ g .top → length (parts l) < 256) → Parts g parts
@@ -170,13 +182,16 @@ parts-table g shape h parts fits low high above bytes = record {
   where
     step : (l m : ℕ) → l < m → m ≤ g .top → firstSlot g l + slotsOf g l ≤ firstSlot g m
     step l zero q k = absurd (omega arith)
-    step l (suc m) q k = by-eq l m (λ e. rw e (shape .steps m k)) (λ e. let a = step l m (omega arith) (omega arith) in let b = shape .steps m k in
+    step l (suc m) q k = by-eq l m (λ e. rw e (shape .steps m k)) (λ e. let a = step l m (omega arith) (omega arith) in
+        let b = shape .steps m k in
         omega (arith, a, b))
 
-    inside : (l : ℕ) → 1 ≤ l → l ≤ g .top → (x y : Bool) → ltb l h ≡ x → ltb h l ≡ y → firstSlot g l + length (parts l) ≤ slots g
+    inside : (l : ℕ) → 1 ≤ l → l ≤ g .top → (x y : Bool) → ltb l h ≡ x → ltb h l ≡ y
+        → firstSlot g l + length (parts l) ≤ slots g
     inside l i k true y e f = let a = low l i (ltb-true l h e) in let b = shape .room l k in omega (arith, a, b)
     inside l i k false true e f = let a = above l (ltb-true h l f) in let b = shape .room l k in omega (arith, a, b)
-    inside l i k false false e f = let d : l ≡ h = omega (arith, ltb-false l h e, ltb-false h l f) in rw d (high (omega (arith, d)))
+    inside l i k false false e f = let d : l ≡ h = omega (arith, ltb-false l h e, ltb-false h l f) in
+        rw d (high (omega (arith, d)))
 
     apart : (l m : ℕ) → 1 ≤ l → l < m → m ≤ g .top → (x y : Bool) → ltb l h ≡ x → ltb h m ≡ y
         → (length (parts m) ≡ 0) ⊎ (firstSlot g l + length (parts l) ≤ firstSlot g m)
@@ -184,17 +199,21 @@ parts-table g shape h parts fits low high above bytes = record {
     apart l m i q k false y e f = let z = ltb-false l h e in inl (above m (omega (arith, z, q)))
 
 -- level h alone, within the most entries of a root; a lower level begins no later
-pub parts-only : (g : Geometry) → Core g → (h : ℕ) (es : List Entry) → 1 ≤ h → h ≤ g .top → All Fits es → length es ≤ rootMost g h
+pub parts-only : (g : Geometry) → Core g → (h : ℕ) (es : List Entry) → 1 ≤ h → h ≤ g .top → All Fits es
+    → length es ≤ rootMost g h
     → ((l : ℕ) → l < h → firstSlot g l ≤ firstSlot g h) → Parts g (only h es)
 unfolding rootSlots
 parts-only g core h es a b fit most rises = record {
   fits = λ l i k. by-eq l h (λ e. rw (eq-eqb l h e) fit) (λ e. rw (ne-eqb l h e) tt);
   inside = λ l i k. by-eq l h
-      (λ e. rw (eq-eqb l h e) (let x = most-slots g h in let y = core .room h b in let z = ap (firstSlot g) e in omega (arith, x, y, z, most)))
+      (λ e. rw (eq-eqb l h e) (let x = most-slots g h in let y = core .room h b in let z = ap (firstSlot g) e in
+      omega (arith, x, y, z, most)))
       (λ e. rw (ne-eqb l h e) (let y = core .room l k in omega (arith, y)));
-  bytes = λ l i k. by-eq l h (λ e. rw (eq-eqb l h e) (let y = core .byte h a b in omega (arith, y, most))) (λ e. rw (ne-eqb l h e) (omega arith));
+  bytes = λ l i k. by-eq l h (λ e. rw (eq-eqb l h e) (let y = core .byte h a b in
+      omega (arith, y, most))) (λ e. rw (ne-eqb l h e) (omega arith));
   apart = λ l m i q k. by-eq m h
-      (λ e. inr (rw (ne-eqb l h (λ z. omega (arith, z, e, q))) (let y = rises l (omega (arith, q, e)) in let z = ap (firstSlot g) e in omega (arith, y, z))))
+      (λ e. inr (rw (ne-eqb l h (λ z. omega (arith, z, e, q))) (let y = rises l (omega (arith, q, e)) in let z =
+      ap (firstSlot g) e in omega (arith, y, z))))
       (λ e. inl (rw (ne-eqb m h e) refl));
 }
 
@@ -214,7 +233,8 @@ module _ (g : Geometry) (core : Core g) (parts : ℕ → List Entry) where
   unfolding putLevels putLevel
   length-levels zero b = refl
   length-levels (suc n) b = length-set (putEntries (putLevels g parts n b) (8 * firstSlot g (suc n)) (parts (suc n))) (g .main + 4 + suc n)
-      (length (parts (suc n)) % 256) ∙ length-entries (putLevels g parts n b) (8 * firstSlot g (suc n)) (parts (suc n)) ∙ length-levels n b
+      (length (parts (suc n)) % 256) ∙ length-entries (putLevels g parts n b) (8 * firstSlot g (suc n)) (parts (suc n))
+      ∙ length-levels n b
 
   length-numbered : (seq h : ℕ) (b : List ℕ) → length (numbered g b seq h) ≡ length b
   unfolding numbered
@@ -230,17 +250,21 @@ module _ (g : Geometry) (core : Core g) (parts : ℕ → List Entry) where
 
   numbered-off : (seq h : ℕ) (b : List ℕ) (k : ℕ) → Off k (g .main) 5 → byteAt (numbered g b seq h) k ≡ byteAt b k
   unfolding numbered
-  numbered-off seq h b k (inl q) = getD-set-other (putU32 b (g .main) seq) (g .main + 4) k (h % 256) 0 (omega arith) ∙ word-off b (g .main) seq k
+  numbered-off seq h b k (inl q) = getD-set-other (putU32 b (g .main) seq) (g .main + 4) k (h % 256) 0 (omega arith)
+      ∙ word-off b (g .main) seq k
       (inl q)
-  numbered-off seq h b k (inr q) = getD-set-other (putU32 b (g .main) seq) (g .main + 4) k (h % 256) 0 (omega arith) ∙ word-off b (g .main) seq k
+  numbered-off seq h b k (inr q) = getD-set-other (putU32 b (g .main) seq) (g .main + 4) k (h % 256) 0 (omega arith)
+      ∙ word-off b (g .main) seq k
       (inr (omega arith))
 
-  numbered-height : (seq h : ℕ) (b : List ℕ) → g .main + 5 ≤ length b → h < 256 → byteAt (numbered g b seq h) (g .main + 4) ≡ h
+  numbered-height : (seq h : ℕ) (b : List ℕ) → g .main + 5 ≤ length b → h < 256 → byteAt (numbered g b seq h)
+      (g .main + 4) ≡ h
   unfolding numbered
   numbered-height seq h b q s = getD-set-same (putU32 b (g .main) seq) (g .main + 4) (h % 256) 0 (omega (arith, length-word b (g .main) seq))
       ∙ mod-eq-of-lt s
 
-  numbered-seq : (seq h : ℕ) (b : List ℕ) → g .main + 5 ≤ length b → seq < fourBytes → u32At (numbered g b seq h) (g .main) ≡ seq
+  numbered-seq : (seq h : ℕ) (b : List ℕ) → g .main + 5 ≤ length b → seq < fourBytes → u32At (numbered g b seq h)
+      (g .main) ≡ seq
   unfolding numbered
   numbered-seq seq h b q s =
       copy-u32 (putU32 b (g .main) seq) (g .main) (set (putU32 b (g .main) seq) (g .main + 4) (h % 256)) (g .main) 4
@@ -249,17 +273,21 @@ module _ (g : Geometry) (core : Core g) (parts : ℕ → List Entry) where
       ∙ word-same b (g .main) seq (omega arith) s
 
   -- beside the codes a sealed page is a numbered one
-  sealed-byte : (seq h : ℕ) (b : List ℕ) (k : ℕ) → (k < codePlace g 0) ⊎ (codePlace g (halves g) ≤ k) → byteAt (sealed g b seq h) k ≡ byteAt (numbered g b seq h) k
+  sealed-byte : (seq h : ℕ) (b : List ℕ) (k : ℕ) → (k < codePlace g 0) ⊎ (codePlace g (halves g) ≤ k)
+      → byteAt (sealed g b seq h) k ≡ byteAt (numbered g b seq h) k
   unfolding sealed
   sealed-byte seq h b k o = coded-off g (halves g) (numbered g b seq h) k o
 
-  sealed-off : (seq h : ℕ) (b : List ℕ) (k : ℕ) → Off k (g .main) 5 → (k < codePlace g 0) ⊎ (codePlace g (halves g) ≤ k) → byteAt (sealed g b seq h) k ≡ byteAt b k
+  sealed-off : (seq h : ℕ) (b : List ℕ) (k : ℕ) → Off k (g .main) 5 → (k < codePlace g 0) ⊎ (codePlace g (halves g) ≤ k)
+      → byteAt (sealed g b seq h) k ≡ byteAt b k
   sealed-off seq h b k q o = sealed-byte seq h b k o ∙ numbered-off seq h b k q
 
-  sealed-height : (seq h : ℕ) (b : List ℕ) → g .main + 5 ≤ length b → h < 256 → byteAt (sealed g b seq h) (g .main + 4) ≡ h
+  sealed-height : (seq h : ℕ) (b : List ℕ) → g .main + 5 ≤ length b → h < 256 → byteAt (sealed g b seq h) (g .main + 4)
+      ≡ h
   sealed-height seq h b q s = sealed-byte seq h b (g .main + 4) (inl (omega arith)) ∙ numbered-height seq h b q s
 
-  sealed-seq : (seq h : ℕ) (b : List ℕ) → g .main + 5 ≤ length b → seq < fourBytes → u32At (sealed g b seq h) (g .main) ≡ seq
+  sealed-seq : (seq h : ℕ) (b : List ℕ) → g .main + 5 ≤ length b → seq < fourBytes → u32At (sealed g b seq h)
+      (g .main) ≡ seq
   sealed-seq seq h b q s =
       copy-u32 (numbered g b seq h) (g .main) (sealed g b seq h) (g .main) 4 (λ k w. sealed-byte seq h b (g .main + k) (inl (omega arith))) 0 (g .main)
       (g .main) (omega arith) (omega arith) (omega arith)
@@ -292,7 +320,8 @@ module _ (g : Geometry) (core : Core g) (parts : ℕ → List Entry) where
     levels-count zero b l t h i k = absurd (omega arith)
     levels-count (suc n) b l t h i k = by-eq l (suc n)
         (λ e. rw e (getD-set-same (putEntries (putLevels g parts n b) (8 * firstSlot g (suc n)) (parts (suc n))) (g .main + 4 + suc n)
-        (length (parts (suc n)) % 256) 0 (let x = length-entries (putLevels g parts n b) (8 * firstSlot g (suc n)) (parts (suc n)) in let y =
+        (length (parts (suc n)) % 256) 0 (let x =
+        length-entries (putLevels g parts n b) (8 * firstSlot g (suc n)) (parts (suc n)) in let y =
         length-levels n b in omega (arith, x, y, h))
         ∙ mod-eq-of-lt (ok .bytes (suc n) (omega arith) t)))
         (λ e. getD-set-other (putEntries (putLevels g parts n b) (8 * firstSlot g (suc n)) (parts (suc n))) (g .main + 4 + suc n) (g .main + 4 + l)
@@ -333,7 +362,8 @@ module _ (g : Geometry) (core : Core g) (parts : ℕ → List Entry) where
         w : firstSlot g (suc n) + length (parts (suc n)) ≤ slots g
         w = ok .inside (suc n) (omega arith) h
 
-        away : (o : ℕ) → o < 8 * length (parts l) → (length (parts (suc n)) ≡ 0) ⊎ (firstSlot g l + length (parts l) ≤ firstSlot g (suc n))
+        away : (o : ℕ) → o < 8 * length (parts l) → (length (parts (suc n)) ≡ 0) ⊎
+            (firstSlot g l + length (parts l) ≤ firstSlot g (suc n))
             → Off (8 * firstSlot g l + o) (8 * firstSlot g (suc n)) (8 * length (parts (suc n)))
         away o q (inl z) = rw z (off-nothing (8 * firstSlot g l + o) (8 * firstSlot g (suc n)))
         away o q (inr z) = inl (omega arith)
@@ -358,10 +388,12 @@ module _ (g : Geometry) (core : Core g) (parts : ℕ → List Entry) where
 
       built-count : (l : ℕ) → 1 ≤ l → l ≤ g .top → byteAt (built g seq h parts) (g .main + 4 + l) ≡ length (parts l)
       unfolding built
-      built-count l i k = let s = core .spare-low in sealed-off seq h laidLevels (g .main + 4 + l) (inr (omega arith)) (inl (omega arith)) ∙ levels-count (g .top)
+      built-count l i k = let s = core .spare-low in sealed-off seq h laidLevels (g .main + 4 + l) (inr (omega arith))
+          (inl (omega arith)) ∙ levels-count (g .top)
           (replicate (pageBytes g) 255) l (omega arith) (omega (arith, len-bare, s)) i k
 
-      built-node : (l : ℕ) → 1 ≤ l → l ≤ g .top → entriesAt (built g seq h parts) (8 * firstSlot g l) (length (parts l)) ≡ parts l
+      built-node : (l : ℕ) → 1 ≤ l → l ≤ g .top → entriesAt (built g seq h parts) (8 * firstSlot g l) (length (parts l))
+          ≡ parts l
       unfolding built
       built-node l i k =
           let m = core .main-is in
@@ -414,7 +446,8 @@ module _ (g : Geometry) (core : Core g) (parts : ℕ → List Entry) where
               (min (byteAt (built g seq h parts) (0 + g .main + 4 + l)) (suc (slots g - firstSlot g l))) ≡ parts l
           at k =
               let e₀ : 0 + 8 * firstSlot g l ≡ 8 * firstSlot g l = omega arith in
-              let e₁ : byteAt (built g seq h parts) (0 + g .main + 4 + l) ≡ length (parts l) = rw zero-add (built-count l (k .0) (k .1)) in
+              let e₁ : byteAt (built g seq h parts) (0 + g .main + 4 + l) ≡ length (parts l) =
+              rw zero-add (built-count l (k .0) (k .1)) in
               let w = ok .inside l (k .0) (k .1) in
               let e₂ : min (length (parts l)) (suc (slots g - firstSlot g l)) ≡ length (parts l) = omega (arith, w) in
               rw (e₀, e₁, e₂) (built-node l (k .0) (k .1))

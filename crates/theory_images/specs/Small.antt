@@ -100,7 +100,8 @@ pub built-small : (g : Geometry) (seq h : ℕ) (parts : ℕ → List Entry) → 
 unfolding built sealed numbered
 built-small g seq h parts =
     let laidLevels = putLevels g parts (g .top) (replicate (pageBytes g) 255) in
-    coded-small g (halves g) (numbered g laidLevels seq h) (set-small (putU32 laidLevels (g .main) seq) (g .main + 4) (h % 256) (word-small laidLevels (g .main) seq
+    coded-small g (halves g) (numbered g laidLevels seq h) (set-small (putU32 laidLevels (g .main) seq)
+    (g .main + 4) (h % 256) (word-small laidLevels (g .main) seq
     (levels-small g parts (g .top) (replicate (pageBytes g) 255) (blank-small (pageBytes g)))) (omega arith))
 
 abbrev pub SmallStore : Store → Type 0

@@ -1,5 +1,5 @@
--- What is read of a page as one record, and the chip made of the records of all pages; root and largest number. No bytes here.
--- Assumes nothing.
+-- What is read of a page as one record, and the chip made of the records of all pages; root and largest number. No
+-- bytes here. Assumes nothing.
 use mathlib.Core.Path.{_≡_, refl, ap, sym, _∙_}
 use mathlib.Core.List.{List}
 use mathlib.Core.Bool.{Bool, true, false}
@@ -32,7 +32,8 @@ noView g = record { er = true; seq = 0; height = 0; tail = true; node = blankNod
 pub peak-le : (n : ℕ) (f : ℕ → ℕ) (i : ℕ) → i < n → f i ≤ peak n f
 unfolding peak
 peak-le zero f i h = absurd (omega arith)
-peak-le (suc n) f i h = by-eq i n (λ e. let q = ap f e in omega (arith, q)) (λ e. let q = peak-le n f i (omega arith) in omega (arith, q))
+peak-le (suc n) f i h = by-eq i n (λ e. let q = ap f e in omega (arith, q)) (λ e. let q = peak-le n f i (omega arith) in
+    omega (arith, q))
 
 -- the first place where the largest stands
 pub record Arg (n : ℕ) (f : ℕ → ℕ) (i : ℕ) : Type 0 where
@@ -48,7 +49,8 @@ unfolding arg
 arg-before zero f j h = absurd (omega arith)
 arg-before (suc n) f j h = go (ltb (f (arg n f)) (f n)) refl h (arg-before n f j)
   where
-    go : (t : Bool) → ltb (f (arg n f)) (f n) ≡ t → j < pick t n (arg n f) → (j < arg n f → f j < f (arg n f)) → f j < f (pick t n (arg n f))
+    go : (t : Bool) → ltb (f (arg n f)) (f n) ≡ t → j < pick t n (arg n f) → (j < arg n f → f j < f (arg n f))
+        → f j < f (pick t n (arg n f))
     go true e q ih = omega (arith, arg-all n f j q, ltb-true (f (arg n f)) (f n) e)
     go false e q ih = ih q
 
@@ -101,10 +103,22 @@ wipe g b v q = pick (inB (g .pages) b q) (noView g) (v q)
 
 -- a page with a root and the number max + 1, or a page without: what the abstract chip becomes
 unfoldable pub rooted : Chip → ℕ → View → Chip
-rooted c p w = record { er = after p (c .er); seq = λ q. pick (eqb q p) (w .seq) (c .seq q); nodes = λ q j. pick (eqb q p) (w .node j) (c .nodes q j); level = w .height - 1; root = p }
+rooted c p w = record {
+  er = after p (c .er);
+  seq = λ q. pick (eqb q p) (w .seq) (c .seq q);
+  nodes = λ q j. pick (eqb q p) (w .node j) (c .nodes q j);
+  level = w .height - 1;
+  root = p;
+}
 
 unfoldable pub beside : Chip → ℕ → View → Chip
-beside c p w = record { er = after p (c .er); seq = λ q. pick (eqb q p) (w .seq) (c .seq q); nodes = λ q j. pick (eqb q p) (w .node j) (c .nodes q j); level = c .level; root = c .root }
+beside c p w = record {
+  er = after p (c .er);
+  seq = λ q. pick (eqb q p) (w .seq) (c .seq q);
+  nodes = λ q j. pick (eqb q p) (w .node j) (c .nodes q j);
+  level = c .level;
+  root = c .root;
+}
 
 -- a field of a picked view
 pub picked : {A : Type 0} (f : View → A) (t : Bool) (x y : View) → f (pick t x y) ≡ pick t (f x) (f y)
@@ -165,7 +179,8 @@ module _ (g : Geometry) (t : ℕ) (v : Views) (p : ℕ) (w : View) (written : w 
   root-beside n h = ap (arg t) (λ i q. same q i)
     where
       same : (q : ℕ) → score (laid v p w q) ≡ score (v q)
-      same q = by-eq q p (λ e. ap (λ q. score (laid v p w q)) e ∙ ap score put-here ∙ score-none w h ∙ sym (ap (λ q. score (v q)) e ∙ ap score n))
+      same q = by-eq q p (λ e. ap (λ q. score (laid v p w q)) e ∙ ap score put-here ∙ score-none w h
+          ∙ sym (ap (λ q. score (v q)) e ∙ ap score n))
           (λ e. ap score (put-there q e))
 
   pub chip-beside : v p ≡ noView g → w .height ≡ 0 → chip t (laid v p w) ≡ beside (chip t v) p w
@@ -180,7 +195,8 @@ module _ (g : Geometry) (t : ℕ) (v : Views) (p : ℕ) (w : View) (written : w 
       λ i. record { er = λ q. put-er q i; seq = λ q. put-seq q i; nodes = λ q l. put-node q l i; level = e i; root = r i }
 
 -- the erase of a block that the root is not in
-pub root-wipe : (t : ℕ) (g : Geometry) (b : ℕ) (v : Views) → 1 ≤ t → inB (g .pages) b (rootAt t v) ≡ false → rootAt t (wipe g b v) ≡ rootAt t v
+pub root-wipe : (t : ℕ) (g : Geometry) (b : ℕ) (v : Views) → 1 ≤ t → inB (g .pages) b (rootAt t v) ≡ false
+    → rootAt t (wipe g b v) ≡ rootAt t v
 unfolding rootAt
 root-wipe t g b v h k = arg-lower t (λ q. score (v q)) (λ q. score (wipe g b v q)) h (λ j. low j (inB (g .pages) b j))
     (ap (λ s. score (pick s (noView g) (v (arg t (λ q. score (v q)))))) k)
@@ -194,7 +210,8 @@ pub chip-wipe : (t : ℕ) (g : Geometry) (b : ℕ) (v : Views) → 1 ≤ t → i
 unfolding eraseBlock
 chip-wipe t g b v h k =
     let r = root-wipe t g b v h k in
-    let e : wipe g b v (rootAt t (wipe g b v)) .height - 1 ≡ v (rootAt t v) .height - 1 = ap (λ q. wipe g b v q .height - 1) r
+    let e : wipe g b v (rootAt t (wipe g b v)) .height - 1 ≡ v (rootAt t v) .height - 1 =
+    ap (λ q. wipe g b v q .height - 1) r
     ∙ ap (λ s. pick s (noView g) (v (rootAt t v)) .height - 1) k in
     λ i. record {
       er = λ q. picked (λ (x : View). x .er) (inB (g .pages) b q) (noView g) (v q) i;
@@ -238,7 +255,8 @@ r3-put t v p w h s = record { differ = λ a b ha hb ea eb e. go a b ha hb (eqb a
     low : (j : ℕ) → j < t → v j .seq < w .seq
     low j q = let y = peak-le t (λ q. v q .seq) j q in omega (arith, y, s)
 
-    go : (a b : ℕ) → a < t → b < t → (x y : Bool) → eqb a p ≡ x → eqb b p ≡ y → pick x w (v a) .er ≡ false → pick y w (v b) .er ≡ false
+    go : (a b : ℕ) → a < t → b < t → (x y : Bool) → eqb a p ≡ x → eqb b p ≡ y → pick x w (v a) .er ≡ false
+        → pick y w (v b) .er ≡ false
         → pick x w (v a) .seq ≡ pick y w (v b) .seq → a ≡ b
     go a b ha hb true true ea eb fa fb e = eqb-true a p ea ∙ sym (eqb-true b p eb)
     go a b ha hb true false ea eb fa fb e = absurd (omega (arith, low b hb, e))
@@ -248,7 +266,8 @@ r3-put t v p w h s = record { differ = λ a b ha hb ea eb e. go a b ha hb (eqb a
 pub r3-wipe : (t : ℕ) (g : Geometry) (b : ℕ) (v : Views) → R3 t v → R3 t (wipe g b v)
 r3-wipe t g b v h = record { differ = λ p q hp hq ep eq e. go p q hp hq (inB (g .pages) b p) (inB (g .pages) b q) ep eq e }
   where
-    go : (p q : ℕ) → p < t → q < t → (x y : Bool) → pick x (noView g) (v p) .er ≡ false → pick y (noView g) (v q) .er ≡ false
+    go : (p q : ℕ) → p < t → q < t → (x y : Bool) → pick x (noView g) (v p) .er ≡ false → pick y (noView g)
+        (v q) .er ≡ false
         → pick x (noView g) (v p) .seq ≡ pick y (noView g) (v q) .seq → p ≡ q
     go p q hp hq true y a c e = absurd (true-false true refl a)
     go p q hp hq false true a c e = absurd (true-false true refl c)
@@ -262,22 +281,26 @@ pub root-in : (t : ℕ) (v : Views) → 1 ≤ t → rootAt t v < t
 unfolding rootAt
 root-in t v h = arg-at t (λ q. score (v q)) h .inside
 
-pub r4-root : (g : Geometry) (t : ℕ) (v : Views) (p : ℕ) (w : View) → w .er ≡ false → p < t → 1 ≤ w .height → w .seq ≡ suc (topOf t v)
+pub r4-root : (g : Geometry) (t : ℕ) (v : Views) (p : ℕ) (w : View) → w .er ≡ false → p < t → 1 ≤ w .height
+    → w .seq ≡ suc (topOf t v)
     → R4 t (laid v p w)
 r4-root g t v p w e h k s = rw (root-new g t v p w e h k s, eq-eqb p p refl) k
 
-pub r4-beside : (g : Geometry) (t : ℕ) (v : Views) (p : ℕ) (w : View) → w .er ≡ false → v p ≡ noView g → w .height ≡ 0 → R4 t v → R4 t (laid v p w)
+pub r4-beside : (g : Geometry) (t : ℕ) (v : Views) (p : ℕ) (w : View) → w .er ≡ false → v p ≡ noView g → w .height ≡ 0
+    → R4 t v → R4 t (laid v p w)
 r4-beside g t v p w e n h r = rw (root-beside g t v p w e n h) (by-eq (rootAt t v) p
     (λ d. absurd (omega (arith, r, ap (λ q. v q .height) d, ap (λ (x : View). x .height) n))) (λ d. rw (ne-eqb (rootAt t v) p d) r))
 
-pub r4-wipe : (t : ℕ) (g : Geometry) (b : ℕ) (v : Views) → 1 ≤ t → inB (g .pages) b (rootAt t v) ≡ false → R4 t v → R4 t (wipe g b v)
+pub r4-wipe : (t : ℕ) (g : Geometry) (b : ℕ) (v : Views) → 1 ≤ t → inB (g .pages) b (rootAt t v) ≡ false → R4 t v
+    → R4 t (wipe g b v)
 r4-wipe t g b v h k r = rw (root-wipe t g b v h k, k) r
 
 -- the largest number grows by at most 1 at a program, and falls at an erase
 pub peak-least : (n : ℕ) (f : ℕ → ℕ) (m : ℕ) → ((i : ℕ) → i < n → f i ≤ m) → peak n f ≤ m
 unfolding peak
 peak-least zero f m h = omega arith
-peak-least (suc n) f m h = let a = h n (omega arith) in let b = peak-least n f m (λ i q. h i (omega arith)) in omega (arith, a, b)
+peak-least (suc n) f m h = let a = h n (omega arith) in let b = peak-least n f m (λ i q. h i (omega arith)) in
+    omega (arith, a, b)
 
 pub max-put : (t : ℕ) (v : Views) (p : ℕ) (w : View) → w .seq ≤ suc (topOf t v) → topOf t (laid v p w) ≤ suc (topOf t v)
 unfolding topOf

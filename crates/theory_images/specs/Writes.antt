@@ -39,7 +39,8 @@ unfoldable pub nextStore : Geometry → ℕ → ℕ → (ℕ → List Entry) →
 nextStore g n h parts img = program (nextPage (g .pages) n (ahead g n (chipOf g n img))) (built g (suc (maxSeq g n img)) h parts)
 
 -- the largest number after a page with the next one
-pub max-new : (t : ℕ) (v : Views) (p : ℕ) (w : View) → p < t → w .seq ≡ suc (topOf t v) → topOf t (laid v p w) ≡ suc (topOf t v)
+pub max-new : (t : ℕ) (v : Views) (p : ℕ) (w : View) → p < t → w .seq ≡ suc (topOf t v)
+    → topOf t (laid v p w) ≡ suc (topOf t v)
 unfolding topOf
 max-new t v p w h s =
     let up = max-put t v p w (omega (arith, s)) in
@@ -69,7 +70,8 @@ module _ (g : Geometry) (core : Core g) (n : ℕ) (img : List ℕ) (held : Held 
     abbrev N : ℕ
     N = nextPage (g .pages) n (ahead g n c)
 
-    found : (nextBlock (g .pages) n (ahead g n c) < n) × (firstIn (g .pages) (c .er) (nextBlock (g .pages) n (ahead g n c)) < g .pages) × (c .er N ≡ true)
+    found : (nextBlock (g .pages) n (ahead g n c) < n) ×
+        (firstIn (g .pages) (c .er) (nextBlock (g .pages) n (ahead g n c)) < g .pages) × (c .er N ≡ true)
     found = next-found (g .pages) n (ahead g n c) (some-page g core) (held .whole .r2) free
 
     N-in : N < t
@@ -81,7 +83,8 @@ module _ (g : Geometry) (core : Core g) (n : ℕ) (img : List ℕ) (held : Held 
     view-free : views g img N .er ≡ true
     view-free = er-at g n img N ∙ next-free
 
-    module _ (parts : ℕ → List Entry) (ok : Parts g parts) (low : suc (maxSeq g n img) < 4294967295) (h : ℕ) (high : h ≤ g .top) where
+    module _ (parts : ℕ → List Entry) (ok : Parts g parts)
+        (low : suc (maxSeq g n img) < 4294967295) (h : ℕ) (high : h ≤ g .top) where
       abbrev next : List ℕ
       next = applyStore g (nextStore g n h parts img) img
 
@@ -141,7 +144,8 @@ module _ (g : Geometry) (core : Core g) (n : ℕ) (img : List ℕ) (held : Held 
 
         pub root-frees : count t (c .er) ≡ suc (count t (chipOf g n next .er))
         unfolding rooted
-        root-frees = let e = ap (λ (x : Chip). count t (x .er)) root-chip in omega (arith, count-gone t N (c .er) N-in next-free, e)
+        root-frees = let e = ap (λ (x : Chip). count t (x .er)) root-chip in
+            omega (arith, count-gone t N (c .er) N-in next-free, e)
 
       -- without: all is as before, whatever the page holds
       module _ (no-h : h ≡ 0) where
@@ -187,7 +191,8 @@ module _ (g : Geometry) (core : Core g) (n : ℕ) (img : List ℕ) (held : Held 
 
         pub side-frees : count t (c .er) ≡ suc (count t (chipOf g n next .er))
         unfolding beside
-        side-frees = let e = ap (λ (x : Chip). count t (x .er)) side-chip in omega (arith, count-gone t N (c .er) N-in next-free, e)
+        side-frees = let e = ap (λ (x : Chip). count t (x .er)) side-chip in
+            omega (arith, count-gone t N (c .er) N-in next-free, e)
 
   -- ---- the erase of a block without live pages
   root-live : live (placesOf c) (c .root) ≡ true
@@ -222,5 +227,6 @@ module _ (g : Geometry) (core : Core g) (n : ℕ) (img : List ℕ) (held : Held 
     }
 
     pub wipe-max : maxSeq g n wiped ≤ maxSeq g n img
-    wipe-max = let z = erase-max g core img n (held .image) b b-in in let x = view-max g n wiped in let y = view-max g n img in
+    wipe-max = let z = erase-max g core img n (held .image) b b-in in let x = view-max g n wiped in let y =
+        view-max g n img in
         omega (arith, x, y, z)

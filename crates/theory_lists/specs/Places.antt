@@ -80,7 +80,8 @@ module _ {A : Type 0} (d : A) where
 
     pub remove-before : (k : ℕ) → k < i → getD (removeAt i es) k d ≡ getD es k d
     unfolding removeAt
-    remove-before k p = List·getD-append (take i es) (drop (i + 1) es) d k (rw (length-take-le i es (omega arith)) p) ∙ getD-take i es k d p
+    remove-before k p = List·getD-append (take i es) (drop (i + 1) es) d k (rw (length-take-le i es (omega arith)) p)
+        ∙ getD-take i es k d p
 
     pub remove-after : (k : ℕ) → i ≤ k → getD (removeAt i es) k d ≡ getD es (k + 1) d
     unfolding removeAt
@@ -119,7 +120,8 @@ module _ {A : Type 0} (d : A) where
         ∙ (rw q₂ (sym (getD-take c e (k - 1) d (omega arith))))
         ∙ sym (rw q₃ at (insert-after i x (take c e) hi′ (k - 1) (omega arith)))))
 
-    pub removed : (i : ℕ) → i < c → take (c - 1) (written e i (λ k. getD e (i + 1 + k) d) (c - 1 - i)) ≡ removeAt i (take c e)
+    pub removed : (i : ℕ) → i < c → take (c - 1) (written e i (λ k. getD e (i + 1 + k) d) (c - 1 - i)) ≡ removeAt i
+        (take c e)
     removed i hi =
         let f : ℕ → A = λ k. getD e (i + 1 + k) d in
         let w : List A = written e i f (c - 1 - i) in
@@ -132,7 +134,8 @@ module _ {A : Type 0} (d : A) where
         let p′ : k < c - 1 = rw lt at p in
         getD-take (c - 1) w k d p′
         ∙ elim (decLt k i) [
-          | yes b ↦ written-before e i f (c - 1 - i) k d b ∙ sym (remove-before i (take c e) hi′ k b ∙ getD-take c e k d (omega arith))
+          | yes b ↦ written-before e i f (c - 1 - i) k d b ∙ sym (remove-before i (take c e) hi′ k b
+              ∙ getD-take c e k d (omega arith))
           | no nb ↦
               (let q : i + (k - i) ≡ k = omega arith in
               let q₂ : i + 1 + (k - i) ≡ k + 1 = omega arith in

@@ -69,13 +69,15 @@ module _ (g : Geometry) where
     pub blank-numbers : largestOn g (blankImage g) ≤ 0
     unfolding topOf
     blank-numbers =
-        let z = peak-least t (λ q. views g (blankImage g) q .seq) 0 (λ q h. let e = ap (λ (v : View). v .seq) (no-view q h) in omega (arith, e)) in
+        let z = peak-least t (λ q. views g (blankImage g) q .seq) 0 (λ q h. let e =
+        ap (λ (v : View). v .seq) (no-view q h) in omega (arith, e)) in
         let y = view-max g n (blankImage g) in
         omega (arith, z, y)
 
     blank-unheld : Held g n (blankImage g) → ⊥
     blank-unheld held =
-        let some : 1 ≤ t = (let w = block-in (g .pages) 2 n (blocks .least) in let z = some-page g core in omega (arith, w, z)) in
+        let some : 1 ≤ t = (let w = block-in (g .pages) 2 n (blocks .least) in let z = some-page g core in
+        omega (arith, w, z)) in
         let e = ap (λ (v : View). v .height) (no-view (rootAt t (views g (blankImage g))) (root-in t (views g (blankImage g)) some)) in
         let r = held .r4 in
         omega (arith, e, r)
@@ -85,13 +87,16 @@ module _ (g : Geometry) where
         → (o .answer ≡ 2) × (o .address ≡ 0) × (o .image ≡ blankImage g)
     blank-refused held o r = go (verdict g n (blankImage g)) refl
       where
-        go : (v : Verdict) → verdict g n (blankImage g) ≡ v → (o .answer ≡ 2) × (o .address ≡ 0) × (o .image ≡ blankImage g)
+        go : (v : Verdict) → verdict g n (blankImage g) ≡ v → (o .answer ≡ 2) × (o .address ≡ 0) ×
+            (o .image ≡ blankImage g)
         go Sound e = absurd (blank-unheld (held (record { length-good = good; is-sound = e; bytes = blank-bytes })))
         go (Broken rule page) e = let d = r .not-sound rule page good e in
             (ap (λ (x : Outcome). x .answer) d, ap (λ (x : Outcome). x .address) d, ap (λ (x : Outcome). x .image) d)
 
-pub small-refused : (o : Outcome) → Refuses small (blankImage small) o → (o .answer ≡ 2) × (o .address ≡ 0) × (o .image ≡ blankImage small)
+pub small-refused : (o : Outcome) → Refuses small (blankImage small) o → (o .answer ≡ 2) × (o .address ≡ 0) ×
+    (o .image ≡ blankImage small)
 small-refused = blank-refused small (shape-core small small-shape) small-good (λ r. ready-keeps small small-shape (blankImage small) r .held)
 
-pub plain-refused : (o : Outcome) → Refuses plain (blankImage plain) o → (o .answer ≡ 2) × (o .address ≡ 0) × (o .image ≡ blankImage plain)
+pub plain-refused : (o : Outcome) → Refuses plain (blankImage plain) o → (o .answer ≡ 2) × (o .address ≡ 0) ×
+    (o .image ≡ blankImage plain)
 plain-refused = blank-refused plain plain-core plain-good (λ r. ready-held (blankImage plain) r)

@@ -55,7 +55,8 @@ pub parsed-fits : (line : List ℕ) (order : Order) → parsed line ≡ Of order
 parsed-fits line order e = subst LineFits e (form-fits (fields line))
 
 -- the program's forms: a line's own, among the first 1,000,000
-pub form-after : (count : ℕ) (line : List ℕ) (order : Order) → formAfter count line ≡ Of order → (count < mostLines) × Fits order
+pub form-after : (count : ℕ) (line : List ℕ) (order : Order) → formAfter count line ≡ Of order → (count < mostLines) ×
+    Fits order
 unfolding formAfter
 form-after count line order e = go (ltb count mostLines) refl e
   where
@@ -70,6 +71,7 @@ orders-fit zero ls = tt
 orders-fit (suc j) [] = tt
 orders-fit (suc j) (l ∷ ls) = go (parsed l) refl (orders-fit j ls)
   where
-    go : (line : Line) → parsed l ≡ line → All Fits (take j (ordersIn ls)) → All Fits (take (suc j) (followedBy line (ordersIn ls)))
+    go : (line : Line) → parsed l ≡ line → All Fits (take j (ordersIn ls))
+        → All Fits (take (suc j) (followedBy line (ordersIn ls)))
     go Other e h = tt
     go (Of order) e h = (parsed-fits l order e, h)

@@ -1,4 +1,5 @@
--- One order on a sound image, of any tree: what an accepted order's outcome comes to, by its answer; and WORN. Assumes nothing.
+-- One order on a sound image, of any tree: what an accepted order's outcome comes to, by its answer; and WORN. Assumes
+-- nothing.
 use mathlib.Core.Path.{_≡_, refl, ap, sym, subst, _∙_}
 use mathlib.Core.List.{List, [], _∷_}
 use mathlib.Core.Bool.{Bool, true, false}
@@ -77,7 +78,8 @@ unfolding find
 remove-absent k [] h = refl
 remove-absent k (e ∷ es) h = go (eqb (e .key) k) h (remove-absent k es)
   where
-    go : (b : Bool) → pick b (some (e .addr)) (find k es) ≡ none → (find k es ≡ none → remove k es ≡ es) → pick b es (e ∷ remove k es) ≡ e ∷ es
+    go : (b : Bool) → pick b (some (e .addr)) (find k es) ≡ none → (find k es ≡ none → remove k es ≡ es)
+        → pick b es (e ∷ remove k es) ≡ e ∷ es
     go true d f = absurd (let z : _≡_ {A = ℕ} 0 1 = cc in omega arith)
     go false d f = ap (λ (x : List Entry). e ∷ x) (f d)
 
@@ -116,7 +118,8 @@ module _ (g : Geometry) (img : List ℕ) (map : List Entry) (o : Outcome) (addre
         numbers = (let z = ap (largestOn g) i in omega (arith, z));
       }
   remove-leaves k (inr (inr (inr (inl e)))) absent gone stays old done = absurd (accepts (inr (inr (inl e))))
-  remove-leaves k (inr (inr (inr (inr (inl e))))) absent gone stays old done = absurd (accepts (inr (inr (inr (inl e)))))
+  remove-leaves k (inr (inr (inr (inr (inl e))))) absent gone stays old done =
+      absurd (accepts (inr (inr (inr (inl e)))))
   remove-leaves k (inr (inr (inr (inr (inr e))))) absent gone stays old done = absurd e
 
 pub found-leaves : (g : Geometry) (img : List ℕ) (map : List Entry) (k : ℕ) → Holds g map img
@@ -149,7 +152,8 @@ format-leaves g core img good bytes new = record {
 abbrev pub Unworn : Test → Type 0
 Unworn t = t .number ≡ 3 → t .met ≡ false
 
-pub tested-unworn : (img : List ℕ) (ts : List Test) (o : Outcome) → Began o → All Unworn ts → tested img ts o .answer ≡ 3 → ⊥
+pub tested-unworn : (img : List ℕ) (ts : List Test) (o : Outcome) → Began o → All Unworn ts
+    → tested img ts o .answer ≡ 3 → ⊥
 tested-unworn img ts o b h e = go ts h (tested-met img 3 ts o b (omega arith) (omega arith) e)
   where
     go : (ts : List Test) → All Unworn ts → Met 3 ts → ⊥

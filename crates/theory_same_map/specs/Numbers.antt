@@ -32,7 +32,8 @@ unfolding pageBase
 page-end g p t h = let w = base-le g (p + 1) t (omega arith) in omega (arith, w)
 
 module _ (g : Geometry) (core : Core g) (n : ℕ) where
-  store-raises : (img : List ℕ) (s : Store) → Image g n img → Legal g n img s → maxSeq g n (applyStore g s img) ≤ maxSeq g n img + programs (s ∷ [])
+  store-raises : (img : List ℕ) (s : Store) → Image g n img → Legal g n img s
+      → maxSeq g n (applyStore g s img) ≤ maxSeq g n img + programs (s ∷ [])
   unfolding Legal programs viewFrom
   store-raises img (program p bs) image (at, inside, free, long, number) =
       let w = page-end g p (pagesOf g n) inside in
@@ -54,7 +55,8 @@ module _ (g : Geometry) (core : Core g) (n : ℕ) where
       let y = view-max g n img in
       omega (arith, z, x, y)
 
-  lawful-raises : (img : List ℕ) (ss : List Store) → Image g n img → Lawful g n img ss → maxSeq g n (applyAll g ss img) ≤ maxSeq g n img + programs ss
+  lawful-raises : (img : List ℕ) (ss : List Store) → Image g n img → Lawful g n img ss
+      → maxSeq g n (applyAll g ss img) ≤ maxSeq g n img + programs ss
   unfolding Lawful applyAll programs
   lawful-raises img [] image h = omega arith
   lawful-raises img (program p bs ∷ ss) image h =
@@ -67,10 +69,13 @@ module _ (g : Geometry) (core : Core g) (n : ℕ) where
       omega (arith, a, b)
 
 -- an update that answers 0
-pub update-raises : (g : Geometry) → Core g → (old new : List Entry) (img : List ℕ) (ss : List Store) (al : ℕ) (o : Outcome) → goodLength g img ≡ true
-    → Kept g old new img ss → o ≡ made g ss al img → o .answer ≡ 0 → largestOn g (o .image) ≤ largestOn g img + programmedMost g
+pub update-raises : (g : Geometry) → Core g → (old new : List Entry) (img : List ℕ) (ss : List Store)
+    (al : ℕ) (o : Outcome) → goodLength g img ≡ true
+    → Kept g old new img ss → o ≡ made g ss al img → o .answer ≡ 0
+    → largestOn g (o .image) ≤ largestOn g img + programmedMost g
 update-raises g core old new img ss al o good kept is done =
-    let e = ap (λ (v : Outcome). v .image) is ∙ made-done g ss al img (sym (ap (λ (v : Outcome). v .answer) is) ∙ done) in
+    let e = ap (λ (v : Outcome). v .image) is ∙ made-done g ss al img (sym (ap (λ (v : Outcome). v .answer) is)
+    ∙ done) in
     let z = lawful-raises g core (blocksOf g img) img ss (good-blocks g img good .image) (kept .lawful) in
     let b = blocks-same g img (applyAll g ss img) (length-all g ss img) in
     let x = ap (λ n. maxSeq g n (applyAll g ss img)) b in

@@ -31,8 +31,10 @@ pub record Step (order : Order) (m : Option (List Entry)) (x : Images) : Type 0 
   pub plain-numbers : largestOn plain (afterOrder order x .plain-tree) ≤ largestOn plain (x .plain-tree) + 191
 
 -- by what each tree leaves
-step-by : (order : Order) (m : Option (List Entry)) (x : Images) {map : List Entry} {answer address : ℕ} → mapAfter order m ≡ some map
-    → Leaves small (x .mu-tree) answer address map (byMu order x) → Leaves plain (x .plain-tree) answer address map (byPlain order x) → Step order m x
+step-by : (order : Order) (m : Option (List Entry)) (x : Images) {map : List Entry} {answer address : ℕ}
+    → mapAfter order m ≡ some map
+    → Leaves small (x .mu-tree) answer address map (byMu order x) → Leaves plain (x .plain-tree) answer address map
+    (byPlain order x) → Step order m x
 step-by order m x {map} e u v = record {
   alike = record { answers = u .answer-is ∙ sym (v .answer-is); addresses = u .address-is ∙ sym (v .address-is) };
   same = subst (λ (m : Option (List Entry)). Same m (afterOrder order x)) (sym e) (u .holds, v .holds);
@@ -47,7 +49,8 @@ pub record Refused (order : Order) : Type 0 where
   pub addresses : byMu order blankImages .address ≡ byPlain order blankImages .address
   pub left : afterOrder order blankImages ≡ blankImages
 
-refused-both : (order : Order) → Refuses small (blankImage small) (byMu order blankImages) → Refuses plain (blankImage plain) (byPlain order blankImages)
+refused-both : (order : Order) → Refuses small (blankImage small) (byMu order blankImages)
+    → Refuses plain (blankImage plain) (byPlain order blankImages)
     → Refused order
 refused-both order a b =
     let u = small-refused (byMu order blankImages) a in
@@ -106,21 +109,27 @@ started Format =
     let u = format-leaves small (shape-core small small-shape) (blankImage small) small-good (blank-bytes small)
     (format-holds small small-shape (omega arith) (blankImage small) small-good (blank-bytes small)) in
     let v = format-leaves plain plain-core (blankImage plain) plain-good (blank-bytes plain)
-    (plain-format-holds (blankImage plain) plain-good (blank-bytes plain)) in
-    (step-by Format none blankImages refl u v, (let z = u .answer-is in omega (arith, z)), (let z = v .answer-is in omega (arith, z)))
+    (plain-format-holds (blankImage plain) plain-good (blank-bytes plain)) in (
+      step-by Format none blankImages refl u v,
+      (let z = u .answer-is in omega (arith, z)),
+      (let z = v .answer-is in
+          omega (arith, z)),
+    )
 started (Insert k a) = refused-started (Insert k a) refl (insert-refused k a)
 started (Delete k) = refused-started (Delete k) refl (delete-refused k)
 started (Lookup k) = refused-started (Lookup k) refl (lookup-refused k)
 started (Limited k a al) = refused-started (Limited k a al) refl (limited-refused k a al)
 
 -- ---- one order
-pub order-step : (order : Order) → Fits order → (m : Option (List Entry)) (x : Images) → Same m x → BothAccept order x → Step order m x
+pub order-step : (order : Order) → Fits order → (m : Option (List Entry)) (x : Images) → Same m x → BothAccept order x
+    → Step order m x
 order-step order fits none x same accepts = subst (Step order none) (sym same) (started order .0)
 order-step order fits (some map) x same accepts = step-by order (some map) x refl
     (mu-obeys order fits map (x .mu-tree) (same .0) (accepts .0)) (plain-obeys order fits map (x .plain-tree) (same .1) (accepts .1))
 
 -- while the numbers are low, WORN is answered by neither
-pub order-unworn : (order : Order) → Fits order → (m : Option (List Entry)) (x : Images) → Same m x → largestOn small (x .mu-tree) ≤ small .worn
+pub order-unworn : (order : Order) → Fits order → (m : Option (List Entry)) (x : Images) → Same m x → largestOn small
+    (x .mu-tree) ≤ small .worn
     → largestOn plain (x .plain-tree) ≤ plain .worn → (byMu order x .answer ≡ 3 → ⊥) × (byPlain order x .answer ≡ 3 → ⊥)
 order-unworn order fits none x same low few =
     let w = subst (λ (y : Images). (byMu order y .answer ≤ 2) × (byPlain order y .answer ≤ 2)) (sym same) (started order .1, started order .2) in
@@ -129,7 +138,8 @@ order-unworn order fits (some map) x same low few =
     (mu-unworn (x .mu-tree) (same .0 .ready) low order fits, plain-unworn (x .plain-tree) (same .1 .ready) few order fits)
 
 -- ---- one after the other
-pub orders-same : (orders : List Order) → All Fits orders → (m : Option (List Entry)) (x : Images) → Same m x → AllAccepted orders x
+pub orders-same : (orders : List Order) → All Fits orders → (m : Option (List Entry)) (x : Images) → Same m x
+    → AllAccepted orders x
     → AllAlike orders x × Same (mapAfterAll orders m) (afterAll orders x)
 unfolding AllAccepted AllAlike mapAfterAll afterAll
 orders-same [] fits m x same accepted = (tt, same)

@@ -1,5 +1,5 @@
--- The comparing program's run: at every line that it comes to, both trees hold the same map, and neither answers WORN: a line raises the largest number by at
--- most 191, and there are at most 1,000,000 of them. Assumes nothing.
+-- The comparing program's run: at every line that it comes to, both trees hold the same map, and neither answers WORN:
+-- a line raises the largest number by at most 191, and there are at most 1,000,000 of them. Assumes nothing.
 use mathlib.Core.Path.{_≡_, refl, ap, subst, _∙_}
 use mathlib.Core.List.{List, [], _∷_}
 use mathlib.Core.Bool.{Bool, true, false}
@@ -46,14 +46,17 @@ one-more : (s : Score) (order : Order) (a b : Outcome) → scored s order a b .l
 unfolding scored
 one-more s order a b = either (counts order a b) _ _ refl refl
   where
-    either : (t : Bool) (u v : Score) → u .lines ≡ s .lines + 1 → v .lines ≡ s .lines + 1 → pick t u v .lines ≡ s .lines + 1
+    either : (t : Bool) (u v : Score) → u .lines ≡ s .lines + 1 → v .lines ≡ s .lines + 1
+        → pick t u v .lines ≡ s .lines + 1
     either true u v d e = d
     either false u v d e = e
 
-one-line : (s : Score) (x : Images) (l : List ℕ) (ls : List (List ℕ)) (rest : List ℕ) (order : Order) → formAfter (s .lines) l ≡ Of order
+one-line : (s : Score) (x : Images) (l : List ℕ) (ls : List (List ℕ)) (rest : List ℕ) (order : Order)
+    → formAfter (s .lines) l ≡ Of order
     → stops (byMu order x) ≡ false → stops (byPlain order x) ≡ false
     → reported s (x .mu-tree) (x .plain-tree) (l ∷ ls) rest
-    ≡ reported (scored s order (byMu order x) (byPlain order x)) (afterOrder order x .mu-tree) (afterOrder order x .plain-tree) ls rest
+    ≡ reported (scored s order (byMu order x) (byPlain order x)) (afterOrder order x .mu-tree)
+    (afterOrder order x .plain-tree) ls rest
 unfolding reported met _&_
 one-line s x l ls rest order form p q = rw (form, p, q) refl
 
@@ -63,7 +66,8 @@ pub record Stands (s : Score) (x : Images) (m : Option (List Entry)) : Type 0 wh
   pub plain-numbers : largestOn plain (x .plain-tree) ≤ 191 * s .lines
 
 -- the next order of a run that goes on
-pub stands-step : (s : Score) (x : Images) (m : Option (List Entry)) (l : List ℕ) (order : Order) → Stands s x m → formAfter (s .lines) l ≡ Of order
+pub stands-step : (s : Score) (x : Images) (m : Option (List Entry)) (l : List ℕ) (order : Order) → Stands s x m
+    → formAfter (s .lines) l ≡ Of order
     → ((byMu order x .answer ≡ 3 → ⊥) × (byPlain order x .answer ≡ 3 → ⊥))
     × (stops (byMu order x) ≡ false → stops (byPlain order x) ≡ false → Step order m x)
 stands-step s x m l order h form =
@@ -81,7 +85,8 @@ zero-goes o e = rw e (and-false _)
 update-mapped : (order : Order) → isUpdate order ≡ true → byMu order blankImages .answer ≡ 0 → ⊥
 update-mapped order up e = let z = blank-refused order (λ f. true-false (isUpdate order) up (ap isUpdate f)) .mu-answer in omega (arith, z, e)
 
-pub line-counted : (s : Score) (x : Images) (m : Option (List Entry)) (l : List ℕ) (order : Order) → Stands s x m → formAfter (s .lines) l ≡ Of order
+pub line-counted : (s : Score) (x : Images) (m : Option (List Entry)) (l : List ℕ) (order : Order) → Stands s x m
+    → formAfter (s .lines) l ≡ Of order
     → counts order (byMu order x) (byPlain order x) ≡ true → Counted order x
 line-counted s x m l order h form c = go m (h .same) (stands-step s x m l order h form .1 (zero-goes (byMu order x) p) (zero-goes (byPlain order x) q) .same)
   where
@@ -96,7 +101,8 @@ line-counted s x m l order h form c = go m (h .same) (stands-step s x m l order 
     go (some map) same next = record { mu-done = p; plain-done = q; map = map; before = same; after = next }
 
 module _ (input : List ℕ) where
-  pub stands : (s : Score) (x : Images) (m : Option (List Entry)) (ls : List (List ℕ)) → Reaches input s x m ls → Stands s x m
+  pub stands : (s : Score) (x : Images) (m : Option (List Entry)) (ls : List (List ℕ)) → Reaches input s x m ls
+      → Stands s x m
   stands s x m ls at-start = record {
     same = refl;
     mu-numbers = blank-numbers small (shape-core small small-shape) small-good;
@@ -121,7 +127,8 @@ module _ (input : List ℕ) where
       writes s x m (l ∷ ls) r ∙ one-line s x l ls (lines input .rest) order form p q
 
   -- the run ends: at the end of the text, at a line of another form, or at an order that stops it
-  pub ends : (s : Score) (x : Images) (m : Option (List Entry)) (ls : List (List ℕ)) → Reaches input s x m ls → Ended input
+  pub ends : (s : Score) (x : Images) (m : Option (List Entry)) (ls : List (List ℕ)) → Reaches input s x m ls
+      → Ended input
   unfolding ending reported met _&_
   ends s x m [] r = record { score = s; images = x; map = m; left = []; reached = r; output = go (lines input .rest) (writes s x m [] r) }
     where
@@ -138,14 +145,16 @@ module _ (input : List ℕ) where
       here : Here → Ended input
       here o = record { score = s; images = x; map = m; left = l ∷ ls; reached = r; output = o }
 
-      by : (order : Order) → formAfter (s .lines) l ≡ Of order → (t u : Bool) → stops (byMu order x) ≡ t → stops (byPlain order x) ≡ u
+      by : (order : Order) → formAfter (s .lines) l ≡ Of order → (t u : Bool) → stops (byMu order x) ≡ t
+          → stops (byPlain order x) ≡ u
           → (stops (byMu order x) ≡ false → stops (byPlain order x) ≡ false → Ended input) → Ended input
       by order form false false p q on = on p q
       by order form true u p q on = here (inl (writes s x m (l ∷ ls) r ∙ rw (form, p) refl))
       by order form false true p q on = here (inl (writes s x m (l ∷ ls) r ∙ rw (form, p, q) refl))
 
       next : (line : Line) → formAfter (s .lines) l ≡ line
-          → ((order : Order) → formAfter (s .lines) l ≡ Of order → stops (byMu order x) ≡ false → stops (byPlain order x) ≡ false → Ended input)
+          → ((order : Order) → formAfter (s .lines) l ≡ Of order → stops (byMu order x) ≡ false
+          → stops (byPlain order x) ≡ false → Ended input)
           → Ended input
       next Other form on = here (inr (writes s x m (l ∷ ls) r ∙ rw form refl))
       next (Of order) form on = by order form (stops (byMu order x)) (stops (byPlain order x)) refl refl (on order form)

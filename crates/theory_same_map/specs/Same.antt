@@ -1,4 +1,5 @@
--- Request 12: "Show that while both accept, both hold the same map". `Words` has the words. Every proof here is one citation; assumes nothing.
+-- Request 12: "Show that while both accept, both hold the same map". `Words` has the words. Every proof here is one
+-- citation; assumes nothing.
 use mathlib.Core.Path.{_≡_, refl, sym, _∙_}
 use mathlib.Core.List.{List, _∷_}
 use mathlib.Core.Bool.{true, false}
@@ -24,30 +25,36 @@ use Rattle.theory_same_map.specs.Orders.{order-step, blank-refused, orde
 use Rattle.theory_same_map.specs.Runs.{line-counted, stands-step, stands, writes, ends}
 
 -- ---- images under the same map: their maps are equal, pair by pair
-pub maps-equal : (map : List Entry) (x : Images) → Same (some map) x → mapAt small (x .mu-tree) ≡ mapAt plain (x .plain-tree)
+pub maps-equal : (map : List Entry) (x : Images) → Same (some map) x → mapAt small (x .mu-tree) ≡ mapAt plain
+    (x .plain-tree)
 maps-equal map x same = same .0 .map-is ∙ sym (same .1 .map-is)
 
--- ---- one order that both accept: both answer alike, and both hold the same map again, the old one with the order carried out
+-- ---- one order that both accept: both answer alike, and both hold the same map again, the old one with the order
+-- carried out
 pub order-same : (order : Order) → Fits order → (m : Option (List Entry)) (x : Images) → Same m x → BothAccept order x
     → Alike order x × Same (mapAfter order m) (afterOrder order x)
 order-same order fits m x same accepts = let s = order-step order fits m x same accepts in (s .alike, s .same)
 
 -- before the first Format both refuse by 2, and nothing changes
 pub blank-same : (order : Order) → (order ≡ Format → ⊥)
-    → (byMu order blankImages .answer ≡ 2) × (byPlain order blankImages .answer ≡ 2) × (afterOrder order blankImages ≡ blankImages)
+    → (byMu order blankImages .answer ≡ 2) × (byPlain order blankImages .answer ≡ 2) ×
+    (afterOrder order blankImages ≡ blankImages)
 blank-same order other = let r = blank-refused order other in (r .mu-answer, r .plain-answer, r .left)
 
--- ---- any log, from blank images: while both accept, both answer each order alike, and both hold the same map: the one that the orders make
+-- ---- any log, from blank images: while both accept, both answer each order alike, and both hold the same map: the one
+-- that the orders make
 pub log-same : (orders : List Order) → All Fits orders → AllAccepted orders blankImages
     → AllAlike orders blankImages × Same (mapAfterAll orders none) (afterAll orders blankImages)
 log-same orders fits accepted = orders-same orders fits none blankImages refl accepted
 
 -- any text, as far as its lines have a form: its first j orders
 pub text-same : (input : List ℕ) (j : ℕ) → AllAccepted (take j (ordersOf input)) blankImages
-    → AllAlike (take j (ordersOf input)) blankImages × Same (mapAfterAll (take j (ordersOf input)) none) (afterAll (take j (ordersOf input)) blankImages)
+    → AllAlike (take j (ordersOf input)) blankImages × Same (mapAfterAll (take j (ordersOf input)) none)
+    (afterAll (take j (ordersOf input)) blankImages)
 text-same input j accepted = log-same (take j (ordersOf input)) (orders-fit j (lines input .ended)) accepted
 
--- ---- the comparing program, on any text: its output is the report at a point that it comes to, or E and a line's number
+-- ---- the comparing program, on any text: its output is the report at a point that it comes to, or E and a line's
+-- number
 pub run-ends : (input : List ℕ) → Ended input
 run-ends input = ends input none-yet blankImages none (lines input .ended) at-start
 
@@ -57,10 +64,12 @@ module _ (input : List ℕ) (s : Score) (x : Images) (m : Option (List Entry)) w
   run-same ls r = stands input s x m ls r .same
 
   -- what it writes is what its run makes of the lines that are left
-  pub run-writes : (ls : List (List ℕ)) → Reaches input s x m ls → compared input ≡ reported s (x .mu-tree) (x .plain-tree) ls (lines input .rest)
+  pub run-writes : (ls : List (List ℕ)) → Reaches input s x m ls → compared input ≡ reported s (x .mu-tree)
+      (x .plain-tree) ls (lines input .rest)
   run-writes ls r = writes input s x m ls r
 
-  module _ (l : List ℕ) (ls : List (List ℕ)) (order : Order) (r : Reaches input s x m (l ∷ ls)) (form : formAfter (s .lines) l ≡ Of order) where
+  module _ (l : List ℕ) (ls : List (List ℕ)) (order : Order) (r : Reaches input s x m
+      (l ∷ ls)) (form : formAfter (s .lines) l ≡ Of order) where
     -- no line is answered by 3 WORN
     pub run-unworn : (byMu order x .answer ≡ 3 → ⊥) × (byPlain order x .answer ≡ 3 → ⊥)
     run-unworn = stands-step s x m l order (stands input s x m (l ∷ ls) r) form .0

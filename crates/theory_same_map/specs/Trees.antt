@@ -1,5 +1,6 @@
--- Each tree on a sound image: an accepted order is answered as the map says and leaves a sound image, whose map is the old one with the order carried out;
--- the largest number grows by at most 191, and while it is not above the limit no order is answered by WORN. Assumes nothing.
+-- Each tree on a sound image: an accepted order is answered as the map says and leaves a sound image, whose map is the
+-- old one with the order carried out; the largest number grows by at most 191, and while it is not above the limit no
+-- order is answered by WORN. Assumes nothing.
 use mathlib.Core.Path.{_≡_, refl, ap, sym, subst, _∙_}
 use mathlib.Core.List.{List, [], _∷_}
 use mathlib.Core.Logic.{inl, inr}
@@ -52,21 +53,25 @@ module _ (img : List ℕ) (ready : Ready small img) where
   here : Holds small map img
   here = record { ready = ready; map-is = refl }
 
-  mu-put : (k a al : ℕ) → k < fourBytes → a < fourBytes → Accepts (insert small img k a al) → Leaves small img 0 0 (put k a map) (insert small img k a al)
+  mu-put : (k a al : ℕ) → k < fourBytes → a < fourBytes → Accepts (insert small img k a al) → Leaves small img 0 0
+      (put k a map) (insert small img k a al)
   mu-put k a al k-low a-low accepts =
       let ss = insertStores small n img k a in
       put-leaves small img map (insert small img k a al)
-      (ap (λ (o : Outcome). o .address) (insert-is small img k a al ready) ∙ tested-address img (insertTests small img k a al) _ (made-address small ss al img))
+      (ap (λ (o : Outcome). o .address) (insert-is small img k a al ready)
+      ∙ tested-address img (insertTests small img k a al) _ (made-address small ss al img))
       accepts
       (λ h. update-raises small (shape-core small small-shape) map (put k a map) img ss al (insert small img k a al) (ready .length-good)
       (insert-stores small small-shape img ready k k-low a al a-low (inl h)) (insert-made small small-shape img ready k k-low a al (inl h)) h)
       k a (insert-answers small small-shape img ready k k-low a al) (insert-done small small-shape img ready k k-low a al a-low)
 
-  mu-remove : (k al : ℕ) → k < fourBytes → Accepts (delete small img k al) → Leaves small img (absence (find k map)) 0 (remove k map) (delete small img k al)
+  mu-remove : (k al : ℕ) → k < fourBytes → Accepts (delete small img k al) → Leaves small img (absence (find k map)) 0
+      (remove k map) (delete small img k al)
   mu-remove k al k-low accepts =
       let ss = deleteStores small n img k in
       remove-leaves small img map (delete small img k al)
-      (ap (λ (o : Outcome). o .address) (delete-is small img k 0 al ready) ∙ tested-address img (deleteTests small img k 0 al) _ (made-address small ss al img))
+      (ap (λ (o : Outcome). o .address) (delete-is small img k 0 al ready)
+      ∙ tested-address img (deleteTests small img k 0 al) _ (made-address small ss al img))
       accepts
       (λ h. update-raises small (shape-core small small-shape) map (remove k map) img ss al (delete small img k al) (ready .length-good)
       (delete-stores small small-shape img ready k k-low al (inl h)) (delete-made small small-shape img ready k k-low al (inl h)) h)
@@ -80,7 +85,8 @@ module _ (img : List ℕ) (ready : Ready small img) where
       wider j (inr (inr (inl e))) = inr (inr (inl e))
       wider j (inr (inr (inr e))) = inr (inr (inr (inr e)))
 
-  mu-obeys-own : (order : Order) → Fits order → Accepts (obeyed small order img) → Obeys small order map img (obeyed small order img)
+  mu-obeys-own : (order : Order) → Fits order → Accepts (obeyed small order img) → Obeys small order map img
+      (obeyed small order img)
   unfolding obeyed
   mu-obeys-own Format fits accepts = format-leaves small (shape-core small small-shape) img (ready .length-good) (ready .bytes)
       (format-holds small small-shape (omega arith) img (ready .length-good) (ready .bytes))
@@ -109,7 +115,8 @@ module _ (img : List ℕ) (ready : Ready small img) where
     mu-unworn (Lookup k) fits e = found-unworn (find k map) img (sym (ap (λ (o : Outcome). o .answer) (lookup-answers small small-shape img ready k fits)) ∙ e)
     mu-unworn (Limited k a al) fits e = mu-insert-unworn k a al e
 
-pub mu-obeys : (order : Order) → Fits order → (map : List Entry) (img : List ℕ) → Holds small map img → Accepts (obeyed small order img)
+pub mu-obeys : (order : Order) → Fits order → (map : List Entry) (img : List ℕ) → Holds small map img
+    → Accepts (obeyed small order img)
     → Obeys small order map img (obeyed small order img)
 mu-obeys order fits map img h accepts = subst (λ (m : List Entry). Obeys small order m img (obeyed small order img)) (h .map-is)
     (mu-obeys-own img (h .ready) order fits accepts)
@@ -130,7 +137,8 @@ module _ (img : List ℕ) (ready : Ready plain img) where
   plain-put k a al k-low a-low accepts =
       let ss = plainInsertStores plain m img k a in
       put-leaves plain img its (plainInsert plain img k a al)
-      (ap (λ (o : Outcome). o .address) (plain-insert-is img k a al ready) ∙ tested-address img (plainInsertTests img k a al) _ (made-address plain ss al img))
+      (ap (λ (o : Outcome). o .address) (plain-insert-is img k a al ready)
+      ∙ tested-address img (plainInsertTests img k a al) _ (made-address plain ss al img))
       accepts
       (λ h. update-raises plain plain-core its (put k a its) img ss al (plainInsert plain img k a al) (ready .length-good)
       (plain-insert-kept img ready k k-low a al a-low (inl h)) (plain-insert-passed img k a al ready (inl h) .1) h)
@@ -141,14 +149,16 @@ module _ (img : List ℕ) (ready : Ready plain img) where
   plain-remove k al k-low accepts =
       let ss = plainDeleteStores plain m img k in
       remove-leaves plain img its (plainDelete plain img k al)
-      (ap (λ (o : Outcome). o .address) (plain-delete-is img k 0 al ready) ∙ tested-address img (plainDeleteTests img k 0 al) _ (made-address plain ss al img))
+      (ap (λ (o : Outcome). o .address) (plain-delete-is img k 0 al ready)
+      ∙ tested-address img (plainDeleteTests img k 0 al) _ (made-address plain ss al img))
       accepts
       (λ h. update-raises plain plain-core its (remove k its) img ss al (plainDelete plain img k al) (ready .length-good)
       (plain-delete-kept img ready k k-low al (inl h)) (plain-delete-passed img k 0 al ready (inl h) .1) h)
       k (plain-delete-answers img k ready al) (plain-delete-absent img k ready k-low al) (plain-absent-delete img k ready k-low al)
       (λ e. plain-delete-refused img k 0 al (omega (arith, e)) (omega (arith, e))) there (plain-delete-done img ready k k-low al)
 
-  plain-obeys-own : (order : Order) → Fits order → Accepts (plainObeyed order img) → Obeys plain order its img (plainObeyed order img)
+  plain-obeys-own : (order : Order) → Fits order → Accepts (plainObeyed order img) → Obeys plain order its img
+      (plainObeyed order img)
   unfolding plainObeyed
   plain-obeys-own Format fits accepts = format-leaves plain plain-core img (ready .length-good) (ready .bytes)
       (plain-format-holds img (ready .length-good) (ready .bytes))
@@ -177,7 +187,9 @@ module _ (img : List ℕ) (ready : Ready plain img) where
     plain-unworn (Lookup k) fits e = found-unworn (find k its) img (sym (ap (λ (o : Outcome). o .answer) (plain-reads img ready k fits)) ∙ e)
     plain-unworn (Limited k a al) fits e = plain-insert-unworn k a al e
 
-pub plain-obeys : (order : Order) → Fits order → (map : List Entry) (img : List ℕ) → Holds plain map img → Accepts (plainObeyed order img)
+pub plain-obeys : (order : Order) → Fits order → (map : List Entry) (img : List ℕ) → Holds plain map img
+    → Accepts (plainObeyed order img)
     → Obeys plain order map img (plainObeyed order img)
-plain-obeys order fits map img h accepts = subst (λ (m : List Entry). Obeys plain order m img (plainObeyed order img)) (h .map-is)
+plain-obeys order fits map img h accepts =
+    subst (λ (m : List Entry). Obeys plain order m img (plainObeyed order img)) (h .map-is)
     (plain-obeys-own img (h .ready) order fits accepts)

@@ -1,5 +1,6 @@
--- The words of request 12's "while both accept, both hold the same map". `obeyed` is an order on the μ-Tree's image (crate logs), `plainObeyed` on the plain
--- tree's (crate scores); `Holds g map img` says that the image is sound and that its map is this one (crate demands). Definitions alone; assumes nothing.
+-- The words of request 12's "while both accept, both hold the same map". `obeyed` is an order on the μ-Tree's image
+-- (crate logs), `plainObeyed` on the plain tree's (crate scores); `Holds g map img` says that the image is sound and
+-- that its map is this one (crate demands). Definitions alone; assumes nothing.
 use mathlib.Core.Path.{_≡_}
 use mathlib.Core.List.{List, [], _∷_}
 use mathlib.Core.Bool.{false}
@@ -84,7 +85,8 @@ abbrev pub Same : Option (List Entry) → Images → Type 0
 Same none x = x ≡ blankImages
 Same (some map) x = Holds small map (x .mu-tree) × Holds plain map (x .plain-tree)
 
--- ---- orders one after the other: the images and the map after them; that both accept each when its turn comes, and that both answer each alike
+-- ---- orders one after the other: the images and the map after them; that both accept each when its turn comes, and
+-- that both answer each alike
 unfoldable pub afterAll : List Order → Images → Images
 afterAll [] x = x
 afterAll (order ∷ orders) x = afterAll orders (afterOrder order x)
@@ -113,8 +115,8 @@ ordersIn (l ∷ ls) = followedBy (parsed l) (ordersIn ls)
 abbrev pub ordersOf : List ℕ → List Order
 ordersOf input = ordersIn (lines input .ended)
 
--- ---- where a run of the comparing program comes to: its score, both images, the map by the orders so far, and the lines that are left. It goes on after a
--- line that neither tree answers by 5, 6 or 7
+-- ---- where a run of the comparing program comes to: its score, both images, the map by the orders so far, and the
+-- lines that are left. It goes on after a line that neither tree answers by 5, 6 or 7
 pub data Reaches (input : List ℕ) : Score → Images → Option (List Entry) → List (List ℕ) → Type 0 where
   at-start : Reaches input none-yet blankImages none (lines input .ended)
   goes-on : (s : Score) (x : Images) (m : Option (List Entry)) (l : List ℕ) (ls : List (List ℕ)) (order : Order)

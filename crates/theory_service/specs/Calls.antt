@@ -1,5 +1,6 @@
--- The demands of the C calls, for every image of bytes, lent words, every result buffer, and keys, addresses and allowances of 32 bits.
--- `Left` has what a call leaves; Ready, mapAt, Holds, OneOf are the words of the demands. Assumes nothing.
+-- The demands of the C calls, for every image of bytes, lent words, every result buffer, and keys, addresses and
+-- allowances of 32 bits. `Left` has what a call leaves; Ready, mapAt, Holds, OneOf are the words of the demands.
+-- Assumes nothing.
 use mathlib.Core.Path.{_≡_, refl, ap, sym, subst, _∙_}
 use mathlib.Core.List.{List, [], _∷_}
 use mathlib.Core.Bool.{Bool, true, false}
@@ -37,38 +38,44 @@ use Rattle.live_words.specs.Live.{Reply, reply, insertLive, deleteLive, insertL
 use Rattle.camera.specs.Camera.{Left, returned}
 use Rattle.theory_service.specs.Left.{looksUp, inserts, deletes, Enough, other-unknown, on, outcome-chosen, answerIn, programmedIn, erasedIn, ruleIn, pageIn, short, whole, told-whole, told-short, told-number}
 
--- ---- Demand 1: a result buffer that is too short gives 1, and nothing changes. Else a number that is no geometry's or a bad length
--- gives 1, an image that is not sound 2 with the verdict's rule and page, and nothing else gives these, where the lent words are `enough`
--- (a lookup is lent none; too few give 1: Words). Answers 1 to 6 leave the image
+-- ---- Demand 1: a result buffer that is too short gives 1, and nothing changes. Else a number that is no geometry's or
+-- a bad length gives 1, an image that is not sound 2 with the verdict's rule and page, and nothing else gives these,
+-- where the lent words are `enough` (a lookup is lent none; too few give 1: Words). Answers 1 to 6 leave the image
 pub record Refused (kind : ℕ) (image result : List ℕ) (enough : Geometry → Type 0) (l : Left) : Type 0 where
   pub short-buffer : length result < 24 → l ≡ short image result
   pub no-geometry : 24 ≤ length result → 2 ≤ kind → l ≡ whole (refused 1 image) result
-  pub bad-length : (g : Geometry) → chosenOf kind ≡ Of g → 24 ≤ length result → goodLength g image ≡ false → l ≡ whole (refused 1 image) result
+  pub bad-length : (g : Geometry) → chosenOf kind ≡ Of g → 24 ≤ length result → goodLength g image ≡ false
+      → l ≡ whole (refused 1 image) result
   pub not-sound : (g : Geometry) → chosenOf kind ≡ Of g → enough g → 24 ≤ length result → goodLength g image ≡ true
-      → (rule page : ℕ) → verdict g (blocksOf g image) image ≡ Broken rule page → l ≡ whole (damaged image rule page) result
+      → (rule page : ℕ) → verdict g (blocksOf g image) image ≡ Broken rule page
+      → l ≡ whole (damaged image rule page) result
   pub neither : (g : Geometry) → chosenOf kind ≡ Of g → enough g → 24 ≤ length result → goodLength g image ≡ true
       → verdict g (blocksOf g image) image ≡ Sound → 1 ≤ l .answer → 3 ≤ l .answer
   pub untouched : 1 ≤ l .answer → l .answer ≤ 6 → l .image ≡ image
 
 module _ (image result : List ℕ) (o : Outcome) where
-  untouched-call : (1 ≤ o .answer → o .answer ≤ 6 → o .image ≡ image) → 1 ≤ returned o image result .answer → returned o image result .answer ≤ 6
+  untouched-call : (1 ≤ o .answer → o .answer ≤ 6 → o .image ≡ image) → 1 ≤ returned o image result .answer
+      → returned o image result .answer ≤ 6
       → returned o image result .image ≡ image
   unfolding returned
   untouched-call same = go (ltb (length result) 24)
     where
-      go : (t : Bool) → 1 ≤ pick {A = Left} t (short image result) (whole o result) .answer → pick {A = Left} t (short image result) (whole o result) .answer ≤ 6
+      go : (t : Bool) → 1 ≤ pick {A = Left} t (short image result) (whole o result) .answer → pick {A = Left} t
+          (short image result) (whole o result) .answer ≤ 6
           → pick {A = Left} t (short image result) (whole o result) .image ≡ image
       go true p q = refl
       go false p q = same p q
 
 -- a call on any geometry that refuses as it should, and leaves the image where it refuses
 module _ (kind : ℕ) (image result : List ℕ) (enough : Geometry → Type 0) (call : Geometry → Outcome)
-    (bad : (g : Geometry) → goodLength g image ≡ false → call g ≡ refused 1 image) (refuses : (g : Geometry) → enough g → Refuses g image (call g))
+    (bad : (g : Geometry) → goodLength g image ≡ false → call g ≡ refused 1 image) (refuses : (g : Geometry) → enough g
+    → Refuses g image (call g))
     (same : (g : Geometry) → 1 ≤ call g .answer → call g .answer ≤ 6 → call g .image ≡ image) where
   abbrev chosen : Outcome
   chosen = chosenCall (chosenOf kind) call (refused 1 image)
 
-  stays : (c : Chosen) → 1 ≤ chosenCall c call (refused 1 image) .answer → chosenCall c call (refused 1 image) .answer ≤ 6
+  stays : (c : Chosen) → 1 ≤ chosenCall c call (refused 1 image) .answer → chosenCall c call
+      (refused 1 image) .answer ≤ 6
       → chosenCall c call (refused 1 image) .image ≡ image
   unfolding chosenCall
   stays (Of g) p q = same g p q
@@ -89,13 +96,15 @@ module _ (kind : ℕ) (image result : List ℕ) (enough : Geometry → Type 0) (
     short-buffer = λ s. told-short chosen image result s;
     no-geometry = λ r h. leaves r (refused 1 image) (nowhere h);
     bad-length = λ g is r e. leaves r (refused 1 image) (at g is ∙ bad g e);
-    not-sound = λ g is w r e rule page d. leaves r (damaged image rule page) (at g is ∙ refuses g w .not-sound rule page e d);
+    not-sound = λ g is w r e rule page d. leaves r (damaged image rule page) (at g is
+        ∙ refuses g w .not-sound rule page e d);
     neither = λ g is w r e d. subst (λ (l : Left). 1 ≤ l .answer → 3 ≤ l .answer) (sym (leaves r (call g) (at g is)))
         (refuses g w .neither e d);
     untouched = untouched-call image result chosen (stays (chosenOf kind));
   }
 
--- a call with lent words refuses as the call without them, and gives 1 for a bad length and leaves the image whatever the words
+-- a call with lent words refuses as the call without them, and gives 1 for a bad length and leaves the image whatever
+-- the words
 module _ (g : Geometry) (image live : List ℕ) (o : Outcome) (r : Reply) (lent : Lent g image live o r) where
   lent-bad : Refuses g image o → goodLength g image ≡ false → r .outcome ≡ refused 1 image
   lent-bad h e = by-lt (length live) (wordsOf g (blocksOf g image)) (λ s. ap (λ (x : Reply). x .outcome) (lent .words-short s))
@@ -104,14 +113,17 @@ module _ (g : Geometry) (image live : List ℕ) (o : Outcome) (r : Reply) (lent 
   lent-refuses : Refuses g image o → Enough image live g → Refuses g image (r .outcome)
   lent-refuses h w = subst (Refuses g image) (sym (lent .outcome-is w)) h
 
-  lent-same : (1 ≤ o .answer → o .answer ≤ 6 → o .image ≡ image) → 1 ≤ r .outcome .answer → r .outcome .answer ≤ 6 → r .outcome .image ≡ image
+  lent-same : (1 ≤ o .answer → o .answer ≤ 6 → o .image ≡ image) → 1 ≤ r .outcome .answer → r .outcome .answer ≤ 6
+      → r .outcome .image ≡ image
   lent-same h = by-lt (length live) (wordsOf g (blocksOf g image)) (λ s p q. ap (λ (x : Reply). x .outcome .image) (lent .words-short s))
       (λ w. subst (λ (x : Outcome). 1 ≤ x .answer → x .answer ≤ 6 → x .image ≡ image) (sym (lent .outcome-is w)) h)
 
 module _ (kind : ℕ) (image live result : List ℕ) (o : Geometry → Outcome) (call : Geometry → Reply)
     (lent : (g : Geometry) → Lent g image live (o g) (call g)) where
-  lent-refused-call : ((g : Geometry) → Refuses g image (o g)) → ((g : Geometry) → 1 ≤ o g .answer → o g .answer ≤ 6 → o g .image ≡ image)
-      → Refused kind image result (Enough image live) (returned (chosenCall (chosenOf kind) call (reply (refused 1 image) live) .outcome) image result)
+  lent-refused-call : ((g : Geometry) → Refuses g image (o g)) → ((g : Geometry) → 1 ≤ o g .answer → o g .answer ≤ 6
+      → o g .image ≡ image)
+      → Refused kind image result (Enough image live)
+      (returned (chosenCall (chosenOf kind) call (reply (refused 1 image) live) .outcome) image result)
   lent-refused-call refuses same = rw (outcome-chosen (chosenOf kind) call (refused 1 image) live)
       (refused-call kind image result (Enough image live) (λ g. call g .outcome)
       (λ g. lent-bad g image live (o g) (call g) (lent g) (refuses g))
@@ -119,8 +131,10 @@ module _ (kind : ℕ) (image live result : List ℕ) (o : Geometry → Outcome) 
       (λ g. lent-same g image live (o g) (call g) (lent g) (same g)))
 
   -- with enough words the outcome is that of the call without them
-  lent-outcome : (g : Geometry) → chosenOf kind ≡ Of g → Enough image live g → chosenCall (chosenOf kind) call (reply (refused 1 image) live) .outcome ≡ o g
-  lent-outcome g is w = ap (λ (x : Reply). x .outcome) (on kind g is call (reply (refused 1 image) live)) ∙ lent g .outcome-is w
+  lent-outcome : (g : Geometry) → chosenOf kind ≡ Of g → Enough image live g → chosenCall (chosenOf kind) call
+      (reply (refused 1 image) live) .outcome ≡ o g
+  lent-outcome g is w = ap (λ (x : Reply). x .outcome) (on kind g is call (reply (refused 1 image) live))
+      ∙ lent g .outcome-is w
 
 module _ (kind : ℕ) (image result : List ℕ) (key : ℕ) where
   pub lookup-refused-call : Refused kind image result (λ g. Unit {0}) (looksUp kind image key result)
@@ -131,18 +145,22 @@ module _ (kind : ℕ) (image result : List ℕ) (key : ℕ) where
   pub insert-refused-call : (live : List ℕ) (address allowance : ℕ)
       → Refused kind image result (Enough image live) (inserts kind image live key address allowance result)
   unfolding insertLiveOf
-  insert-refused-call live address allowance = lent-refused-call kind image live result (λ g. insert g image key address allowance)
+  insert-refused-call live address allowance =
+      lent-refused-call kind image live result (λ g. insert g image key address allowance)
       (λ g. insertLive g image live key address allowance) (λ g. insert-live g image live key address allowance)
       (λ g. insert-refuses g image key address allowance) (λ g. insert-refused g image key address allowance)
 
-  pub delete-refused-call : (live : List ℕ) (allowance : ℕ) → Refused kind image result (Enough image live) (deletes kind image live key allowance result)
+  pub delete-refused-call : (live : List ℕ) (allowance : ℕ) → Refused kind image result (Enough image live)
+      (deletes kind image live key allowance result)
   unfolding deleteLiveOf
   delete-refused-call live allowance = lent-refused-call kind image live result (λ g. delete g image key allowance)
       (λ g. deleteLive g image live key allowance) (λ g. delete-live g image live key allowance)
       (λ g. delete-refuses g image key allowance) (λ g. delete-refused g image key allowance)
 
--- ---- Request 5: what is read in the result buffer of a call on an image that is not sound: 2, the first broken rule and its page
-module _ (kind : ℕ) (g : Geometry) (is : chosenOf kind ≡ Of g) (image result : List ℕ) (room : 24 ≤ length result) (good : goodLength g image ≡ true)
+-- ---- Request 5: what is read in the result buffer of a call on an image that is not sound: 2, the first broken rule
+-- and its page
+module _ (kind : ℕ) (g : Geometry) (is : chosenOf kind ≡ Of g) (image result : List ℕ) (room : 24 ≤ length result)
+    (good : goodLength g image ≡ true)
     (rule page : ℕ) (broken : verdict g (blocksOf g image) image ≡ Broken rule page) where
   formed-by : Shape g
   formed-by = shape g (chosen-known kind g is)
@@ -155,7 +173,8 @@ module _ (kind : ℕ) (g : Geometry) (is : chosenOf kind ≡ Of g) (image result
   page-low = omega (arith, few-pages g (shape-core g formed-by) (blocksOf g image) (good-blocks g image good .most), page-in)
 
   pub damaged-call : (enough : Geometry → Type 0) → enough g → (l : Left) → Refused kind image result enough l
-      → (l .answer ≡ 2) × (l .image ≡ image) × (answerIn (l .result) ≡ 2) × (ruleIn (l .result) ≡ rule) × (pageIn (l .result) ≡ page)
+      → (l .answer ≡ 2) × (l .image ≡ image) × (answerIn (l .result) ≡ 2) × (ruleIn (l .result) ≡ rule) ×
+      (pageIn (l .result) ≡ page)
   damaged-call enough w l h =
       let o = damaged image rule page in
       let e = h .not-sound g is w room good rule page broken in
@@ -169,7 +188,8 @@ module _ (kind : ℕ) (g : Geometry) (is : chosenOf kind ≡ Of g) (image result
 
 -- ---- Demands 2 and 3: on a sound image, with a result buffer of 24 bytes or more
 -- the answer of an update, its image, and the counts of its stores, as many as are allowed
-pub record Updates (g : Geometry) (old new : List Entry) (answers : List ℕ) (stores : List Store) (allowance : ℕ) (l : Left) : Type 0 where
+pub record Updates (g : Geometry) (old new : List Entry) (answers : List ℕ) (stores : List Store)
+    (allowance : ℕ) (l : Left) : Type 0 where
   pub answer : OneOf (l .answer) answers
   pub finished : l .answer ≡ 0 → Holds g new (l .image)
   pub stopped : l .answer ≡ 7 → Holds g old (l .image)
@@ -196,8 +216,10 @@ most-low _ is-small = omega arith
 most-low _ is-large = omega arith
 
 -- the counts of an outcome that is made of a list of stores
-module _ (g : Geometry) (known : Known g) (image result : List ℕ) (room : 24 ≤ length result) (stores : List Store) (allowance : ℕ) (o : Outcome)
-    (is : o ≡ made g stores allowance image) (few : (programs stores ≤ programmedMost g) × (erases stores ≤ erasedMost g)) where
+module _ (g : Geometry) (known : Known g) (image result : List ℕ) (room : 24 ≤ length result) (stores : List Store)
+    (allowance : ℕ) (o : Outcome)
+    (is : o ≡ made g stores allowance image) (few : (programs stores ≤ programmedMost g) ×
+    (erases stores ≤ erasedMost g)) where
   made-programmed : programmedIn (returned o image result .result) ≡ programs (take allowance stores)
   unfolding made
   made-programmed =
@@ -212,7 +234,8 @@ module _ (g : Geometry) (known : Known g) (image result : List ℕ) (room : 24 �
       ap (λ (l : Left). erasedIn (l .result)) (told-whole o image result room)
       ∙ told-number o result room 3 (omega arith) (omega (arith, q, erases-fewer allowance stores, few .1, shape g known .top-high)) ∙ q
 
-module _ (kind : ℕ) (g : Geometry) (is : chosenOf kind ≡ Of g) (image result : List ℕ) (ready : Ready g image) (room : 24 ≤ length result)
+module _ (kind : ℕ) (g : Geometry) (is : chosenOf kind ≡ Of g) (image result : List ℕ) (ready : Ready g image)
+    (room : 24 ≤ length result)
     (key : ℕ) (key-low : key < fourBytes) where
   abbrev n : ℕ
   n = blocksOf g image
@@ -257,7 +280,8 @@ module _ (kind : ℕ) (g : Geometry) (is : chosenOf kind ≡ Of g) (image result
   -- with enough words
   module _ (live : List ℕ) (enough : Enough image live g) where
     -- mutree_insert
-    pub insert-call : (address allowance : ℕ) → address < fourBytes → Updates g (mapAt g image) (put key address (mapAt g image))
+    pub insert-call : (address allowance : ℕ) → address < fourBytes → Updates g (mapAt g image)
+        (put key address (mapAt g image))
         (0 ∷ 3 ∷ 5 ∷ 6 ∷ 7 ∷ []) (insertStores g n image key address) allowance (inserts kind image live key address allowance result)
     unfolding insertLiveOf
     insert-call address allowance low = update-call (mapAt g image) (put key address (mapAt g image)) (0 ∷ 3 ∷ 5 ∷ 6 ∷ 7 ∷ [])

@@ -1,5 +1,5 @@
--- What the calls of the C library leave, by their contracts in crates/camera/src/lib.rt: the number returned, the image, the lent words
--- and the result buffer. And how the numbers of a result are read. Assumes nothing.
+-- What the calls of the C library leave, by their contracts in crates/camera/src/lib.rt: the number returned, the
+-- image, the lent words and the result buffer. And how the numbers of a result are read. Assumes nothing.
 use mathlib.Core.Path.{_≡_, refl, ap, _∙_}
 use mathlib.Core.List.{List, [], _∷_}
 use mathlib.Core.Bool.{Bool, true, false}
@@ -33,14 +33,17 @@ abbrev pub looksUp : ℕ → List ℕ → ℕ → List ℕ → Left
 looksUp kind image key result = returned (lookupOf kind image key) image result
 
 abbrev pub inserts : ℕ → List ℕ → List ℕ → ℕ → ℕ → ℕ → List ℕ → Left
-inserts kind image live key address allowance result = returned (insertLiveOf kind image live key address allowance .outcome) image result
+inserts kind image live key address allowance result =
+    returned (insertLiveOf kind image live key address allowance .outcome) image result
 
 abbrev pub deletes : ℕ → List ℕ → List ℕ → ℕ → ℕ → List ℕ → Left
-deletes kind image live key allowance result = returned (deleteLiveOf kind image live key allowance .outcome) image result
+deletes kind image live key allowance result =
+    returned (deleteLiveOf kind image live key allowance .outcome) image result
 
 -- the lent words afterwards
 abbrev pub insertWords : ℕ → List ℕ → List ℕ → ℕ → ℕ → ℕ → List ℕ → List ℕ
-insertWords kind image live key address allowance result = wordsLeft (insertLiveOf kind image live key address allowance) live result
+insertWords kind image live key address allowance result =
+    wordsLeft (insertLiveOf kind image live key address allowance) live result
 
 abbrev pub deleteWords : ℕ → List ℕ → List ℕ → ℕ → ℕ → List ℕ → List ℕ
 deleteWords kind image live key allowance result = wordsLeft (deleteLiveOf kind image live key allowance) live result
@@ -66,7 +69,8 @@ other-unknown (suc zero) h = absurd (omega (arith, h))
 other-unknown (suc (suc kind)) h = refl
 
 -- a call of any kind with the number of a geometry is the call on that geometry
-pub on : {A : Type 0} (kind : ℕ) (g : Geometry) → chosenOf kind ≡ Of g → (call : Geometry → A) (other : A) → chosenCall (chosenOf kind) call other ≡ call g
+pub on : {A : Type 0} (kind : ℕ) (g : Geometry) → chosenOf kind ≡ Of g → (call : Geometry → A) (other : A)
+    → chosenCall (chosenOf kind) call other ≡ call g
 unfolding chosenCall
 on kind g is call other = ap (λ (c : Chosen). chosenCall c call other) is
 
@@ -120,11 +124,13 @@ pub record Told (o : Outcome) (result : List ℕ) (l : Left) : Type 0 where
   pub image-is : l .image ≡ o .image
   pub result-is : l .result ≡ putNumbers result 0 (numbersOf o)
 
-pub told : (o : Outcome) (image result : List ℕ) → (returned o image result .answer ≡ 1 → ⊥) → Told o result (returned o image result)
+pub told : (o : Outcome) (image result : List ℕ) → (returned o image result .answer ≡ 1 → ⊥)
+    → Told o result (returned o image result)
 unfolding returned
 told o image result n = go (ltb (length result) 24) refl n
   where
-    go : (t : Bool) → ltb (length result) 24 ≡ t → (pick {A = Left} t (short image result) (whole o result) .answer ≡ 1 → ⊥)
+    go : (t : Bool) → ltb (length result) 24 ≡ t → (pick {A = Left} t (short image result) (whole o result) .answer ≡ 1
+        → ⊥)
         → Told o result (pick t (short image result) (whole o result))
     go true e m = absurd (m refl)
     go false e m = record { room = ltb-false (length result) 24 e; answer-is = refl; image-is = refl; result-is = refl }
@@ -134,7 +140,8 @@ pub told-whole : (o : Outcome) (image result : List ℕ) → 24 ≤ length resul
 unfolding returned
 told-whole o image result h = rw (le-ltb (length result) 24 h)
 
-pub told-short : (o : Outcome) (image result : List ℕ) → length result < 24 → returned o image result ≡ short image result
+pub told-short : (o : Outcome) (image result : List ℕ) → length result < 24
+    → returned o image result ≡ short image result
 unfolding returned
 told-short o image result h = rw (lt-ltb (length result) 24 h)
 
@@ -149,12 +156,14 @@ words-kept r old result h = rw (lt-ltb (length result) 24 h)
 
 -- a number is not touched by those written behind it
 word-before : (b : List ℕ) (i j v : ℕ) → i + 4 ≤ j → u32At (putU32 b j v) i ≡ u32At b i
-word-before b i j v h = copy-u32 b i (putU32 b j v) i 4 (λ k q. word-off b j v (i + k) (inl (omega (arith, h, q)))) 0 i i (omega arith) (omega arith) (omega arith)
+word-before b i j v h = copy-u32 b i (putU32 b j v) i 4 (λ k q. word-off b j v (i + k) (inl (omega (arith, h, q)))) 0 i
+    i (omega arith) (omega arith) (omega arith)
 
 numbers-before : (b vs : List ℕ) (i at : ℕ) → i + 4 ≤ at → u32At (putNumbers b at vs) i ≡ u32At b i
 unfolding putNumbers
 numbers-before b [] i at h = refl
-numbers-before b (v ∷ vs) i at h = numbers-before (putU32 b at v) vs i (at + 4) (omega (arith, h)) ∙ word-before b i at v h
+numbers-before b (v ∷ vs) i at h = numbers-before (putU32 b at v) vs i (at + 4) (omega (arith, h))
+    ∙ word-before b i at v h
 
 -- each number of a list is read as it was put
 pub number-read : (b vs : List ℕ) (at i : ℕ) → at + 4 * length vs ≤ length b → i < length vs → getD vs i 0 < fourBytes
@@ -169,6 +178,8 @@ number-read b (v ∷ vs) at (suc i) room h low =
     rw q (number-read (putU32 b at v) vs (at + 4) i (omega (arith, room, length-word b at v)) (omega (arith, h)) low)
 
 -- so is each number of an outcome
-pub told-number : (o : Outcome) (result : List ℕ) → 24 ≤ length result → (i : ℕ) → i < 6 → getD (numbersOf o) i 0 < fourBytes
+pub told-number : (o : Outcome) (result : List ℕ) → 24 ≤ length result → (i : ℕ) → i < 6
+    → getD (numbersOf o) i 0 < fourBytes
     → numberIn i (whole o result .result) ≡ getD (numbersOf o) i 0
-told-number o result room i h low = let q : 4 * i ≡ 0 + 4 * i = omega arith in rw q (number-read result (numbersOf o) 0 i room h low)
+told-number o result room i h low = let q : 4 * i ≡ 0 + 4 * i = omega arith in
+    rw q (number-read result (numbersOf o) 0 i room h low)

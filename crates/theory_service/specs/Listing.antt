@@ -1,5 +1,6 @@
--- Request 1 of the C call mutree_list, for every image of bytes, every two buffers and keys of 32 bits: what it refuses, and on a sound image
--- the map's part between the keys. `between`, `filled`, `writtenOf` are of crate model. Assumes nothing.
+-- Request 1 of the C call mutree_list, for every image of bytes, every two buffers and keys of 32 bits: what it
+-- refuses, and on a sound image the map's part between the keys. `between`, `filled`, `writtenOf` are of crate model.
+-- Assumes nothing.
 use mathlib.Core.Path.{_≡_, ap, _∙_}
 use mathlib.Core.List.{List}
 use mathlib.Core.Bool.{true, false}
@@ -31,11 +32,14 @@ list-short kind image low high pairs result h = told-short (asOutcome (listOf ki
 
 -- else the result buffer takes the numbers of the listing, and the pairs are those of its buffer
 module _ (kind : ℕ) (image : List ℕ) (low high : ℕ) (pairs result : List ℕ) (room : 24 ≤ length result) where
-  leaves : (l : Listed) → listOf kind image low high pairs ≡ l → listsPairs kind image low high pairs result ≡ whole (asOutcome l) result
-  leaves l e = told-whole (asOutcome (listOf kind image low high pairs)) pairs result room ∙ ap (λ (x : Listed). whole (asOutcome x) result) e
+  leaves : (l : Listed) → listOf kind image low high pairs ≡ l → listsPairs kind image low high pairs result
+      ≡ whole (asOutcome l) result
+  leaves l e = told-whole (asOutcome (listOf kind image low high pairs)) pairs result room
+      ∙ ap (λ (x : Listed). whole (asOutcome x) result) e
 
   -- a number that is no geometry's, or a bad length: 1, both counts 0, the pairs untouched
-  pub list-no-geometry : 2 ≤ kind → listsPairs kind image low high pairs result ≡ whole (asOutcome (listsNone 1 0 0 pairs)) result
+  pub list-no-geometry : 2 ≤ kind → listsPairs kind image low high pairs result
+      ≡ whole (asOutcome (listsNone 1 0 0 pairs)) result
   unfolding listOf chosenCall
   list-no-geometry h = leaves (listsNone 1 0 0 pairs)
       (ap (λ (c : Chosen). chosenCall c (λ g. listing g image low high pairs) (listsNone 1 0 0 pairs)) (other-unknown kind h))
@@ -45,13 +49,16 @@ module _ (kind : ℕ) (image : List ℕ) (low high : ℕ) (pairs result : List �
     unfolding listOf
     at = on kind g is (λ x. listing x image low high pairs) (listsNone 1 0 0 pairs)
 
-    pub list-length : goodLength g image ≡ false → listsPairs kind image low high pairs result ≡ whole (asOutcome (listsNone 1 0 0 pairs)) result
+    pub list-length : goodLength g image ≡ false → listsPairs kind image low high pairs result
+        ≡ whole (asOutcome (listsNone 1 0 0 pairs)) result
     list-length e = leaves (listsNone 1 0 0 pairs) (at ∙ list-bad-length g image low high pairs e)
 
     -- an image that is not sound: 2, both counts 0, the verdict's rule and page, the pairs untouched
-    pub list-damaged : (rule page : ℕ) → goodLength g image ≡ true → verdict g (blocksOf g image) image ≡ Broken rule page
+    pub list-damaged : (rule page : ℕ) → goodLength g image ≡ true → verdict g (blocksOf g image) image ≡ Broken rule
+        page
         → listsPairs kind image low high pairs result ≡ whole (asOutcome (listsNone 2 rule page pairs)) result
-    list-damaged rule page e d = leaves (listsNone 2 rule page pairs) (at ∙ list-not-sound g image low high pairs rule page e d)
+    list-damaged rule page e d = leaves (listsNone 2 rule page pairs) (at
+        ∙ list-not-sound g image low high pairs rule page e d)
 
     -- ---- a sound image
     module _ (ready : Ready g image) where
@@ -77,10 +84,12 @@ module _ (kind : ℕ) (image : List ℕ) (low high : ℕ) (pairs result : List �
 
       -- the numbers read in the result buffer: 0, pairs that exist, pairs written
       pub list-answer : answerIn (listsPairs kind image low high pairs result .result) ≡ 0
-      list-answer = ap (λ (l : Left). answerIn (l .result)) list-call ∙ told-number (asOutcome (lists part pairs)) result room 0 (omega arith) (omega arith)
+      list-answer = ap (λ (l : Left). answerIn (l .result)) list-call
+          ∙ told-number (asOutcome (lists part pairs)) result room 0 (omega arith) (omega arith)
 
       pub list-exist : existIn (listsPairs kind image low high pairs result .result) ≡ length part
-      list-exist = ap (λ (l : Left). existIn (l .result)) list-call ∙ told-number (asOutcome (lists part pairs)) result room 1 (omega arith) few
+      list-exist = ap (λ (l : Left). existIn (l .result)) list-call
+          ∙ told-number (asOutcome (lists part pairs)) result room 1 (omega arith) few
 
       pub list-written : writtenIn (listsPairs kind image low high pairs result .result) ≡ writtenOf part pairs
       list-written = ap (λ (l : Left). writtenIn (l .result)) list-call

@@ -1,6 +1,6 @@
--- Request 10 of the C calls on the small chip: mutree_format, then n calls of mutree_insert, each of a key that mutree_lookup does not find and each
--- answered DONE, with nothing else between. Every image of bytes, every key, address, allowance, lent words (DONE says that they were enough)
--- and result buffer. Assumes nothing.
+-- Request 10 of the C calls on the small chip: mutree_format, then n calls of mutree_insert, each of a key that
+-- mutree_lookup does not find and each answered DONE, with nothing else between. Every image of bytes, every key,
+-- address, allowance, lent words (DONE says that they were enough) and result buffer. Assumes nothing.
 use mathlib.Core.Path.{_≡_, refl, ap, sym, subst, _∙_}
 use mathlib.Core.List.{List, [], _∷_, map}
 use mathlib.Core.Bool.{Bool, true, false}
@@ -64,13 +64,15 @@ unfolding answered
 absent-by image none e = refl
 absent-by image (some a) e = absurd (omega (arith, e))
 
-module _ (image : List ℕ) (ready : Ready small image) (x : Call) (k-low : x .key < fourBytes) (a-low : x .address < fourBytes) where
+module _ (image : List ℕ) (ready : Ready small image)
+    (x : Call) (k-low : x .key < fourBytes) (a-low : x .address < fourBytes) where
   absent : looksUp 0 image (x .key) (x .result) .answer ≡ 4 → find (x .key) (mapAt small image) ≡ none
   unfolding chosenCall lookupOf
   absent e =
       let t = told (lookup small image (x .key)) image (x .result) (λ z. absurd (omega (arith, z, e))) in
       absent-by image (find (x .key) (mapAt small image))
-      (sym (ap (λ (o : Outcome). o .answer) (lookup-answers small small-shape image ready (x .key) k-low)) ∙ sym (t .answer-is) ∙ e)
+      (sym (ap (λ (o : Outcome). o .answer) (lookup-answers small small-shape image ready (x .key) k-low))
+      ∙ sym (t .answer-is) ∙ e)
 
   module _ (e : leaves image x .answer ≡ 0) where
     abbrev outcome : Outcome
@@ -92,7 +94,8 @@ module _ (image : List ℕ) (ready : Ready small image) (x : Call) (k-low : x .k
         let h = insert-live small image (x .live) (x .key) (x .address) (x .allowance) in
         let q = sym (tells-replied .answer-is) ∙ e in
         by-lt (length (x .live)) (wordsOf small (blocksOf small image))
-        (λ s. let z = ap (λ (r : Reply). r .outcome .answer) (h .words-short s) in absurd (omega (arith, z, q))) (h .outcome-is)
+        (λ s. let z = ap (λ (r : Reply). r .outcome .answer) (h .words-short s) in
+        absurd (omega (arith, z, q))) (h .outcome-is)
 
     tells : Told outcome (x .result) (leaves image x)
     tells = subst (λ (o : Outcome). Told o (x .result) (leaves image x)) enough tells-replied
@@ -121,7 +124,8 @@ finished (x ∷ xs) image ready d =
     let next = insert-done small small-shape image ready (x .key) (d .0) (x .address) (x .allowance) (d .1) e in
     (d .0, d .1, absent image ready x (d .0) (d .1) (d .2), e, finished xs _ (next .ready) (subst (Done xs) (t .image-is) (d .4)))
 
-counts-are : (xs : List Call) (image : List ℕ) → Ready small image → Done xs image → beyondOne xs image ≡ beyond small (map item xs) image
+counts-are : (xs : List Call) (image : List ℕ) → Ready small image → Done xs image → beyondOne xs image ≡ beyond small
+    (map item xs) image
 unfolding Done beyondOne beyond
 counts-are [] image ready d = refl
 counts-are (x ∷ xs) image ready d =
@@ -141,7 +145,8 @@ good-format : (image : List ℕ) → format small image .answer ≡ 0 → goodLe
 unfolding format
 good-format image q = go (goodLength small image) q
   where
-    go : (b : Bool) → pick {A = Outcome} b (gives 0 0 1 (blocksOf small image) (applyAll small (formatStores small (blocksOf small image)) image)) (refused 1 image) .answer ≡ 0 → b ≡ true
+    go : (b : Bool) → pick {A = Outcome} b (gives 0 0 1 (blocksOf small image)
+        (applyAll small (formatStores small (blocksOf small image)) image)) (refused 1 image) .answer ≡ 0 → b ≡ true
     go true h = refl
     go false h = absurd (omega (arith, h))
 
@@ -152,7 +157,8 @@ formatted image result e =
     let t = told (format small image) image result (λ z. absurd (omega (arith, z, e))) in
     (good-format image (sym (t .answer-is) ∙ e), t .image-is)
 
-module _ (image result : List ℕ) (bytes : (i : ℕ) → byteAt image i < 256) (e : formats 0 image result .answer ≡ 0) (xs : List Call)
+module _ (image result : List ℕ) (bytes : (i : ℕ) → byteAt image i < 256) (e : formats 0 image result .answer
+    ≡ 0) (xs : List Call)
     (d : Done xs (formats 0 image result .image)) where
   abbrev new : List ℕ
   new = formats 0 image result .image
@@ -175,5 +181,6 @@ module _ (image result : List ℕ) (bytes : (i : ℕ) → byteAt image i < 256) 
   many-calls-are =
       let f = formatted image result e in
       let w = subst (Finished small (map item xs)) (f .1) (finished xs new ready d) in
-      counts-are xs new ready d ∙ ap (beyond small (map item xs)) (f .1) ∙ many-inserts-are image (f .0) bytes (map item xs) w
+      counts-are xs new ready d ∙ ap (beyond small (map item xs)) (f .1)
+      ∙ many-inserts-are image (f .0) bytes (map item xs) w
       ∙ ap (splitsAndGrowths small (map item xs)) (sym (f .1))

@@ -1,5 +1,5 @@
--- Request 4 of the C call mutree_patrol, on both geometries, for every half that has a fitting code (on a sound image every half has:
--- `sound-fits` in crate demands), with a result buffer of 24 bytes or more. Assumes nothing.
+-- Request 4 of the C call mutree_patrol, on both geometries, for every half that has a fitting code (on a sound image
+-- every half has: `sound-fits` in crate demands), with a result buffer of 24 bytes or more. Assumes nothing.
 use mathlib.Core.Path.{_≡_, ap, _∙_}
 use mathlib.Core.List.{List}
 use mathlib.Core.Bool.{true, false}
@@ -28,7 +28,8 @@ unfolding patrolOf chosenCall
 no-geometry-patrol kind h image page half result room = told-whole (patrolOf kind image page half) image result room
     ∙ ap (λ (c : Chosen). whole (chosenCall c (λ g. patrol g image page half) (refused 1 image)) result) (other-unknown kind h)
 
-module _ (kind : ℕ) (g : Geometry) (is : chosenOf kind ≡ Of g) (page half : ℕ) (result : List ℕ) (room : 24 ≤ length result) where
+module _ (kind : ℕ) (g : Geometry) (is : chosenOf kind ≡ Of g) (page half : ℕ) (result : List ℕ)
+    (room : 24 ≤ length result) where
   -- the call is the patrol on that geometry
   pub patrol-call : (image : List ℕ) → patrols kind image page half result ≡ whole (patrol g image page half) result
   unfolding patrolOf
@@ -36,7 +37,8 @@ module _ (kind : ℕ) (g : Geometry) (is : chosenOf kind ≡ Of g) (page half : 
       ∙ ap (λ (o : Outcome). whole o result) (on kind g is (λ x. patrol x image page half) (refused 1 image))
 
   -- "A bad length, page or half gives LENGTH", and nothing changes
-  pub no-half-patrol : (image : List ℕ) → isHalf g image page half ≡ false → patrols kind image page half result ≡ whole (refused 1 image) result
+  pub no-half-patrol : (image : List ℕ) → isHalf g image page half ≡ false → patrols kind image page half result
+      ≡ whole (refused 1 image) result
   unfolding patrol
   no-half-patrol image e = patrol-call image ∙ ap (λ (o : Outcome). whole o result) (rw e)
 
@@ -63,7 +65,8 @@ module _ (kind : ℕ) (g : Geometry) (is : chosenOf kind ≡ Of g) (page half : 
 
     -- one flipped bit is put right: told with its number, and the image is as before the flip
     pub data-bit-patrol : (n : ℕ) → n < 2048 → patrols kind (one n) page half result ≡ whole (finds 1 n image) result
-    data-bit-patrol n h = patrol-call (one n) ∙ ap (λ (o : Outcome). whole o result) (data-bit-mended g formed image page half asked ok n h)
+    data-bit-patrol n h = patrol-call (one n)
+        ∙ ap (λ (o : Outcome). whole o result) (data-bit-mended g formed image page half asked ok n h)
 
     pub code-bit-patrol : ((i : ℕ) → byteAt image i < 256) → (j : ℕ) → j < 24
         → patrols kind (flipBit image code j) page half result ≡ whole (finds 2 j image) result
@@ -73,4 +76,5 @@ module _ (kind : ℕ) (g : Geometry) (is : chosenOf kind ≡ Of g) (page half : 
     -- two flipped data bits are told, and nothing changes
     pub two-bits-patrol : (n m : ℕ) → n < 2048 → m < 2048 → (n ≡ m → ⊥)
         → patrols kind (two n m) page half result ≡ whole (finds 3 0 (two n m)) result
-    two-bits-patrol n m h k d = patrol-call (two n m) ∙ ap (λ (o : Outcome). whole o result) (two-bits-told g formed image page half asked ok n m h k d)
+    two-bits-patrol n m h k d = patrol-call (two n m)
+        ∙ ap (λ (o : Outcome). whole o result) (two-bits-told g formed image page half asked ok n m h k d)

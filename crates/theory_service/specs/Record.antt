@@ -1,5 +1,5 @@
--- The record of request 8 in its 24 bytes: what is put is read, a record that is put back leaves the bytes, the bytes after it stay; and the
--- record that opening gives fits them. Assumes nothing.
+-- The record of request 8 in its 24 bytes: what is put is read, a record that is put back leaves the bytes, the bytes
+-- after it stay; and the record that opening gives fits them. Assumes nothing.
 use mathlib.Core.Path.{_≡_, refl, subst, sym, _∙_}
 use mathlib.Core.List.{List, [], _∷_}
 use mathlib.Core.Bool.{Bool, true, false}
@@ -62,7 +62,8 @@ third p q r t hp hq hr =
     let e : (p + 256 * q + 65536 * r + 16777216 * t) / 65536 ≡ r + 256 * t = omega (arith, hp, hq) in
     rw e (omega (arith, hr))
 
-fourth : (p q r t : ℕ) → p < 256 → q < 256 → r < 256 → t < 256 → (p + 256 * q + 65536 * r + 16777216 * t) / 16777216 % 256 ≡ t
+fourth : (p q r t : ℕ) → p < 256 → q < 256 → r < 256 → t < 256 → (p + 256 * q + 65536 * r + 16777216 * t) / 16777216 %
+    256 ≡ t
 fourth p q r t hp hq hr ht =
     let e : (p + 256 * q + 65536 * r + 16777216 * t) / 16777216 ≡ t = omega (arith, hp, hq, hr) in
     rw e (omega (arith, ht))
@@ -96,7 +97,8 @@ length-numbers b (v ∷ vs) at = length-numbers (putU32 b at v) vs (at + 4) ∙ 
 numbers-past : (b vs : List ℕ) (at i : ℕ) → at + 4 * length vs ≤ i → byteAt (putNumbers b at vs) i ≡ byteAt b i
 unfolding putNumbers
 numbers-past b [] at i h = refl
-numbers-past b (v ∷ vs) at i h = numbers-past (putU32 b at v) vs (at + 4) i (omega (arith, h)) ∙ word-off b at v i (inr (omega (arith, h)))
+numbers-past b (v ∷ vs) at i h = numbers-past (putU32 b at v) vs (at + 4) i (omega (arith, h))
+    ∙ word-off b at v i (inr (omega (arith, h)))
 
 module _ (o : Opened) (bytes : List ℕ) where
   pub record-long : length (putRecord o bytes) ≡ length bytes
@@ -134,7 +136,8 @@ unfolding openedIn
 opened-fits g known img ready =
     let n = blocksOf g img in
     let sh = shape g known in
-    let few : pagesOf g n < fourBytes = (let a = mul-le-mul-left (g .pages) (blocks g sh img ready .most) in let b = sh .pages-high in omega (arith, a, b)) in
+    let few : pagesOf g n < fourBytes = (let a = mul-le-mul-left (g .pages) (blocks g sh img ready .most) in let b =
+    sh .pages-high in omega (arith, a, b)) in
     let root = ready-keeps g sh img ready .held .whole .sound .rooted .fits .0 in
     subst Fits (sym (opened-ready g img ready)) (record {
       root-low = omega (arith, root, few);

@@ -1,5 +1,5 @@
--- Request 7 of the C calls mutree_insert and mutree_delete, for every image, number of a chip, lent words and result buffer: what they leave
--- of the words. `Told`, `Past`, `blockOnes` are of crate live. Assumes nothing.
+-- Request 7 of the C calls mutree_insert and mutree_delete, for every image, number of a chip, lent words and result
+-- buffer: what they leave of the words. `Told`, `Past`, `blockOnes` are of crate live. Assumes nothing.
 use mathlib.Core.Path.{_≡_, refl, ap, sym, subst, _∙_}
 use mathlib.Core.List.{List}
 use mathlib.Core.Logic.{_⊎_}
@@ -30,7 +30,8 @@ pub record Lends (kind : ℕ) (image old result : List ℕ) (l : Left) (words : 
   -- so does a number that is no geometry's, and it is told
   pub no-geometry : 24 ≤ length result → 2 ≤ kind → (l ≡ whole (refused 1 image) result) × (words ≡ old)
   -- "Fewer than B words give LENGTH", and nothing is touched
-  pub words-short : (g : Geometry) → chosenOf kind ≡ Of g → 24 ≤ length result → length old < wordsOf g (blocksOf g image)
+  pub words-short : (g : Geometry) → chosenOf kind ≡ Of g → 24 ≤ length result → length old < wordsOf g
+      (blocksOf g image)
       → (l ≡ whole (refused 1 image) result) × (words ≡ old)
   -- LENGTH and DAMAGED, "which leave it"
   pub words-left : (l .answer ≡ 1) ⊎ (l .answer ≡ 2) → words ≡ old
@@ -40,7 +41,8 @@ pub record Lends (kind : ℕ) (image old result : List ℕ) (l : Left) (words : 
   pub words-told : (g : Geometry) → chosenOf kind ≡ Of g → (l .answer ≡ 1 → ⊥) → (l .answer ≡ 2 → ⊥)
       → Told (live (placesOf (chipOf g (blocksOf g image) (l .image)))) (wordsOf g (blocksOf g image)) words
   -- "A block's live pages are then the count of ones in its word"
-  pub live-counts : (g : Geometry) → chosenOf kind ≡ Of g → (l .answer ≡ 1 → ⊥) → (l .answer ≡ 2 → ⊥) → (b : ℕ) → b < blocksOf g image
+  pub live-counts : (g : Geometry) → chosenOf kind ≡ Of g → (l .answer ≡ 1 → ⊥) → (l .answer ≡ 2 → ⊥) → (b : ℕ)
+      → b < blocksOf g image
       → blockOnes g words b ≡ livesIn (g .pages) b (chipOf g (blocksOf g image) (l .image))
 
 -- a call on any geometry, with what it promises there
@@ -70,7 +72,8 @@ module _ (kind : ℕ) (image old result : List ℕ) (o : Geometry → Outcome) (
   at g is = on kind g is call (reply (refused 1 image) old)
 
   kept : (c : Chosen)
-      → (chosenCall c call (reply (refused 1 image) old) .outcome .answer ≡ 1) ⊎ (chosenCall c call (reply (refused 1 image) old) .outcome .answer ≡ 2)
+      → (chosenCall c call (reply (refused 1 image) old) .outcome .answer ≡ 1) ⊎
+      (chosenCall c call (reply (refused 1 image) old) .outcome .answer ≡ 2)
       → chosenCall c call (reply (refused 1 image) old) .words ≡ old
   unfolding chosenCall
   kept (Of g) h = lent g .words-left h
@@ -96,7 +99,8 @@ module _ (kind : ℕ) (image old result : List ℕ) (o : Geometry → Outcome) (
           subst (Told (live (placesOf (chipOf g (blocksOf g image) (left .image)))) (wordsOf g (blocksOf g image))) (sym (e .1))
           (subst (λ (l : Left). Told (live (placesOf (chipOf g (blocksOf g image) (l .image)))) (wordsOf g (blocksOf g image)) (call g .words)) (sym (e .0)) t)
 
-      counts : (b : ℕ) → b < blocksOf g image → blockOnes g words b ≡ livesIn (g .pages) b (chipOf g (blocksOf g image) (left .image))
+      counts : (b : ℕ) → b < blocksOf g image → blockOnes g words b ≡ livesIn (g .pages) b
+          (chipOf g (blocksOf g image) (left .image))
       counts = block-ones g (live (placesOf (chipOf g (blocksOf g image) (left .image)))) (blocksOf g image) words
           (whole-words g (chosen-known kind g is)) tells
 
@@ -114,13 +118,15 @@ module _ (kind : ℕ) (image old result : List ℕ) (o : Geometry → Outcome) (
 module _ (kind : ℕ) (image old result : List ℕ) (key : ℕ) where
   -- mutree_insert
   pub insert-lends : (address allowance : ℕ)
-      → Lends kind image old result (inserts kind image old key address allowance result) (insertWords kind image old key address allowance result)
+      → Lends kind image old result (inserts kind image old key address allowance result)
+      (insertWords kind image old key address allowance result)
   unfolding insertLiveOf
   insert-lends address allowance = lends-call kind image old result (λ g. insert g image key address allowance)
       (λ g. insertLive g image old key address allowance) (λ g. insert-live g image old key address allowance)
 
   -- mutree_delete
-  pub delete-lends : (allowance : ℕ) → Lends kind image old result (deletes kind image old key allowance result) (deleteWords kind image old key allowance result)
+  pub delete-lends : (allowance : ℕ) → Lends kind image old result (deletes kind image old key allowance result)
+      (deleteWords kind image old key allowance result)
   unfolding deleteLiveOf
   delete-lends allowance = lends-call kind image old result (λ g. delete g image key allowance)
       (λ g. deleteLive g image old key allowance) (λ g. delete-live g image old key allowance)

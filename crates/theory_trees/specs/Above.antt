@@ -1,6 +1,6 @@
--- Insert over any pages: a changed node that stays whole stands on `one`, its halves on `left` and `right`. The map with K put in,
--- and R5 of the new nodes, whether the root stays or grows. The μ-Tree (Insert) and the plain tree (PlainInsert) are instances.
--- Assumes nothing.
+-- Insert over any pages: a changed node that stays whole stands on `one`, its halves on `left` and `right`. The map
+-- with K put in, and R5 of the new nodes, whether the root stays or grows. The μ-Tree (Insert) and the plain tree
+-- (PlainInsert) are instances. Assumes nothing.
 use mathlib.Core.Path.{_≡_, refl, ap, sym, _∙_}
 use mathlib.Core.List.{List, [], _∷_, _++_, append-nil}
 use mathlib.Core.Bool.{Bool, true, false}
@@ -29,7 +29,8 @@ put-before k a lo hi [] (e ∷ zs) q h = simp (le-ltb (e .key) k (omega arith), 
 put-before k a lo hi (e ∷ ys) zs q h = go (ltb (e .key) k) (eqb (e .key) k) (put-before k a lo hi ys zs q h)
   where
     go : (s t : Bool) → put k a (ys ++ zs) ≡ put k a ys ++ zs
-        → pick s (e ∷ put k a (ys ++ zs)) (record { key = k; addr = a } ∷ pick t (ys ++ zs) (e ∷ ys ++ zs)) ≡ pick s (e ∷ put k a ys)
+        → pick s (e ∷ put k a (ys ++ zs)) (record { key = k; addr = a } ∷ pick t (ys ++ zs) (e ∷ ys ++ zs)) ≡ pick s
+        (e ∷ put k a ys)
         (record { key = k; addr = a } ∷ pick t ys (e ∷ ys)) ++ zs
     go true t i = ap (λ l. e ∷ l) i
     go false true i = refl
@@ -56,16 +57,19 @@ pub first-below : (P : ℕ → Entry → Type 0) (y : ℕ) (es : List Entry) →
 first-below P y [] n h = absurd (omega arith)
 first-below P y (e ∷ es) n h = omega (arith, next-le P y es (h .2))
 
-first-less : (P : ℕ → Entry → Type 0) (y m : ℕ) (c : List Entry) → 1 ≤ m → m < length c → Rises P y c → next c y < next (drop m c) 0
+first-less : (P : ℕ → Entry → Type 0) (y m : ℕ) (c : List Entry) → 1 ≤ m → m < length c → Rises P y c
+    → next c y < next (drop m c) 0
 first-less P y zero c q b h = absurd (omega arith)
 first-less P y (suc m) [] q b h = absurd (omega arith)
 first-less P y (suc zero) (e ∷ []) q b h = absurd (omega arith)
 first-less P y (suc zero) (e ∷ g ∷ es) q b h = h .0
 first-less P y (suc (suc m)) (e ∷ []) q b h = absurd (omega arith)
-first-less P y (suc (suc m)) (e ∷ g ∷ es) q b h = let i = first-less P y (suc m) (g ∷ es) (omega arith) (omega arith) (h .2) in omega arith
+first-less P y (suc (suc m)) (e ∷ g ∷ es) q b h = let i =
+    first-less P y (suc m) (g ∷ es) (omega arith) (omega arith) (h .2) in omega arith
 
 -- what stands above a changed node c at level l
-abbrev pub above : ℕ → (ℕ → ℕ) → (ℕ → List Entry → ℕ) → (ℕ → List Entry → ℕ) → (ℕ → ℕ) → ℕ → Entry → List Entry → List Entry
+abbrev pub above : ℕ → (ℕ → ℕ) → (ℕ → List Entry → ℕ) → (ℕ → List Entry → ℕ) → (ℕ → ℕ) → ℕ → Entry → List Entry
+    → List Entry
 above k one left right half l e c = pick (leb (length c) (2 * half l)) (record { key = min (e .key) k; addr = one l } ∷ [])
     (both (left l c) (right l c) (half l) (min (e .key) k) c)
 
@@ -74,19 +78,22 @@ abbrev pub Both : Nodes → (ℕ → ℕ → Type 0) → ℕ → ℕ → List En
 Both s fit l m c x y = (s x l ≡ take m c) × (s y l ≡ drop m c) × fit l x × fit l y
 
 -- a changed node stands where it should
-abbrev pub AboveHeld : (ℕ → ℕ) → (ℕ → List Entry → ℕ) → (ℕ → List Entry → ℕ) → (ℕ → ℕ) → Nodes → (ℕ → ℕ → Type 0) → ℕ → Entry → List Entry → Type 0
+abbrev pub AboveHeld : (ℕ → ℕ) → (ℕ → List Entry → ℕ) → (ℕ → List Entry → ℕ) → (ℕ → ℕ) → Nodes → (ℕ → ℕ → Type 0) → ℕ
+    → Entry → List Entry → Type 0
 AboveHeld one left right half s fit l e c = (length c ≤ 2 * half l → (s (one l) l ≡ c) × fit l (one l)) ×
     (2 * half l < length c → Both s fit l (half l) c (left l c) (right l c))
 
 module _ (s : Nodes) (fit′ : ℕ → ℕ → Type 0) where
   -- the pairs under the two halves
-  pub both-under : (l m z x y : ℕ) (c : List Entry) → Both s fit′ (suc l) m c x y → gather (under s (suc l)) (both x y m z c) ≡ gather (under s l) c
+  pub both-under : (l m z x y : ℕ) (c : List Entry) → Both s fit′ (suc l) m c x y → gather (under s (suc l))
+      (both x y m z c) ≡ gather (under s l) c
   unfolding under gather
   both-under l m z x y c h = rw (h .0, h .1, append-nil (gather (under s l) (drop m c))) (sym (gather-append (under s l) (take m c) (drop m c))
       ∙ ap (gather (under s l)) (take-append-drop m c))
 
   module _ (room : ℕ → ℕ) where
-    pub ok-node : (l y z p : ℕ) (es : List Entry) → s p (suc l) ≡ es → fit′ (suc l) p → 1 ≤ length es → length es ≤ room (suc l) → z ≤ next es y
+    pub ok-node : (l y z p : ℕ) (es : List Entry) → s p (suc l) ≡ es → fit′ (suc l) p → 1 ≤ length es
+        → length es ≤ room (suc l) → z ≤ next es y
         → Rises (Ok fit′ room s l) y es → Ok fit′ room s (suc l) y (record { key = z; addr = p })
     unfolding Ok
     ok-node l y z p es e f g h i j = rw e (f, g, h, i, j)
@@ -106,7 +113,8 @@ module _ (s : Nodes) (fit′ : ℕ → ℕ → Type 0) where
         P : ℕ → Entry → Type 0
         P = Ok fit′ room s l
 
-        len : (1 ≤ length (take m c)) × (length (take m c) ≤ room (suc l)) × (1 ≤ length (drop m c)) × (length (drop m c) ≤ room (suc l))
+        len : (1 ≤ length (take m c)) × (length (take m c) ≤ room (suc l)) × (1 ≤ length (drop m c)) ×
+            (length (drop m c) ≤ room (suc l))
         len = omega (arith, length-take m c, length-drop m c)
 
         whole : Rises P y (take m c ++ drop m c)
@@ -122,74 +130,80 @@ module _ (s : Nodes) (fit′ : ℕ → ℕ → Type 0) where
         left = rw same-next at (rises-left P y (take m c) (drop m c) whole)
 
         from : z ≤ next (take m c) (next (drop m c) 0)
-        from = let i = ap (λ x. next x y) (take-append-drop m c) in let j = next-append (take m c) (drop m c) y in let f =
+        from = let i = ap (λ x. next x y) (take-append-drop m c) in let j = next-append (take m c) (drop m c) y in
+            let f =
             ap (next (take m c)) same-next in omega (arith, i, j, f)
 
-module _ (k a : ℕ) (one : ℕ → ℕ) (left right : ℕ → List Entry → ℕ) (half : ℕ → ℕ) (s : Nodes) (fit′ : ℕ → ℕ → Type 0) where
-  abbrev room : ℕ → ℕ
-  room l = 2 * half l
+module _ (k a : ℕ) (one : ℕ → ℕ) (left right : ℕ → List Entry → ℕ) (half : ℕ → ℕ) (s : Nodes) (fit′ : ℕ → ℕ → Type 0)
+  where
+    abbrev room : ℕ → ℕ
+    room l = 2 * half l
 
-  abbrev Held : ℕ → Entry → List Entry → Type 0
-  Held = AboveHeld one left right half s fit′
+    abbrev Held : ℕ → Entry → List Entry → Type 0
+    Held = AboveHeld one left right half s fit′
 
-  abbrev aboves : ℕ → Entry → List Entry → List Entry
-  aboves = above k one left right half
+    abbrev aboves : ℕ → Entry → List Entry → List Entry
+    aboves = above k one left right half
 
-  pub above-under : (l : ℕ) (e : Entry) (c : List Entry) → Held (suc l) e c → gather (under s (suc l)) (aboves (suc l) e c) ≡ gather (under s l) c
-  unfolding under gather
-  above-under l e c h = go (leb (length c) (2 * half (suc l))) refl
-    where
-      go : (t : Bool) → leb (length c) (2 * half (suc l)) ≡ t
-          → gather (under s (suc l))
-          (pick t (record { key = min (e .key) k; addr = one (suc l) } ∷ [])
-          (both (left (suc l) c) (right (suc l) c) (half (suc l)) (min (e .key) k) c)) ≡ gather (under s l) c
-      go true b = rw (h .0 (leb-true (length c) (2 * half (suc l)) b) .0) (append-nil (gather (under s l) c))
-      go false b = both-under s fit′ l (half (suc l)) (min (e .key) k) (left (suc l) c) (right (suc l) c) c
-          (h .1 (leb-false (length c) (2 * half (suc l)) b))
-
-  module _ (fit : ℕ → ℕ → Type 0) (fit-a : fit′ 0 a) (keep : (l a : ℕ) → fit l a → fit′ l a) where
-    pub put-ok : (y : ℕ) (e : Entry) → k < y → e .key < y → fit 0 (e .addr) → Out (Ok fit′ room s 0) (λ z. min z k) 1 2 y (e .key) (put k a (e ∷ []))
-    unfolding Ok
-    put-ok y e q b h = go (ltb (e .key) k) (eqb (e .key) k) refl refl
-      where
-        go : (t u : Bool) → ltb (e .key) k ≡ t → eqb (e .key) k ≡ u
-            → Out (Ok fit′ room s 0) (λ z. min z k) 1 2 y (e .key)
-            (pick t (e ∷ record { key = k; addr = a } ∷ []) (record { key = k; addr = a } ∷ pick u [] (e ∷ [])))
-        go true u c d = ((ltb-true (e .key) k c, keep 0 (e .addr) h, (q, fit-a, tt)), omega arith, omega arith, omega arith)
-        go false true c d = ((q, fit-a, tt), omega arith, omega arith, omega arith)
-        go false false c d = (
-          let f = ltb-false (e .key) k c in let g = eqb-false (e .key) k d in (omega arith, fit-a, (b, keep 0 (e .addr) h, tt)),
-          omega arith,
-          omega arith,
-          omega arith,
-        )
-
-    pub above-ok : (l y i : ℕ) (e : Entry) (c : List Entry) → Held (suc l) e c → k < y → e .key < y
-        → Rises (Ok fit′ room s l) y c → min (e .key) k ≤ next c y
-        → 1 ≤ i → i ≤ room (suc l) → i + 1 ≤ suc (length c) → suc (length c) ≤ i + 2
-        → Out (Ok fit′ room s (suc l)) (λ z. min z k) 1 2 y (e .key) (aboves (suc l) e c)
-    above-ok l y i e c h q b up from i1 i2 c1 c2 = go (leb (length c) (2 * half (suc l))) refl
+    pub above-under : (l : ℕ) (e : Entry) (c : List Entry) → Held (suc l) e c → gather (under s (suc l))
+        (aboves (suc l) e c) ≡ gather (under s l) c
+    unfolding under gather
+    above-under l e c h = go (leb (length c) (2 * half (suc l))) refl
       where
         go : (t : Bool) → leb (length c) (2 * half (suc l)) ≡ t
-            → Out (Ok fit′ room s (suc l)) (λ z. min z k) 1 2 y (e .key)
+            → gather (under s (suc l))
             (pick t (record { key = min (e .key) k; addr = one (suc l) } ∷ [])
-            (both (left (suc l) c) (right (suc l) c) (half (suc l)) (min (e .key) k) c))
-        go true d = let w = leb-true (length c) (2 * half (suc l)) d in let u = h .0 w in (
-          (omega arith, ok-node s fit′ room l y (min (e .key) k) (one (suc l)) c (u .0) (u .1) (omega arith) w from up, tt),
-          omega arith,
-          omega arith,
-          omega arith,
-        )
-        go false d = let w = leb-false (length c) (2 * half (suc l)) d in let u = h .1 w in (
-          both-ok s fit′ room l y (half (suc l)) (min (e .key) k) (left (suc l) c) (right (suc l) c) c u from (omega arith) (omega arith)
-              (omega arith) (omega arith) up,
-          omega arith,
-          omega arith,
-          omega arith,
-        )
+            (both (left (suc l) c) (right (suc l) c) (half (suc l)) (min (e .key) k) c)) ≡ gather (under s l) c
+        go true b = rw (h .0 (leb-true (length c) (2 * half (suc l)) b) .0) (append-nil (gather (under s l) c))
+        go false b = both-under s fit′ l (half (suc l)) (min (e .key) k) (left (suc l) c) (right (suc l) c) c
+            (h .1 (leb-false (length c) (2 * half (suc l)) b))
 
-module _ (k a top : ℕ) (one : ℕ → ℕ) (left right : ℕ → List Entry → ℕ) (half most : ℕ → ℕ) (r s : Nodes) (fit fit′ : ℕ → ℕ → Type 0)
-    (fit-a : fit′ 0 a) (keep : (l a : ℕ) → fit l a → fit′ l a) (same : (p l : ℕ) → fit (suc l) p → s p (suc l) ≡ r p (suc l)) (k-top : k < top) where
+    module _ (fit : ℕ → ℕ → Type 0) (fit-a : fit′ 0 a) (keep : (l a : ℕ) → fit l a → fit′ l a) where
+      pub put-ok : (y : ℕ) (e : Entry) → k < y → e .key < y → fit 0 (e .addr) → Out (Ok fit′ room s 0) (λ z. min z k) 1 2 y (e .key) (put k a (e ∷ []))
+      unfolding Ok
+      put-ok y e q b h = go (ltb (e .key) k) (eqb (e .key) k) refl refl
+        where
+          go : (t u : Bool) → ltb (e .key) k ≡ t → eqb (e .key) k ≡ u
+              → Out (Ok fit′ room s 0) (λ z. min z k) 1 2 y (e .key)
+              (pick t (e ∷ record { key = k; addr = a } ∷ []) (record { key = k; addr = a } ∷ pick u [] (e ∷ [])))
+          go true u c d = ((ltb-true (e .key) k c, keep 0 (e .addr) h, (q, fit-a, tt)), omega arith, omega arith, omega arith)
+          go false true c d = ((q, fit-a, tt), omega arith, omega arith, omega arith)
+          go false false c d = (
+            let f = ltb-false (e .key) k c in let g = eqb-false (e .key) k d in
+                (omega arith, fit-a, (b, keep 0 (e .addr) h, tt)),
+            omega arith,
+            omega arith,
+            omega arith,
+          )
+
+      pub above-ok : (l y i : ℕ) (e : Entry) (c : List Entry) → Held (suc l) e c → k < y → e .key < y
+          → Rises (Ok fit′ room s l) y c → min (e .key) k ≤ next c y
+          → 1 ≤ i → i ≤ room (suc l) → i + 1 ≤ suc (length c) → suc (length c) ≤ i + 2
+          → Out (Ok fit′ room s (suc l)) (λ z. min z k) 1 2 y (e .key) (aboves (suc l) e c)
+      above-ok l y i e c h q b up from i1 i2 c1 c2 = go (leb (length c) (2 * half (suc l))) refl
+        where
+          go : (t : Bool) → leb (length c) (2 * half (suc l)) ≡ t
+              → Out (Ok fit′ room s (suc l)) (λ z. min z k) 1 2 y (e .key)
+              (pick t (record { key = min (e .key) k; addr = one (suc l) } ∷ [])
+              (both (left (suc l) c) (right (suc l) c) (half (suc l)) (min (e .key) k) c))
+          go true d = let w = leb-true (length c) (2 * half (suc l)) d in let u = h .0 w in (
+            (omega arith, ok-node s fit′ room l y (min (e .key) k) (one (suc l)) c (u .0) (u .1) (omega arith) w from up, tt),
+            omega arith,
+            omega arith,
+            omega arith,
+          )
+          go false d = let w = leb-false (length c) (2 * half (suc l)) d in let u = h .1 w in (
+            both-ok s fit′ room l y (half (suc l)) (min (e .key) k) (left (suc l) c) (right (suc l) c) c u from (omega arith) (omega arith)
+                (omega arith) (omega arith) up,
+            omega arith,
+            omega arith,
+            omega arith,
+          )
+
+module _ (k a top : ℕ) (one : ℕ → ℕ) (left right : ℕ → List Entry → ℕ) (half most : ℕ → ℕ) (r s : Nodes) (fit fit′ : ℕ
+    → ℕ → Type 0)
+    (fit-a : fit′ 0 a) (keep : (l a : ℕ) → fit l a → fit′ l a) (same : (p l : ℕ) → fit (suc l) p → s p (suc l) ≡ r p
+    (suc l)) (k-top : k < top) where
   abbrev roomAt : ℕ → ℕ
   roomAt l = 2 * half l
 
@@ -210,7 +224,8 @@ module _ (k a top : ℕ) (one : ℕ → ℕ) (left right : ℕ → List Entry �
     pub some : 1 ≤ length c
     pub many : length c ≤ suc (length es)
 
-  pub ins-list-ok : (l hi : ℕ) (es : List Entry) → 0 < length es → k < hi → Rises (Ok fit roomAt r l) hi es → Laying l (chosen k es)
+  pub ins-list-ok : (l hi : ℕ) (es : List Entry) → 0 < length es → k < hi → Rises (Ok fit roomAt r l) hi es
+      → Laying l (chosen k es)
       → Changed (Ok fit′ roomAt s l) (λ z. min z k) 1 2 hi (next es hi) (length es) (splice (lays l) k es)
   ins-list-ok = edit-list-ok fit fit′ roomAt r s keep same k (λ e. put k a (e ∷ [])) names (AboveHeld one left right half s fit′)
       (λ z. min z k) 1 2 (λ z. omega arith) (λ z i. omega arith) (λ y z i. omega arith) (put-ok k a one left right half s fit′ fit fit-a keep)
@@ -220,11 +235,13 @@ module _ (k a top : ℕ) (one : ℕ → ℕ) (left right : ℕ → List Entry �
       → Fresh l es (splice (lays l) k es)
   fresh-some l es e h m =
       let p = edit-list fit fit′ roomAt r s keep same k (λ e. put k a (e ∷ [])) names (AboveHeld one left right half s fit′) (put k a)
-      (put-local k a) (λ e. refl) (λ l hi e c _ h i. above-under k a one left right half s fit′ l e c h ∙ i) l top es e k-top h m in
+      (put-local k a) (λ e. refl) (λ l hi e c _ h i. above-under k a one left right half s fit′ l e c h
+      ∙ i) l top es e k-top h m in
       let o = ins-list-ok l top es e k-top h m in
       record { pairs-are = p; rises = o .up; few = omega (arith, o .few); some = omega (arith, o .few); many = omega (arith, o .many) }
 
-  pub fresh : (l : ℕ) (es : List Entry) → (1 ≤ l → 2 ≤ length es) → Rises (Ok fit roomAt r l) top es → Laying l (chosen k es)
+  pub fresh : (l : ℕ) (es : List Entry) → (1 ≤ l → 2 ≤ length es) → Rises (Ok fit roomAt r l) top es
+      → Laying l (chosen k es)
       → Fresh l es (atRoot (putIn k a) (lays l) k l es)
   unfolding atRoot edit under Ok putIn
   fresh zero [] g h m = record {
@@ -242,12 +259,14 @@ module _ (k a top : ℕ) (one : ℕ → ℕ) (left right : ℕ → List Entry �
   rootList l p = atRoot (putIn k a) (lays l) k l (r p (suc l))
 
   -- the root does not grow: it stands on n
-  pub stay-pairs : (l p n : ℕ) → Rooted fit roomAt most top r l p → Laying l (chosen k (r p (suc l))) → s n (suc l) ≡ rootList l p
+  pub stay-pairs : (l p n : ℕ) → Rooted fit roomAt most top r l p → Laying l (chosen k (r p (suc l)))
+      → s n (suc l) ≡ rootList l p
       → under s (suc l) (the n) ≡ put k a (under r (suc l) (the p))
   unfolding under
   stay-pairs l p n h m e = rw e (fresh l (r p (suc l)) (h .least) (h .rises) m .pairs-are)
 
-  pub stay-ok : (l p n : ℕ) → fit′ (suc l) n → Rooted fit roomAt most top r l p → Laying l (chosen k (r p (suc l))) → s n (suc l) ≡ rootList l p
+  pub stay-ok : (l p n : ℕ) → fit′ (suc l) n → Rooted fit roomAt most top r l p → Laying l (chosen k (r p (suc l)))
+      → s n (suc l) ≡ rootList l p
       → length (rootList l p) ≤ most (suc l)
       → Rooted fit′ roomAt most top s l n
   stay-ok l p n fn h m e b =
@@ -256,14 +275,16 @@ module _ (k a top : ℕ) (one : ℕ → ℕ) (left right : ℕ → List Entry �
 
   -- the root grows: its halves, cut at m, stand on x and y, the new root on n
   module _ (l p n x y m : ℕ) (h : Rooted fit roomAt most top r l p) (d : Laying l (chosen k (r p (suc l))))
-      (halves : Both s fit′ (suc l) m (rootList l p) x y) (crown : s n (suc (suc l)) ≡ both x y m (next (rootList l p) 0) (rootList l p)) where
+      (halves : Both s fit′ (suc l) m (rootList l p) x y) (crown : s n (suc (suc l)) ≡ both x y m
+      (next (rootList l p) 0) (rootList l p)) where
     pub grow-pairs : under s (suc (suc l)) (the n) ≡ put k a (under r (suc l) (the p))
     unfolding under
     grow-pairs = rw crown (both-under s fit′ l m (next (rootList l p) 0) x y (rootList l p) halves
         ∙ fresh l (r p (suc l)) (h .least) (h .rises) d .pairs-are)
 
     pub grow-ok : fit′ (suc (suc l)) n → 1 ≤ m → m ≤ 2 * half (suc l) → m < length (rootList l p)
-        → length (rootList l p) ≤ m + 2 * half (suc l) → 2 ≤ most (suc (suc l)) → Rooted fit′ roomAt most top s (suc l) n
+        → length (rootList l p) ≤ m + 2 * half (suc l) → 2 ≤ most (suc (suc l)) → Rooted fit′ roomAt most top s
+        (suc l) n
     grow-ok fn m1 m2 c1 c2 w =
         let f = fresh l (r p (suc l)) (h .least) (h .rises) d in
         record {

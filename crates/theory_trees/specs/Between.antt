@@ -20,13 +20,15 @@ use Rattle.theory_trees.specs.Nodes.{Ok, under-in, the}
 use Rattle.theory_trees.specs.Edit.{rises-in, pre-in}
 
 -- ---- the part between
-pub between-append : (low high : ℕ) (xs ys : List Entry) → between low high (xs ++ ys) ≡ between low high xs ++ between low high ys
+pub between-append : (low high : ℕ) (xs ys : List Entry) → between low high (xs ++ ys) ≡ between low high
+    xs ++ between low high ys
 unfolding between
 between-append low high [] ys = refl
 between-append low high (e ∷ xs) ys = go (leb low (e .key) & leb (e .key) high) (between-append low high xs ys)
   where
     go : (t : Bool) → between low high (xs ++ ys) ≡ between low high xs ++ between low high ys
-        → pick t (e ∷ between low high (xs ++ ys)) (between low high (xs ++ ys)) ≡ pick t (e ∷ between low high xs) (between low high xs) ++ between low high ys
+        → pick t (e ∷ between low high (xs ++ ys)) (between low high (xs ++ ys)) ≡ pick t (e ∷ between low high xs)
+        (between low high xs) ++ between low high ys
     go true i = ap (λ m. e ∷ m) i
     go false i = i
 
@@ -34,19 +36,22 @@ between-append low high (e ∷ xs) ys = go (leb low (e .key) & leb (e .key) high
 pub between-below : (low high a b : ℕ) (xs : List Entry) → b ≤ low → All (In a b) xs → between low high xs ≡ []
 unfolding between _&_
 between-below low high a b [] q h = refl
-between-below low high a b (e ∷ xs) q h = rw (lt-leb low (e .key) (omega (arith, h .0, q))) (between-below low high a b xs q (h .1))
+between-below low high a b (e ∷ xs) q h =
+    rw (lt-leb low (e .key) (omega (arith, h .0, q))) (between-below low high a b xs q (h .1))
 
 pub between-above : (low high a b : ℕ) (xs : List Entry) → high < a → All (In a b) xs → between low high xs ≡ []
 unfolding between _&_
 between-above low high a b [] q h = refl
-between-above low high a b (e ∷ xs) q h = rw (lt-leb (e .key) high (omega (arith, h .0, q))) (go (leb low (e .key)) (between-above low high a b xs q (h .1)))
+between-above low high a b (e ∷ xs) q h =
+    rw (lt-leb (e .key) high (omega (arith, h .0, q))) (go (leb low (e .key)) (between-above low high a b xs q (h .1)))
   where
     go : (t : Bool) → between low high xs ≡ [] → pick (t & false) (e ∷ between low high xs) (between low high xs) ≡ []
     go true i = i
     go false i = i
 
 -- pairs all between the keys: all of them
-pub between-all : (low high a b : ℕ) (xs : List Entry) → low ≤ a → b ≤ suc high → All (In a b) xs → between low high xs ≡ xs
+pub between-all : (low high a b : ℕ) (xs : List Entry) → low ≤ a → b ≤ suc high → All (In a b) xs
+    → between low high xs ≡ xs
 unfolding between _&_
 between-all low high a b [] p q h = refl
 between-all low high a b (e ∷ xs) p q h =
@@ -57,7 +62,8 @@ unfolding between
 between-fewer low high [] = omega arith
 between-fewer low high (e ∷ xs) = go (leb low (e .key) & leb (e .key) high) (between-fewer low high xs)
   where
-    go : (t : Bool) → length (between low high xs) ≤ length xs → length (pick t (e ∷ between low high xs) (between low high xs)) ≤ suc (length xs)
+    go : (t : Bool) → length (between low high xs) ≤ length xs
+        → length (pick t (e ∷ between low high xs) (between low high xs)) ≤ suc (length xs)
     go true i = omega arith
     go false i = omega arith
 
@@ -77,8 +83,10 @@ module _ (fit : ℕ → ℕ → Type 0) (room : ℕ → ℕ) (r : Nodes) (low hi
   upto-ranged l top [] h step = refl
   upto-ranged l top (e ∷ es) h step = go (leb (e .key) high) refl (upto-ranged l top es (h .2) step)
     where
-      go : (t : Bool) → leb (e .key) high ≡ t → gather (ranged r low high l) (upTo high es) ≡ between low high (gather (under r l) es)
-          → gather (ranged r low high l) (pick t (e ∷ upTo high es) []) ≡ between low high (under r l e ++ gather (under r l) es)
+      go : (t : Bool) → leb (e .key) high ≡ t → gather (ranged r low high l) (upTo high es) ≡ between low high
+          (gather (under r l) es)
+          → gather (ranged r low high l) (pick t (e ∷ upTo high es) []) ≡ between low high
+          (under r l e ++ gather (under r l) es)
       go true x i = rw (i, step (next es top) e (h .0) (leb-true (e .key) high x) (h .1)) (sym (between-append low high (under r l e) (gather (under r l) es)))
       go false x i = sym (between-above low high (e .key) top (gather (under r l) (e ∷ es)) (leb-false (e .key) high x)
           (rises-in low (Ok fit room r l) (under r l) (keeps l) (e .key) top (e ∷ es) (omega arith) h))
@@ -90,7 +98,8 @@ module _ (fit : ℕ → ℕ → Type 0) (room : ℕ → ℕ) (r : Nodes) (low hi
       upto-ranged l top (drop i es) (rises-right (Ok fit room r l) top (take i es) (drop i es) cut) step
       ∙ ap (λ m. m ++ between low high (gather (under r l) (drop i es))) (sym none)
       ∙ sym (between-append low high (gather (under r l) (take i es)) (gather (under r l) (drop i es)))
-      ∙ ap (between low high) (sym (gather-append (under r l) (take i es) (drop i es)) ∙ ap (gather (under r l)) (take-append-drop i es))
+      ∙ ap (between low high) (sym (gather-append (under r l) (take i es) (drop i es))
+      ∙ ap (gather (under r l)) (take-append-drop i es))
     where
       cut : Rises (Ok fit room r l) top (take i es ++ drop i es)
       cut = subst (Rises (Ok fit room r l) top) (sym (take-append-drop i es)) h
@@ -124,7 +133,8 @@ module _ (fit : ℕ → ℕ → Type 0) (room : ℕ → ℕ) (r : Nodes) (low hi
   ranged-is (suc l) y e b c h = list-ranged l y (r (e .addr) (suc l)) (h .4) (ranged-is l)
 
   -- from the root down
-  pub ranged-root : (l top p : ℕ) → Rises (Ok fit room r l) top (r p (suc l)) → ranged r low high (suc l) (the p) ≡ between low high (under r (suc l) (the p))
+  pub ranged-root : (l top p : ℕ) → Rises (Ok fit room r l) top (r p (suc l)) → ranged r low high (suc l)
+      (the p) ≡ between low high (under r (suc l) (the p))
   unfolding ranged under
   ranged-root l top p h = list-ranged l top (r p (suc l)) h (ranged-is l)
 
@@ -133,16 +143,20 @@ unfoldable pub mostUnder : (ℕ → ℕ) → ℕ → ℕ
 mostUnder room zero = 1
 mostUnder room (suc l) = room (suc l) * mostUnder room l
 
-gather-most : (f : Entry → List Entry) (m : ℕ) (es : List Entry) → All (λ e. length (f e) ≤ m) es → length (gather f es) ≤ length es * m
+gather-most : (f : Entry → List Entry) (m : ℕ) (es : List Entry) → All (λ e. length (f e) ≤ m) es
+    → length (gather f es) ≤ length es * m
 unfolding gather
 gather-most f m [] h = omega arith
-gather-most f m (e ∷ es) h = let i = gather-most f m es (h .1) in let w = length-append (f e) (gather f es) in omega (arith, i, w, h .0)
+gather-most f m (e ∷ es) h = let i = gather-most f m es (h .1) in let w = length-append (f e) (gather f es) in
+    omega (arith, i, w, h .0)
 
 module _ (fit : ℕ → ℕ → Type 0) (room : ℕ → ℕ) (r : Nodes) where
   list-most : (l top n : ℕ) (es : List Entry) → Rises (Ok fit room r l) top es → length es ≤ n
-      → ((y : ℕ) (e : Entry) → Ok fit room r l y e → length (under r l e) ≤ mostUnder room l) → length (gather (under r l) es) ≤ n * mostUnder room l
+      → ((y : ℕ) (e : Entry) → Ok fit room r l y e → length (under r l e) ≤ mostUnder room l)
+      → length (gather (under r l) es) ≤ n * mostUnder room l
   list-most l top n es h few step =
-      let a = gather-most (under r l) (mostUnder room l) es (rises-all (Ok fit room r l) (λ e. length (under r l e) ≤ mostUnder room l) top es (λ y e _ _ i. step y e i) h) in
+      let a = gather-most (under r l) (mostUnder room l) es
+      (rises-all (Ok fit room r l) (λ e. length (under r l e) ≤ mostUnder room l) top es (λ y e _ _ i. step y e i) h) in
       let b = mul-le-mul-right {m = length es} {n = n} (mostUnder room l) few in
       omega (arith, a, b)
 
@@ -151,6 +165,7 @@ module _ (fit : ℕ → ℕ → Type 0) (room : ℕ → ℕ) (r : Nodes) where
   under-most zero y e h = omega arith
   under-most (suc l) y e h = list-most l y (room (suc l)) (r (e .addr) (suc l)) (h .4) (h .2) (under-most l)
 
-  pub root-most : (l top n p : ℕ) → Rises (Ok fit room r l) top (r p (suc l)) → length (r p (suc l)) ≤ n → length (under r (suc l) (the p)) ≤ n * mostUnder room l
+  pub root-most : (l top n p : ℕ) → Rises (Ok fit room r l) top (r p (suc l)) → length (r p (suc l)) ≤ n
+      → length (under r (suc l) (the p)) ≤ n * mostUnder room l
   unfolding under
   root-most l top n p h few = list-most l top n (r p (suc l)) h few (under-most l)

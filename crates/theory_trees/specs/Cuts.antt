@@ -1,5 +1,5 @@
--- k, counted beforehand, is what happens, over any pages: an entry gives way to two exactly where `gains` says so, and the
--- levels that split are 1 to `splits`. The μ-Tree (Splits) is an instance. Assumes nothing.
+-- k, counted beforehand, is what happens, over any pages: an entry gives way to two exactly where `gains` says so, and
+-- the levels that split are 1 to `splits`. The μ-Tree (Splits) is an instance. Assumes nothing.
 use mathlib.Core.Path.{_≡_, refl, ap, sym, _∙_}
 use mathlib.Core.List.{List, [], _∷_}
 use mathlib.Core.Bool.{Bool, true, false}
@@ -32,7 +32,8 @@ above-none k hi [] q h = refl
 above-none k hi (e ∷ es) q h = rw (ne-eqb (e .key) k (λ z. omega arith)) (above-none k hi es (omega (arith, h .0)) (h .2))
 
 -- in a leaf
-pub put-size : (k a hi : ℕ) (es : List Entry) → Rises (λ y x. Unit {0}) hi es → length (put k a es) ≡ length es + bit (isNone (find k es))
+pub put-size : (k a hi : ℕ) (es : List Entry) → Rises (λ y x. Unit {0}) hi es
+    → length (put k a es) ≡ length es + bit (isNone (find k es))
 unfolding find
 put-size k a hi [] h = refl
 put-size k a hi (e ∷ es) h = go (ltb (e .key) k) (eqb (e .key) k) refl refl (put-size k a hi es (h .2))
@@ -40,7 +41,8 @@ put-size k a hi (e ∷ es) h = go (ltb (e .key) k) (eqb (e .key) k) refl refl (p
     new : Entry
     new = record { key = k; addr = a }
 
-    go : (t u : Bool) → ltb (e .key) k ≡ t → eqb (e .key) k ≡ u → length (put k a es) ≡ length es + bit (isNone (find k es))
+    go : (t u : Bool) → ltb (e .key) k ≡ t → eqb (e .key) k ≡ u
+        → length (put k a es) ≡ length es + bit (isNone (find k es))
         → length (pick t (e ∷ put k a es) (record { key = k; addr = a } ∷ pick u es (e ∷ es))) ≡ suc (length es) + bit
         (isNone (pick u (some (e .addr)) (find k es)))
     go true true c d i = absurd (omega (arith, ltb-true (e .key) k c, eqb-true (e .key) k d))
@@ -56,14 +58,16 @@ module _ (k : ℕ) (half : ℕ → ℕ) (r : Nodes) (absent : Bool) where
   pub all-below : (l : ℕ) (e : Entry) → gains r k half absent l e ≡ true → splits r k half absent l e ≡ l
   unfolding gains splits
   all-below zero e h = refl
-  all-below (suc l) e h = let i = all-below l (chosen k (r (e .addr) (suc l))) (and-right _ _ h) in omega (arith, i, ap bit h)
+  all-below (suc l) e h = let i = all-below l (chosen k (r (e .addr) (suc l))) (and-right _ _ h) in
+      omega (arith, i, ap bit h)
 
   pub splits-le : (l : ℕ) (e : Entry) → splits r k half absent l e ≤ l
   unfolding splits
   splits-le zero e = omega arith
   splits-le (suc l) e = omega (arith, splits-le l (chosen k (r (e .addr) (suc l))), bit-most (gains r k half absent (suc l) e))
 
-module _ (k a : ℕ) (one : ℕ → ℕ) (left right : ℕ → List Entry → ℕ) (half : ℕ → ℕ) (r : Nodes) (fit : ℕ → ℕ → Type 0) (absent : Bool) where
+module _ (k a : ℕ) (one : ℕ → ℕ) (left right : ℕ → List Entry → ℕ) (half : ℕ → ℕ) (r : Nodes) (fit : ℕ → ℕ → Type 0)
+    (absent : Bool) where
   abbrev roomAt : ℕ → ℕ
   roomAt l = 2 * half l
 
@@ -78,7 +82,8 @@ module _ (k a : ℕ) (one : ℕ → ℕ) (left right : ℕ → List Entry → �
   named-size l i e c b q h = rw (and-pick (eqb i (2 * half l)) b) (go (leb (length c) (2 * half l)) (eqb i (2 * half l)) b refl refl refl)
     where
       go : (t u v : Bool) → leb (length c) (2 * half l) ≡ t → eqb i (2 * half l) ≡ u → b ≡ v
-          → length (pick t (record { key = min (e .key) k; addr = one l } ∷ []) (both (left l c) (right l c) (half l) (min (e .key) k) c))
+          → length (pick t (record { key = min (e .key) k; addr = one l } ∷ []) (both (left l c) (right l c) (half l)
+          (min (e .key) k) c))
           ≡ 1 + bit (pick u v false)
       go true true true x y z = absurd (omega (arith, leb-true (length c) (2 * half l) x, eqb-true i (2 * half l) y, h, ap bit z))
       go true true false x y z = refl
@@ -89,7 +94,8 @@ module _ (k a : ℕ) (one : ℕ → ℕ) (left right : ℕ → List Entry → �
 
   list-size : (l hi : ℕ) (es : List Entry) → 0 < length es → k < hi → Rises (Ok fit roomAt r l) hi es
       → isNone (find k (gather (under r l) es)) ≡ absent
-      → ((y : ℕ) → k < y → chosen k es .key < y → Ok fit roomAt r l y (chosen k es) → isNone (find k (under r l (chosen k es))) ≡ absent → length
+      → ((y : ℕ) → k < y → chosen k es .key < y → Ok fit roomAt r l y (chosen k es)
+      → isNone (find k (under r l (chosen k es))) ≡ absent → length
       (inserts l (chosen k es)) ≡ 1 + bit (gain l (chosen k es)))
       → length (splice (inserts l) k es) ≡ length es + bit (gain l (chosen k es))
   list-size l hi es c q h f step =
@@ -124,7 +130,8 @@ module _ (k a : ℕ) (one : ℕ → ℕ) (left right : ℕ → List Entry → �
   root-size (suc l) hi es c q h f = size-list (suc l) hi es (c (omega arith)) q h f
 
   -- a node's list is too long exactly if the entry that names the node gains
-  pub over : (l hi : ℕ) (e : Entry) → k < hi → Ok fit roomAt r (suc l) hi e → isNone (find k (under r (suc l) e)) ≡ absent
+  pub over : (l hi : ℕ) (e : Entry) → k < hi → Ok fit roomAt r (suc l) hi e → isNone (find k (under r (suc l) e))
+      ≡ absent
       → 2 * half (suc l) < length (splice (inserts l) k (r (e .addr) (suc l))) → gain (suc l) e ≡ true
   unfolding gains Ok under
   over l hi e q h f b = rw (and-pick (eqb (length es) (2 * half (suc l))) (gain l (chosen k es)))
@@ -133,14 +140,17 @@ module _ (k a : ℕ) (one : ℕ → ℕ) (left right : ℕ → List Entry → �
       es : List Entry
       es = r (e .addr) (suc l)
 
-      go : (t u : Bool) → eqb (length (r (e .addr) (suc l))) (2 * half (suc l)) ≡ t → gain l (chosen k (r (e .addr) (suc l))) ≡ u
-          → length (splice (inserts l) k (r (e .addr) (suc l))) ≡ length (r (e .addr) (suc l)) + bit u → pick t u false ≡ true
+      go : (t u : Bool) → eqb (length (r (e .addr) (suc l))) (2 * half (suc l)) ≡ t
+          → gain l (chosen k (r (e .addr) (suc l))) ≡ u
+          → length (splice (inserts l) k (r (e .addr) (suc l))) ≡ length (r (e .addr) (suc l)) + bit u
+          → pick t u false ≡ true
       go true true x y z = refl
       go true false x y z = absurd (omega (arith, h .2, z, b))
       go false true x y z = absurd (omega (arith, h .2, z, b, eqb-false (length (r (e .addr) (suc l))) (2 * half (suc l)) x))
       go false false x y z = absurd (omega (arith, h .2, z, b))
 
-  pub long : (l hi : ℕ) (e : Entry) → k < hi → Ok fit roomAt r (suc l) hi e → isNone (find k (under r (suc l) e)) ≡ absent → gain (suc l) e ≡ true
+  pub long : (l hi : ℕ) (e : Entry) → k < hi → Ok fit roomAt r (suc l) hi e → isNone (find k (under r (suc l) e))
+      ≡ absent → gain (suc l) e ≡ true
       → 2 * half (suc l) < length (splice (inserts l) k (r (e .addr) (suc l)))
   unfolding gains Ok under
   long l hi e q h f b =
@@ -153,7 +163,8 @@ module _ (k a : ℕ) (one : ℕ → ℕ) (left right : ℕ → List Entry → �
   lists = onPath r k (putIn k a) (above k one left right half)
 
   -- of the path's nodes below the root those at levels 1 to `splits` are too long, and no others
-  pub splits-are : (l hi : ℕ) (e : Entry) → k < hi → (1 ≤ l → 0 < length (r (e .addr) (suc l))) → Rises (Ok fit roomAt r l) hi (r (e .addr) (suc l))
+  pub splits-are : (l hi : ℕ) (e : Entry) → k < hi → (1 ≤ l → 0 < length (r (e .addr) (suc l)))
+      → Rises (Ok fit roomAt r l) hi (r (e .addr) (suc l))
       → isNone (find k (under r (suc l) e)) ≡ absent
       → (j : ℕ) → 1 ≤ j → j ≤ l
       → (2 * half j < length (lists l e j) → j ≤ splits r k half absent l (chosen k (r (e .addr) (suc l)))) ×
@@ -182,25 +193,32 @@ module _ (k a : ℕ) (one : ℕ → ℕ) (left right : ℕ → List Entry → �
       less : splits r k half absent l (chosen k (r (x .addr) (suc l))) ≤ l
       less = splits-le k half r absent l (chosen k (r (x .addr) (suc l)))
 
-      gain-all : gain (suc l) x ≡ true → bit (gain (suc l) x) + splits r k half absent l (chosen k (r (x .addr) (suc l))) ≡ suc l
+      gain-all : gain (suc l) x ≡ true → bit (gain (suc l) x) + splits r k half absent l
+          (chosen k (r (x .addr) (suc l))) ≡ suc l
       gain-all w = all-below k half r absent (suc l) x w
 
       here : j ≡ suc l → Goal
       here z =
-          let w : lists (suc l) e (suc l) ≡ splice (inserts l) k (r (x .addr) (suc l)) = onPath-below fit roomAt r k (putIn k a) (λ e. put k a (e ∷ []))
-          (above k one left right half) (put-as k a) l (suc l) e (omega arith) ∙ onPath-top fit roomAt r k (putIn k a) (λ e. put k a (e ∷ []))
-          (above k one left right half) (put-as k a) l x ∙ below-is fit roomAt r k (putIn k a) (λ e. put k a (e ∷ [])) (above k one left right half)
+          let w : lists (suc l) e (suc l) ≡ splice (inserts l) k (r (x .addr) (suc l)) =
+          onPath-below fit roomAt r k (putIn k a) (λ e. put k a (e ∷ []))
+          (above k one left right half) (put-as k a) l (suc l) e (omega arith)
+          ∙ onPath-top fit roomAt r k (putIn k a) (λ e. put k a (e ∷ []))
+          (above k one left right half) (put-as k a) l x
+          ∙ below-is fit roomAt r k (putIn k a) (λ e. put k a (e ∷ [])) (above k one left right half)
           (put-as k a) l (next (s .post) hi) x (s .under) (s .here) in
           rw z (
-            (λ i. let u = gain-all (over l (next (s .post) hi) x (s .under) (s .here) f′ (rw w at i)) in omega (arith, u)),
+            (λ i. let u = gain-all (over l (next (s .post) hi) x (s .under) (s .here) f′ (rw w at i)) in
+                omega (arith, u)),
             (λ i. rw w (long l (next (s .post) hi) x (s .under) (s .here) f′ (gained (gain (suc l) x) refl i))),
           )
         where
-          gained : (t : Bool) → gain (suc l) x ≡ t → suc l ≤ bit t + splits r k half absent l (chosen k (r (x .addr) (suc l))) → gain (suc l) x ≡ true
+          gained : (t : Bool) → gain (suc l) x ≡ t → suc l ≤ bit t + splits r k half absent l
+              (chosen k (r (x .addr) (suc l))) → gain (suc l) x ≡ true
           gained true e i = e
           gained false e i = absurd (omega (arith, i, less))
 
-      there : (j ≤ l → (2 * half j < length (lists l x j) → j ≤ splits r k half absent l (chosen k (r (x .addr) (suc l)))) ×
+      there : (j ≤ l → (2 * half j < length (lists l x j) → j ≤ splits r k half absent l
+          (chosen k (r (x .addr) (suc l)))) ×
           (j ≤ splits r k half absent l (chosen k (r (x .addr) (suc l))) → 2 * half j < length (lists l x j))) → (j ≡ suc l → ⊥) → Goal
       there step z =
           let ih = step (omega arith) in

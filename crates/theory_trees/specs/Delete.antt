@@ -25,11 +25,13 @@ remove-none : (k lo hi : ℕ) (zs : List Entry) → k < lo → All (In lo hi) zs
 remove-none k lo hi [] q h = refl
 remove-none k lo hi (e ∷ zs) q h = rw (ne-eqb (e .key) k (λ p. omega (arith, h .0 .0))) (ap (λ l. e ∷ l) (remove-none k lo hi zs q (h .1)))
 
-remove-before : (k lo hi : ℕ) (ys zs : List Entry) → k < lo → All (In lo hi) zs → remove k (ys ++ zs) ≡ remove k ys ++ zs
+remove-before : (k lo hi : ℕ) (ys zs : List Entry) → k < lo → All (In lo hi) zs
+    → remove k (ys ++ zs) ≡ remove k ys ++ zs
 remove-before k lo hi [] zs q h = remove-none k lo hi zs q h
 remove-before k lo hi (e ∷ ys) zs q h = go (eqb (e .key) k) (remove-before k lo hi ys zs q h)
   where
-    go : (t : Bool) → remove k (ys ++ zs) ≡ remove k ys ++ zs → pick t (ys ++ zs) (e ∷ remove k (ys ++ zs)) ≡ pick t ys (e ∷ remove k ys) ++ zs
+    go : (t : Bool) → remove k (ys ++ zs) ≡ remove k ys ++ zs → pick t (ys ++ zs) (e ∷ remove k (ys ++ zs)) ≡ pick t ys
+        (e ∷ remove k ys) ++ zs
     go true i = refl
     go false i = ap (λ l. e ∷ l) i
 
@@ -69,7 +71,8 @@ DeleteHeld n s l e c = 1 ≤ length c → s n l ≡ c
 abbrev pub DeleteMade : Nodes → Nodes → ℕ → ℕ → ℕ → Entry → Type 0
 DeleteMade r s k n l e = Made r k (λ e. remove k (e ∷ [])) (kept n) (DeleteHeld n s) l e
 
-pub delete-made : (r s : Nodes) (k n : ℕ) (fit : ℕ → ℕ → Type 0) → ((l : ℕ) → fit (suc l) n) → (l : ℕ) (e : Entry) → DeleteMade r s k n l e
+pub delete-made : (r s : Nodes) (k n : ℕ) (fit : ℕ → ℕ → Type 0) → ((l : ℕ) → fit (suc l) n) → (l : ℕ) (e : Entry)
+    → DeleteMade r s k n l e
     → DeleteMadeOn r s k (λ _. n) fit l e
 delete-made r s k n fit fn = made-map r k (λ e. remove k (e ∷ [])) (kept n) (DeleteHeld n s) (DeleteHeldOn (λ _. n) s fit) (λ l e c h b. (h b, fn l))
 
@@ -77,8 +80,10 @@ pub none-left : (es : List Entry) → length es ≤ 0 → es ≡ []
 none-left [] h = refl
 none-left (e ∷ es) h = absurd (omega arith)
 
--- where nothing is left of an entry, nothing is left of the path below it: what asks for something of a node that is left is so
-pub none-held : (k : ℕ) (n : ℕ → ℕ) (half : ℕ → ℕ) (r : Nodes) (fit : ℕ → ℕ → Type 0) (H : ℕ → Entry → List Entry → Type 0)
+-- where nothing is left of an entry, nothing is left of the path below it: what asks for something of a node that is
+-- left is so
+pub none-held : (k : ℕ) (n : ℕ → ℕ) (half : ℕ → ℕ) (r : Nodes) (fit : ℕ → ℕ → Type 0) (H : ℕ → Entry → List Entry
+    → Type 0)
     → ((l : ℕ) (e : Entry) (c : List Entry) → length c ≡ 0 → H l e c)
     → (l hi : ℕ) (e : Entry) → k < hi → Ok fit (λ l. 2 * half l) r l hi e → deletedOn r k n l e ≡ []
     → Made r k (λ e. remove k (e ∷ [])) (keptOn n) H l e
@@ -99,7 +104,8 @@ none-held k n half r fit H f (suc l) hi e q h d =
     emptied (x ∷ c) i = absurd (omega (arith, ap length i))
 
 module _ (k : ℕ) (n : ℕ → ℕ) (top : ℕ) (half most : ℕ → ℕ) (r s : Nodes) (fit fit′ : ℕ → ℕ → Type 0)
-    (keep : (l a : ℕ) → fit l a → fit′ l a) (same : (p l : ℕ) → fit (suc l) p → s p (suc l) ≡ r p (suc l)) (k-top : k < top) where
+    (keep : (l a : ℕ) → fit l a → fit′ l a) (same : (p l : ℕ) → fit (suc l) p → s p (suc l) ≡ r p (suc l))
+    (k-top : k < top) where
   abbrev roomAt : ℕ → ℕ
   roomAt l = 2 * half l
 
@@ -115,7 +121,8 @@ module _ (k : ℕ) (n : ℕ → ℕ) (top : ℕ) (half most : ℕ → ℕ) (r s 
   kept-under l e [] h = refl
   kept-under l e (x ∷ c) h = rw (h (omega arith) .0) (append-nil (gather (under s l) (x ∷ c)))
 
-  pub kept-ok : (l y i : ℕ) (e : Entry) (c : List Entry) → DeleteHeldOn n s fit′ (suc l) e c → k < y → e .key < y → Rises (Ok fit′ roomAt s l) y c
+  pub kept-ok : (l y i : ℕ) (e : Entry) (c : List Entry) → DeleteHeldOn n s fit′ (suc l) e c → k < y → e .key < y
+      → Rises (Ok fit′ roomAt s l) y c
       → e .key ≤ next c y
       → 1 ≤ i → i ≤ roomAt (suc l) → i + 0 ≤ suc (length c) → suc (length c) ≤ i + 1
       → Out (Ok fit′ roomAt s (suc l)) (λ z. z) 0 1 y (e .key) (keptOn n (suc l) e c)
@@ -128,7 +135,8 @@ module _ (k : ℕ) (n : ℕ → ℕ) (top : ℕ) (half most : ℕ → ℕ) (r s 
     omega arith,
   )
 
-  pub remove-ok : (y : ℕ) (e : Entry) → k < y → e .key < y → fit 0 (e .addr) → Out (Ok fit′ roomAt s 0) (λ z. z) 0 1 y (e .key) (remove k (e ∷ []))
+  pub remove-ok : (y : ℕ) (e : Entry) → k < y → e .key < y → fit 0 (e .addr) → Out (Ok fit′ roomAt s 0) (λ z. z) 0 1 y
+      (e .key) (remove k (e ∷ []))
   unfolding Ok
   remove-ok y e q b h = go (eqb (e .key) k)
     where
@@ -151,7 +159,8 @@ module _ (k : ℕ) (n : ℕ → ℕ) (top : ℕ) (half most : ℕ → ℕ) (r s 
       (λ z i. omega arith) (λ y z i. omega arith) remove-ok (λ l y i e c _. kept-ok l y i e c) l top es e k-top h m in
       record { pairs-are = p; rises = o .up; few = omega (arith, o .few); many = omega (arith, o .many) }
 
-  pub gone : (l : ℕ) (es : List Entry) → (1 ≤ l → 2 ≤ length es) → Rises (Ok fit roomAt r l) top es → Making l (chosen k es)
+  pub gone : (l : ℕ) (es : List Entry) → (1 ≤ l → 2 ≤ length es) → Rises (Ok fit roomAt r l) top es
+      → Making l (chosen k es)
       → Gone l es (atRoot (removeIn k) (deletes l) k l es)
   unfolding atRoot edit under Ok removeIn splice
   gone zero [] g h m = record { pairs-are = gather-one [] ∙ ap (remove k) (sym (gather-one [])); rises = tt; few = omega arith; many = omega arith }
@@ -162,12 +171,14 @@ module _ (k : ℕ) (n : ℕ → ℕ) (top : ℕ) (half most : ℕ → ℕ) (r s 
   rootLess l p = atRoot (removeIn k) (deletes l) k l (r p (suc l))
 
   -- the root stays at its level
-  pub less-pairs : (l p : ℕ) → Rooted fit roomAt most top r l p → Making l (chosen k (r p (suc l))) → s (n (suc l)) (suc l) ≡ rootLess l p
+  pub less-pairs : (l p : ℕ) → Rooted fit roomAt most top r l p → Making l (chosen k (r p (suc l)))
+      → s (n (suc l)) (suc l) ≡ rootLess l p
       → under s (suc l) (the (n (suc l))) ≡ remove k (under r (suc l) (the p))
   unfolding under
   less-pairs l p h m e = rw e (gone l (r p (suc l)) (h .least) (h .rises) m .pairs-are)
 
-  pub less-ok : (l p : ℕ) → Rooted fit roomAt most top r l p → Making l (chosen k (r p (suc l))) → s (n (suc l)) (suc l) ≡ rootLess l p
+  pub less-ok : (l p : ℕ) → Rooted fit roomAt most top r l p → Making l (chosen k (r p (suc l)))
+      → s (n (suc l)) (suc l) ≡ rootLess l p
       → fit′ (suc l) (n (suc l)) → (1 ≤ l → 2 ≤ length (rootLess l p))
       → Rooted fit′ roomAt most top s l (n (suc l))
   less-ok l p h m e fn b =
@@ -175,7 +186,8 @@ module _ (k : ℕ) (n : ℕ → ℕ) (top : ℕ) (half most : ℕ → ℕ) (r s 
       record { fits = fn; least = λ z. rw e (b z); atmost = rw e (omega (arith, f .many, h .atmost)); rises = rw e (f .rises) }
 
   -- one entry is left: the path is gone and the entry is an old one
-  pub left-old : (l : ℕ) (es : List Entry) → 2 ≤ length es → Rises (Ok fit roomAt r l) top es → length (splice (deletes l) k es) ≡ 1
+  pub left-old : (l : ℕ) (es : List Entry) → 2 ≤ length es → Rises (Ok fit roomAt r l) top es
+      → length (splice (deletes l) k es) ≡ 1
       → Rises (Ok fit roomAt r l) top (splice (deletes l) k es)
   left-old l es g h e =
       let a = splice-length (Ok fit roomAt r l) (deletes l) k top es (omega arith) k-top h in
@@ -191,7 +203,8 @@ module _ (k : ℕ) (n : ℕ → ℕ) (top : ℕ) (half most : ℕ → ℕ) (r s 
     pub least : 1 ≤ t .level → 2 ≤ length (t .list)
     pub atmost : length (t .list) ≤ most (suc (t .level))
 
-  pub topped : ((j : ℕ) → roomAt j ≤ most j) → (l : ℕ) (c : List Entry) → 1 ≤ length c → length c ≤ most (suc l) → Rises (Ok fit roomAt r l) top c
+  pub topped : ((j : ℕ) → roomAt j ≤ most j) → (l : ℕ) (c : List Entry) → 1 ≤ length c → length c ≤ most (suc l)
+      → Rises (Ok fit roomAt r l) top c
       → Topped l c (collapse r l c)
   unfolding collapse gather under Ok
   topped w zero c g b h = record { pairs-are = refl; rises = h; least = λ z. absurd (omega arith); atmost = b }
@@ -235,9 +248,11 @@ module _ (k : ℕ) (n : ℕ → ℕ) (top : ℕ) (half most : ℕ → ℕ) (r s 
     collapse-pairs =
         let t = topAt l p in
         ap (gather (under s (t .level))) e ∙ as-old (t .level) (t .list) (the-top .rises) ∙ the-top .pairs-are
-        ∙ sym (as-old (suc l) (rootLess (suc l) p) old-list) ∙ gone (suc l) (r p (suc (suc l))) (h .least) (h .rises) m .pairs-are
+        ∙ sym (as-old (suc l) (rootLess (suc l) p) old-list)
+        ∙ gone (suc l) (r p (suc (suc l))) (h .least) (h .rises) m .pairs-are
 
-    pub collapse-ok : fit′ (suc (topAt l p .level)) (topPage l p) → Rooted fit′ roomAt most top s (topAt l p .level) (topPage l p)
+    pub collapse-ok : fit′ (suc (topAt l p .level)) (topPage l p) → Rooted fit′ roomAt most top s (topAt l p .level)
+        (topPage l p)
     collapse-ok fn =
         let t = topAt l p in
         record {
@@ -249,7 +264,9 @@ module _ (k : ℕ) (n : ℕ → ℕ) (top : ℕ) (half most : ℕ → ℕ) (r s 
         }
 
 module _ (k n top : ℕ) (half most : ℕ → ℕ) (r s : Nodes) (fit fit′ : ℕ → ℕ → Type 0) (fit-n : (l : ℕ) → fit′ (suc l) n)
-    (keep : (l a : ℕ) → fit l a → fit′ l a) (same : (p l : ℕ) → fit (suc l) p → s p (suc l) ≡ r p (suc l)) (k-top : k < top) where
+    (keep : (l a : ℕ) → fit l a → fit′ l a) (same : (p l : ℕ) → fit (suc l) p → s p (suc l) ≡ r p (suc l))
+    (k-top : k < top) where
   -- all on N
-  pub none-made : (l hi : ℕ) (e : Entry) → k < hi → Ok fit (λ l. 2 * half l) r l hi e → deleted r k n l e ≡ [] → DeleteMade r s k n l e
+  pub none-made : (l hi : ℕ) (e : Entry) → k < hi → Ok fit (λ l. 2 * half l) r l hi e → deleted r k n l e ≡ []
+      → DeleteMade r s k n l e
   none-made = none-held k (λ _. n) half r fit (DeleteHeld n s) (λ l e c i j. absurd (omega (arith, i, j)))

@@ -29,7 +29,8 @@ abbrev pub leftLowOf : Nodes → ℕ → ℕ → ℕ → List Entry → ℕ
 leftLowOf r k n l es = stop (deleted r k n l (chosen k es)) (suc l) (leftLow r k n l (chosen k es))
 
 module _ (k n top : ℕ) (half most : ℕ → ℕ) (r s : Nodes) (fit fit′ : ℕ → ℕ → Type 0)
-    (keep : (l a : ℕ) → fit l a → fit′ l a) (same : (p l : ℕ) → fit (suc l) p → s p (suc l) ≡ r p (suc l)) (k-top : k < top) where
+    (keep : (l a : ℕ) → fit l a → fit′ l a) (same : (p l : ℕ) → fit (suc l) p → s p (suc l) ≡ r p (suc l))
+    (k-top : k < top) where
   abbrev pub DeleteWhere : ℕ → Place → Type 0
   DeleteWhere low x = Where s n low (λ _. 0) (λ _. ⊥) (λ x. (1 ≤ x .level) × fit (x .level) (x .page)) x
 
@@ -49,12 +50,14 @@ module _ (k n top : ℕ) (half most : ℕ → ℕ) (r s : Nodes) (fit fit′ : �
       go [] i = omega arith
       go (d ∷ ds) i = omega arith
 
-  off-where : (low : ℕ) (l y : ℕ) (e : Entry) → e .key < y → Ok fit roomAt r l y e → ((y ≤ k) ⊎ (k < e .key)) → All (DeleteWhere low) (places r l e)
+  off-where : (low : ℕ) (l y : ℕ) (e : Entry) → e .key < y → Ok fit roomAt r l y e → ((y ≤ k) ⊎ (k < e .key))
+      → All (DeleteWhere low) (places r l e)
   off-where low l y e b h o = all-map (λ x. (1 ≤ x .level) × fit (x .level) (x .page)) (DeleteWhere low) (places r l e) (λ x i. inr (inr i))
       (places-fit fit roomAt r l y e h)
 
   -- what is left of the path's entry above the leaves names n
-  left-names : (l : ℕ) (e d : Entry) (ds : List Entry) → deletes (suc l) e ≡ d ∷ ds → Some (λ e. e .addr ≡ n) (deletes (suc l) e)
+  left-names : (l : ℕ) (e d : Entry) (ds : List Entry) → deletes (suc l) e ≡ d ∷ ds
+      → Some (λ e. e .addr ≡ n) (deletes (suc l) e)
   unfolding edit
   left-names l e d ds q = go (splice (deletes l) k (r (e .addr) (suc l))) q
     where
@@ -62,11 +65,14 @@ module _ (k n top : ℕ) (half most : ℕ → ℕ) (r s : Nodes) (fit fit′ : �
       go [] i = absurd (omega (arith, ap length i))
       go (x ∷ c) i = inl refl
 
-  names-left : (l hi : ℕ) (es : List Entry) (d : Entry) (ds : List Entry) → 0 < length es → k < hi → Rises (Ok fit roomAt r l) hi es
-      → deletes l (chosen k es) ≡ d ∷ ds → leftLow r k n l (chosen k es) < suc l → Some (λ e. e .addr ≡ n) (splice (deletes l) k es)
+  names-left : (l hi : ℕ) (es : List Entry) (d : Entry) (ds : List Entry) → 0 < length es → k < hi
+      → Rises (Ok fit roomAt r l) hi es
+      → deletes l (chosen k es) ≡ d ∷ ds → leftLow r k n l (chosen k es) < suc l
+      → Some (λ e. e .addr ≡ n) (splice (deletes l) k es)
   unfolding leftLow
   names-left zero hi es d ds c q h i b = absurd (omega arith)
-  names-left (suc l) hi es d ds c q h i b = splice-some (Ok fit roomAt r (suc l)) (λ e. e .addr ≡ n) (deletes (suc l)) k hi es c q h
+  names-left (suc l) hi es d ds c q h i b =
+      splice-some (Ok fit roomAt r (suc l)) (λ e. e .addr ≡ n) (deletes (suc l)) k hi es c q h
       (left-names l (chosen k es) d ds i)
 
   -- the places below a changed list, and that the list names n if its level is above the lowest
@@ -74,13 +80,15 @@ module _ (k n top : ℕ) (half most : ℕ → ℕ) (r s : Nodes) (fit fit′ : �
   ListWhere l c low = All (DeleteWhere low) (gather (places s l) c) × (low ≤ suc l) × (low < suc l → Some (λ e. e .addr ≡ n) c)
 
   list-where : (l hi : ℕ) (es : List Entry) → 0 < length es → k < hi → Rises (Ok fit roomAt r l) hi es
-      → ((y : ℕ) → k < y → chosen k es .key < y → Ok fit roomAt r l y (chosen k es) → All (DeleteWhere (leftLow r k n l (chosen k es)))
+      → ((y : ℕ) → k < y → chosen k es .key < y → Ok fit roomAt r l y (chosen k es)
+      → All (DeleteWhere (leftLow r k n l (chosen k es)))
       (gather (places s l) (deletes l (chosen k es))))
       → ListWhere l (splice (deletes l) k es) (leftLowOf r k n l es)
   unfolding gather
   list-where l hi es c q h step = go (deletes l (chosen k es)) refl
     where
-      go : (ds : List Entry) → deletes l (chosen k es) ≡ ds → ListWhere l (splice (deletes l) k es) (stop ds (suc l) (leftLow r k n l (chosen k es)))
+      go : (ds : List Entry) → deletes l (chosen k es) ≡ ds → ListWhere l (splice (deletes l) k es)
+          (stop ds (suc l) (leftLow r k n l (chosen k es)))
       go [] i = (
         list-places fit fit′ roomAt r s keep same k (λ e. remove k (e ∷ [])) (kept n) (DeleteHeld n s) (DeleteWhere (suc l))
             (off-where (suc l)) l hi es c q h (λ y a b o. rw i tt),
@@ -109,11 +117,13 @@ module _ (k n top : ℕ) (half most : ℕ → ℕ) (r s : Nodes) (fit fit′ : �
       → All (DeleteWhere (leftLow r k n l e)) (gather (places s l) (deletes l e))
   unfolding edit Made Ok leftLow
   edit-where zero y e q b h m = no-places (DeleteWhere 1) s (remove k (e ∷ []))
-  edit-where (suc l) y e q b h m = let es = r (e .addr) (suc l) in kept-where l (leftLowOf r k n l es) e (splice (deletes l) k es) (m .0)
+  edit-where (suc l) y e q b h m = let es = r (e .addr) (suc l) in
+      kept-where l (leftLowOf r k n l es) e (splice (deletes l) k es) (m .0)
       (list-where l y es (h .1) q (h .4) (λ y a b i. edit-where l y (chosen k es) a b i (m .1)))
 
   -- the root stays at its level
-  pub less-where : (l p : ℕ) → Rooted fit roomAt most top r l p → 0 < length (r p (suc l)) → DeleteMade r s k n l (chosen k (r p (suc l)))
+  pub less-where : (l p : ℕ) → Rooted fit roomAt most top r l p → 0 < length (r p (suc l)) → DeleteMade r s k n l
+      (chosen k (r p (suc l)))
       → s n (suc l) ≡ splice (deletes l) k (r p (suc l))
       → All (DeleteWhere (leftLowOf r k n l (r p (suc l)))) (places s (suc l) (record { key = 0; addr = n }))
   less-where l p h c m e = let es = r p (suc l) in node-where l 0 (leftLowOf r k n l es) (splice (deletes l) k es) e

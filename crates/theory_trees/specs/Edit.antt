@@ -28,16 +28,20 @@ module _ (k : ℕ) (P : ℕ → Entry → Type 0) (d : Entry → List Entry)
   pub pre-in : (z : ℕ) (pre : List Entry) → ((0 < length pre) → z ≤ k) → Rises P z pre → All (In 0 k) (gather d pre)
   unfolding gather
   pre-in z [] u h = tt
-  pre-in z (e ∷ pre) u h = let b = u (omega arith) in all-map (In 0 z) (In 0 k) (gather d (e ∷ pre)) (λ x i. omega (arith, i, b))
+  pre-in z (e ∷ pre) u h = let b = u (omega arith) in
+      all-map (In 0 z) (In 0 k) (gather d (e ∷ pre)) (λ x i. omega (arith, i, b))
       (rises-in 0 z (e ∷ pre) (omega arith) h)
 
-module _ (k : ℕ) (op : List Entry → List Entry) (loc : Local k op) (P : ℕ → Entry → Type 0) (d d′ f : Entry → List Entry)
-    (range : (y : ℕ) (x : Entry) → x .key < y → P y x → All (In (x .key) y) (d x)) (same : (y : ℕ) (x : Entry) → P y x → d′ x ≡ d x) where
+module _ (k : ℕ) (op : List Entry → List Entry) (loc : Local k op) (P : ℕ → Entry → Type 0)
+    (d d′ f : Entry → List Entry)
+    (range : (y : ℕ) (x : Entry) → x .key < y → P y x → All (In (x .key) y) (d x)) (same : (y : ℕ) (x : Entry) → P y x
+    → d′ x ≡ d x) where
   sames : (hi : ℕ) (es : List Entry) → Rises P hi es → gather d′ es ≡ gather d es
   sames hi es h = gather-eq d d′ es (rises-all P (λ x. d′ x ≡ d x) hi es (λ y x _ _ i. same y x i) h)
 
   pub splice-op : (hi : ℕ) (es : List Entry) → 0 < length es → k < hi → Rises P hi es
-      → ((y : ℕ) → k < y → chosen k es .key < y → P y (chosen k es) → gather d′ (f (chosen k es)) ≡ op (d (chosen k es)))
+      → ((y : ℕ) → k < y → chosen k es .key < y → P y (chosen k es) → gather d′ (f (chosen k es))
+      ≡ op (d (chosen k es)))
       → gather d′ (splice f k es) ≡ op (gather d es)
   unfolding gather
   splice-op hi es n q h step = go (split P k hi es n q h)
@@ -55,19 +59,23 @@ module _ (k : ℕ) (op : List Entry → List Entry) (loc : Local k op) (P : ℕ 
             sames (x .key) (s .pre) (s .before),
             sames hi (s .post) (s .rest),
           ) in
-          let r1 : gather d es ≡ gather d (s .pre) ++ (d x ++ gather d (s .post)) = ap (gather d) (s .whole) ∙ gather-append d (s .pre)
+          let r1 : gather d es ≡ gather d (s .pre) ++ (d x ++ gather d (s .post)) =
+          ap (gather d) (s .whole) ∙ gather-append d (s .pre)
           (x ∷ s .post) in
           let r2 : op (gather d (s .pre) ++ (d x ++ gather d (s .post))) ≡ gather d (s .pre) ++ op (d x ++ gather d (s .post)) = loc .after 0
           (gather d (s .pre)) (d x ++ gather d (s .post)) (pre-in k P d range (x .key) (s .pre) (s .upto) (s .before)) in
-          let r3 : op (d x ++ gather d (s .post)) ≡ op (d x) ++ gather d (s .post) = loc .before (next (s .post) hi) hi (d x) (gather d (s .post))
+          let r3 : op (d x ++ gather d (s .post)) ≡ op (d x) ++ gather d (s .post) =
+          loc .before (next (s .post) hi) hi (d x) (gather d (s .post))
           (s .under) (rises-in k P d range (next (s .post) hi) hi (s .post) (omega arith) (s .rest)) in
           l1 ∙ sym (ap op r1 ∙ r2 ∙ ap (λ m. gather d (s .pre) ++ m) r3)
 
-pub splice-length : (P : ℕ → Entry → Type 0) (f : Entry → List Entry) (k hi : ℕ) (es : List Entry) → 0 < length es → k < hi → Rises P hi es
+pub splice-length : (P : ℕ → Entry → Type 0) (f : Entry → List Entry) (k hi : ℕ) (es : List Entry) → 0 < length es
+    → k < hi → Rises P hi es
     → suc (length (splice f k es)) ≡ length es + length (f (chosen k es))
 splice-length P f k hi es n q h = go (split P k hi es n q h)
   where
-    go : Split P k hi es (chosen k es) (λ f. splice f k es) → suc (length (splice f k es)) ≡ length es + length (f (chosen k es))
+    go : Split P k hi es (chosen k es) (λ f. splice f k es) → suc (length (splice f k es))
+        ≡ length es + length (f (chosen k es))
     go s =
         let x = chosen k es in
         let a = ap length (s .spliced f) ∙ length-append (s .pre) (f x ++ s .post) in
@@ -92,14 +100,17 @@ module _ (k : ℕ) (P Q : ℕ → Entry → Type 0) (f : Entry → List Entry) (
       → Rises Q hi (splice f k es) × (low (next es hi) ≤ next (splice f k es) hi)
   splice-rises hi es n q h step = go (split P k hi es n q h)
     where
-      go : Split P k hi es (chosen k es) (λ f. splice f k es) → Rises Q hi (splice f k es) × (low (next es hi) ≤ next (splice f k es) hi)
+      go : Split P k hi es (chosen k es) (λ f. splice f k es) → Rises Q hi (splice f k es) ×
+          (low (next es hi) ≤ next (splice f k es) hi)
       go s =
           let x = chosen k es in
           let y = next (s .post) hi in
           let st = step y (s .under) (s .up) (s .here) in
           let e1 = next-append (f x) (s .post) hi in
-          let e2 : next es hi ≡ next (s .pre) (x .key) = ap (λ m. next m hi) (s .whole) ∙ next-append (s .pre) (x ∷ s .post) hi in
-          let e3 : next (splice f k es) hi ≡ next (s .pre) (next (f x) y) = ap (λ m. next m hi) (s .spliced f) ∙ next-append (s .pre)
+          let e2 : next es hi ≡ next (s .pre) (x .key) = ap (λ m. next m hi) (s .whole)
+          ∙ next-append (s .pre) (x ∷ s .post) hi in
+          let e3 : next (splice f k es) hi ≡ next (s .pre) (next (f x) y) = ap (λ m. next m hi) (s .spliced f)
+          ∙ next-append (s .pre)
           (f x ++ s .post) hi ∙ ap (next (s .pre)) e1 in (
             rw (s .spliced f) (rises-append Q hi (s .pre) (f x ++ s .post)
                 (rw e1 (pre-rises (x .key) (next (f x) y) (s .pre) (λ z. omega (arith, low-id (x .key) (s .upto z), st .1)) (s .before)))
@@ -112,7 +123,8 @@ module _ (k : ℕ) (P : ℕ → Entry → Type 0) (f : Entry → List Entry) (W 
     (off : (y : ℕ) (x : Entry) → x .key < y → P y x → ((y ≤ k) ⊎ (k < x .key)) → W x) where
   pre-off : (z : ℕ) (pre : List Entry) → (0 < length pre → z ≤ k) → Rises P z pre → All W pre
   pre-off z [] u h = tt
-  pre-off z (e ∷ pre) u h = let b = u (omega arith) in rises-all P W z (e ∷ pre) (λ y x q c i. off y x q i (inl (omega arith))) h
+  pre-off z (e ∷ pre) u h = let b = u (omega arith) in
+      rises-all P W z (e ∷ pre) (λ y x q c i. off y x q i (inl (omega arith))) h
 
   post-off : (hi : ℕ) (post : List Entry) → k < next post hi → Rises P hi post → All W post
   post-off hi [] q h = tt
@@ -128,7 +140,8 @@ module _ (k : ℕ) (P : ℕ → Entry → Type 0) (f : Entry → List Entry) (W 
           (all-append W (f (chosen k es)) (s .post) (step (next (s .post) hi) (s .under) (s .up) (s .here))
           (post-off hi (s .post) (s .under) (s .rest))))
 
-pub splice-some : (P : ℕ → Entry → Type 0) (Z : Entry → Type 0) (f : Entry → List Entry) (k hi : ℕ) (es : List Entry) → 0 < length es → k < hi
+pub splice-some : (P : ℕ → Entry → Type 0) (Z : Entry → Type 0) (f : Entry → List Entry) (k hi : ℕ) (es : List Entry)
+    → 0 < length es → k < hi
     → Rises P hi es → Some Z (f (chosen k es)) → Some Z (splice f k es)
 splice-some P Z f k hi es n q h i = go (split P k hi es n q h)
   where
@@ -145,16 +158,20 @@ unfoldable pub atRoot : (List Entry → List Entry) → (Entry → List Entry) �
 atRoot leaf f k zero es = leaf es
 atRoot leaf f k (suc l) es = splice f k es
 
--- Held l e c: the new nodes hold c, the changed list of the path's node under e at level l, as they should; Made: so at every level of the path
-unfoldable pub Made : Nodes → ℕ → (Entry → List Entry) → (ℕ → Entry → List Entry → List Entry) → (ℕ → Entry → List Entry → Type 0) → ℕ → Entry
+-- Held l e c: the new nodes hold c, the changed list of the path's node under e at level l, as they should; Made: so at
+-- every level of the path
+unfoldable pub Made : Nodes → ℕ → (Entry → List Entry) → (ℕ → Entry → List Entry → List Entry)
+    → (ℕ → Entry → List Entry → Type 0) → ℕ → Entry
     → Type 0
 Made r k base name Held zero e = Unit {0}
 Made r k base name Held (suc l) e = Held (suc l) e (splice (edit r k base name l) k (r (e .addr) (suc l))) × Made r k base name Held l
     (chosen k (r (e .addr) (suc l)))
 
 -- Made, with what follows from Held in its place
-pub made-map : (r : Nodes) (k : ℕ) (base : Entry → List Entry) (name : ℕ → Entry → List Entry → List Entry) (H I : ℕ → Entry → List Entry → Type 0)
-    → ((l : ℕ) (e : Entry) (c : List Entry) → H (suc l) e c → I (suc l) e c) → (l : ℕ) (e : Entry) → Made r k base name H l e → Made r k base name I l e
+pub made-map : (r : Nodes) (k : ℕ) (base : Entry → List Entry) (name : ℕ → Entry → List Entry → List Entry)
+    (H I : ℕ → Entry → List Entry → Type 0)
+    → ((l : ℕ) (e : Entry) (c : List Entry) → H (suc l) e c → I (suc l) e c) → (l : ℕ) (e : Entry)
+    → Made r k base name H l e → Made r k base name I l e
 unfolding Made
 made-map r k base name H I f zero e m = tt
 made-map r k base name H I f (suc l) e m = (
@@ -179,19 +196,23 @@ no-places W s [] = tt
 no-places W s (e ∷ es) = no-places W s es
 
 -- the places under an entry that names page q: q's own, and those under its node
-pub page-where : (s : Nodes) (W : Place → Type 0) (l z q : ℕ) (es : List Entry) → s q (suc l) ≡ es → W (record { page = q; level = suc l })
+pub page-where : (s : Nodes) (W : Place → Type 0) (l z q : ℕ) (es : List Entry) → s q (suc l) ≡ es
+    → W (record { page = q; level = suc l })
     → All W (gather (places s l) es) → All W (places s (suc l) (record { key = z; addr = q }))
 unfolding places
 page-where s W l z q es e w h = (w, rw e h)
 
 module _ (fit fit′ : ℕ → ℕ → Type 0) (room : ℕ → ℕ) (r s : Nodes) (keep : (l a : ℕ) → fit l a → fit′ l a)
     (same : (p l : ℕ) → fit (suc l) p → s p (suc l) ≡ r p (suc l))
-    (k : ℕ) (base : Entry → List Entry) (name : ℕ → Entry → List Entry → List Entry) (Held : ℕ → Entry → List Entry → Type 0) where
+    (k : ℕ) (base : Entry → List Entry) (name : ℕ → Entry → List Entry → List Entry) (Held : ℕ → Entry → List Entry
+    → Type 0) where
   module _ (op : List Entry → List Entry) (loc : Local k op) (base-op : (e : Entry) → base e ≡ op (e ∷ []))
-      (name-op : (l hi : ℕ) (e : Entry) (c : List Entry) → Ok fit room r (suc l) hi e → Held (suc l) e c → gather (under s l) c ≡ op
+      (name-op : (l hi : ℕ) (e : Entry) (c : List Entry) → Ok fit room r (suc l) hi e → Held (suc l) e c
+      → gather (under s l) c ≡ op
       (under r (suc l) e) → gather (under s (suc l)) (name (suc l) e c) ≡ op (under r (suc l) e)) where
     list-op : (l hi : ℕ) (es : List Entry) → 0 < length es → k < hi → Rises (Ok fit room r l) hi es
-        → ((y : ℕ) → k < y → chosen k es .key < y → Ok fit room r l y (chosen k es) → gather (under s l) (edit r k base name l (chosen k es)) ≡ op
+        → ((y : ℕ) → k < y → chosen k es .key < y → Ok fit room r l y (chosen k es) → gather (under s l)
+        (edit r k base name l (chosen k es)) ≡ op
         (under r l (chosen k es)))
         → gather (under s l) (splice (edit r k base name l) k es) ≡ op (gather (under r l) es)
     list-op l hi es n q h step = splice-op k op loc (Ok fit room r l) (under r l) (under s l) (edit r k base name l)
@@ -205,19 +226,23 @@ module _ (fit fit′ : ℕ → ℕ → Type 0) (room : ℕ → ℕ) (r s : Nodes
     edit-under (suc l) hi e q b h m = name-op l hi e (splice (edit r k base name l) k (r (e .addr) (suc l))) h (m .0)
         (list-op l hi (r (e .addr) (suc l)) (h .1) q (h .4) (λ y z b i. edit-under l y (chosen k (r (e .addr) (suc l))) z b i (m .1)))
 
-    pub edit-list : (l hi : ℕ) (es : List Entry) → 0 < length es → k < hi → Rises (Ok fit room r l) hi es → Made r k base name Held l (chosen k es)
+    pub edit-list : (l hi : ℕ) (es : List Entry) → 0 < length es → k < hi → Rises (Ok fit room r l) hi es
+        → Made r k base name Held l (chosen k es)
         → gather (under s l) (splice (edit r k base name l) k es) ≡ op (gather (under r l) es)
     edit-list l hi es n q h m = list-op l hi es n q h (λ y z b i. edit-under l y (chosen k es) z b i m)
 
   module _ (low : ℕ → ℕ) (least most : ℕ) (low-le : (z : ℕ) → low z ≤ z) (low-id : (z : ℕ) → z ≤ k → z ≤ low z)
       (low-up : (y z : ℕ) → y ≤ z → low y ≤ low z)
-      (base-ok : (y : ℕ) (e : Entry) → k < y → e .key < y → fit 0 (e .addr) → Out (Ok fit′ room s 0) low least most y (e .key) (base e))
-      (name-ok : (l y n : ℕ) (e : Entry) (c : List Entry) → Ok fit room r (suc l) y e → Held (suc l) e c → k < y → e .key < y → Rises
+      (base-ok : (y : ℕ) (e : Entry) → k < y → e .key < y → fit 0 (e .addr) → Out (Ok fit′ room s 0) low least most y
+      (e .key) (base e))
+      (name-ok : (l y n : ℕ) (e : Entry) (c : List Entry) → Ok fit room r (suc l) y e → Held (suc l) e c → k < y
+      → e .key < y → Rises
       (Ok fit′ room s l) y c → low (e .key) ≤ next c y
       → 1 ≤ n → n ≤ room (suc l) → n + least ≤ suc (length c) → suc (length c) ≤ n + most
       → Out (Ok fit′ room s (suc l)) low least most y (e .key) (name (suc l) e c)) where
     list-ok : (l hi : ℕ) (es : List Entry) → 0 < length es → k < hi → Rises (Ok fit room r l) hi es
-        → ((y : ℕ) → k < y → chosen k es .key < y → Ok fit room r l y (chosen k es) → Out (Ok fit′ room s l) low least most y (chosen k es .key)
+        → ((y : ℕ) → k < y → chosen k es .key < y → Ok fit room r l y (chosen k es)
+        → Out (Ok fit′ room s l) low least most y (chosen k es .key)
         (edit r k base name l (chosen k es)))
         → Changed (Ok fit′ room s l) low least most hi (next es hi) (length es) (splice (edit r k base name l) k es)
     list-ok l hi es n q h step =
@@ -240,33 +265,38 @@ module _ (fit fit′ : ℕ → ℕ → Type 0) (room : ℕ → ℕ) (r s : Nodes
         name-ok l hi (length es) e c h (m .0) q b (ch .up) (omega (arith, low-up (e .key) (next es hi) (h .3), ch .from)) (h .1) (h .2) (ch .few)
         (ch .many)
 
-    pub edit-list-ok : (l hi : ℕ) (es : List Entry) → 0 < length es → k < hi → Rises (Ok fit room r l) hi es → Made r k base name Held l (chosen k es)
+    pub edit-list-ok : (l hi : ℕ) (es : List Entry) → 0 < length es → k < hi → Rises (Ok fit room r l) hi es
+        → Made r k base name Held l (chosen k es)
         → Changed (Ok fit′ room s l) low least most hi (next es hi) (length es) (splice (edit r k base name l) k es)
     edit-list-ok l hi es n q h m = list-ok l hi es n q h (λ y z b i. edit-ok l y (chosen k es) z b i m)
 
   -- the places of the result: new ones, and old ones off the path
   module _ (W : Place → Type 0)
-      (off : (l y : ℕ) (e : Entry) → e .key < y → Ok fit room r l y e → ((y ≤ k) ⊎ (k < e .key)) → All W (places r l e)) where
-    pub list-places : (l hi : ℕ) (es : List Entry) → 0 < length es → k < hi → Rises (Ok fit room r l) hi es
-        → ((y : ℕ) → k < y → chosen k es .key < y → Ok fit room r l y (chosen k es) → All W
-        (gather (places s l) (edit r k base name l (chosen k es))))
-        → All W (gather (places s l) (splice (edit r k base name l) k es))
-    list-places l hi es n q h step = gather-all W (places s l) (splice (edit r k base name l) k es)
-        (splice-each k (Ok fit room r l) (edit r k base name l) (λ e. All W (places s l e))
-        (λ y x b i o. rw (places-same fit room fit′ r s keep same l y x i) (off l y x b i o)) hi es n q h
-        (λ y a b i. all-gather W (places s l) (edit r k base name l (chosen k es)) (step y a b i)))
+      (off : (l y : ℕ) (e : Entry) → e .key < y → Ok fit room r l y e → ((y ≤ k) ⊎ (k < e .key)) → All W (places r l e))
+    where
+      pub list-places : (l hi : ℕ) (es : List Entry) → 0 < length es → k < hi → Rises (Ok fit room r l) hi es
+          → ((y : ℕ) → k < y → chosen k es .key < y → Ok fit room r l y (chosen k es) → All W
+          (gather (places s l) (edit r k base name l (chosen k es))))
+          → All W (gather (places s l) (splice (edit r k base name l) k es))
+      list-places l hi es n q h step = gather-all W (places s l) (splice (edit r k base name l) k es)
+          (splice-each k (Ok fit room r l) (edit r k base name l) (λ e. All W (places s l e))
+          (λ y x b i o. rw (places-same fit room fit′ r s keep same l y x i) (off l y x b i o)) hi es n q h
+          (λ y a b i. all-gather W (places s l) (edit r k base name l (chosen k es)) (step y a b i)))
 
-  module _ (W : Place → Type 0) (off : (l y : ℕ) (e : Entry) → e .key < y → Ok fit room r l y e → ((y ≤ k) ⊎ (k < e .key)) → All W (places r l e))
-      (name-places : (l y : ℕ) (e : Entry) → k < y → e .key < y → Ok fit room r (suc l) y e → Made r k base name Held (suc l) e
+  module _ (W : Place → Type 0) (off : (l y : ℕ) (e : Entry) → e .key < y → Ok fit room r l y e
+      → ((y ≤ k) ⊎ (k < e .key)) → All W (places r l e))
+      (name-places : (l y : ℕ) (e : Entry) → k < y → e .key < y → Ok fit room r (suc l) y e → Made r k base name Held
+      (suc l) e
       → All W (gather (places s l) (splice (edit r k base name l) k (r (e .addr) (suc l))))
-      → All W (gather (places s (suc l)) (name (suc l) e (splice (edit r k base name l) k (r (e .addr) (suc l)))))) where
-    pub edit-places : (l hi : ℕ) (e : Entry) → k < hi → e .key < hi → Ok fit room r l hi e → Made r k base name Held l e
-        → All W (gather (places s l) (edit r k base name l e))
-    unfolding edit Made Ok
-    edit-places zero hi e q b h m = no-places W s (base e)
-    edit-places (suc l) hi e q b h m = name-places l hi e q b h m (list-places W off l hi (r (e .addr) (suc l)) (h .1) q (h .4)
-        (λ y z b i. edit-places l y (chosen k (r (e .addr) (suc l))) z b i (m .1)))
+      → All W (gather (places s (suc l)) (name (suc l) e (splice (edit r k base name l) k (r (e .addr) (suc l))))))
+    where
+      pub edit-places : (l hi : ℕ) (e : Entry) → k < hi → e .key < hi → Ok fit room r l hi e → Made r k base name Held l e
+          → All W (gather (places s l) (edit r k base name l e))
+      unfolding edit Made Ok
+      edit-places zero hi e q b h m = no-places W s (base e)
+      edit-places (suc l) hi e q b h m = name-places l hi e q b h m (list-places W off l hi (r (e .addr) (suc l)) (h .1) q (h .4)
+          (λ y z b i. edit-places l y (chosen k (r (e .addr) (suc l))) z b i (m .1)))
 
-    pub edit-list-places : (l hi : ℕ) (es : List Entry) → 0 < length es → k < hi → Rises (Ok fit room r l) hi es
-        → Made r k base name Held l (chosen k es) → All W (gather (places s l) (splice (edit r k base name l) k es))
-    edit-list-places l hi es n q h m = list-places W off l hi es n q h (λ y z b i. edit-places l y (chosen k es) z b i m)
+      pub edit-list-places : (l hi : ℕ) (es : List Entry) → 0 < length es → k < hi → Rises (Ok fit room r l) hi es
+          → Made r k base name Held l (chosen k es) → All W (gather (places s l) (splice (edit r k base name l) k es))
+      edit-list-places l hi es n q h m = list-places W off l hi es n q h (λ y z b i. edit-places l y (chosen k es) z b i m)

@@ -1,5 +1,5 @@
--- With insertions only every node below the root is at least half full, and each split adds one node: how many nodes there are.
--- Assumes nothing.
+-- With insertions only every node below the root is at least half full, and each split adds one node: how many nodes
+-- there are. Assumes nothing.
 use mathlib.Core.Path.{_≡_, refl, ap, sym, subst, _∙_}
 use mathlib.Core.List.{List, [], _∷_, _++_}
 use mathlib.Core.Bool.{Bool, true, false}
@@ -41,7 +41,8 @@ module _ (half : ℕ → ℕ) (r s : Nodes) where
   likes-nodes d d′ (x ∷ xs) (y ∷ ys) h = let i = likes-nodes d d′ xs ys (h .1) in
       omega (arith, i, h .0, length-append (d x) (gather d xs), length-append (d′ y) (gather d′ ys))
 
-  likes-map : (R S : Entry → Entry → Type 0) (xs ys : List Entry) → ((x y : Entry) → R x y → S x y) → Likes R xs ys → Likes S xs ys
+  likes-map : (R S : Entry → Entry → Type 0) (xs ys : List Entry) → ((x y : Entry) → R x y → S x y) → Likes R xs ys
+      → Likes S xs ys
   likes-map R S [] [] f h = tt
   likes-map R S [] (y ∷ ys) f h = absurd h
   likes-map R S (x ∷ xs) [] f h = absurd h
@@ -54,20 +55,24 @@ module _ (half : ℕ → ℕ) (r s : Nodes) where
       (likes-map (Like r s l) (λ x y. length (places r l x) ≡ length (places s l y)) (r (e .addr) (suc l)) (s (e′ .addr) (suc l))
       (λ x y. like-nodes l x y) (h .1)))
 
-  pub list-nodes-like : (l : ℕ) (xs ys : List Entry) → Likes (Like r s l) xs ys → length (gather (places r l) xs) ≡ length (gather (places s l) ys)
+  pub list-nodes-like : (l : ℕ) (xs ys : List Entry) → Likes (Like r s l) xs ys → length (gather (places r l) xs)
+      ≡ length (gather (places s l) ys)
   list-nodes-like l xs ys h = likes-nodes (places r l) (places s l) xs ys
       (likes-map (Like r s l) (λ x y. length (places r l x) ≡ length (places s l y)) xs ys (λ x y. like-nodes l x y) h)
 
-  likes-filled : (d d′ : Entry → List Place) (xs ys : List Entry) → Likes (λ x y. All (Filled half r) (d x) → All (Filled half s) (d′ y)) xs ys
+  likes-filled : (d d′ : Entry → List Place) (xs ys : List Entry) → Likes (λ x y. All (Filled half r) (d x)
+      → All (Filled half s) (d′ y)) xs ys
       → All (Filled half r) (gather d xs) → All (Filled half s) (gather d′ ys)
   unfolding gather
   likes-filled d d′ [] [] h a = tt
   likes-filled d d′ [] (y ∷ ys) h a = absurd h
   likes-filled d d′ (x ∷ xs) [] h a = absurd h
-  likes-filled d d′ (x ∷ xs) (y ∷ ys) h a = all-append (Filled half s) (d′ y) (gather d′ ys) (h .0 (all-left (Filled half r) (d x) (gather d xs) a))
+  likes-filled d d′ (x ∷ xs) (y ∷ ys) h a =
+      all-append (Filled half s) (d′ y) (gather d′ ys) (h .0 (all-left (Filled half r) (d x) (gather d xs) a))
       (likes-filled d d′ xs ys (h .1) (all-right (Filled half r) (d x) (gather d xs) a))
 
-  like-filled : (l : ℕ) (e e′ : Entry) → Like r s l e e′ → All (Filled half r) (places r l e) → All (Filled half s) (places s l e′)
+  like-filled : (l : ℕ) (e e′ : Entry) → Like r s l e e′ → All (Filled half r) (places r l e) → All (Filled half s)
+      (places s l e′)
   unfolding Like places
   like-filled zero e e′ h a = tt
   like-filled (suc l) e e′ h a = (
@@ -77,7 +82,8 @@ module _ (half : ℕ → ℕ) (r s : Nodes) where
         (s (e′ .addr) (suc l)) (λ x y. like-filled l x y) (h .1)) (a .1),
   )
 
-  pub list-filled-like : (l : ℕ) (xs ys : List Entry) → Likes (Like r s l) xs ys → All (Filled half r) (gather (places r l) xs)
+  pub list-filled-like : (l : ℕ) (xs ys : List Entry) → Likes (Like r s l) xs ys → All (Filled half r)
+      (gather (places r l) xs)
       → All (Filled half s) (gather (places s l) ys)
   list-filled-like l xs ys h = likes-filled (places r l) (places s l) xs ys
       (likes-map (Like r s l) (λ x y. All (Filled half r) (places r l x) → All (Filled half s) (places s l y)) xs ys (λ x y. like-filled l x y) h)
@@ -111,9 +117,11 @@ one-node s l z q c e =
     omega (arith, u, v)
 
 -- the chosen entry's nodes give way to others
-splice-nodes : (P : ℕ → Entry → Type 0) (d d′ : Entry → List Place) (f : Entry → List Entry) (k hi : ℕ) (es : List Entry) → 0 < length es → k < hi
+splice-nodes : (P : ℕ → Entry → Type 0) (d d′ : Entry → List Place) (f : Entry → List Entry)
+    (k hi : ℕ) (es : List Entry) → 0 < length es → k < hi
     → ((y : ℕ) (x : Entry) → P y x → d′ x ≡ d x) → Rises P hi es
-    → length (gather d′ (splice f k es)) + length (d (chosen k es)) ≡ length (gather d es) + length (gather d′ (f (chosen k es)))
+    → length (gather d′ (splice f k es)) + length (d (chosen k es)) ≡ length (gather d es) + length (gather d′
+    (f (chosen k es)))
 unfolding gather
 splice-nodes P d d′ f k hi es n q same h = go (split P k hi es n q h)
   where
@@ -121,7 +129,8 @@ splice-nodes P d d′ f k hi es n q same h = go (split P k hi es n q h)
     sames y xs i = gather-eq d d′ xs (rises-all P (λ x. d′ x ≡ d x) y xs (λ y x _ _ j. same y x j) i)
 
     go : Split P k hi es (chosen k es) (λ f. splice f k es)
-        → length (gather d′ (splice f k es)) + length (d (chosen k es)) ≡ length (gather d es) + length (gather d′ (f (chosen k es)))
+        → length (gather d′ (splice f k es)) + length (d (chosen k es)) ≡ length (gather d es) + length (gather d′
+        (f (chosen k es)))
     go s =
         let x = chosen k es in
         let a = ap (λ m. length (gather d′ m)) (s .spliced f) ∙ ap length (gather-append d′ (s .pre) (f x ++ s .post))
@@ -134,16 +143,20 @@ splice-nodes P d d′ f k hi es n q same h = go (split P k hi es n q h)
         let v = ap length (sames hi (s .post) (s .rest)) in
         omega (arith, a, b, c, e, u, v)
 
-rises-with : (fit : ℕ → ℕ → Type 0) (room : ℕ → ℕ) (Z : ℕ → ℕ → Type 0) (r : Nodes) (l hi : ℕ) (es : List Entry) → ((a : ℕ) → Z 0 a)
-    → All (λ x. Z (x .level) (x .page)) (gather (places r l) es) → Rises (Ok fit room r l) hi es → Rises (Ok (λ l a. fit l a × Z l a) room r l) hi es
+rises-with : (fit : ℕ → ℕ → Type 0) (room : ℕ → ℕ) (Z : ℕ → ℕ → Type 0) (r : Nodes) (l hi : ℕ) (es : List Entry)
+    → ((a : ℕ) → Z 0 a)
+    → All (λ x. Z (x .level) (x .page)) (gather (places r l) es) → Rises (Ok fit room r l) hi es
+    → Rises (Ok (λ l a. fit l a × Z l a) room r l) hi es
 rises-with fit room Z r l hi es z a h = rises-map (λ y x. Ok fit room r l y x × All (λ p. Z (p .level) (p .page)) (places r l x))
     (Ok (λ l a. fit l a × Z l a) room r l) hi es (λ y x _ _ i. ok-with fit room Z r l y x z (i .1) (i .0))
     (rises-both (Ok fit room r l) (λ x. All (λ p. Z (p .level) (p .page)) (places r l x)) hi es h
     (all-gather (λ p. Z (p .level) (p .page)) (places r l) es a))
 
-module _ (k a n top : ℕ) (side half most : ℕ → ℕ) (r s : Nodes) (fit fit′ : ℕ → ℕ → Type 0) (Cut : ℕ → Type 0) (fit-n : (l : ℕ) → fit′ (suc l) n)
+module _ (k a n top : ℕ) (side half most : ℕ → ℕ) (r s : Nodes) (fit fit′ : ℕ → ℕ → Type 0) (Cut : ℕ → Type 0)
+    (fit-n : (l : ℕ) → fit′ (suc l) n)
     (fit-a : fit′ 0 a)
-    (keep : (l a : ℕ) → fit l a → fit′ l a) (same : (p l : ℕ) → fit (suc l) p → s p (suc l) ≡ r p (suc l)) (k-top : k < top) where
+    (keep : (l a : ℕ) → fit l a → fit′ l a) (same : (p l : ℕ) → fit (suc l) p → s p (suc l) ≡ r p (suc l))
+    (k-top : k < top) where
   abbrev roomAt : ℕ → ℕ
   roomAt l = 2 * half l
 
@@ -162,14 +175,18 @@ module _ (k a n top : ℕ) (side half most : ℕ → ℕ) (r s : Nodes) (fit fit
   abbrev sameH : (q l : ℕ) → fitH (suc l) q → s q (suc l) ≡ r q (suc l)
   sameH q l i = same q l (i .0)
 
-  off-filled : (l y : ℕ) (e : Entry) → e .key < y → Ok fitH roomAt r l y e → ((y ≤ k) ⊎ (k < e .key)) → All (Filled half s) (places r l e)
+  off-filled : (l y : ℕ) (e : Entry) → e .key < y → Ok fitH roomAt r l y e → ((y ≤ k) ⊎ (k < e .key))
+      → All (Filled half s) (places r l e)
   off-filled l y e b h o = all-map (λ x. (1 ≤ x .level) × fitH (x .level) (x .page)) (Filled half s) (places r l e)
-      (λ x i. let z = ap length (node-same fit r s same (x .page) (x .level) (i .0) (i .1 .0)) in let w = i .1 .1 (i .0) in omega (arith, z, w))
+      (λ x i. let z = ap length (node-same fit r s same (x .page) (x .level) (i .0) (i .1 .0)) in let w =
+      i .1 .1 (i .0) in omega (arith, z, w))
       (places-fit fitH roomAt r l y e h)
 
-  named-filled : (l y : ℕ) (e : Entry) → k < y → e .key < y → Ok fitH roomAt r (suc l) y e → InsertMade r s k a n side half fit′ Cut (suc l) e
+  named-filled : (l y : ℕ) (e : Entry) → k < y → e .key < y → Ok fitH roomAt r (suc l) y e
+      → InsertMade r s k a n side half fit′ Cut (suc l) e
       → All (Filled half s) (gather (places s l) (splice (inserts l) k (r (e .addr) (suc l))))
-      → All (Filled half s) (gather (places s (suc l)) (named k n side half (suc l) e (splice (inserts l) k (r (e .addr) (suc l)))))
+      → All (Filled half s) (gather (places s (suc l))
+      (named k n side half (suc l) e (splice (inserts l) k (r (e .addr) (suc l)))))
   unfolding gather Ok Made
   named-filled l y e q b h m w = go (leb (length c) (2 * half (suc l))) refl (m .0 .0)
     where
@@ -206,8 +223,10 @@ module _ (k a n top : ℕ) (side half most : ℕ → ℕ) (r s : Nodes) (fit fit
       (all-map (Filled half r) (λ x. Half (x .level) (x .page)) (gather (places r (suc l)) es) (λ x i _. i) f) h) m
 
   -- a root that grows: both halves are filled
-  pub grown-filled : (l : ℕ) (c : List Entry) → Halves k n side s fit′ (suc l) (2 * half (suc l)) c → length c ≡ 4 * half (suc l) → (z : ℕ)
-      → All (Filled half s) (gather (places s l) c) → All (Filled half s) (gather (places s (suc l)) (two k n (side (suc l)) (2 * half (suc l)) z c))
+  pub grown-filled : (l : ℕ) (c : List Entry) → Halves k n side s fit′ (suc l) (2 * half (suc l)) c
+      → length c ≡ 4 * half (suc l) → (z : ℕ)
+      → All (Filled half s) (gather (places s l) c) → All (Filled half s)
+      (gather (places s (suc l)) (two k n (side (suc l)) (2 * half (suc l)) z c))
   grown-filled l c hs len z w =
       let v = halves-filled k (2 * half (suc l)) (half (suc l)) c (omega arith) (omega (arith, len)) in
       let x = ap length (hs .0) in
@@ -221,14 +240,17 @@ module _ (k a n top : ℕ) (side half most : ℕ → ℕ) (r s : Nodes) (fit fit
   unfolding gather places
   two-nodes l m z c h = go (turn k m c) (h .0) (h .1)
     where
-      both : length (gather (places s l) (take m c)) + length (gather (places s l) (drop m c)) ≡ length (gather (places s l) c)
-      both = let x = ap length (gather-append (places s l) (take m c) (drop m c)) ∙ length-append (gather (places s l) (take m c))
+      both : length (gather (places s l) (take m c)) + length (gather (places s l) (drop m c))
+          ≡ length (gather (places s l) c)
+      both = let x = ap length (gather-append (places s l) (take m c) (drop m c))
+          ∙ length-append (gather (places s l) (take m c))
           (gather (places s l) (drop m c)) in
           let y = ap (λ e. length (gather (places s l) e)) (take-append-drop m c) in omega (arith, x, y)
 
       join : (p q : ℕ) (xs ys : List Entry) → s p (suc l) ≡ xs → s q (suc l) ≡ ys
           → length (record { page = p; level = suc l } ∷ gather (places s l) (s p (suc l)) ++
-          (record { page = q; level = suc l } ∷ gather (places s l) (s q (suc l)) ++ [])) ≡ 2 + (length (gather (places s l) xs) + length (gather (places s l) ys))
+          (record { page = q; level = suc l } ∷ gather (places s l) (s q (suc l)) ++ []))
+          ≡ 2 + (length (gather (places s l) xs) + length (gather (places s l) ys))
       join p q xs ys e f =
           let u = length-append (gather (places s l) (s p (suc l))) (record { page = q; level = suc l } ∷ gather (places s l) (s q (suc l)) ++ []) in
           let v = length-append (gather (places s l) (s q (suc l))) [] in
@@ -236,7 +258,8 @@ module _ (k a n top : ℕ) (side half most : ℕ → ℕ) (r s : Nodes) (fit fit
           let y = ap (λ m. length (gather (places s l) m)) f in
           omega (arith, u, v, x, y)
 
-      go : (t : Bool) → s n (suc l) ≡ pick t (drop m c) (take m c) → s (side (suc l)) (suc l) ≡ pick t (take m c) (drop m c)
+      go : (t : Bool) → s n (suc l) ≡ pick t (drop m c) (take m c) → s (side (suc l)) (suc l) ≡ pick t (take m c)
+          (drop m c)
           → length (gather (places s (suc l)) (record { key = z; addr = pick t (side (suc l)) n } ∷
           record { key = next (drop m c) 0; addr = pick t n (side (suc l)) } ∷ [])) ≡ 2 + length (gather (places s l) c)
       go true i j = let w = join (side (suc l)) n (take m c) (drop m c) j i in omega (arith, w, both)
@@ -245,9 +268,12 @@ module _ (k a n top : ℕ) (side half most : ℕ → ℕ) (r s : Nodes) (fit fit
   module _ (absent : Bool) where
     list-nodes : (l hi : ℕ) (es : List Entry) → 0 < length es → k < hi → Rises (Ok fit roomAt r l) hi es
         → isNone (find k (gather (under r l) es)) ≡ absent
-        → ((y : ℕ) → k < y → chosen k es .key < y → Ok fit roomAt r l y (chosen k es) → isNone (find k (under r l (chosen k es))) ≡ absent
-        → length (gather (places s l) (inserts l (chosen k es))) ≡ length (places r l (chosen k es)) + splits r k half absent l (chosen k es))
-        → length (gather (places s l) (splice (inserts l) k es)) ≡ length (gather (places r l) es) + splits r k half absent l (chosen k es)
+        → ((y : ℕ) → k < y → chosen k es .key < y → Ok fit roomAt r l y (chosen k es)
+        → isNone (find k (under r l (chosen k es))) ≡ absent
+        → length (gather (places s l) (inserts l (chosen k es))) ≡ length (places r l (chosen k es)) + splits r k half
+        absent l (chosen k es))
+        → length (gather (places s l) (splice (inserts l) k es)) ≡ length (gather (places r l) es) + splits r k half
+        absent l (chosen k es)
     list-nodes l hi es c q h f step =
         let sp = split (Ok fit roomAt r l) k hi es c q h in
         let i = step (next (sp .post) hi) (sp .under) (sp .up) (sp .here) (ap isNone (sym (find-list fit roomAt r k l hi es c q h)) ∙ f) in
@@ -255,7 +281,8 @@ module _ (k a n top : ℕ) (side half most : ℕ → ℕ) (r s : Nodes) (fit fit
         (λ y x j. places-same fit roomAt fit′ r s keep same l y x j) h in
         omega (arith, i, w)
 
-    edit-nodes : (l hi : ℕ) (e : Entry) → k < hi → e .key < hi → Ok fit roomAt r l hi e → InsertMade r s k a n side half fit′ Cut l e
+    edit-nodes : (l hi : ℕ) (e : Entry) → k < hi → e .key < hi → Ok fit roomAt r l hi e
+        → InsertMade r s k a n side half fit′ Cut l e
         → isNone (find k (under r l e)) ≡ absent
         → length (gather (places s l) (inserts l e)) ≡ length (places r l e) + splits r k half absent l e
     unfolding edit Made Ok under splits places
@@ -267,7 +294,8 @@ module _ (k a n top : ℕ) (side half most : ℕ → ℕ) (r s : Nodes) (fit fit
         c : List Entry
         c = splice (inserts l) k (r (e .addr) (suc l))
 
-        go : length (gather (places s l) c) ≡ length (gather (places r l) (r (e .addr) (suc l))) + splits r k half absent l (chosen k (r (e .addr) (suc l)))
+        go : length (gather (places s l) c) ≡ length (gather (places r l) (r (e .addr) (suc l))) + splits r k half
+            absent l (chosen k (r (e .addr) (suc l)))
             → (t : Bool) → leb (length c) (2 * half (suc l)) ≡ t → s n (suc l) ≡ pick t c (pathHalf k (half (suc l)) c)
             → length (gather (places s (suc l)) (pick t (record { key = min (e .key) k; addr = n } ∷ [])
             (two k n (side (suc l)) (half (suc l)) (min (e .key) k) c)))
@@ -286,7 +314,8 @@ module _ (k a n top : ℕ) (side half most : ℕ → ℕ) (r s : Nodes) (fit fit
     -- below the root's list: one more for each split
     pub root-nodes : (l : ℕ) (es : List Entry) → (1 ≤ l → 0 < length es) → Rises (Ok fit roomAt r l) top es
         → isNone (find k (gather (under r l) es)) ≡ absent → InsertMade r s k a n side half fit′ Cut l (chosen k es)
-        → length (gather (places s l) (atRoot (putIn k a) (inserts l) k l es)) ≡ length (gather (places r l) es) + splits r k half absent l (chosen k es)
+        → length (gather (places s l) (atRoot (putIn k a) (inserts l) k l es))
+        ≡ length (gather (places r l) es) + splits r k half absent l (chosen k es)
     unfolding atRoot splits
     root-nodes zero es c h f m = let x = none-nodes s (putIn k a es) in let y = none-nodes r es in omega (arith, x, y)
     root-nodes (suc l) es c h f m = list-nodes (suc l) top es (c (omega arith)) k-top h f (λ y u v i j. edit-nodes (suc l) y (chosen k es) u v i m j)
@@ -302,7 +331,8 @@ gather-most w d e (x ∷ es) h =
     let b = ap (λ m. m * w) (length-append (e x) (gather e es)) ∙ add-mul (length (e x)) (length (gather e es)) w in
     omega (arith, i, h .0, a, b)
 
-gather-least : (u : ℕ) (e : Entry → List Entry) (es : List Entry) → All (λ x. u ≤ length (e x)) es → u * length es ≤ length (gather e es)
+gather-least : (u : ℕ) (e : Entry → List Entry) (es : List Entry) → All (λ x. u ≤ length (e x)) es
+    → u * length es ≤ length (gather e es)
 unfolding gather
 gather-least u e [] h = omega (arith, mul-zero u)
 gather-least u e (x ∷ es) h =
@@ -317,7 +347,8 @@ pub record Weighed (r : Nodes) (l u w : ℕ) (e : Entry) : Type 0 where
 
 module _ (half : ℕ → ℕ) (r : Nodes) where
   -- one level more: h entries at least, so u * h pairs; d is 1024 over that
-  weigh-step : (l u w h d : ℕ) → 1024 ≤ u * h * d → half (suc l) ≡ h → ((e : Entry) → All (Filled half r) (places r l e) → Weighed r l u w e)
+  weigh-step : (l u w h d : ℕ) → 1024 ≤ u * h * d → half (suc l) ≡ h → ((e : Entry) → All (Filled half r) (places r l e)
+      → Weighed r l u w e)
       → (e : Entry) → All (Filled half r) (places r (suc l) e) → Weighed r (suc l) (u * h) (w + d) e
   unfolding under places
   weigh-step l u w h d m hs step e f =
@@ -350,8 +381,10 @@ module _ (half : ℕ → ℕ) (r : Nodes) (h1 : half 1 ≡ 16) (h2 : half 2 ≡ 
   weigh4 : (e : Entry) → All (Filled half r) (places r 4 e) → Weighed r 4 1024 75 e
   weigh4 = weigh-step half r 3 512 74 2 1 (omega arith) h4 weigh3
 
-  weighed : (l u w : ℕ) → w ≤ 75 → ((e : Entry) → All (Filled half r) (places r l e) → Weighed r l u w e) → (es : List Entry)
-      → All (Filled half r) (gather (places r l) es) → 1024 * length (gather (places r l) es) ≤ 75 * length (gather (under r l) es)
+  weighed : (l u w : ℕ) → w ≤ 75 → ((e : Entry) → All (Filled half r) (places r l e) → Weighed r l u w e)
+      → (es : List Entry)
+      → All (Filled half r) (gather (places r l) es)
+      → 1024 * length (gather (places r l) es) ≤ 75 * length (gather (under r l) es)
   weighed l u w q step es f =
       let a = gather-most w (places r l) (under r l) es (all-map (λ x. All (Filled half r) (places r l x))
       (λ x. 1024 * length (places r l x) ≤ length (under r l x) * w) es (λ x i. step x i .nodes) (all-gather (Filled half r) (places r l) es f)) in

@@ -35,7 +35,8 @@ module _ (top : ℕ) (room most : ℕ → ℕ) (r s : Nodes) (fit fit′ : ℕ �
   root-places-same h = rw (same p l (h .fits)) (ap (λ m. record { page = p; level = suc l } ∷ m)
       (list-same Place (places r l) (places s l) (r p (suc l)) (h .rises) (places-same fit room fit′ r s keep same l)))
 
-  tied-same : (spots : List Place) → All (λ x. (1 ≤ x .level) × fit (x .level) (x .page)) spots → Tied r spots → Tied s spots
+  tied-same : (spots : List Place) → All (λ x. (1 ≤ x .level) × fit (x .level) (x .page)) spots → Tied r spots
+      → Tied s spots
   tied-same spots f t =
       all-map (λ x. ((1 ≤ x .level) × fit (x .level) (x .page)) × All (TiedTo r x) spots) (λ x. All (TiedTo s x) spots) spots
       (λ x h. all-map (TiedTo r x) (TiedTo s x) spots

@@ -39,7 +39,8 @@ module _ (k : ℕ) (Z : Entry → Type 0) where
   sits-some y (e ∷ es) (inl h) = inl (h .2)
   sits-some y (e ∷ es) (inr h) = inr (sits-some y es h)
 
-  pub splice-sits : (P : ℕ → Entry → Type 0) (f : Entry → List Entry) (hi : ℕ) (es : List Entry) → 0 < length es → k < hi → Rises P hi es
+  pub splice-sits : (P : ℕ → Entry → Type 0) (f : Entry → List Entry) (hi : ℕ) (es : List Entry) → 0 < length es
+      → k < hi → Rises P hi es
       → ((y : ℕ) → k < y → Sits k Z y (f (chosen k es))) → Sits k Z hi (splice f k es)
   splice-sits P f hi es c q h step = go (split P k hi es c q h)
     where
@@ -54,26 +55,30 @@ module _ (k : ℕ) (Z : Entry → Type 0) where
   sits-first P y (e ∷ g ∷ es) h (inl i) = i .0
   sits-first P y (e ∷ g ∷ es) h (inr i) = let j = sits-first P y (g ∷ es) (h .2) i in omega arith
 
-  pub next-drop : (P : ℕ → Entry → Type 0) (y m : ℕ) (es : List Entry) → m < length es → Rises P y es → next es y ≤ next (drop m es) 0
+  pub next-drop : (P : ℕ → Entry → Type 0) (y m : ℕ) (es : List Entry) → m < length es → Rises P y es
+      → next es y ≤ next (drop m es) 0
   next-drop P y m [] b h = absurd (omega arith)
   next-drop P y zero (e ∷ es) b h = omega arith
   next-drop P y (suc m) (e ∷ es) b h = let i = next-drop P y m es (omega arith) (h .2) in omega arith
 
-  pub sits-drop : (P : ℕ → Entry → Type 0) (y m : ℕ) (c : List Entry) → m < length c → next (drop m c) 0 ≤ k → Rises P y c → Sits k Z y c
+  pub sits-drop : (P : ℕ → Entry → Type 0) (y m : ℕ) (c : List Entry) → m < length c → next (drop m c) 0 ≤ k
+      → Rises P y c → Sits k Z y c
       → Some Z (drop m c)
   sits-drop P y zero c b d h i = sits-some y c i
   sits-drop P y (suc m) [] b d h i = absurd i
   sits-drop P y (suc m) (e ∷ c) b d h (inl i) = absurd (omega (arith, next-drop P y m c (omega arith) (h .2), i .1))
   sits-drop P y (suc m) (e ∷ c) b d h (inr i) = sits-drop P y m c (omega arith) d (h .2) i
 
-  pub sits-take : (P : ℕ → Entry → Type 0) (y m : ℕ) (c : List Entry) → k < next (drop m c) 0 → Rises P y c → Sits k Z y c → Some Z (take m c)
+  pub sits-take : (P : ℕ → Entry → Type 0) (y m : ℕ) (c : List Entry) → k < next (drop m c) 0 → Rises P y c
+      → Sits k Z y c → Some Z (take m c)
   sits-take P y zero c d h i = absurd (omega (arith, sits-first P y c h i))
   sits-take P y (suc m) [] d h i = absurd i
   sits-take P y (suc m) (e ∷ c) d h (inl i) = inl (i .2)
   sits-take P y (suc m) (e ∷ c) d h (inr i) = inr (sits-take P y m c d (h .2) i)
 
   -- the path half is the one that holds this entry
-  pub half-holds : (P : ℕ → Entry → Type 0) (y m : ℕ) (c : List Entry) → m < length c → Rises P y c → Sits k Z y c → Some Z (pathHalf k m c)
+  pub half-holds : (P : ℕ → Entry → Type 0) (y m : ℕ) (c : List Entry) → m < length c → Rises P y c → Sits k Z y c
+      → Some Z (pathHalf k m c)
   half-holds P y m c b h i = go (turn k m c) refl
     where
       go : (t : Bool) → turn k m c ≡ t → Some Z (pick t (drop m c) (take m c))
@@ -92,16 +97,20 @@ module _ (k n : ℕ) where
       go true e = inr (inl (leb-true (next (drop m c) 0) k e, d, refl))
       go false e = inl (b, leb-false (next (drop m c) 0) k e, refl)
 
-  named-sits : (side half : ℕ → ℕ) (l y : ℕ) (e : Entry) (c : List Entry) → k < y → Sits k (Names n) y (named k n side half l e c)
+  named-sits : (side half : ℕ → ℕ) (l y : ℕ) (e : Entry) (c : List Entry) → k < y → Sits k (Names n) y
+      (named k n side half l e c)
   named-sits side half l y e c d = go (leb (length c) (2 * half l))
     where
-      go : (t : Bool) → Sits k (Names n) y (pick t (record { key = min (e .key) k; addr = n } ∷ []) (two k n (side l) (half l) (min (e .key) k) c))
+      go : (t : Bool) → Sits k (Names n) y (pick t (record { key = min (e .key) k; addr = n } ∷ []) (two k n (side l)
+          (half l) (min (e .key) k) c))
       go true = inl (omega arith, d, refl)
       go false = two-sits (side l) (half l) (min (e .key) k) y c (omega arith) d
 
-module _ (k a n top : ℕ) (side half most : ℕ → ℕ) (r s : Nodes) (fit fit′ : ℕ → ℕ → Type 0) (Cut : ℕ → Type 0) (fit-n : (l : ℕ) → fit′ (suc l) n)
+module _ (k a n top : ℕ) (side half most : ℕ → ℕ) (r s : Nodes) (fit fit′ : ℕ → ℕ → Type 0) (Cut : ℕ → Type 0)
+    (fit-n : (l : ℕ) → fit′ (suc l) n)
     (fit-a : fit′ 0 a)
-    (keep : (l a : ℕ) → fit l a → fit′ l a) (same : (p l : ℕ) → fit (suc l) p → s p (suc l) ≡ r p (suc l)) (k-top : k < top) where
+    (keep : (l a : ℕ) → fit l a → fit′ l a) (same : (p l : ℕ) → fit (suc l) p → s p (suc l) ≡ r p (suc l))
+    (k-top : k < top) where
   abbrev pub InsertWhere : Place → Type 0
   InsertWhere x = Where s n 1 side Cut (λ x. (1 ≤ x .level) × fit (x .level) (x .page)) x
 
@@ -111,7 +120,8 @@ module _ (k a n top : ℕ) (side half most : ℕ → ℕ) (r s : Nodes) (fit fit
   abbrev inserts : ℕ → Entry → List Entry
   inserts = inserted r k a n side half
 
-  off-where : (l y : ℕ) (e : Entry) → e .key < y → Ok fit roomAt r l y e → ((y ≤ k) ⊎ (k < e .key)) → All InsertWhere (places r l e)
+  off-where : (l y : ℕ) (e : Entry) → e .key < y → Ok fit roomAt r l y e → ((y ≤ k) ⊎ (k < e .key)) → All InsertWhere
+      (places r l e)
   off-where l y e b h o = all-map (λ x. (1 ≤ x .level) × fit (x .level) (x .page)) InsertWhere (places r l e) (λ x i. inr (inr i))
       (places-fit fit roomAt r l y e h)
 
@@ -123,7 +133,8 @@ module _ (k a n top : ℕ) (side half most : ℕ → ℕ) (r s : Nodes) (fit fit
   list-sits (suc l) hi es b c q h = splice-sits k (Names n) (Ok fit roomAt r (suc l)) (inserts (suc l)) hi es c q h
       (λ y d. named-sits k n side half (suc l) y (chosen k es) (splice (inserts l) k (r (chosen k es .addr) (suc l))) d)
 
-  pub two-where : (W : Place → Type 0) (l m z : ℕ) (c : List Entry) → Halves k n side s fit′ (suc l) m c → W (record { page = n; level = suc l })
+  pub two-where : (W : Place → Type 0) (l m z : ℕ) (c : List Entry) → Halves k n side s fit′ (suc l) m c
+      → W (record { page = n; level = suc l })
       → W (record { page = side (suc l); level = suc l }) → All W (gather (places s l) c)
       → All W (gather (places s (suc l)) (two k n (side (suc l)) m z c))
   unfolding gather
@@ -138,10 +149,12 @@ module _ (k a n top : ℕ) (side half most : ℕ → ℕ) (r s : Nodes) (fit fit
       rh : All W (gather (places s l) (drop m c))
       rh = all-right W (gather (places s l) (take m c)) (gather (places s l) (drop m c)) both
 
-      join : (x y : Entry) → All W (places s (suc l) x) → All W (places s (suc l) y) → All W (places s (suc l) x ++ (places s (suc l) y ++ []))
+      join : (x y : Entry) → All W (places s (suc l) x) → All W (places s (suc l) y)
+          → All W (places s (suc l) x ++ (places s (suc l) y ++ []))
       join x y i j = all-append W (places s (suc l) x) (places s (suc l) y ++ []) i (all-append W (places s (suc l) y) [] j tt)
 
-      go : (t : Bool) → s n (suc l) ≡ pick t (drop m c) (take m c) → s (side (suc l)) (suc l) ≡ pick t (take m c) (drop m c)
+      go : (t : Bool) → s n (suc l) ≡ pick t (drop m c) (take m c) → s (side (suc l)) (suc l) ≡ pick t (take m c)
+          (drop m c)
           → All W (gather (places s (suc l)) (record { key = z; addr = pick t (side (suc l)) n } ∷
           record { key = next (drop m c) 0; addr = pick t n (side (suc l)) } ∷ []))
       go true i j = join (record { key = z; addr = side (suc l) }) (record { key = next (drop m c) 0; addr = n })
@@ -151,7 +164,8 @@ module _ (k a n top : ℕ) (side half most : ℕ → ℕ) (r s : Nodes) (fit fit
 
   -- the node on n at a level above the leaves names n
   part-names : (l y : ℕ) (es : List Entry) → 1 ≤ l → 0 < length es → k < y → Rises (Ok fit roomAt r l) y es
-      → InsertMade r s k a n side half fit′ Cut l (chosen k es) → Some (Names n) (pathPart k half (suc l) (splice (inserts l) k es))
+      → InsertMade r s k a n side half fit′ Cut l (chosen k es)
+      → Some (Names n) (pathPart k half (suc l) (splice (inserts l) k es))
   part-names l y es b c q h m = go (leb (length (splice (inserts l) k es)) (2 * half (suc l))) refl
     where
       i : Sits k (Names n) y (splice (inserts l) k es)
@@ -163,13 +177,16 @@ module _ (k a n top : ℕ) (side half most : ℕ → ℕ) (r s : Nodes) (fit fit
       go : (t : Bool) → leb (length (splice (inserts l) k es)) (2 * half (suc l)) ≡ t
           → Some (Names n) (pick t (splice (inserts l) k es) (pathHalf k (half (suc l)) (splice (inserts l) k es)))
       go true d = sits-some k (Names n) y (splice (inserts l) k es) i
-      go false d = let w = leb-false (length (splice (inserts l) k es)) (2 * half (suc l)) d in half-holds k (Names n) (Ok fit′ roomAt s l) y
+      go false d = let w = leb-false (length (splice (inserts l) k es)) (2 * half (suc l)) d in
+          half-holds k (Names n) (Ok fit′ roomAt s l) y
           (half (suc l))
           (splice (inserts l) k es) (omega arith) up i
 
-  name-where : (l y : ℕ) (e : Entry) → k < y → e .key < y → Ok fit roomAt r (suc l) y e → InsertMade r s k a n side half fit′ Cut (suc l) e
+  name-where : (l y : ℕ) (e : Entry) → k < y → e .key < y → Ok fit roomAt r (suc l) y e
+      → InsertMade r s k a n side half fit′ Cut (suc l) e
       → All InsertWhere (gather (places s l) (splice (inserts l) k (r (e .addr) (suc l))))
-      → All InsertWhere (gather (places s (suc l)) (named k n side half (suc l) e (splice (inserts l) k (r (e .addr) (suc l)))))
+      → All InsertWhere (gather (places s (suc l))
+      (named k n side half (suc l) e (splice (inserts l) k (r (e .addr) (suc l)))))
   unfolding gather Ok Made
   name-where l y e q b h m w = go (leb (length c) (2 * half (suc l))) refl (m .0 .0)
     where
@@ -185,24 +202,30 @@ module _ (k a n top : ℕ) (side half most : ℕ → ℕ) (r s : Nodes) (fit fit
           (two k n (side (suc l)) (half (suc l)) (min (e .key) k) c)))
       go true d i = all-append InsertWhere (places s (suc l) (record { key = min (e .key) k; addr = n })) []
           (page-where s InsertWhere l (min (e .key) k) n c i on-n w) tt
-      go false d i = let u = m .0 .1 (leb-false (length c) (2 * half (suc l)) d) in two-where InsertWhere l (half (suc l)) (min (e .key) k) c
+      go false d i = let u = m .0 .1 (leb-false (length c) (2 * half (suc l)) d) in
+          two-where InsertWhere l (half (suc l)) (min (e .key) k) c
           (i, u .0, u .1) on-n (inr (inl (u .2, refl))) w
 
   -- the places below the root's list
-  root-where : (l p : ℕ) → Rooted fit roomAt most top r l p → InsertMade r s k a n side half fit′ Cut l (chosen k (r p (suc l)))
+  root-where : (l p : ℕ) → Rooted fit roomAt most top r l p → InsertMade r s k a n side half fit′ Cut l
+      (chosen k (r p (suc l)))
       → All InsertWhere (gather (places s l) (atRoot (putIn k a) (inserts l) k l (r p (suc l))))
   unfolding atRoot
   root-where zero p h m = no-places InsertWhere s (putIn k a (r p 1))
-  root-where (suc l) p h m = let g = h .least (omega arith) in edit-list-places fit fit′ roomAt r s keep same k (λ e. put k a (e ∷ []))
+  root-where (suc l) p h m = let g = h .least (omega arith) in
+      edit-list-places fit fit′ roomAt r s keep same k (λ e. put k a (e ∷ []))
       (named k n side half) (InsertHeld k n side half s fit′ Cut) InsertWhere off-where name-where (suc l) top (r p (suc (suc l))) (omega arith) k-top
       (h .rises) m
 
-  root-names : (l p : ℕ) → 1 ≤ l → Rooted fit roomAt most top r l p → Sits k (Names n) top (atRoot (putIn k a) (inserts l) k l (r p (suc l)))
+  root-names : (l p : ℕ) → 1 ≤ l → Rooted fit roomAt most top r l p → Sits k (Names n) top
+      (atRoot (putIn k a) (inserts l) k l (r p (suc l)))
   unfolding atRoot
   root-names zero p b h = absurd (omega arith)
-  root-names (suc l) p b h = let g = h .least (omega arith) in list-sits (suc l) top (r p (suc (suc l))) (omega arith) (omega arith) k-top (h .rises)
+  root-names (suc l) p b h = let g = h .least (omega arith) in
+      list-sits (suc l) top (r p (suc (suc l))) (omega arith) (omega arith) k-top (h .rises)
 
-  pub stay-where : (l p : ℕ) → Rooted fit roomAt most top r l p → InsertMade r s k a n side half fit′ Cut l (chosen k (r p (suc l)))
+  pub stay-where : (l p : ℕ) → Rooted fit roomAt most top r l p → InsertMade r s k a n side half fit′ Cut l
+      (chosen k (r p (suc l)))
       → s n (suc l) ≡ atRoot (putIn k a) (inserts l) k l (r p (suc l))
       → All InsertWhere (places s (suc l) (record { key = 0; addr = n }))
   stay-where l p h m e = page-where s InsertWhere l 0 n (atRoot (putIn k a) (inserts l) k l (r p (suc l))) e
@@ -214,10 +237,13 @@ module _ (k a n top : ℕ) (side half most : ℕ → ℕ) (r s : Nodes) (fit fit
       ))
       (root-where l p h m)
 
-  pub grow-where : (l p : ℕ) → Rooted fit roomAt most top r l p → InsertMade r s k a n side half fit′ Cut l (chosen k (r p (suc l)))
-      → Halves k n side s fit′ (suc l) (2 * half (suc l)) (atRoot (putIn k a) (inserts l) k l (r p (suc l))) → Cut (suc l)
+  pub grow-where : (l p : ℕ) → Rooted fit roomAt most top r l p → InsertMade r s k a n side half fit′ Cut l
+      (chosen k (r p (suc l)))
+      → Halves k n side s fit′ (suc l) (2 * half (suc l)) (atRoot (putIn k a) (inserts l) k l (r p (suc l)))
+      → Cut (suc l)
       → length (atRoot (putIn k a) (inserts l) k l (r p (suc l))) ≡ 4 * half (suc l)
-      → s n (suc (suc l)) ≡ two k n (side (suc l)) (2 * half (suc l)) (next (atRoot (putIn k a) (inserts l) k l (r p (suc l))) 0)
+      → s n (suc (suc l)) ≡ two k n (side (suc l)) (2 * half (suc l))
+      (next (atRoot (putIn k a) (inserts l) k l (r p (suc l))) 0)
       (atRoot (putIn k a) (inserts l) k l (r p (suc l)))
       → All InsertWhere (places s (suc (suc l)) (record { key = 0; addr = n }))
   grow-where l p h m hs cut len e = page-where s InsertWhere (suc l) 0 n (two k n (side (suc l)) (2 * half (suc l)) (next c 0) c) e

@@ -58,7 +58,8 @@ module _ (ok : ℕ → Bool) where
   abbrev May : ℕ → Entry → Type 0
   May y x = ok (x .addr) ≡ true
 
-  rising-up : (es : List Entry) (lo hi : ℕ) → rising ok es lo hi ≡ true → Rises May hi es × (1 ≤ length es → lo ≤ next es hi)
+  rising-up : (es : List Entry) (lo hi : ℕ) → rising ok es lo hi ≡ true → Rises May hi es ×
+      (1 ≤ length es → lo ≤ next es hi)
   unfolding rising
   rising-up [] lo hi h = (tt, λ z. absurd (omega arith))
   rising-up (e ∷ es) lo hi h =
@@ -71,7 +72,8 @@ module _ (ok : ℕ → Bool) where
       below [] q f = q
       below (x ∷ es) q f = omega (arith, f (omega arith))
 
-  up-rising : (es : List Entry) (lo hi : ℕ) → Rises May hi es → (1 ≤ length es → lo ≤ next es hi) → rising ok es lo hi ≡ true
+  up-rising : (es : List Entry) (lo hi : ℕ) → Rises May hi es → (1 ≤ length es → lo ≤ next es hi)
+      → rising ok es lo hi ≡ true
   unfolding rising
   up-rising [] lo hi h f = refl
   up-rising (e ∷ es) lo hi h f =
@@ -79,14 +81,16 @@ module _ (ok : ℕ → Bool) where
       (lt-ltb (e .key) hi (omega (arith, h .0, next-le May hi es (h .2))))) (h .1))
       (up-rising es (e .key + 1) hi (h .2) (λ _. omega (arith, h .0)))
 
-entries-good : (ok : ℕ → Bool) (sub : ℕ → ℕ → ℕ → Finding) (es : List Entry) (hi : ℕ) → Rises (λ y x. ok (x .addr) ≡ true) hi es
+entries-good : (ok : ℕ → Bool) (sub : ℕ → ℕ → ℕ → Finding) (es : List Entry) (hi : ℕ)
+    → Rises (λ y x. ok (x .addr) ≡ true) hi es
     → judgeEntries sub es hi ≡ Good
     → Rises (λ y x. (ok (x .addr) ≡ true) × (sub (x .addr) (x .key) y ≡ Good)) hi es
 unfolding judgeEntries
 entries-good ok sub [] hi h j = tt
 entries-good ok sub (e ∷ es) hi h j = (h .0, (h .1, first-left _ _ j), entries-good ok sub es hi (h .2) (first-right _ _ j))
 
-good-entries : (sub : ℕ → ℕ → ℕ → Finding) (es : List Entry) (hi : ℕ) → Rises (λ y x. sub (x .addr) (x .key) y ≡ Good) hi es
+good-entries : (sub : ℕ → ℕ → ℕ → Finding) (es : List Entry) (hi : ℕ)
+    → Rises (λ y x. sub (x .addr) (x .key) y ≡ Good) hi es
     → judgeEntries sub es hi ≡ Good
 unfolding judgeEntries first
 good-entries sub [] hi h = refl
@@ -122,7 +126,8 @@ module _ (g : Geometry) (core : Core g) (er : ℕ → Bool) (r : Nodes) (t : ℕ
             (entries-good (names er t (suc l)) (judge l) es y (up .0) (u .1)),
       )
 
-  may-all : (l hi : ℕ) (es : List Entry) → Rises (Fine l) hi es → Rises (λ y x. names er t (suc l) (x .addr) ≡ true) hi es
+  may-all : (l hi : ℕ) (es : List Entry) → Rises (Fine l) hi es → Rises (λ y x. names er t (suc l) (x .addr) ≡ true) hi
+      es
   may-all l hi es h = rises-map (Fine l) (λ y x. names er t (suc l) (x .addr) ≡ true) hi es
       (λ y x _ _ i. fit-names er t l (x .addr) (ok-fit (fitOf t er) room r l y x i)) h
 
@@ -161,7 +166,8 @@ module _ (g : Geometry) (core : Core g) (t : ℕ) (c : Chip) where
   unfolding ownRoot
   r5-most h = leb-true _ (rootMost g (suc (c .level))) (and-right _ _ (and-left _ _ (r5-own h .0)))
 
-  pub r5-rises : r5 g t c ≡ Good → Rises (Ok (fitOf t (c .er)) (λ l. 2 * half g l) (c .nodes) (c .level)) fourBytes (c .nodes (c .root) (suc (c .level)))
+  pub r5-rises : r5 g t c ≡ Good → Rises (Ok (fitOf t (c .er)) (λ l. 2 * half g l) (c .nodes) (c .level)) fourBytes
+      (c .nodes (c .root) (suc (c .level)))
   unfolding ownRoot
   r5-rises h =
       let u = r5-own h in
@@ -200,7 +206,8 @@ unfolding namesPage
 names-some p [] h = true-false false h refl
 names-some p (e ∷ es) h = go (eqb (e .addr) p) refl h (names-some p es)
   where
-    go : (b : Bool) → eqb (e .addr) p ≡ b → pick b true (namesPage p es) ≡ true → (namesPage p es ≡ true → Some (λ e. e .addr ≡ p) es)
+    go : (b : Bool) → eqb (e .addr) p ≡ b → pick b true (namesPage p es) ≡ true
+        → (namesPage p es ≡ true → Some (λ e. e .addr ≡ p) es)
         → Some (λ e. e .addr ≡ p) (e ∷ es)
     go true z i f = inl (eqb-true (e .addr) p z)
     go false z i f = inr (f i)
@@ -220,18 +227,21 @@ unfolding lowestPage
 lowest-le f [] t = omega arith
 lowest-le f (x ∷ xs) t = go (f x & ltb (x .page) t) refl (lowest-le f xs)
   where
-    go : (b : Bool) → (f x & ltb (x .page) t) ≡ b → ((u : ℕ) → lowestPage f xs u ≤ u) → lowestPage f xs (pick b (x .page) t) ≤ t
+    go : (b : Bool) → (f x & ltb (x .page) t) ≡ b → ((u : ℕ) → lowestPage f xs u ≤ u) → lowestPage f xs
+        (pick b (x .page) t) ≤ t
     go true e i = omega (arith, i (x .page), ltb-true (x .page) t (and-right _ _ e))
     go false e i = i t
 
-none-lower : (f : Place → Bool) (xs : List Place) (t : ℕ) → t ≤ lowestPage f xs t → All (λ x. x .page < t → f x ≡ false) xs
+none-lower : (f : Place → Bool) (xs : List Place) (t : ℕ) → t ≤ lowestPage f xs t
+    → All (λ x. x .page < t → f x ≡ false) xs
 unfolding lowestPage
 none-lower f [] t h = tt
 none-lower f (x ∷ xs) t h = go (f x) (ltb (x .page) t) refl refl (and-pick (f x) (ltb (x .page) t)) h (none-lower f xs)
   where
     go : (a b : Bool) → f x ≡ a → ltb (x .page) t ≡ b → (f x & ltb (x .page) t) ≡ pick (f x) (ltb (x .page) t) false
         → t ≤ lowestPage f xs (pick (f x & ltb (x .page) t) (x .page) t)
-        → ((u : ℕ) → u ≤ lowestPage f xs u → All (λ x. x .page < u → f x ≡ false) xs) → All (λ x. x .page < t → f x ≡ false) (x ∷ xs)
+        → ((u : ℕ) → u ≤ lowestPage f xs u → All (λ x. x .page < u → f x ≡ false) xs)
+        → All (λ x. x .page < t → f x ≡ false) (x ∷ xs)
     go false b d e w i k = ((λ _. d), k t (rw (w, d) at i))
     go true true d e w i k = let z : t ≤ lowestPage f xs (x .page) = rw (w, d, e) at i in
         absurd (omega (arith, z, lowest-le f xs (x .page), ltb-true (x .page) t e))
@@ -276,9 +286,11 @@ module _ (t : ℕ) (c : Chip) where
       fast : (x : Place) → All (TiedTo (c .nodes) x) spots → Mem x spots → loose (c .nodes) spots x ≡ false
       fast x i m = go (ltb (lowLevel spots (x .page)) (x .level)) refl
         where
-          go : (u : Bool) → ltb (lowLevel spots (x .page)) (x .level) ≡ u → (u & not (namesPage (x .page) (c .nodes (x .page) (x .level)))) ≡ false
+          go : (u : Bool) → ltb (lowLevel spots (x .page)) (x .level) ≡ u
+              → (u & not (namesPage (x .page) (c .nodes (x .page) (x .level)))) ≡ false
           go false e = and-false (not (namesPage (x .page) (c .nodes (x .page) (x .level))))
           go true e =
               let w = low-is spots (x .page) (mem-live x spots m) in
-              let s = all-get (TiedTo (c .nodes) x) (record { page = x .page; level = lowLevel spots (x .page) }) spots i (w .0) refl (ltb-true (lowLevel spots (x .page)) (x .level) e) in
+              let s = all-get (TiedTo (c .nodes) x) (record { page = x .page; level = lowLevel spots (x .page) }) spots
+              i (w .0) refl (ltb-true (lowLevel spots (x .page)) (x .level) e) in
               rw (and-true (not (namesPage (x .page) (c .nodes (x .page) (x .level)))), some-names (x .page) (c .nodes (x .page) (x .level)) s) refl

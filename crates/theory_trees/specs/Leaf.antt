@@ -1,5 +1,5 @@
--- By how much an update raises the live pages: the page of the old leaf dies, and what is new stands on N and the other halves' pages.
--- Assumes nothing.
+-- By how much an update raises the live pages: the page of the old leaf dies, and what is new stands on N and the other
+-- halves' pages. Assumes nothing.
 use mathlib.Core.Path.{_≡_, refl, ap, sym, subst, _∙_}
 use mathlib.Core.List.{List, [], _∷_, _++_}
 use mathlib.Core.Bool.{Bool, true, false}
@@ -58,7 +58,8 @@ module _ (fit : ℕ → ℕ → Type 0) (room : ℕ → ℕ) (r : Nodes) (k : �
       let s = split (Ok fit room r (suc l)) k y es (h .1) q (h .4) in
       way-fit l (next (s .post) y) (chosen k es) (s .under) (s .here)
 
-  pub bottom-fit : (most : ℕ → ℕ) (top l p : ℕ) → k < top → Rooted fit room most top r l p → fit 1 (bottom r k l (the p))
+  pub bottom-fit : (most : ℕ → ℕ) (top l p : ℕ) → k < top → Rooted fit room most top r l p
+      → fit 1 (bottom r k l (the p))
   unfolding bottom
   bottom-fit most top zero p q h = h .fits
   bottom-fit most top (suc l) p q h =
@@ -75,7 +76,8 @@ module _ (k k′ : ℕ) (P : ℕ → Entry → Type 0) (f : Entry → List Entry
   post-at hi (e ∷ es) q h = (off (next es hi) e (h .0) (h .1) (inr q), post-at hi es (omega arith) (h .2))
 
   splice-each-at : (hi : ℕ) (es : List Entry) → 0 < length es → k < hi → Rises P hi es
-      → ((y : ℕ) → k < y → chosen k es .key < y → P y (chosen k es) → All W (f (chosen k es)) × (chosen k es .key ≤ k′) × (k′ < y))
+      → ((y : ℕ) → k < y → chosen k es .key < y → P y (chosen k es) → All W (f (chosen k es)) ×
+      (chosen k es .key ≤ k′) × (k′ < y))
       → All W (splice f k es)
   splice-each-at hi es n q h step = go (split P k hi es n q h)
     where
@@ -87,7 +89,8 @@ module _ (k k′ : ℕ) (P : ℕ → Entry → Type 0) (f : Entry → List Entry
 
 -- the page p of the leaf that an edit goes to has no live node afterwards
 module _ (p : ℕ) (half : ℕ → ℕ) (r s : Nodes) (fit fit′ : ℕ → ℕ → Type 0)
-    (keep : (l b : ℕ) → fit l b × Tie r p 1 l b → fit′ l b) (same : (q l : ℕ) → fit (suc l) q × Tie r p 1 (suc l) q → s q (suc l) ≡ r q (suc l))
+    (keep : (l b : ℕ) → fit l b × Tie r p 1 l b → fit′ l b) (same : (q l : ℕ) → fit (suc l) q × Tie r p 1 (suc l) q
+    → s q (suc l) ≡ r q (suc l))
     (k : ℕ) where
   abbrev tie : ℕ → ℕ → Type 0
   tie l q = fit l q × Tie r p 1 l q
@@ -99,7 +102,8 @@ module _ (p : ℕ) (half : ℕ → ℕ) (r s : Nodes) (fit fit′ : ℕ → ℕ 
   Dead x = x .page ≡ p → ⊥
 
   -- in the old nodes too: entries off the path have no place on p
-  off-list : (f : Entry → List Entry) (l hi : ℕ) (es : List Entry) → 0 < length es → k < hi → Rises (Ok tie roomAt r (suc l)) hi es
+  off-list : (f : Entry → List Entry) (l hi : ℕ) (es : List Entry) → 0 < length es → k < hi
+      → Rises (Ok tie roomAt r (suc l)) hi es
       → bottom r k l (chosen k es) ≡ p → f (chosen k es) ≡ [] → All Dead (gather (places r (suc l)) (splice f k es))
   off-list f l hi es c q h b none = gather-all Dead (places r (suc l)) (splice f k es)
       (splice-each-at k (next (r p 1) 0) (Ok tie roomAt r (suc l)) f (λ e. All Dead (places r (suc l) e))
@@ -110,10 +114,12 @@ module _ (p : ℕ) (half : ℕ → ℕ) (r s : Nodes) (fit fit′ : ℕ → ℕ 
         rw b at (way-in tie roomAt r k l y (chosen k es) u i .1),
       )))
 
-  module _ (base : Entry → List Entry) (name : ℕ → Entry → List Entry → List Entry) (Held : ℕ → Entry → List Entry → Type 0)
+  module _ (base : Entry → List Entry) (name : ℕ → Entry → List Entry → List Entry) (Held : ℕ → Entry → List Entry
+      → Type 0)
       (name-dead : (l : ℕ) (e : Entry) (c : List Entry) → Held (suc l) e c → All Dead (gather (places s l) c)
       → All Dead (gather (places s (suc l)) (name (suc l) e c))) where
-    list-dead : (l hi : ℕ) (es : List Entry) → 0 < length es → k < hi → Rises (Ok tie roomAt r (suc l)) hi es → bottom r k l (chosen k es) ≡ p
+    list-dead : (l hi : ℕ) (es : List Entry) → 0 < length es → k < hi → Rises (Ok tie roomAt r (suc l)) hi es
+        → bottom r k l (chosen k es) ≡ p
         → ((y : ℕ) → k < y → chosen k es .key < y → Ok tie roomAt r (suc l) y (chosen k es)
         → All Dead (gather (places s (suc l)) (edit r k base name (suc l) (chosen k es))))
         → All Dead (gather (places s (suc l)) (splice (edit r k base name (suc l)) k es))
@@ -132,11 +138,13 @@ module _ (p : ℕ) (half : ℕ → ℕ) (r s : Nodes) (fit fit′ : ℕ → ℕ 
     unfolding edit Made Ok bottom
     edit-dead zero hi e q b h w m = name-dead zero e (splice (edit r k base name 0) k (r (e .addr) 1)) (m .0)
         (no-places Dead s (splice (edit r k base name 0) k (r (e .addr) 1)))
-    edit-dead (suc l) hi e q b h w m = let es = r (e .addr) (suc (suc l)) in name-dead (suc l) e (splice (edit r k base name (suc l)) k es) (m .0)
+    edit-dead (suc l) hi e q b h w m = let es = r (e .addr) (suc (suc l)) in
+        name-dead (suc l) e (splice (edit r k base name (suc l)) k es) (m .0)
         (list-dead l hi es (h .1) q (h .4) w (λ y u v i. edit-dead l y (chosen k es) u v i w (m .1)))
 
     -- below the root's list
-    pub root-dead : (leaf : List Entry → List Entry) (most : ℕ → ℕ) (top l p₀ : ℕ) → k < top → Rooted tie roomAt most top r l p₀
+    pub root-dead : (leaf : List Entry → List Entry) (most : ℕ → ℕ) (top l p₀ : ℕ) → k < top
+        → Rooted tie roomAt most top r l p₀
         → bottom r k l (the p₀) ≡ p → Made r k base name Held l (chosen k (r p₀ (suc l)))
         → All Dead (gather (places s l) (atRoot leaf (edit r k base name l) k l (r p₀ (suc l))))
     unfolding atRoot bottom
@@ -168,7 +176,8 @@ hits-side side i (suc j) a b = go (eqb i (suc j)) refl (λ c. hits-side side i j
   where
     go : (t : Bool) → eqb i (suc j) ≡ t → (i ≤ j → 1 ≤ hits (sides side j) (side i))
         → 1 ≤ bit (eqb (side i) (side (suc j))) + hits (sides side j) (side i)
-    go true e f = let a : bit (eqb (side i) (side (suc j))) ≡ 1 = rw (eqb-true i (suc j) e, eq-eqb (side (suc j)) (side (suc j)) refl) refl in omega arith
+    go true e f = let a : bit (eqb (side i) (side (suc j))) ≡ 1 =
+        rw (eqb-true i (suc j) e, eq-eqb (side (suc j)) (side (suc j)) refl) refl in omega arith
     go false e f = let z = eqb-false i (suc j) e in let y = f (omega arith) in omega arith
 
 -- from the places old to the places new: p had a live leaf and has no live node, and what is new is on the pages ns
@@ -178,7 +187,8 @@ pub record Shifted (ns : List ℕ) (p : ℕ) (old new : List Place) : Type 0 whe
   pub within : All (λ x. (1 ≤ hits ns (x .page)) ⊎ Mem x old) new
 
 module _ (n top : ℕ) (half most : ℕ → ℕ) (r s : Nodes) (fit fit′ : ℕ → ℕ → Type 0) (fit-n : (l : ℕ) → fit′ (suc l) n)
-    (keep : (l b : ℕ) → fit l b → fit′ l b) (same : (q l : ℕ) → fit (suc l) q → s q (suc l) ≡ r q (suc l)) (new-n : (l : ℕ) → fit (suc l) n → ⊥)
+    (keep : (l b : ℕ) → fit l b → fit′ l b) (same : (q l : ℕ) → fit (suc l) q → s q (suc l) ≡ r q (suc l))
+    (new-n : (l : ℕ) → fit (suc l) n → ⊥)
     (k : ℕ) (k-top : k < top) (l p₀ : ℕ) (h : Proper fit (λ l. 2 * half l) most top r l p₀) where
   abbrev room : ℕ → ℕ
   room l = 2 * half l
@@ -210,9 +220,11 @@ module _ (n top : ℕ) (half most : ℕ → ℕ) (r s : Nodes) (fit fit′ : ℕ
   same′ q j i = same q j (i .0)
 
   where-in : (S : ℕ) (side : ℕ → ℕ) (Cut : ℕ → Type 0) (low : ℕ) → ((j : ℕ) → Cut j → (1 ≤ j) × (j ≤ S)) → (x : Place)
-      → Where s n low side Cut (λ x. (1 ≤ x .level) × fitLive (x .level) (x .page)) x → (1 ≤ hits (n ∷ sides side S) (x .page)) ⊎ Mem x spots
+      → Where s n low side Cut (λ x. (1 ≤ x .level) × fitLive (x .level) (x .page)) x
+      → (1 ≤ hits (n ∷ sides side S) (x .page)) ⊎ Mem x spots
   unfolding hits
-  where-in S side Cut low cut x (inl i) = let z : bit (eqb (x .page) n) ≡ 1 = rw (eq-eqb (x .page) n (i .0)) refl in inl (omega arith)
+  where-in S side Cut low cut x (inl i) = let z : bit (eqb (x .page) n) ≡ 1 = rw (eq-eqb (x .page) n (i .0)) refl in
+      inl (omega arith)
   where-in S side Cut low cut x (inr (inl i)) =
       let z = hits-side side (x .level) S (cut (x .level) (i .0) .0) (cut (x .level) (i .0) .1) in
       let w : hits (sides side S) (x .page) ≡ hits (sides side S) (side (x .level)) = ap (hits (sides side S)) (i .1) in
@@ -221,7 +233,8 @@ module _ (n top : ℕ) (half most : ℕ → ℕ) (r s : Nodes) (fit fit′ : ℕ
 
   -- ---- insert
   module _ (a S : ℕ) (side : ℕ → ℕ) (Cut : ℕ → Type 0) (cut : (j : ℕ) → Cut j → (1 ≤ j) × (j ≤ S)) (fit-a : fit′ 0 a)
-      (new-side : (l j : ℕ) → Cut l → fit (suc j) (side l) → ⊥) (made : InsertMade r s k a n side half fit′ Cut l (chosen k (r p₀ (suc l)))) where
+      (new-side : (l j : ℕ) → Cut l → fit (suc j) (side l) → ⊥) (made : InsertMade r s k a n side half fit′ Cut l
+      (chosen k (r p₀ (suc l)))) where
     abbrev rootList : List Entry
     rootList = atRoot (putIn k a) (inserted r k a n side half l) k l (r p₀ (suc l))
 
@@ -231,7 +244,8 @@ module _ (n top : ℕ) (half most : ℕ → ℕ) (r s : Nodes) (fit fit′ : ℕ
     Dies : Place → Type 0
     Dies x = x .page ≡ p → ⊥
 
-    named-dead : (j : ℕ) (e : Entry) (c : List Entry) → InsertHeld k n side half s fit′ Cut (suc j) e c → All Dies (gather (places s j) c)
+    named-dead : (j : ℕ) (e : Entry) (c : List Entry) → InsertHeld k n side half s fit′ Cut (suc j) e c
+        → All Dies (gather (places s j) c)
         → All Dies (gather (places s (suc j)) (named k n side half (suc j) e c))
     unfolding gather Dies
     named-dead j e c i w = go (leb (length c) (2 * half (suc j))) refl (i .0)
@@ -261,7 +275,8 @@ module _ (n top : ℕ) (half most : ℕ → ℕ) (r s : Nodes) (fit fit′ : ℕ
           (with-live fit room most top r l p₀ (h .rooted)) made e);
     }
 
-    pub grow-shifted : Halves k n side s fit′ (suc l) (2 * half (suc l)) rootList → Cut (suc l) → length rootList ≡ 4 * half (suc l)
+    pub grow-shifted : Halves k n side s fit′ (suc l) (2 * half (suc l)) rootList → Cut (suc l)
+        → length rootList ≡ 4 * half (suc l)
         → s n (suc (suc l)) ≡ two k n (side (suc l)) (2 * half (suc l)) (next rootList 0) rootList
         → Shifted (n ∷ sides side S) p spots (places s (suc (suc l)) (the n))
     unfolding Dies
@@ -280,7 +295,8 @@ module _ (n top : ℕ) (half most : ℕ → ℕ) (r s : Nodes) (fit fit′ : ℕ
   abbrev rootLess : List Entry
   rootLess = atRoot (removeIn k) (deleted r k n l) k l (r p₀ (suc l))
 
-  kept-dead : (j : ℕ) (e : Entry) (c : List Entry) → DeleteHeld n s (suc j) e c → All (λ x. x .page ≡ p → ⊥) (gather (places s j) c)
+  kept-dead : (j : ℕ) (e : Entry) (c : List Entry) → DeleteHeld n s (suc j) e c
+      → All (λ x. x .page ≡ p → ⊥) (gather (places s j) c)
       → All (λ x. x .page ≡ p → ⊥) (gather (places s (suc j)) (kept n (suc j) e c))
   unfolding gather
   kept-dead j e [] i w = tt
@@ -313,9 +329,12 @@ collapse-all D r (suc l) (x ∷ []) h = collapse-all D r l (r (x .addr) (suc l))
 collapse-all D r (suc l) (x ∷ y ∷ c) h = h
 
 module _ (n top : ℕ) (half most : ℕ → ℕ) (r s : Nodes) (fit fit′ : ℕ → ℕ → Type 0) (fit-n : (l : ℕ) → fit′ (suc l) n)
-    (keep : (l b : ℕ) → fit l b → fit′ l b) (same : (q l : ℕ) → fit (suc l) q → s q (suc l) ≡ r q (suc l)) (new-n : (l : ℕ) → fit (suc l) n → ⊥)
-    (k : ℕ) (k-top : k < top) (wide : (j : ℕ) → 2 * half j ≤ most j) (l p₀ : ℕ) (h : Proper fit (λ l. 2 * half l) most top r (suc l) p₀)
-    (made : DeleteMade r s k n (suc l) (chosen k (r p₀ (suc (suc l))))) (one : length (rootLess n top half most r s fit fit′ fit-n keep same new-n k k-top (suc l) p₀ h) ≡ 1) where
+    (keep : (l b : ℕ) → fit l b → fit′ l b) (same : (q l : ℕ) → fit (suc l) q → s q (suc l) ≡ r q (suc l))
+    (new-n : (l : ℕ) → fit (suc l) n → ⊥)
+    (k : ℕ) (k-top : k < top) (wide : (j : ℕ) → 2 * half j ≤ most j)
+    (l p₀ : ℕ) (h : Proper fit (λ l. 2 * half l) most top r (suc l) p₀)
+    (made : DeleteMade r s k n (suc l) (chosen k (r p₀ (suc (suc l)))))
+    (one : length (rootLess n top half most r s fit fit′ fit-n keep same new-n k k-top (suc l) p₀ h) ≡ 1) where
   abbrev left : List Entry
   left = rootLess n top half most r s fit fit′ fit-n keep same new-n k k-top (suc l) p₀ h
 

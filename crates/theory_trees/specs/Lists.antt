@@ -70,12 +70,14 @@ pub some-right : {A : Type 0} (P : A → Type 0) (xs ys : List A) → Some P ys 
 some-right P [] ys h = h
 some-right P (x ∷ xs) ys h = inr (some-right P xs ys h)
 
-pub gather-append : {A : Type 0} (d : Entry → List A) (xs ys : List Entry) → gather d (xs ++ ys) ≡ gather d xs ++ gather d ys
+pub gather-append : {A : Type 0} (d : Entry → List A) (xs ys : List Entry)
+    → gather d (xs ++ ys) ≡ gather d xs ++ gather d ys
 unfolding gather
 gather-append d [] ys = refl
 gather-append d (x ∷ xs) ys = rw (gather-append d xs ys, append-assoc)
 
-pub gather-eq : {A : Type 0} (d d′ : Entry → List A) (es : List Entry) → All (λ e. d′ e ≡ d e) es → gather d′ es ≡ gather d es
+pub gather-eq : {A : Type 0} (d d′ : Entry → List A) (es : List Entry) → All (λ e. d′ e ≡ d e) es
+    → gather d′ es ≡ gather d es
 unfolding gather
 gather-eq d d′ [] h = refl
 gather-eq d d′ (e ∷ es) h = rw (h .0, gather-eq d d′ es (h .1))
@@ -85,12 +87,14 @@ unfolding gather
 gather-one [] = refl
 gather-one (e ∷ es) = ap (λ l. e ∷ l) (gather-one es)
 
-pub gather-all : {A : Type 0} (W : A → Type 0) (d : Entry → List A) (es : List Entry) → All (λ e. All W (d e)) es → All W (gather d es)
+pub gather-all : {A : Type 0} (W : A → Type 0) (d : Entry → List A) (es : List Entry) → All (λ e. All W (d e)) es
+    → All W (gather d es)
 unfolding gather
 gather-all W d [] h = tt
 gather-all W d (e ∷ es) h = all-append W (d e) (gather d es) (h .0) (gather-all W d es (h .1))
 
-pub all-gather : {A : Type 0} (W : A → Type 0) (d : Entry → List A) (es : List Entry) → All W (gather d es) → All (λ e. All W (d e)) es
+pub all-gather : {A : Type 0} (W : A → Type 0) (d : Entry → List A) (es : List Entry) → All W (gather d es)
+    → All (λ e. All W (d e)) es
 unfolding gather
 all-gather W d [] h = tt
 all-gather W d (e ∷ es) h = (all-left W (d e) (gather d es) h, all-gather W d es (all-right W (d e) (gather d es) h))
@@ -101,11 +105,13 @@ pub next-append : (xs ys : List Entry) (hi : ℕ) → next (xs ++ ys) hi ≡ nex
 next-append [] ys hi = refl
 next-append (x ∷ xs) ys hi = refl
 
-pub rises-append : (P : ℕ → Entry → Type 0) (hi : ℕ) (xs ys : List Entry) → Rises P (next ys hi) xs → Rises P hi ys → Rises P hi (xs ++ ys)
+pub rises-append : (P : ℕ → Entry → Type 0) (hi : ℕ) (xs ys : List Entry) → Rises P (next ys hi) xs → Rises P hi ys
+    → Rises P hi (xs ++ ys)
 rises-append P hi [] ys h i = i
 rises-append P hi (x ∷ xs) ys h i = rw (next-append xs ys hi) (h .0, h .1, rises-append P hi xs ys (h .2) i)
 
-pub rises-left : (P : ℕ → Entry → Type 0) (hi : ℕ) (xs ys : List Entry) → Rises P hi (xs ++ ys) → Rises P (next ys hi) xs
+pub rises-left : (P : ℕ → Entry → Type 0) (hi : ℕ) (xs ys : List Entry) → Rises P hi (xs ++ ys)
+    → Rises P (next ys hi) xs
 rises-left P hi [] ys h = tt
 rises-left P hi (x ∷ xs) ys h = let h′ = rw (next-append xs ys hi) at h in (h′ .0, h′ .1, rises-left P hi xs ys (h .2))
 
@@ -118,12 +124,14 @@ pub next-le : (P : ℕ → Entry → Type 0) (hi : ℕ) (es : List Entry) → Ri
 next-le P hi [] h = omega arith
 next-le P hi (e ∷ es) h = let i = next-le P hi es (h .2) in omega arith
 
-pub rises-map : (P Q : ℕ → Entry → Type 0) (hi : ℕ) (es : List Entry) → ((y : ℕ) (x : Entry) → x .key < y → y ≤ hi → P y x → Q y x) → Rises P hi es
+pub rises-map : (P Q : ℕ → Entry → Type 0) (hi : ℕ) (es : List Entry) → ((y : ℕ) (x : Entry) → x .key < y → y ≤ hi
+    → P y x → Q y x) → Rises P hi es
     → Rises Q hi es
 rises-map P Q hi [] s h = tt
 rises-map P Q hi (e ∷ es) s h = (h .0, s (next es hi) e (h .0) (next-le P hi es (h .2)) (h .1), rises-map P Q hi es s (h .2))
 
-pub rises-all : (P : ℕ → Entry → Type 0) (Z : Entry → Type 0) (hi : ℕ) (es : List Entry) → ((y : ℕ) (x : Entry) → x .key < y → y ≤ hi → P y x → Z x)
+pub rises-all : (P : ℕ → Entry → Type 0) (Z : Entry → Type 0) (hi : ℕ) (es : List Entry)
+    → ((y : ℕ) (x : Entry) → x .key < y → y ≤ hi → P y x → Z x)
     → Rises P hi es → All Z es
 rises-all P Z hi [] s h = tt
 rises-all P Z hi (e ∷ es) s h = (s (next es hi) e (h .0) (next-le P hi es (h .2)) (h .1), rises-all P Z hi es s (h .2))
@@ -138,7 +146,8 @@ pub rises-more : (P Q : ℕ → Entry → Type 0) (hi hi′ : ℕ) (es : List En
     → ((y y′ : ℕ) (x : Entry) → x .key < y → y ≤ y′ → P y x → Q y′ x) → Rises P hi es → Rises Q hi′ es
 rises-more P Q hi hi′ [] q s h = tt
 rises-more P Q hi hi′ (e ∷ []) q s h = (omega arith, s hi hi′ e (h .0) q (h .1), tt)
-rises-more P Q hi hi′ (e ∷ g ∷ es) q s h = (h .0, s (g .key) (g .key) e (h .0) (omega arith) (h .1), rises-more P Q hi hi′ (g ∷ es) q s (h .2))
+rises-more P Q hi hi′ (e ∷ g ∷ es) q s h =
+    (h .0, s (g .key) (g .key) e (h .0) (omega arith) (h .1), rises-more P Q hi hi′ (g ∷ es) q s (h .2))
 
 -- what starts at lo or later has every key at lo or later
 pub rises-floor : (P : ℕ → Entry → Type 0) (lo hi : ℕ) (es : List Entry) → lo ≤ next es hi → Rises P hi es
@@ -146,7 +155,8 @@ pub rises-floor : (P : ℕ → Entry → Type 0) (lo hi : ℕ) (es : List Entry)
 rises-floor P lo hi [] q h = tt
 rises-floor P lo hi (e ∷ es) q h = (h .0, (h .1, q), rises-floor P lo hi es (omega arith) (h .2))
 
-pub gather-in : (d : Entry → List Entry) (lo hi : ℕ) (es : List Entry) → lo ≤ next es hi → Rises (λ y x. All (In (x .key) y) (d x)) hi es
+pub gather-in : (d : Entry → List Entry) (lo hi : ℕ) (es : List Entry) → lo ≤ next es hi
+    → Rises (λ y x. All (In (x .key) y) (d x)) hi es
     → All (In lo hi) (gather d es)
 unfolding gather
 gather-in d lo hi [] q h = tt
@@ -157,7 +167,8 @@ gather-in d lo hi (e ∷ es) q h =
     (gather-in d lo hi es (omega arith) (h .2))
 
 -- where descent stands: the entries before, the chosen one x, the entries after; S f is the list with f x for x
-pub record Split (P : ℕ → Entry → Type 0) (k hi : ℕ) (es : List Entry) (x : Entry) (S : (Entry → List Entry) → List Entry) : Type 0 where
+pub record Split (P : ℕ → Entry → Type 0) (k hi : ℕ) (es : List Entry) (x : Entry) (S : (Entry → List Entry)
+    → List Entry) : Type 0 where
   pub pre : List Entry
   pub post : List Entry
   pub whole : es ≡ pre ++ (x ∷ post)
@@ -202,7 +213,8 @@ split P k hi es n q h =
     }
 
 -- a splice hangs on what it makes of the chosen entry alone
-pub splice-cong : (P : ℕ → Entry → Type 0) (f g : Entry → List Entry) (k hi : ℕ) (es : List Entry) → 0 < length es → k < hi → Rises P hi es
+pub splice-cong : (P : ℕ → Entry → Type 0) (f g : Entry → List Entry) (k hi : ℕ) (es : List Entry) → 0 < length es
+    → k < hi → Rises P hi es
     → f (chosen k es) ≡ g (chosen k es) → splice f k es ≡ splice g k es
 splice-cong P f g k hi es n q h e = go (split P k hi es n q h)
   where

@@ -27,7 +27,8 @@ unfolding live
 dead-live p [] h = refl
 dead-live p (x ∷ spots) h = rw (ne-eqb (x .page) p (h .0)) (dead-live p spots (h .1))
 
-pub within-live : (n q : ℕ) (old new : List Place) → All (λ x. (x .page ≡ n) ⊎ Mem x old) new → (q ≡ n → ⊥) → bit (live new q) ≤ bit (live old q)
+pub within-live : (n q : ℕ) (old new : List Place) → All (λ x. (x .page ≡ n) ⊎ Mem x old) new → (q ≡ n → ⊥)
+    → bit (live new q) ≤ bit (live old q)
 unfolding live
 within-live n q old [] h d = omega arith
 within-live n q old (x ∷ new) h d = go (eqb (x .page) q) refl (h .0) (within-live n q old new (h .1) d)
@@ -36,20 +37,23 @@ within-live n q old (x ∷ new) h d = go (eqb (x .page) q) refl (h .0) (within-l
         → bit (pick t true (live new q)) ≤ bit (live old q)
     go false e w i = i
     go true e (inl w) i = absurd (d (sym (eqb-true (x .page) q e) ∙ w))
-    go true e (inr w) i = let a : bit (live old q) ≡ 1 = rw (← eqb-true (x .page) q e, mem-live x old w) refl in omega arith
+    go true e (inr w) i = let a : bit (live old q) ≡ 1 = rw (← eqb-true (x .page) q e, mem-live x old w) refl in
+        omega arith
 
 pub live-none : (p : ℕ) (ys : List Place) → live ys p ≡ false → All (λ y. y .page ≡ p → ⊥) ys
 unfolding live
 live-none p [] h = tt
 live-none p (y ∷ ys) h = go (eqb (y .page) p) refl h (live-none p ys)
   where
-    go : (t : Bool) → eqb (y .page) p ≡ t → pick t true (live ys p) ≡ false → (live ys p ≡ false → All (λ y. y .page ≡ p → ⊥) ys)
+    go : (t : Bool) → eqb (y .page) p ≡ t → pick t true (live ys p) ≡ false
+        → (live ys p ≡ false → All (λ y. y .page ≡ p → ⊥) ys)
         → All (λ y. y .page ≡ p → ⊥) (y ∷ ys)
     go true e i k = absurd (true-false true refl i)
     go false e i k = (eqb-false (y .page) p e, k i)
 
 pub low-is : (spots : List Place) (p : ℕ) → live spots p ≡ true
-    → Mem (record { page = p; level = lowLevel spots p }) spots × All (λ x. x .page ≡ p → lowLevel spots p ≤ x .level) spots
+    → Mem (record { page = p; level = lowLevel spots p }) spots × All (λ x. x .page ≡ p → lowLevel spots p ≤ x .level)
+    spots
 unfolding lowLevel live
 low-is [] p h = absurd (true-false false h refl)
 low-is (x ∷ xs) p h = go (eqb (x .page) p) (live xs p) refl refl h (low-is xs p)
@@ -63,7 +67,8 @@ low-is (x ∷ xs) p h = go (eqb (x .page) p) (live xs p) refl refl h (low-is xs 
     Out : ℕ → Type 0
     Out a = Mem (record { page = p; level = a }) (x ∷ xs) × All (λ x. x .page ≡ p → a ≤ x .level) (x ∷ xs)
 
-    least-of : x .page ≡ p → Mem (record { page = p; level = lowLevel xs p }) xs × All (λ x. x .page ≡ p → lowLevel xs p ≤ x .level) xs → (t : Bool)
+    least-of : x .page ≡ p → Mem (record { page = p; level = lowLevel xs p }) xs ×
+        All (λ x. x .page ≡ p → lowLevel xs p ≤ x .level) xs → (t : Bool)
         → leb (x .level) (lowLevel xs p) ≡ t → Out (min (x .level) (lowLevel xs p))
     least-of e w true q = let z = leb-true (x .level) (lowLevel xs p) q in (
       inl (here (min (x .level) (lowLevel xs p)) e (omega arith)),
@@ -77,7 +82,8 @@ low-is (x ∷ xs) p h = go (eqb (x .page) p) (live xs p) refl refl h (low-is xs 
         )
 
     go : (t u : Bool) → eqb (x .page) p ≡ t → live xs p ≡ u → pick t true u ≡ true
-        → (live xs p ≡ true → Mem (record { page = p; level = lowLevel xs p }) xs × All (λ x. x .page ≡ p → lowLevel xs p ≤ x .level) xs)
+        → (live xs p ≡ true → Mem (record { page = p; level = lowLevel xs p }) xs ×
+        All (λ x. x .page ≡ p → lowLevel xs p ≤ x .level) xs)
         → Out (pick t (pick u (min (x .level) (lowLevel xs p)) (x .level)) (lowLevel xs p))
     go true true e f i ih = least-of (eqb-true (x .page) p e) (ih f) (leb (x .level) (lowLevel xs p)) refl
     go true false e f i ih = (

@@ -1,5 +1,5 @@
--- The lowest live levels after a move, from those before and the path: the new page has a; a page whose lowest live node stands on the path
--- from level a up has died; every other page is as before. Assumes nothing.
+-- The lowest live levels after a move, from those before and the path: the new page has a; a page whose lowest live
+-- node stands on the path from level a up has died; every other page is as before. Assumes nothing.
 use mathlib.Core.Path.{_≡_, refl, sym, subst, _∙_}
 use mathlib.Core.List.{List, [], _∷_}
 use mathlib.Core.Bool.{Bool, true, false}
@@ -26,7 +26,8 @@ unfolding lowLevel
 low-none [] q h = refl
 low-none (x ∷ xs) q h = rw (ne-eqb (x .page) q (h .0)) (low-none xs q (h .1))
 
-low-unique : (spots : List Place) (q m : ℕ) → Mem (spot q m) spots → All (λ x. x .page ≡ q → m ≤ x .level) spots → lowLevel spots q ≡ m
+low-unique : (spots : List Place) (q m : ℕ) → Mem (spot q m) spots → All (λ x. x .page ≡ q → m ≤ x .level) spots
+    → lowLevel spots q ≡ m
 low-unique spots q m i h =
     let z = low-is spots q (mem-live (spot q m) spots i) in
     let b = all-get (λ x. x .page ≡ q → m ≤ x .level) (spot q (lowLevel spots q)) spots h (z .0) refl in
@@ -50,7 +51,8 @@ module _ (n a : ℕ) (old path new : List Place) (sw : Swapped n a old path new)
       none x (inr f) j = f .1 (all-get (OnIt q path) x old on (f .0) j)
 
   -- a page that stays live
-  swap-live : (q : ℕ) → (q ≡ n → ⊥) → live old q ≡ true → (Mem (spot q (lowLevel old q)) path → ⊥) → lowLevel new q ≡ lowLevel old q
+  swap-live : (q : ℕ) → (q ≡ n → ⊥) → live old q ≡ true → (Mem (spot q (lowLevel old q)) path → ⊥)
+      → lowLevel new q ≡ lowLevel old q
   swap-live q d alive off =
       let z = low-is old q alive in
       low-unique new q (lowLevel old q) (there (all-get (λ x. Mem x path ⊎ Mem x new) (spot q (lowLevel old q)) old (sw .gone) (z .0)))
@@ -60,7 +62,8 @@ module _ (n a : ℕ) (old path new : List Place) (sw : Swapped n a old path new)
       there (inl i) = absurd (off i)
       there (inr i) = i
 
-      above : All (λ x. x .page ≡ q → lowLevel old q ≤ x .level) old → (x : Place) → Come n a old path x → x .page ≡ q → lowLevel old q ≤ x .level
+      above : All (λ x. x .page ≡ q → lowLevel old q ≤ x .level) old → (x : Place) → Come n a old path x → x .page ≡ q
+          → lowLevel old q ≤ x .level
       above w x (inl f) j = absurd (d (sym j ∙ f .0))
       above w x (inr f) j = all-get (λ x. x .page ≡ q → lowLevel old q ≤ x .level) x old w (f .0) j
 
@@ -68,7 +71,8 @@ module _ (n a : ℕ) (old path new : List Place) (sw : Swapped n a old path new)
   swap-none : (q : ℕ) → (q ≡ n → ⊥) → live old q ≡ false → lowLevel new q ≡ lowLevel old q
   swap-none q d dead =
       let w = live-none q old dead in
-      swap-dead q d (all-map (λ x. x .page ≡ q → ⊥) (OnIt q path) old (λ x f j. absurd (f j)) w) ∙ sym (low-none old q w)
+      swap-dead q d (all-map (λ x. x .page ≡ q → ⊥) (OnIt q path) old (λ x f j. absurd (f j)) w)
+      ∙ sym (low-none old q w)
 
   swap-stays : (q : ℕ) → (q ≡ n → ⊥) → (Mem (spot q (lowLevel old q)) path → ⊥) → lowLevel new q ≡ lowLevel old q
   swap-stays q d off = go (live old q) refl
@@ -83,8 +87,10 @@ pub record Lowered (n a : ℕ) (old path new : List Place) : Type 0 where
   pub stays : (q : ℕ) → (q ≡ n → ⊥) → (Mem (spot q (lowLevel old q)) path → ⊥) → lowLevel new q ≡ lowLevel old q
 
 -- ---- a move: page p, whose lowest live node is at level a, to page n
-module _ (p a n top : ℕ) (half most : ℕ → ℕ) (r s : Nodes) (fit fit′ : ℕ → ℕ → Type 0) (fit-n : (l : ℕ) → fit′ (suc l) n)
-    (keep : (l b : ℕ) → fit l b → fit′ l b) (same : (q l : ℕ) → fit (suc l) q → s q (suc l) ≡ r q (suc l)) (new-n : (l : ℕ) → fit (suc l) n → ⊥)
+module _ (p a n top : ℕ) (half most : ℕ → ℕ) (r s : Nodes) (fit fit′ : ℕ → ℕ → Type 0)
+    (fit-n : (l : ℕ) → fit′ (suc l) n)
+    (keep : (l b : ℕ) → fit l b → fit′ l b) (same : (q l : ℕ) → fit (suc l) q → s q (suc l) ≡ r q (suc l))
+    (new-n : (l : ℕ) → fit (suc l) n → ⊥)
     (l p₀ : ℕ) (h : Proper fit (λ l. 2 * half l) most top r l p₀) (m : Mem (spot p a) (places r (suc l) (the p₀)))
     (low : All (λ x. x .page ≡ p → a ≤ x .level) (places r (suc l) (the p₀)))
     (made : MoveMade r s (next (r p a) 0) a n l (chosen (next (r p a) 0) (r p₀ (suc l))))

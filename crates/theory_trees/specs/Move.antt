@@ -31,7 +31,8 @@ MoveHeld a n s l e c = a ≤ l → s n l ≡ c
 abbrev pub MoveMade : Nodes → Nodes → ℕ → ℕ → ℕ → ℕ → Entry → Type 0
 MoveMade r s k a n l e = Made r k (λ e. e ∷ []) (renamed a n) (MoveHeld a n s) l e
 
-module _ (k a n top : ℕ) (half most : ℕ → ℕ) (r s : Nodes) (fit fit′ : ℕ → ℕ → Type 0) (fit-n : (l : ℕ) → fit′ (suc l) n)
+module _ (k a n top : ℕ) (half most : ℕ → ℕ) (r s : Nodes) (fit fit′ : ℕ → ℕ → Type 0)
+    (fit-n : (l : ℕ) → fit′ (suc l) n)
     (keep : (l a : ℕ) → fit l a → fit′ l a) (same : (p l : ℕ) → fit (suc l) p → s p (suc l) ≡ r p (suc l)) where
   abbrev roomAt : ℕ → ℕ
   roomAt l = 2 * half l
@@ -42,16 +43,20 @@ module _ (k a n top : ℕ) (half most : ℕ → ℕ) (r s : Nodes) (fit fit′ :
   abbrev Making : ℕ → Entry → Type 0
   Making = MoveMade r s k a n
 
-  pub renamed-under : (l hi : ℕ) (e : Entry) (c : List Entry) → Ok fit roomAt r (suc l) hi e → MoveHeld a n s (suc l) e c
-      → gather (under s l) c ≡ under r (suc l) e → gather (under s (suc l)) (renamed a n (suc l) e c) ≡ under r (suc l) e
+  pub renamed-under : (l hi : ℕ) (e : Entry) (c : List Entry) → Ok fit roomAt r (suc l) hi e
+      → MoveHeld a n s (suc l) e c
+      → gather (under s l) c ≡ under r (suc l) e → gather (under s (suc l)) (renamed a n (suc l) e c) ≡ under r
+      (suc l) e
   unfolding under gather
   renamed-under l hi e c o h i = go (leb a (suc l)) refl
     where
-      go : (t : Bool) → leb a (suc l) ≡ t → gather (under s (suc l)) (pick t (record { key = e .key; addr = n } ∷ []) (e ∷ [])) ≡ under r (suc l) e
+      go : (t : Bool) → leb a (suc l) ≡ t → gather (under s (suc l))
+          (pick t (record { key = e .key; addr = n } ∷ []) (e ∷ [])) ≡ under r (suc l) e
       go true b = rw (h (leb-true a (suc l) b)) (append-nil (gather (under s l) c) ∙ i)
       go false b = append-nil (under s (suc l) e) ∙ under-same fit roomAt fit′ r s keep same (suc l) hi e o
 
-  pub renamed-ok : (l y i : ℕ) (e : Entry) (c : List Entry) → Ok fit roomAt r (suc l) y e → MoveHeld a n s (suc l) e c → k < y → e .key < y
+  pub renamed-ok : (l y i : ℕ) (e : Entry) (c : List Entry) → Ok fit roomAt r (suc l) y e → MoveHeld a n s (suc l) e c
+      → k < y → e .key < y
       → Rises (Ok fit′ roomAt s l) y c → e .key ≤ next c y
       → 1 ≤ i → i ≤ roomAt (suc l) → i + 1 ≤ suc (length c) → suc (length c) ≤ i + 1
       → Out (Ok fit′ roomAt s (suc l)) (λ z. z) 1 1 y (e .key) (renamed a n (suc l) e c)
@@ -59,11 +64,13 @@ module _ (k a n top : ℕ) (half most : ℕ → ℕ) (r s : Nodes) (fit fit′ :
   renamed-ok l y i e c o h q b up from i1 i2 c1 c2 = go (leb a (suc l)) refl
     where
       go : (t : Bool) → leb a (suc l) ≡ t
-          → Out (Ok fit′ roomAt s (suc l)) (λ z. z) 1 1 y (e .key) (pick t (record { key = e .key; addr = n } ∷ []) (e ∷ []))
+          → Out (Ok fit′ roomAt s (suc l)) (λ z. z) 1 1 y (e .key)
+          (pick t (record { key = e .key; addr = n } ∷ []) (e ∷ []))
       go true d = ((b, rw (h (leb-true a (suc l) d)) (fit-n l, omega arith, omega arith, from, up), tt), omega arith, omega arith, omega arith)
       go false d = ((b, ok-same fit roomAt fit′ r s keep same (suc l) y e o, tt), omega arith, omega arith, omega arith)
 
-  pub self-ok : (y : ℕ) (e : Entry) → k < y → e .key < y → fit 0 (e .addr) → Out (Ok fit′ roomAt s 0) (λ z. z) 1 1 y (e .key) (e ∷ [])
+  pub self-ok : (y : ℕ) (e : Entry) → k < y → e .key < y → fit 0 (e .addr) → Out (Ok fit′ roomAt s 0) (λ z. z) 1 1 y
+      (e .key) (e ∷ [])
   unfolding Ok
   self-ok y e q b h = ((b, keep 0 (e .addr) h, tt), omega arith, omega arith, omega arith)
 
@@ -72,7 +79,8 @@ module _ (k a n top : ℕ) (half most : ℕ → ℕ) (r s : Nodes) (fit fit′ :
     pub rises : Rises (Ok fit′ roomAt s l) top c
     pub many : length c ≡ length es
 
-  pub carried : (l : ℕ) (es : List Entry) → (0 < length es → k < top) → Rises (Ok fit roomAt r l) top es → Making l (chosen k es)
+  pub carried : (l : ℕ) (es : List Entry) → (0 < length es → k < top) → Rises (Ok fit roomAt r l) top es
+      → Making l (chosen k es)
       → Carried l es (splice (moves l) k es)
   unfolding splice
   carried l [] q h m = record { pairs-are = go; rises = tt; many = refl }
@@ -90,13 +98,15 @@ module _ (k a n top : ℕ) (half most : ℕ → ℕ) (r s : Nodes) (fit fit′ :
   abbrev pub rootMoved : ℕ → ℕ → List Entry
   rootMoved l p = splice (moves l) k (r p (suc l))
 
-  pub move-pairs : (l p : ℕ) → Rooted fit roomAt most top r l p → (0 < length (r p (suc l)) → k < top) → Making l (chosen k (r p (suc l)))
+  pub move-pairs : (l p : ℕ) → Rooted fit roomAt most top r l p → (0 < length (r p (suc l)) → k < top)
+      → Making l (chosen k (r p (suc l)))
       → s n (suc l) ≡ rootMoved l p
       → under s (suc l) (the n) ≡ under r (suc l) (the p)
   unfolding under
   move-pairs l p h q m e = rw e (carried l (r p (suc l)) q (h .rises) m .pairs-are)
 
-  pub move-ok : (l p : ℕ) → Rooted fit roomAt most top r l p → (0 < length (r p (suc l)) → k < top) → Making l (chosen k (r p (suc l)))
+  pub move-ok : (l p : ℕ) → Rooted fit roomAt most top r l p → (0 < length (r p (suc l)) → k < top)
+      → Making l (chosen k (r p (suc l)))
       → s n (suc l) ≡ rootMoved l p
       → Rooted fit′ roomAt most top s l n
   move-ok l p h q m e =
@@ -133,13 +143,15 @@ module _ (p a : ℕ) (half : ℕ → ℕ) (r : Nodes) (fit : ℕ → ℕ → Typ
   key = next (r p a) 0
 
   -- an entry that names p, below p's lowest live level's parent: the first key of p's lowest node is in its range
-  named-range : (P : ℕ → Entry → Type 0) (k lo hi : ℕ) (es : List Entry) → lo ≤ next es hi → Rises P hi es → Some (λ e. e .addr ≡ p) es
+  named-range : (P : ℕ → Entry → Type 0) (k lo hi : ℕ) (es : List Entry) → lo ≤ next es hi → Rises P hi es
+      → Some (λ e. e .addr ≡ p) es
       → ((y : ℕ) (x : Entry) → P y x → x .addr ≡ p → (x .key ≤ k) × (k < y)) → (lo ≤ k) × (k < hi)
   named-range P k lo hi [] q h z step = absurd z
   named-range P k lo hi (e ∷ es) q h (inl z) step = omega (arith, step (next es hi) e (h .1) z, next-le P hi es (h .2))
   named-range P k lo hi (e ∷ es) q h (inr z) step = named-range P k lo hi es (omega arith) (h .2) z step
 
-  at-lowest : (l y : ℕ) (e : Entry) → Ok tied roomAt′ r (suc l) y e → e .addr ≡ p → a ≡ suc l → (e .key ≤ key) × (key < y)
+  at-lowest : (l y : ℕ) (e : Entry) → Ok tied roomAt′ r (suc l) y e → e .addr ≡ p → a ≡ suc l → (e .key ≤ key) ×
+      (key < y)
   unfolding Ok
   at-lowest l y e h i j =
       let es = r (e .addr) (suc l) in
@@ -154,7 +166,8 @@ module _ (p a : ℕ) (half : ℕ → ℕ) (r : Nodes) (fit : ℕ → ℕ → Typ
   reach (suc l) y e h i =
       let z = h .0 .1 i in
       by-le (suc (suc l)) a (λ g. at-lowest (suc l) y e h i (omega (arith, z .0)))
-      (λ g. named-range (Ok tied roomAt′ r (suc l)) key (e .key) y (r (e .addr) (suc (suc l))) (h .3) (h .4) (rw i (z .1 (omega (arith, g)))) (λ y x. reach l y x))
+      (λ g. named-range (Ok tied roomAt′ r (suc l)) key (e .key) y (r (e .addr) (suc (suc l))) (h .3) (h .4)
+      (rw i (z .1 (omega (arith, g)))) (λ y x. reach l y x))
 
   -- off the path of p's lowest node, p has no live node
   pub off-path : (l y : ℕ) (e : Entry) → e .key < y → Ok tied roomAt′ r l y e → ((y ≤ key) ⊎ (key < e .key))
@@ -183,7 +196,8 @@ module _ (p a : ℕ) (half : ℕ → ℕ) (r : Nodes) (fit : ℕ → ℕ → Typ
 
 -- the places of the moved tree: on n, each but the lowest with an entry that names n; or old ones of other pages than p
 module _ (p a n top : ℕ) (half most : ℕ → ℕ) (r s : Nodes) (fit fit′ : ℕ → ℕ → Type 0) (a-pos : 1 ≤ a)
-    (keep : (l b : ℕ) → fit l b × Tie r p a l b → fit′ l b) (same : (q l : ℕ) → fit (suc l) q × Tie r p a (suc l) q → s q (suc l) ≡ r q (suc l)) where
+    (keep : (l b : ℕ) → fit l b × Tie r p a l b → fit′ l b) (same : (q l : ℕ) → fit (suc l) q × Tie r p a (suc l) q
+    → s q (suc l) ≡ r q (suc l)) where
   abbrev tie : ℕ → ℕ → Type 0
   tie l q = fit l q × Tie r p a l q
 
@@ -205,7 +219,8 @@ module _ (p a n top : ℕ) (half most : ℕ → ℕ) (r s : Nodes) (fit fit′ :
   abbrev moves′ : ℕ → Entry → List Entry
   moves′ = moved r first a n
 
-  old-where : (l y : ℕ) (e : Entry) → Ok tie roomAt″ r l y e → All (λ x. x .page ≡ p → ⊥) (places r l e) → All MoveWhere (places r l e)
+  old-where : (l y : ℕ) (e : Entry) → Ok tie roomAt″ r l y e → All (λ x. x .page ≡ p → ⊥) (places r l e)
+      → All MoveWhere (places r l e)
   old-where l y e h d = all-map (λ x. (x .page ≡ p → ⊥) × ((1 ≤ x .level) × tie (x .level) (x .page))) MoveWhere (places r l e)
       (λ x i. inr (i .0, i .1 .0, i .1 .1 .0))
       (all-both (λ x. x .page ≡ p → ⊥) (λ x. (1 ≤ x .level) × tie (x .level) (x .page)) (places r l e) d (places-fit tie roomAt″ r l y e h))
@@ -222,25 +237,30 @@ module _ (p a n top : ℕ) (half most : ℕ → ℕ) (r s : Nodes) (fit fit′ :
       → s n (suc l) ≡ splice (moves′ l) first es → OnNew (record { page = n; level = suc l })
   where-new l hi es b c q h e = (refl, b, (λ d. rw e (names-new l hi es (omega arith) c q h)))
 
-  name-where : (l y : ℕ) (e : Entry) → first < y → e .key < y → Ok tie roomAt″ r (suc l) y e → MoveMade r s first a n (suc l) e
+  name-where : (l y : ℕ) (e : Entry) → first < y → e .key < y → Ok tie roomAt″ r (suc l) y e → MoveMade r s first a n
+      (suc l) e
       → All MoveWhere (gather (places s l) (splice (moves′ l) first (r (e .addr) (suc l))))
-      → All MoveWhere (gather (places s (suc l)) (renamed a n (suc l) e (splice (moves′ l) first (r (e .addr) (suc l)))))
+      → All MoveWhere (gather (places s (suc l))
+      (renamed a n (suc l) e (splice (moves′ l) first (r (e .addr) (suc l)))))
   unfolding gather places Ok Made
   name-where l y e q b h m w = go (leb a (suc l)) refl
     where
       c : List Entry
       c = splice (moves′ l) first (r (e .addr) (suc l))
 
-      go : (t : Bool) → leb a (suc l) ≡ t → All MoveWhere (gather (places s (suc l)) (pick t (record { key = e .key; addr = n } ∷ []) (e ∷ [])))
+      go : (t : Bool) → leb a (suc l) ≡ t → All MoveWhere
+          (gather (places s (suc l)) (pick t (record { key = e .key; addr = n } ∷ []) (e ∷ [])))
       go true d = let i = leb-true a (suc l) d in (
         inl (where-new l y (r (e .addr) (suc l)) i (h .1) q (h .4) (m .0 i)),
         all-append MoveWhere
             (gather (places s l) (s n (suc l))) [] (rw (m .0 i) w) tt,
       )
       go false d = all-append MoveWhere (places s (suc l) e) [] (subst (λ x. All MoveWhere x)
-          (sym (places-same tie roomAt″ fit′ r s keep same (suc l) y e h)) (old-where (suc l) y e h (below p a half r fit a-pos (suc l) y e (leb-false a (suc l) d) h))) tt
+          (sym (places-same tie roomAt″ fit′ r s keep same (suc l) y e h))
+          (old-where (suc l) y e h (below p a half r fit a-pos (suc l) y e (leb-false a (suc l) d) h))) tt
 
-  pub moved-where : (l p₀ : ℕ) → Rooted tie roomAt″ most top r l p₀ → (0 < length (r p₀ (suc l)) → first < top) → a ≤ suc l
+  pub moved-where : (l p₀ : ℕ) → Rooted tie roomAt″ most top r l p₀ → (0 < length (r p₀ (suc l)) → first < top)
+      → a ≤ suc l
       → MoveMade r s first a n l (chosen first (r p₀ (suc l))) → s n (suc l) ≡ splice (moves′ l) first (r p₀ (suc l))
       → All MoveWhere (places s (suc l) (record { key = 0; addr = n }))
   unfolding places
@@ -256,7 +276,8 @@ module _ (p a n top : ℕ) (half most : ℕ → ℕ) (r s : Nodes) (fit fit′ :
       )
 
   -- the moved page is dead
-  pub moved-dead : (l p₀ : ℕ) → (n ≡ p → ⊥) → Rooted tie roomAt″ most top r l p₀ → (0 < length (r p₀ (suc l)) → first < top) → a ≤ suc l
+  pub moved-dead : (l p₀ : ℕ) → (n ≡ p → ⊥) → Rooted tie roomAt″ most top r l p₀
+      → (0 < length (r p₀ (suc l)) → first < top) → a ≤ suc l
       → MoveMade r s first a n l (chosen first (r p₀ (suc l))) → s n (suc l) ≡ splice (moves′ l) first (r p₀ (suc l))
       → All (λ x. x .page ≡ p → ⊥) (places s (suc l) (record { key = 0; addr = n }))
   moved-dead l p₀ d h q b m e = all-map MoveWhere (λ x. x .page ≡ p → ⊥) (places s (suc l) (record { key = 0; addr = n })) go

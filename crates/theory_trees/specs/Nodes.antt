@@ -22,7 +22,8 @@ next-more hi hi′ [] n = absurd (omega arith)
 next-more hi hi′ (e ∷ es) n = refl
 
 -- a page that fits keeps its content
-pub node-same : (fit : ℕ → ℕ → Type 0) (r s : Nodes) → ((q l : ℕ) → fit (suc l) q → s q (suc l) ≡ r q (suc l)) → (q l : ℕ) → 1 ≤ l → fit l q
+pub node-same : (fit : ℕ → ℕ → Type 0) (r s : Nodes) → ((q l : ℕ) → fit (suc l) q → s q (suc l) ≡ r q (suc l))
+    → (q l : ℕ) → 1 ≤ l → fit l q
     → s q l ≡ r q l
 node-same fit r s same q zero b h = absurd (omega arith)
 node-same fit r s same q (suc l) b h = same q l h
@@ -47,14 +48,16 @@ module _ (fit : ℕ → ℕ → Type 0) (room : ℕ → ℕ) where
   )
 
   -- the pairs under an entry keep its bounds
-  pub under-in : (r : Nodes) (l hi : ℕ) (e : Entry) → e .key < hi → Ok fit room r l hi e → All (In (e .key) hi) (under r l e)
+  pub under-in : (r : Nodes) (l hi : ℕ) (e : Entry) → e .key < hi → Ok fit room r l hi e → All (In (e .key) hi)
+      (under r l e)
   unfolding Ok under
   under-in r zero hi e q h = (omega arith, tt)
   under-in r (suc l) hi e q h = gather-in (under r l) (e .key) hi (r (e .addr) (suc l)) (h .3)
       (rises-map (Ok fit room r l) (λ y x. All (In (x .key) y) (under r l x)) hi (r (e .addr) (suc l)) (λ y x k _ i. under-in r l y x k i) (h .4))
 
   -- every place's page fits
-  pub places-fit : (r : Nodes) (l hi : ℕ) (e : Entry) → Ok fit room r l hi e → All (λ x. (1 ≤ x .level) × fit (x .level) (x .page)) (places r l e)
+  pub places-fit : (r : Nodes) (l hi : ℕ) (e : Entry) → Ok fit room r l hi e
+      → All (λ x. (1 ≤ x .level) × fit (x .level) (x .page)) (places r l e)
   unfolding Ok places
   places-fit r zero hi e h = tt
   places-fit r (suc l) hi e h = (
@@ -93,7 +96,8 @@ module _ (fit : ℕ → ℕ → Type 0) (room : ℕ → ℕ) where
         (r (e .addr) (suc l)) (λ y x _ _ i. places-same l y x i) (h .4))))
 
   -- R5 with a further fact of every place's page
-  pub ok-with : (Z : ℕ → ℕ → Type 0) (r : Nodes) (l hi : ℕ) (e : Entry) → ((a : ℕ) → Z 0 a) → All (λ x. Z (x .level) (x .page)) (places r l e)
+  pub ok-with : (Z : ℕ → ℕ → Type 0) (r : Nodes) (l hi : ℕ) (e : Entry) → ((a : ℕ) → Z 0 a)
+      → All (λ x. Z (x .level) (x .page)) (places r l e)
       → Ok fit room r l hi e → Ok (λ l a. fit l a × Z l a) room r l hi e
   unfolding Ok places
   ok-with Z r zero hi e z a h = (h, z (e .addr))
@@ -119,8 +123,10 @@ pub record Rooted (fit : ℕ → ℕ → Type 0) (room most : ℕ → ℕ) (top 
   pub atmost : length (r p (suc l)) ≤ most (suc l)
   pub rises : Rises (Ok fit room r l) top (r p (suc l))
 
-pub rooted-with : (fit : ℕ → ℕ → Type 0) (room most : ℕ → ℕ) (top : ℕ) (r : Nodes) (Z : ℕ → ℕ → Type 0) (l p : ℕ) → ((a : ℕ) → Z 0 a)
-    → All (λ x. Z (x .level) (x .page)) (places r (suc l) (record { key = 0; addr = p })) → Rooted fit room most top r l p
+pub rooted-with : (fit : ℕ → ℕ → Type 0) (room most : ℕ → ℕ) (top : ℕ) (r : Nodes) (Z : ℕ → ℕ → Type 0) (l p : ℕ)
+    → ((a : ℕ) → Z 0 a)
+    → All (λ x. Z (x .level) (x .page)) (places r (suc l) (record { key = 0; addr = p }))
+    → Rooted fit room most top r l p
     → Rooted (λ l a. fit l a × Z l a) room most top r l p
 unfolding places
 rooted-with fit room most top r Z l p z a h =

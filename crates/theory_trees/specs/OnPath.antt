@@ -39,7 +39,8 @@ module _ (k a q m : ℕ) (half : ℕ → ℕ) (r : Nodes) (fit : ℕ → ℕ →
   not-it path xs h = all-map (λ z. z .page ≡ q → ⊥) (OnIt q path) xs (λ z d j. absurd (d j)) h
 
   -- q's lowest node is the node at level suc l itself
-  list-low : (l hi : ℕ) (path : List Place) (es : List Entry) → m ≡ suc l → Rises (Tied l) hi es → All (OnIt q path) (gather (places r l) es)
+  list-low : (l hi : ℕ) (path : List Place) (es : List Entry) → m ≡ suc l → Rises (Tied l) hi es → All (OnIt q path)
+      (gather (places r l) es)
   list-low l hi path es e h = gather-all (OnIt q path) (places r l) es
       (rises-all (Tied l) (λ x. All (OnIt q path) (places r l x)) hi es
       (λ y x _ _ i. not-it path (places r l x) (below q m half r fit m-pos l y x (omega arith) i)) h)
@@ -47,7 +48,8 @@ module _ (k a q m : ℕ) (half : ℕ → ℕ) (r : Nodes) (fit : ℕ → ℕ →
   -- q's lowest node is on the path below: off the chosen entry q has no live node
   list-down : (l hi : ℕ) (h : Place) (es : List Entry) → 0 < length es → k < hi → Rises (Tied l) hi es
       → Mem (spot q m) (pathPlaces r k a l (chosen k es))
-      → ((y : ℕ) → k < y → Tied l y (chosen k es) → All (OnIt q (pathPlaces r k a l (chosen k es))) (places r l (chosen k es)))
+      → ((y : ℕ) → k < y → Tied l y (chosen k es) → All (OnIt q (pathPlaces r k a l (chosen k es)))
+      (places r l (chosen k es)))
       → All (OnIt q (h ∷ pathPlaces r k a l (chosen k es))) (gather (places r l) es)
   unfolding gather
   list-down l hi h es c kh rs i ih = go (split (Tied l) k hi es c kh rs)
@@ -88,7 +90,8 @@ module _ (k a q m : ℕ) (half : ℕ → ℕ) (r : Nodes) (fit : ℕ → ℕ →
   )
   list-on l hi p es c kh rs (inr i) ih = ((λ _. inl refl), list-down l hi (spot p (suc l)) es c kh rs i (λ y b d. ih y b d i))
 
-  entry-on : (l y : ℕ) (e : Entry) → k < y → Tied l y e → Mem (spot q m) (pathPlaces r k a l e) → All (OnIt q (pathPlaces r k a l e)) (places r l e)
+  entry-on : (l y : ℕ) (e : Entry) → k < y → Tied l y e → Mem (spot q m) (pathPlaces r k a l e)
+      → All (OnIt q (pathPlaces r k a l e)) (places r l e)
   unfolding places pathPlaces Ok
   entry-on zero y e kh h i = tt
   entry-on (suc l) y e kh h i = go (leb a (suc l)) i (λ y′ b c d. entry-on l y′ (chosen k (r (e .addr) (suc l))) b c d)
@@ -108,8 +111,10 @@ module _ (k a q m : ℕ) (half : ℕ → ℕ) (r : Nodes) (fit : ℕ → ℕ →
       go true j ih = list-on l y (e .addr) es (h .1) kh (h .4) j ih
       go false j ih = absurd j
 
-  pub root-on : (most : ℕ → ℕ) (top l p₀ : ℕ) → Rooted tied roomAt most top r l p₀ → (0 < length (r p₀ (suc l)) → k < top) → a ≤ suc l
-      → Mem (spot q m) (pathPlaces r k a (suc l) (the p₀)) → All (OnIt q (pathPlaces r k a (suc l) (the p₀))) (places r (suc l) (the p₀))
+  pub root-on : (most : ℕ → ℕ) (top l p₀ : ℕ) → Rooted tied roomAt most top r l p₀
+      → (0 < length (r p₀ (suc l)) → k < top) → a ≤ suc l
+      → Mem (spot q m) (pathPlaces r k a (suc l) (the p₀)) → All (OnIt q (pathPlaces r k a (suc l) (the p₀)))
+      (places r (suc l) (the p₀))
   unfolding places pathPlaces
   root-on most top zero p₀ h c b i = rw (le-leb a 1 b) ((λ _. inl refl), no-places (OnIt q (spot p₀ 1 ∷ [])) r (r p₀ 1))
   root-on most top (suc l) p₀ h c b i =

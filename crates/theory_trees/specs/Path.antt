@@ -45,10 +45,12 @@ unfolding atRoot edit
 same-root r k name zero es = sym (same-splice k es)
 same-root r k name (suc l) es = refl
 
-module _ (fit : ℕ → ℕ → Type 0) (room : ℕ → ℕ) (r : Nodes) (k : ℕ) (leaf : List Entry → List Entry) (base : Entry → List Entry)
+module _ (fit : ℕ → ℕ → Type 0) (room : ℕ → ℕ) (r : Nodes) (k : ℕ) (leaf : List Entry → List Entry)
+    (base : Entry → List Entry)
     (name : ℕ → Entry → List Entry → List Entry) (law : AsSplice k leaf base) where
   mutual-step : (l hi : ℕ) (es : List Entry) → 0 < length es → k < hi → Rises (Ok fit room r (suc l)) hi es
-      → ((y : ℕ) (x : Entry) → k < y → Ok fit room r (suc l) y x → edited r k leaf name l x ≡ splice (edit r k base name l) k (r (x .addr) (suc l)))
+      → ((y : ℕ) (x : Entry) → k < y → Ok fit room r (suc l) y x
+      → edited r k leaf name l x ≡ splice (edit r k base name l) k (r (x .addr) (suc l)))
       → splice (λ x. name (suc l) x (edited r k leaf name l x)) k es ≡ splice (edit r k base name (suc l)) k es
   unfolding edit
   mutual-step l hi es n q h step =
@@ -81,16 +83,19 @@ module _ (fit : ℕ → ℕ → Type 0) (room : ℕ → ℕ) (r : Nodes) (k : �
   onPath-below l j e h = rw (ne-eqb j (suc (suc l)) (λ z. omega arith)) refl
 
   -- what holds of every edited list of the path holds as `Made` has it
-  pub made-from : (H : ℕ → List Entry → Type 0) (l hi : ℕ) (e : Entry) → k < hi → (1 ≤ l → 0 < length (r (e .addr) (suc l)))
+  pub made-from : (H : ℕ → List Entry → Type 0) (l hi : ℕ) (e : Entry) → k < hi
+      → (1 ≤ l → 0 < length (r (e .addr) (suc l)))
       → Rises (Ok fit room r l) hi (r (e .addr) (suc l))
-      → ((j : ℕ) → 1 ≤ j → j ≤ l → H j (onPath r k leaf name l e j)) → Made r k base name (λ j _ c. H j c) l (chosen k (r (e .addr) (suc l)))
+      → ((j : ℕ) → 1 ≤ j → j ≤ l → H j (onPath r k leaf name l e j)) → Made r k base name (λ j _ c. H j c) l
+      (chosen k (r (e .addr) (suc l)))
   unfolding Made Ok
   made-from H zero hi e q n h f = tt
   made-from H (suc l) hi e q n h f =
       let es = r (e .addr) (suc (suc l)) in
       let s = split (Ok fit room r (suc l)) k hi es (n (omega arith)) q h in
       let o = s .here in (
-        subst (H (suc l)) (onPath-below l (suc l) e (omega arith) ∙ onPath-top l (chosen k es) ∙ below-is l (next (s .post) hi) (chosen k es)
+        subst (H (suc l)) (onPath-below l (suc l) e (omega arith) ∙ onPath-top l (chosen k es)
+            ∙ below-is l (next (s .post) hi) (chosen k es)
             (s .under) o) (f (suc l) (omega arith) (omega arith)),
         made-from H l (next (s .post) hi) (chosen k es) (s .under) (λ _. o .1) (o .4)
             (λ j b d. subst (H j) (onPath-below l j e (omega arith)) (f j b (omega arith))),

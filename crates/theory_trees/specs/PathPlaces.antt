@@ -1,5 +1,5 @@
--- The places of the path to a key, from level a up: they are live, at different levels, and their first keys stay in the ranges of the
--- entries above. Assumes nothing.
+-- The places of the path to a key, from level a up: they are live, at different levels, and their first keys stay in
+-- the ranges of the entries above. Assumes nothing.
 use mathlib.Core.Path.{_≡_, refl, sym, ap, subst, _∙_}
 use mathlib.Core.List.{List, [], _∷_, _++_}
 use mathlib.Core.Bool.{Bool, true, false}
@@ -36,7 +36,8 @@ pub mem-middle : {A : Type 0} (x : A) (xs ys zs : List A) → Mem x ys → Mem x
 mem-middle x xs ys zs m = mem-right x xs (ys ++ zs) (mem-left x ys zs m)
 
 -- ---- the path's levels
-pub path-levels : (r : Nodes) (k a l : ℕ) (e : Entry) → All (λ x. (1 ≤ x .level) × (x .level ≤ l)) (pathPlaces r k a l e)
+pub path-levels : (r : Nodes) (k a l : ℕ) (e : Entry)
+    → All (λ x. (1 ≤ x .level) × (x .level ≤ l)) (pathPlaces r k a l e)
 unfolding pathPlaces
 path-levels r k a zero e = tt
 path-levels r k a (suc l) e = go (leb a (suc l)) (path-levels r k a l (chosen k (r (e .addr) (suc l))))
@@ -71,7 +72,8 @@ Within r lo hi x = (lo ≤ next (r (x .page) (x .level)) 0) × (next (r (x .page
 
 module _ (fit : ℕ → ℕ → Type 0) (room : ℕ → ℕ) (r : Nodes) where
   -- what holds of each entry's places by the entry's own range holds of the list's by the list's
-  list-range : (l lo hi : ℕ) (es : List Entry) → ((y : ℕ) (x : Entry) → x .key < y → Ok fit room r l y x → All (Within r (x .key) y) (places r l x))
+  list-range : (l lo hi : ℕ) (es : List Entry) → ((y : ℕ) (x : Entry) → x .key < y → Ok fit room r l y x
+      → All (Within r (x .key) y) (places r l x))
       → lo ≤ next es hi → Rises (Ok fit room r l) hi es → All (Within r lo hi) (gather (places r l) es)
   list-range l lo hi es each q h = gather-all (Within r lo hi) (places r l) es
       (rises-all (λ y x. Ok fit room r l y x × (lo ≤ x .key)) (λ x. All (Within r lo hi) (places r l x)) hi es
@@ -87,12 +89,14 @@ module _ (fit : ℕ → ℕ → Type 0) (room : ℕ → ℕ) (r : Nodes) where
       let d = first-below (Ok fit room r l) y es (h .1) (h .4) in
       ((omega (arith, c, h .3), omega (arith, c, d)), list-range l (e .key) y es (λ y x. in-range l y x) (h .3) (h .4))
 
-  pub in-list : (l lo hi : ℕ) (es : List Entry) → lo ≤ next es hi → Rises (Ok fit room r l) hi es → All (Within r lo hi) (gather (places r l) es)
+  pub in-list : (l lo hi : ℕ) (es : List Entry) → lo ≤ next es hi → Rises (Ok fit room r l) hi es → All (Within r lo hi)
+      (gather (places r l) es)
   in-list l lo hi es q h = list-range l lo hi es (λ y x. in-range l y x) q h
 
   -- ---- the path's places are places
   module _ (k a : ℕ) where
-    pub path-in : (l y : ℕ) (e : Entry) → k < y → Ok fit room r l y e → All (λ z. Mem z (places r l e)) (pathPlaces r k a l e)
+    pub path-in : (l y : ℕ) (e : Entry) → k < y → Ok fit room r l y e → All (λ z. Mem z (places r l e))
+        (pathPlaces r k a l e)
     unfolding pathPlaces places Ok gather
     path-in zero y e q h = tt
     path-in (suc l) y e q h = go (leb a (suc l)) (split (Ok fit room r l) k y (r (e .addr) (suc l)) (h .1) q (h .4))

@@ -16,11 +16,13 @@ abbrev pub renews : Nodes → ℕ → ℕ → (ℕ → ℕ) → (ℕ → ℕ) �
 renews r k a left right half l e = edit r k (λ e. put k a (e ∷ [])) (renewed k left right half) l e
 
 -- a changed node stands on its page, or its halves on theirs; N l q: q is a new page of level l
-abbrev pub RenewHeld : (ℕ → ℕ) → (ℕ → ℕ) → (ℕ → ℕ) → Nodes → (ℕ → ℕ → Type 0) → (ℕ → ℕ → Type 0) → ℕ → Entry → List Entry → Type 0
+abbrev pub RenewHeld : (ℕ → ℕ) → (ℕ → ℕ) → (ℕ → ℕ) → Nodes → (ℕ → ℕ → Type 0) → (ℕ → ℕ → Type 0) → ℕ → Entry
+    → List Entry → Type 0
 RenewHeld left right half s fit N l e c = (length c ≤ 2 * half l → (s (left l) l ≡ c) × fit l (left l) × N l (left l)) ×
     (2 * half l < length c → Both s fit l (half l) c (left l) (right l) × N l (left l) × N l (right l))
 
-abbrev pub RenewMade : Nodes → Nodes → ℕ → ℕ → (ℕ → ℕ) → (ℕ → ℕ) → (ℕ → ℕ) → (ℕ → ℕ → Type 0) → (ℕ → ℕ → Type 0) → ℕ → Entry → Type 0
+abbrev pub RenewMade : Nodes → Nodes → ℕ → ℕ → (ℕ → ℕ) → (ℕ → ℕ) → (ℕ → ℕ) → (ℕ → ℕ → Type 0) → (ℕ → ℕ → Type 0) → ℕ
+    → Entry → Type 0
 RenewMade r s k a left right half fit N l e =
     Made r k (λ e. put k a (e ∷ [])) (renewed k left right half) (RenewHeld left right half s fit N) l e
 

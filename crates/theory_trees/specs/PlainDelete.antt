@@ -1,5 +1,5 @@
--- Delete in the plain tree of request 12: each node of the path that is left has a page of its own. The map without K, R5 and R6.
--- Assumes nothing.
+-- Delete in the plain tree of request 12: each node of the path that is left has a page of its own. The map without K,
+-- R5 and R6. Assumes nothing.
 use mathlib.Core.Path.{_≡_, sym, subst}
 use mathlib.Core.List.{List, [], _∷_}
 use mathlib.Core.Logic.{inl, inr}
@@ -22,7 +22,8 @@ use Rattle.theory_trees.specs.PlainTied.{LiveFit, PlainWhere, plain-tied
 
 -- where the nodes stand: W holds of the new pages and of the old ones
 module _ (k : ℕ) (n : ℕ → ℕ) (top : ℕ) (half most : ℕ → ℕ) (r s : Nodes) (fit fit′ N : ℕ → ℕ → Type 0)
-    (keep : (l a : ℕ) → fit l a → fit′ l a) (same : (p l : ℕ) → fit (suc l) p → s p (suc l) ≡ r p (suc l)) (k-top : k < top)
+    (keep : (l a : ℕ) → fit l a → fit′ l a) (same : (p l : ℕ) → fit (suc l) p → s p (suc l) ≡ r p (suc l))
+    (k-top : k < top)
     (W : Place → Type 0) (new : (l q : ℕ) → N l q → W (record { page = q; level = l }))
     (old : (x : Place) → (1 ≤ x .level) × fit (x .level) (x .page) → W x) where
   abbrev roomAt : ℕ → ℕ
@@ -35,13 +36,15 @@ module _ (k : ℕ) (n : ℕ → ℕ) (top : ℕ) (half most : ℕ → ℕ) (r s 
       → All W (gather (places s (suc l)) (keptOn n (suc l) e c))
   unfolding gather
   kept-where l e [] m w = tt
-  kept-where l e (x ∷ c) m w = let u = m (omega arith) in all-append W (places s (suc l) (record { key = e .key; addr = n (suc l) })) []
+  kept-where l e (x ∷ c) m w = let u = m (omega arith) in
+      all-append W (places s (suc l) (record { key = e .key; addr = n (suc l) })) []
       (page-where s W l (e .key) (n (suc l)) (x ∷ c) (u .0) (new (suc l) (n (suc l)) (u .2)) w) tt
 
   old-places : (l y : ℕ) (e : Entry) → Ok fit roomAt r l y e → All W (places r l e)
   old-places l y e h = all-map (λ x. (1 ≤ x .level) × fit (x .level) (x .page)) W (places r l e) old (places-fit fit roomAt r l y e h)
 
-  name-where : (l y : ℕ) (e : Entry) → k < y → e .key < y → Ok fit roomAt r (suc l) y e → KeptMade r s k n fit′ N (suc l) e
+  name-where : (l y : ℕ) (e : Entry) → k < y → e .key < y → Ok fit roomAt r (suc l) y e → KeptMade r s k n fit′ N
+      (suc l) e
       → All W (gather (places s l) (splice (deletes l) k (r (e .addr) (suc l))))
       → All W (gather (places s (suc l)) (keptOn n (suc l) e (splice (deletes l) k (r (e .addr) (suc l)))))
   unfolding Made
@@ -51,7 +54,8 @@ module _ (k : ℕ) (n : ℕ → ℕ) (top : ℕ) (half most : ℕ → ℕ) (r s 
       → All W (gather (places s l) (atRoot (removeIn k) (deletes l) k l (r p (suc l))))
   unfolding atRoot
   less-where zero p h m = no-places W s (removeIn k (r p 1))
-  less-where (suc l) p h m = let g = h .least (omega arith) in edit-list-places fit fit′ roomAt r s keep same k (λ e. remove k (e ∷ []))
+  less-where (suc l) p h m = let g = h .least (omega arith) in
+      edit-list-places fit fit′ roomAt r s keep same k (λ e. remove k (e ∷ []))
       (keptOn n) (KeptHeld n s fit′ N) W (λ l y e _ i _. old-places l y e i) name-where (suc l) top (r p (suc (suc l))) (omega arith) k-top
       (h .rises) m
 
@@ -62,7 +66,8 @@ module _ (k : ℕ) (n : ℕ → ℕ) (top : ℕ) (half most : ℕ → ℕ) (r s 
 
 -- R5, R6 and the map
 module _ (k : ℕ) (n : ℕ → ℕ) (top : ℕ) (half most : ℕ → ℕ) (r s : Nodes) (fit fit′ N : ℕ → ℕ → Type 0)
-    (keep : (l a : ℕ) → fit l a → fit′ l a) (same : (p l : ℕ) → fit (suc l) p → s p (suc l) ≡ r p (suc l)) (k-top : k < top)
+    (keep : (l a : ℕ) → fit l a → fit′ l a) (same : (p l : ℕ) → fit (suc l) p → s p (suc l) ≡ r p (suc l))
+    (k-top : k < top)
     (alone : (i j p : ℕ) → N i p → N j p → i ≡ j) (fresh : (i l q : ℕ) → N i q → fit (suc l) q → ⊥) where
   abbrev roomOf : ℕ → ℕ
   roomOf l = 2 * half l
@@ -79,13 +84,16 @@ module _ (k : ℕ) (n : ℕ → ℕ) (top : ℕ) (half most : ℕ → ℕ) (r s 
   laid : (l : ℕ) (e : Entry) → KeptMade r s k n fit′ N l e → DeleteMadeOn r s k n fit′ l e
   laid = made-map r k (λ e. remove k (e ∷ [])) (keptOn n) (KeptHeld n s fit′ N) (DeleteHeldOn n s fit′) (λ l e c h b. let u = h b in (u .0, u .1))
 
-  retied : (l p j q : ℕ) → Proper fit roomOf most top r l p → All (W l p) (places s j (the q)) → Tied s (places s j (the q))
+  retied : (l p j q : ℕ) → Proper fit roomOf most top r l p → All (W l p) (places s j (the q))
+      → Tied s (places s j (the q))
   retied l p j q h = plain-tied r s fit N same alone fresh (places r (suc l) (the p)) (places s j (the q)) (h .tied)
 
   -- the root stays at its level
   pub plain-less : (l p : ℕ) → Proper fit roomOf most top r l p → Keeping l p
-      → s (n (suc l)) (suc l) ≡ rootLess l p → fit′ (suc l) (n (suc l)) → N (suc l) (n (suc l)) → (1 ≤ l → 2 ≤ length (rootLess l p))
-      → Proper fit′ roomOf most top s l (n (suc l)) × (under s (suc l) (the (n (suc l))) ≡ remove k (under r (suc l) (the p)))
+      → s (n (suc l)) (suc l) ≡ rootLess l p → fit′ (suc l) (n (suc l)) → N (suc l) (n (suc l))
+      → (1 ≤ l → 2 ≤ length (rootLess l p))
+      → Proper fit′ roomOf most top s l (n (suc l)) ×
+      (under s (suc l) (the (n (suc l))) ≡ remove k (under r (suc l) (the p)))
   plain-less l p h m e fn nn b =
       let m′ = laid l (chosen k (r p (suc l))) m in (
         record {
@@ -105,7 +113,8 @@ module _ (k : ℕ) (n : ℕ → ℕ) (top : ℕ) (half most : ℕ → ℕ) (r s 
   topPage l p = n (suc (topAt l p .level))
 
   -- the root collapses to an old list, which then stands alone on its new page
-  pub plain-collapse : ((j : ℕ) → roomOf j ≤ most j) → (l p : ℕ) → Proper fit roomOf most top r (suc l) p → Keeping (suc l) p
+  pub plain-collapse : ((j : ℕ) → roomOf j ≤ most j) → (l p : ℕ) → Proper fit roomOf most top r (suc l) p
+      → Keeping (suc l) p
       → length (rootLess (suc l) p) ≡ 1 → s (topPage l p) (suc (topAt l p .level)) ≡ topAt l p .list
       → fit′ (suc (topAt l p .level)) (topPage l p) → N (suc (topAt l p .level)) (topPage l p)
       → Proper fit′ roomOf most top s (topAt l p .level) (topPage l p) ×

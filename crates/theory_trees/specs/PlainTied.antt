@@ -1,4 +1,5 @@
--- R6 in the plain tree: every new node has a page of its own, and an old node keeps its page's content. Assumes nothing.
+-- R6 in the plain tree: every new node has a page of its own, and an old node keeps its page's content. Assumes
+-- nothing.
 use mathlib.Core.Path.{_≡_, sym, subst}
 use mathlib.Core.List.{List}
 use mathlib.Core.Logic.{_⊎_, inl, inr}

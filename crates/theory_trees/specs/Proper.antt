@@ -37,20 +37,23 @@ pub at-mem : (spots : List Place) (q j : ℕ) → 1 ≤ j → LiveAt spots j q �
 at-mem spots q zero b m = absurd (omega arith)
 at-mem spots q (suc j) b m = m
 
-pub with-live : (fit : ℕ → ℕ → Type 0) (room most : ℕ → ℕ) (top : ℕ) (r : Nodes) (l p : ℕ) → Rooted fit room most top r l p
+pub with-live : (fit : ℕ → ℕ → Type 0) (room most : ℕ → ℕ) (top : ℕ) (r : Nodes) (l p : ℕ)
+    → Rooted fit room most top r l p
     → Rooted (λ j q. fit j q × LiveAt (places r (suc l) (the p)) j q) room most top r l p
 with-live fit room most top r l p h = let spots = places r (suc l) (the p) in
     rooted-with fit room most top r (LiveAt spots) l p (λ _. tt) (all-map (λ x. Mem x spots) (λ x. LiveAt spots (x .level) (x .page)) spots
     (λ x m. mem-at spots (x .page) (x .level) m) (all-mem spots)) h
 
 module _ (n top : ℕ) (half most : ℕ → ℕ) (r s : Nodes) (fit fit′ : ℕ → ℕ → Type 0) (fit-n : (l : ℕ) → fit′ (suc l) n)
-    (keep : (l b : ℕ) → fit l b → fit′ l b) (same : (q l : ℕ) → fit (suc l) q → s q (suc l) ≡ r q (suc l)) (new-n : (l : ℕ) → fit (suc l) n → ⊥) where
+    (keep : (l b : ℕ) → fit l b → fit′ l b) (same : (q l : ℕ) → fit (suc l) q → s q (suc l) ≡ r q (suc l))
+    (new-n : (l : ℕ) → fit (suc l) n → ⊥) where
   abbrev roomAt : ℕ → ℕ
   roomAt l = 2 * half l
 
   -- the new tree keeps R6
   retied : (side : ℕ → ℕ) (Cut : ℕ → Type 0) (side-n : (l : ℕ) → Cut l → side l ≡ n → ⊥)
-      (side-inj : (i j : ℕ) → Cut i → Cut j → side i ≡ side j → i ≡ j) (new-side : (l j : ℕ) → Cut l → fit (suc j) (side l) → ⊥)
+      (side-inj : (i j : ℕ) → Cut i → Cut j → side i ≡ side j → i ≡ j) (new-side : (l j : ℕ) → Cut l
+      → fit (suc j) (side l) → ⊥)
       (spots : List Place) → Tied r spots → (low : ℕ) (new : List Place) → All (Where s n low side Cut
       (λ x. (1 ≤ x .level) × (fit (x .level) (x .page) × LiveAt spots (x .level) (x .page)))) new → Tied s new
   retied side Cut side-n side-inj new-side spots t low new h =
@@ -76,7 +79,8 @@ module _ (n top : ℕ) (half most : ℕ → ℕ) (r s : Nodes) (fit fit′ : ℕ
     abbrev rootList : ℕ → ℕ → List Entry
     rootList l p = atRoot (putIn k a) (inserted r k a n side half l) k l (r p (suc l))
 
-    pub insert-stay : (l p : ℕ) → Proper fit roomAt most top r l p → InsertMade r s k a n side half fit′ Cut l (chosen k (r p (suc l)))
+    pub insert-stay : (l p : ℕ) → Proper fit roomAt most top r l p → InsertMade r s k a n side half fit′ Cut l
+        (chosen k (r p (suc l)))
         → s n (suc l) ≡ rootList l p → length (rootList l p) ≤ most (suc l)
         → Proper fit′ roomAt most top s l n × (under s (suc l) (the n) ≡ put k a (under r (suc l) (the p)))
     insert-stay l p h m e b =
@@ -90,7 +94,8 @@ module _ (n top : ℕ) (half most : ℕ → ℕ) (r s : Nodes) (fit fit′ : ℕ
           stay-pairs k a n top side half most r s fit fit′ Cut fit-n fit-a keep same k-top l p (h .rooted) m e,
         )
 
-    pub insert-grow : (l p : ℕ) → Proper fit roomAt most top r l p → InsertMade r s k a n side half fit′ Cut l (chosen k (r p (suc l)))
+    pub insert-grow : (l p : ℕ) → Proper fit roomAt most top r l p → InsertMade r s k a n side half fit′ Cut l
+        (chosen k (r p (suc l)))
         → Halves k n side s fit′ (suc l) (2 * half (suc l)) (rootList l p) → Cut (suc l)
         → s n (suc (suc l)) ≡ two k n (side (suc l)) (2 * half (suc l)) (next (rootList l p) 0) (rootList l p)
         → length (rootList l p) ≡ 4 * half (suc l) → 2 ≤ most (suc (suc l))
@@ -117,7 +122,8 @@ module _ (n top : ℕ) (half most : ℕ → ℕ) (r s : Nodes) (fit fit′ : ℕ
     less-is zero es c h = refl
     less-is (suc l) es c h = refl
 
-    pub delete-stay : (l p : ℕ) → Proper fit roomAt most top r l p → 0 < length (r p (suc l)) → DeleteMade r s k n l (chosen k (r p (suc l)))
+    pub delete-stay : (l p : ℕ) → Proper fit roomAt most top r l p → 0 < length (r p (suc l)) → DeleteMade r s k n l
+        (chosen k (r p (suc l)))
         → s n (suc l) ≡ rootLess l p → (1 ≤ l → 2 ≤ length (rootLess l p))
         → Proper fit′ roomAt most top s l n × (under s (suc l) (the n) ≡ remove k (under r (suc l) (the p)))
     delete-stay l p h c m e b =
@@ -172,7 +178,8 @@ places-level r (suc l) e = (
       (places-level r l x))),
 )
 
-places-first : (fit : ℕ → ℕ → Type 0) (room : ℕ → ℕ) (r : Nodes) (l y top : ℕ) (e : Entry) → y ≤ top → Ok fit room r l y e
+places-first : (fit : ℕ → ℕ → Type 0) (room : ℕ → ℕ) (r : Nodes) (l y top : ℕ) (e : Entry) → y ≤ top
+    → Ok fit room r l y e
     → All (λ x. next (r (x .page) (x .level)) 0 < top) (places r l e)
 unfolding places Ok
 places-first fit room r zero y top e q h = tt
@@ -187,7 +194,8 @@ first-any : (P : ℕ → Entry → Type 0) (y : ℕ) (es : List Entry) → 0 < y
 first-any P y [] q h = q
 first-any P y (e ∷ es) q h = first-below P y (e ∷ es) (omega arith) h
 
-pub root-first : (fit : ℕ → ℕ → Type 0) (room most : ℕ → ℕ) (r : Nodes) (l p top : ℕ) → 0 < top → Rooted fit room most top r l p
+pub root-first : (fit : ℕ → ℕ → Type 0) (room most : ℕ → ℕ) (r : Nodes) (l p top : ℕ) → 0 < top
+    → Rooted fit room most top r l p
     → All (λ x. next (r (x .page) (x .level)) 0 < top) (places r (suc l) (the p))
 unfolding places
 root-first fit room most r l p top q h = (
@@ -208,8 +216,10 @@ root-fit fit room most r l p top h = (
 )
 
 -- a move of page p, whose leftLow live level is a
-module _ (p a n top : ℕ) (half most : ℕ → ℕ) (r s : Nodes) (fit fit′ : ℕ → ℕ → Type 0) (fit-n : (l : ℕ) → fit′ (suc l) n)
-    (keep : (l b : ℕ) → fit l b → fit′ l b) (same : (q l : ℕ) → fit (suc l) q → s q (suc l) ≡ r q (suc l)) (new-n : (l : ℕ) → fit (suc l) n → ⊥)
+module _ (p a n top : ℕ) (half most : ℕ → ℕ) (r s : Nodes) (fit fit′ : ℕ → ℕ → Type 0)
+    (fit-n : (l : ℕ) → fit′ (suc l) n)
+    (keep : (l b : ℕ) → fit l b → fit′ l b) (same : (q l : ℕ) → fit (suc l) q → s q (suc l) ≡ r q (suc l))
+    (new-n : (l : ℕ) → fit (suc l) n → ⊥)
     (l p₀ : ℕ) (h : Proper fit (λ l. 2 * half l) most top r l p₀) (m : Mem (record { page = p; level = a }) (places r (suc l) (the p₀)))
     (low : All (λ x. x .page ≡ p → a ≤ x .level) (places r (suc l) (the p₀))) where
   abbrev roomAt′ : ℕ → ℕ
@@ -250,7 +260,8 @@ module _ (p a n top : ℕ) (half most : ℕ → ℕ) (r s : Nodes) (fit fit′ :
     pub dead : All (λ x. x .page ≡ p → ⊥) (places s (suc l) (the n))
     pub within : All (λ x. (x .page ≡ n) ⊎ Mem x spots) (places s (suc l) (the n))
 
-  pub move-sound : MoveMade r s k₁ a n l (chosen k₁ (r p₀ (suc l))) → s n (suc l) ≡ splice (moved r k₁ a n l) k₁ (r p₀ (suc l)) → Moved
+  pub move-sound : MoveMade r s k₁ a n l (chosen k₁ (r p₀ (suc l))) → s n (suc l) ≡ splice (moved r k₁ a n l) k₁
+      (r p₀ (suc l)) → Moved
   move-sound made e =
       record {
         sound = record {
@@ -280,6 +291,7 @@ module _ (p a n top : ℕ) (half most : ℕ → ℕ) (r s : Nodes) (fit fit′ :
       tag x (inl i) = inl i
       tag x (inr i) = inr (inr (i .1, i .2))
 
-      old : (x : Place) → MoveWhere p a n top half most r s fitLive fit′ (a-in .0) keep′ same′ x → (x .page ≡ n) ⊎ Mem x spots
+      old : (x : Place) → MoveWhere p a n top half most r s fitLive fit′ (a-in .0) keep′ same′ x → (x .page ≡ n) ⊎
+          Mem x spots
       old x (inl i) = inl (i .0)
       old x (inr i) = inr (at-mem spots (x .page) (x .level) (i .1) (i .2 .1))

@@ -32,7 +32,8 @@ unfolding find
 find-before k lo hi [] zs q h = find-none k lo hi zs q h
 find-before k lo hi (e ∷ ys) zs q h = go (eqb (e .key) k) (find-before k lo hi ys zs q h)
   where
-    go : (t : Bool) → find k (ys ++ zs) ≡ find k ys → pick t (some (e .addr)) (find k (ys ++ zs)) ≡ pick t (some (e .addr)) (find k ys)
+    go : (t : Bool) → find k (ys ++ zs) ≡ find k ys → pick t (some (e .addr)) (find k (ys ++ zs)) ≡ pick t
+        (some (e .addr)) (find k ys)
     go true i = refl
     go false i = i
 
@@ -45,10 +46,12 @@ module _ (fit : ℕ → ℕ → Type 0) (room : ℕ → ℕ) (r : Nodes) (k : �
   unfolding gather
   find-list l hi es n q h = go (split (Ok fit room r l) k hi es n q h)
     where
-      go : Split (Ok fit room r l) k hi es (chosen k es) (λ f. splice f k es) → find k (gather (under r l) es) ≡ find k (under r l (chosen k es))
+      go : Split (Ok fit room r l) k hi es (chosen k es) (λ f. splice f k es) → find k (gather (under r l) es) ≡ find k
+          (under r l (chosen k es))
       go s =
           let x = chosen k es in
-          ap (λ m. find k (gather (under r l) m)) (s .whole) ∙ ap (find k) (gather-append (under r l) (s .pre) (x ∷ s .post))
+          ap (λ m. find k (gather (under r l) m)) (s .whole)
+          ∙ ap (find k) (gather-append (under r l) (s .pre) (x ∷ s .post))
           ∙ find-after k 0 (gather (under r l) (s .pre)) (under r l x ++ gather (under r l) (s .post))
           (pre-in k (Ok fit room r l) (under r l) (keeps l) (x .key) (s .pre) (s .upto) (s .before))
           ∙ find-before k (next (s .post) hi) hi (under r l x) (gather (under r l) (s .post)) (s .under)
@@ -70,7 +73,8 @@ module _ (fit : ℕ → ℕ → Type 0) (room : ℕ → ℕ) (r : Nodes) (k : �
       first y [] b i = b
       first y (z ∷ zs) b i = i .0 .0
 
-      raise : (y : ℕ) (xs zs : List Entry) → y ≤ hi → All (In y hi) zs → Rises (λ y x. Unit {0}) y xs → Rises (λ y x. Unit {0}) (next zs hi) xs
+      raise : (y : ℕ) (xs zs : List Entry) → y ≤ hi → All (In y hi) zs → Rises (λ y x. Unit {0}) y xs
+          → Rises (λ y x. Unit {0}) (next zs hi) xs
       raise y xs zs b i j = rises-more (λ y x. Unit {0}) (λ y x. Unit {0}) y (next zs hi) xs (first y zs b i) (λ y y′ x _ _ _. tt) j
 
   -- a leaf has under k what its list has
@@ -80,7 +84,8 @@ module _ (fit : ℕ → ℕ → Type 0) (room : ℕ → ℕ) (r : Nodes) (k : �
   find-in hi (e ∷ es) q h = sym (ap (find k) (sym (gather-one (e ∷ es))) ∙ find-list 0 hi (e ∷ es) (omega arith) q h)
 
   -- descent from an entry finds what the pairs under it have
-  pub find-leaf : (l hi : ℕ) (e : Entry) → k < hi → Ok fit room r (suc l) hi e → find k (under r (suc l) e) ≡ findIn k (leaf r k l e)
+  pub find-leaf : (l hi : ℕ) (e : Entry) → k < hi → Ok fit room r (suc l) hi e → find k (under r (suc l) e) ≡ findIn k
+      (leaf r k l e)
   unfolding under leaf Ok
   find-leaf zero hi e q h = ap (find k) (gather-one (r (e .addr) 1)) ∙ sym (find-in hi (r (e .addr) 1) q (h .4))
   find-leaf (suc l) hi e q h =
@@ -97,14 +102,17 @@ module _ (fit : ℕ → ℕ → Type 0) (room : ℕ → ℕ) (r : Nodes) (k : �
       let es = r p (suc (suc l)) in
       let g = h .least (omega arith) in
       let s = split (Ok fit room r (suc l)) k top es (omega arith) q (h .rises) in
-      sym (find-list (suc l) top es (omega arith) q (h .rises) ∙ find-leaf l (next (s .post) top) (chosen k es) (s .under) (s .here))
+      sym (find-list (suc l) top es (omega arith) q (h .rises)
+      ∙ find-leaf l (next (s .post) top) (chosen k es) (s .under) (s .here))
 
   -- the keys of the map rise strictly
-  pub under-rises : (l hi : ℕ) (e : Entry) → e .key < hi → Ok fit room r l hi e → Rises (λ y x. Unit {0}) hi (under r l e)
+  pub under-rises : (l hi : ℕ) (e : Entry) → e .key < hi → Ok fit room r l hi e → Rises (λ y x. Unit {0}) hi
+      (under r l e)
   unfolding under Ok
   under-rises zero hi e q h = (q, tt, tt)
   under-rises (suc l) hi e q h = gather-rises l hi (r (e .addr) (suc l)) (h .4) (λ y x b i. under-rises l y x b i)
 
-  pub root-rises : (most : ℕ → ℕ) (top l p : ℕ) → Rooted fit room most top r l p → Rises (λ y x. Unit {0}) top (under r (suc l) (the p))
+  pub root-rises : (most : ℕ → ℕ) (top l p : ℕ) → Rooted fit room most top r l p → Rises (λ y x. Unit {0}) top
+      (under r (suc l) (the p))
   unfolding under
   root-rises most top l p h = gather-rises l top (r p (suc l)) (h .rises) (λ y x b i. under-rises l y x b i)

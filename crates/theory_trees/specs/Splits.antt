@@ -1,5 +1,5 @@
--- k, counted beforehand, is what happens in the μ-Tree, an instance of `Cuts`: an entry gives way to two exactly where `gains`
--- says so, and the levels that split are 1 to `splits`. Assumes nothing.
+-- k, counted beforehand, is what happens in the μ-Tree, an instance of `Cuts`: an entry gives way to two exactly where
+-- `gains` says so, and the levels that split are 1 to `splits`. Assumes nothing.
 use mathlib.Core.Path.{_≡_}
 use mathlib.Core.List.{List}
 use mathlib.Core.Bool.{Bool, true}
@@ -41,11 +41,13 @@ module _ (k a n : ℕ) (side half : ℕ → ℕ) (r : Nodes) (fit : ℕ → ℕ 
   root-size = cuts.root-size k a (λ _. n) (leftOf k n side half) (rightOf k n side half) half r fit absent
 
   -- a node's list is too long exactly if the entry that names the node gains
-  pub over : (l hi : ℕ) (e : Entry) → k < hi → Ok fit roomAt r (suc l) hi e → isNone (find k (under r (suc l) e)) ≡ absent
+  pub over : (l hi : ℕ) (e : Entry) → k < hi → Ok fit roomAt r (suc l) hi e → isNone (find k (under r (suc l) e))
+      ≡ absent
       → 2 * half (suc l) < length (splice (inserts l) k (r (e .addr) (suc l))) → gain (suc l) e ≡ true
   over = cuts.over k a (λ _. n) (leftOf k n side half) (rightOf k n side half) half r fit absent
 
-  pub long : (l hi : ℕ) (e : Entry) → k < hi → Ok fit roomAt r (suc l) hi e → isNone (find k (under r (suc l) e)) ≡ absent → gain (suc l) e ≡ true
+  pub long : (l hi : ℕ) (e : Entry) → k < hi → Ok fit roomAt r (suc l) hi e → isNone (find k (under r (suc l) e))
+      ≡ absent → gain (suc l) e ≡ true
       → 2 * half (suc l) < length (splice (inserts l) k (r (e .addr) (suc l)))
   long = cuts.long k a (λ _. n) (leftOf k n side half) (rightOf k n side half) half r fit absent
 
@@ -60,7 +62,8 @@ module _ (k a n : ℕ) (side half : ℕ → ℕ) (r : Nodes) (fit : ℕ → ℕ 
   lists = onPath r k (putIn k a) (named k n side half)
 
   -- of the path's nodes below the root those at levels 1 to `splits` are too long, and no others
-  pub splits-are : (l hi : ℕ) (e : Entry) → k < hi → (1 ≤ l → 0 < length (r (e .addr) (suc l))) → Rises (Ok fit roomAt r l) hi (r (e .addr) (suc l))
+  pub splits-are : (l hi : ℕ) (e : Entry) → k < hi → (1 ≤ l → 0 < length (r (e .addr) (suc l)))
+      → Rises (Ok fit roomAt r l) hi (r (e .addr) (suc l))
       → isNone (find k (under r (suc l) e)) ≡ absent
       → (j : ℕ) → 1 ≤ j → j ≤ l
       → (2 * half j < length (lists l e j) → j ≤ splits r k half absent l (chosen k (r (e .addr) (suc l)))) ×

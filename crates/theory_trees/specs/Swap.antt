@@ -1,5 +1,5 @@
--- The places of a moved tree, exactly: those of the path from level a up are gone, the new page has one at each of their levels, every other
--- place stays. Assumes nothing.
+-- The places of a moved tree, exactly: those of the path from level a up are gone, the new page has one at each of
+-- their levels, every other place stays. Assumes nothing.
 use mathlib.Core.Path.{_≡_, refl, sym, ap, subst, _∙_}
 use mathlib.Core.List.{List, [], _∷_, _++_, append-nil}
 use mathlib.Core.Bool.{Bool, true, false}
@@ -39,10 +39,11 @@ same-swap n a xs = record {
   put = tt;
 }
 
--- a node at level suc l on page q gives way to one on page n: pre and post are off the path, w is what became of the chosen entry's places o
--- with the path p
+-- a node at level suc l on page q gives way to one on page n: pre and post are off the path, w is what became of the
+-- chosen entry's places o with the path p
 module _ (n a l q : ℕ) (pre post o p w : List Place) (high : a ≤ suc l) (sw : Swapped n a o p w)
-    (low : All (λ x. x .level ≤ l) (pre ++ (o ++ post))) (off-pre : All (λ x. Mem x p → ⊥) pre) (off-post : All (λ x. Mem x p → ⊥) post) where
+    (low : All (λ x. x .level ≤ l) (pre ++ (o ++ post))) (off-pre : All (λ x. Mem x p → ⊥) pre)
+    (off-post : All (λ x. Mem x p → ⊥) post) where
   abbrev Old : List Place
   Old = spot q (suc l) ∷ (pre ++ (o ++ post))
 
@@ -86,7 +87,8 @@ module _ (n a l q : ℕ) (pre post o p w : List Place) (high : a ≤ suc l) (sw 
       step x (inl i) = inl i
       step x (inr i) = old-come x (mem-middle x pre o post (i .0)) (i .1)
 
-      aside : (xs : List Place) → ((x : Place) → Mem x xs → Mem x (pre ++ (o ++ post))) → All (λ x. Mem x p → ⊥) xs → All (Come n a Old Path) xs
+      aside : (xs : List Place) → ((x : Place) → Mem x xs → Mem x (pre ++ (o ++ post))) → All (λ x. Mem x p → ⊥) xs
+          → All (Come n a Old Path) xs
       aside xs f d = all-map (λ x. Mem x xs × (Mem x p → ⊥)) (Come n a Old Path) xs (λ x i. old-come x (f x (i .0)) (i .1))
           (all-both (λ x. Mem x xs) (λ x. Mem x p → ⊥) xs (all-mem xs) d)
 
@@ -130,10 +132,12 @@ module _ (k a n : ℕ) (room : ℕ → ℕ) (r s : Nodes) (fit fit′ : ℕ → 
       clash (inr b) first i j = omega (arith, i, j)
 
   -- a node whose chosen entry's places were swapped
-  list-swap : (l hi q : ℕ) (es : List Entry) (f : Entry → List Entry) → a ≤ suc l → 0 < length es → k < hi → Rises (Ok fit room r l) hi es
+  list-swap : (l hi q : ℕ) (es : List Entry) (f : Entry → List Entry) → a ≤ suc l → 0 < length es → k < hi
+      → Rises (Ok fit room r l) hi es
       → ((y : ℕ) → k < y → Ok fit room r l y (chosen k es)
       → Swapped n a (places r l (chosen k es)) (pathPlaces r k a l (chosen k es)) (H l (f (chosen k es))))
-      → Swapped n a (spot q (suc l) ∷ G l es) (spot q (suc l) ∷ pathPlaces r k a l (chosen k es)) (spot n (suc l) ∷ H l (splice f k es))
+      → Swapped n a (spot q (suc l) ∷ G l es) (spot q (suc l) ∷ pathPlaces r k a l (chosen k es))
+      (spot n (suc l) ∷ H l (splice f k es))
   unfolding gather
   list-swap l hi q es f high c kh h step = go (split (Ok fit room r l) k hi es c kh h)
     where
@@ -179,8 +183,10 @@ module _ (k a n : ℕ) (room : ℕ → ℕ) (r s : Nodes) (fit fit′ : ℕ → 
       P = pathPlaces r k a l (chosen k es)
 
       go : (t : Bool) → leb a (suc l) ≡ t
-          → ((y : ℕ) → k < y → Ok fit room r l y (chosen k es) → Swapped n a (places r l (chosen k es)) P (H l (moved r k a n l (chosen k es))))
-          → Swapped n a (here ∷ G l es) (pick t (here ∷ P) []) (H (suc l) (pick t (record { key = e .key; addr = n } ∷ []) (e ∷ [])))
+          → ((y : ℕ) → k < y → Ok fit room r l y (chosen k es) → Swapped n a (places r l (chosen k es)) P
+          (H l (moved r k a n l (chosen k es))))
+          → Swapped n a (here ∷ G l es) (pick t (here ∷ P) []) (H (suc l)
+          (pick t (record { key = e .key; addr = n } ∷ []) (e ∷ [])))
       go true d ih =
           let i = leb-true a (suc l) d in
           subst (λ w. Swapped n a (here ∷ G l es) (here ∷ P) w)
@@ -191,7 +197,8 @@ module _ (k a n : ℕ) (room : ℕ → ℕ) (r s : Nodes) (fit fit′ : ℕ → 
           (sym (append-nil (places s (suc l) e) ∙ places-same fit room fit′ r s keep same (suc l) y e h)) (same-swap n a (here ∷ G l es))
 
   -- the whole tree
-  pub root-swap : (most : ℕ → ℕ) (top l p₀ : ℕ) → Rooted fit room most top r l p₀ → (0 < length (r p₀ (suc l)) → k < top) → a ≤ suc l
+  pub root-swap : (most : ℕ → ℕ) (top l p₀ : ℕ) → Rooted fit room most top r l p₀
+      → (0 < length (r p₀ (suc l)) → k < top) → a ≤ suc l
       → MoveMade r s k a n l (chosen k (r p₀ (suc l))) → s n (suc l) ≡ splice (moved r k a n l) k (r p₀ (suc l))
       → Swapped n a (places r (suc l) (the p₀)) (pathPlaces r k a (suc l) (the p₀)) (places s (suc l) (the n))
   unfolding places pathPlaces

@@ -36,7 +36,8 @@ Where s n low side Cut Old x = ((x .page ≡ n) × (low ≤ x .level) × (low < 
     ((Cut (x .level) × (x .page ≡ side (x .level))) ⊎ Old x)
 
 module _ (s : Nodes) (n low : ℕ) (side : ℕ → ℕ) (Cut : ℕ → Type 0) (Old : Place → Type 0)
-    (old-n : (x : Place) → Old x → x .page ≡ n → ⊥) (old-side : (x : Place) (l : ℕ) → Old x → Cut l → x .page ≡ side l → ⊥)
+    (old-n : (x : Place) → Old x → x .page ≡ n → ⊥) (old-side : (x : Place) (l : ℕ) → Old x → Cut l → x .page ≡ side l
+    → ⊥)
     (side-n : (l : ℕ) → Cut l → side l ≡ n → ⊥) (side-inj : (i j : ℕ) → Cut i → Cut j → side i ≡ side j → i ≡ j)
     (old-tied : (x y : Place) → Old x → Old y → TiedTo s x y) where
   pair : (x y : Place) → Where s n low side Cut Old x → Where s n low side Cut Old y → TiedTo s x y
@@ -44,7 +45,8 @@ module _ (s : Nodes) (n low : ℕ) (side : ℕ → ℕ) (Cut : ℕ → Type 0) (
   pair x y (inl h) (inr (inl i)) e b = absurd (side-n (y .level) (i .0) (sym (i .1) ∙ sym e ∙ h .0))
   pair x y (inl h) (inr (inr i)) e b = absurd (old-n y i (sym e ∙ h .0))
   pair x y (inr (inl h)) (inl i) e b = absurd (side-n (x .level) (h .0) (sym (h .1) ∙ e ∙ i .0))
-  pair x y (inr (inl h)) (inr (inl i)) e b = absurd (omega (arith, side-inj (x .level) (y .level) (h .0) (i .0) (sym (h .1) ∙ e ∙ i .1)))
+  pair x y (inr (inl h)) (inr (inl i)) e b =
+      absurd (omega (arith, side-inj (x .level) (y .level) (h .0) (i .0) (sym (h .1) ∙ e ∙ i .1)))
   pair x y (inr (inl h)) (inr (inr i)) e b = absurd (old-side y (x .level) i (h .0) (sym e ∙ h .1))
   pair x y (inr (inr h)) (inl i) e b = absurd (old-n x h (e ∙ i .0))
   pair x y (inr (inr h)) (inr (inl i)) e b = absurd (old-side x (y .level) h (i .0) (e ∙ i .1))

@@ -32,13 +32,15 @@ unfolding Along applyAll
 along-append g n P img [] ts h k = k
 along-append g n P img (s ∷ ss) ts h k = (h .0, h .1, along-append g n P (applyStore g s img) ss ts (h .2) k)
 
-along-end : (g : Geometry) (n : ℕ) (P : List ℕ → Type 0) (img : List ℕ) (ss : List Store) → Along g n P img ss → P (applyAll g ss img)
+along-end : (g : Geometry) (n : ℕ) (P : List ℕ → Type 0) (img : List ℕ) (ss : List Store) → Along g n P img ss
+    → P (applyAll g ss img)
 unfolding Along applyAll
 along-end g n P img [] h = h
 along-end g n P img (s ∷ ss) h = along-end g n P (applyStore g s img) ss (h .2)
 
 -- so after each beginning of the list
-pub along-take : (g : Geometry) (n : ℕ) (P : List ℕ → Type 0) (img : List ℕ) (ss : List Store) (m : ℕ) → Along g n P img ss
+pub along-take : (g : Geometry) (n : ℕ) (P : List ℕ → Type 0) (img : List ℕ) (ss : List Store) (m : ℕ)
+    → Along g n P img ss
     → P (applyAll g (take m ss) img)
 unfolding Along applyAll
 along-take g n P img [] zero h = h
@@ -54,7 +56,8 @@ pub record Keeps (g : Geometry) (n : ℕ) (base : List Entry) (img : List ℕ) :
   pub map-is : mapOf (chipOf g n img) ≡ base
 
 -- the stores ss lead from img to the chip d, with at most b programs and e erases
-pub record Runs (g : Geometry) (n : ℕ) (base : List Entry) (img : List ℕ) (ss : List Store) (d : Chip) (b e : ℕ) : Type 0 where
+pub record Runs (g : Geometry) (n : ℕ) (base : List Entry) (img : List ℕ) (ss : List Store)
+    (d : Chip) (b e : ℕ) : Type 0 where
   pub along : Along g n (Keeps g n base) img ss
   pub chip-is : chipOf g n (applyAll g ss img) ≡ d
   pub grows : maxSeq g n (applyAll g ss img) ≤ maxSeq g n img + programs ss
@@ -62,7 +65,8 @@ pub record Runs (g : Geometry) (n : ℕ) (base : List Entry) (img : List ℕ) (s
   pub wiped : erases ss ≤ e
 
 module _ (g : Geometry) (n : ℕ) (base : List Entry) where
-  pub runs-end : (img : List ℕ) (ss : List Store) (d : Chip) (b e : ℕ) → Runs g n base img ss d b e → Keeps g n base (applyAll g ss img)
+  pub runs-end : (img : List ℕ) (ss : List Store) (d : Chip) (b e : ℕ) → Runs g n base img ss d b e
+      → Keeps g n base (applyAll g ss img)
   runs-end img ss d b e r = along-end g n (Keeps g n base) img ss (r .along)
 
   pub runs-none : (img : List ℕ) (b e : ℕ) → Keeps g n base img → Runs g n base img [] (chipOf g n img) b e
@@ -79,7 +83,8 @@ module _ (g : Geometry) (n : ℕ) (base : List Entry) where
     wiped = omega (arith, erases-append ss ts, h .wiped, k .wiped);
   }
 
-  pub runs-as : (img : List ℕ) (ss : List Store) (c d : Chip) (a b e f : ℕ) → c ≡ d → a ≤ b → e ≤ f → Runs g n base img ss c a e
+  pub runs-as : (img : List ℕ) (ss : List Store) (c d : Chip) (a b e f : ℕ) → c ≡ d → a ≤ b → e ≤ f
+      → Runs g n base img ss c a e
       → Runs g n base img ss d b f
   runs-as img ss c d a b e f z p q r = record {
     along = r .along;
@@ -103,7 +108,8 @@ module _ (g : Geometry) (n : ℕ) (base : List Entry) where
       let end : Keeps g n base (applyStore g (nextStore g n 0 parts img) img) = record {
         held = side-held g (shape-core g shape) n img (h .held) free parts ok low 0 (omega arith) refl;
         r7 = inl (omega (arith, f, sf));
-        r8 = (let z = ap (λ (x : List Place). count (pagesOf g n) (live x)) (side-lives g (shape-core g shape) n img (h .held) free parts ok low 0 (omega arith) refl) in
+        r8 = (let z = ap (λ (x : List Place). count (pagesOf g n) (live x)) (side-lives g (shape-core g shape) n img
+            (h .held) free parts ok low 0 (omega arith) refl) in
             omega (arith, z, h .r8));
         map-is = side-map g (shape-core g shape) n img (h .held) free parts ok low 0 (omega arith) refl ∙ h .map-is;
       } in

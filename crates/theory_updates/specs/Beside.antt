@@ -1,4 +1,5 @@
--- What is kept beside the image is what the image says, before and after a move; the move's store is the model's. Assumes nothing.
+-- What is kept beside the image is what the image says, before and after a move; the move's store is the model's.
+-- Assumes nothing.
 use mathlib.Core.Path.{_≡_, refl, ap, sym, subst, _∙_}
 use mathlib.Core.List.{List, []}
 use mathlib.Core.Bool.{Bool, true, false}
@@ -60,7 +61,8 @@ round-none n b f h = go (ltb (least n (λ i. ltb b i & f i)) n)
 pub next-past : (p n : ℕ) (w : Ahead) → 1 ≤ p → count (p * n) (w .er) ≡ 0 → p * n ≤ nextPage p n w
 unfolding nextBlock
 next-past p n w pos h =
-    let none : (c i : ℕ) → c < n → i < p → w .er (p * c + i) ≡ false = λ c i q z. none-true (p * n) (w .er) h (p * c + i) (in-range p n c i q z) in
+    let none : (c i : ℕ) → c < n → i < p → w .er (p * c + i) ≡ false =
+    λ c i q z. none-true (p * n) (w .er) h (p * c + i) (in-range p n c i q z) in
     let m : least n (mixed p (w .er)) ≡ n = least-none (mixed p (w .er)) n
     (λ c q. last (w .er (p * c + 0)) (w .er (p * c + (p - 1))) (none c (p - 1) q (omega arith))) in
     let t : ltb (least n (mixed p (w .er))) n ≡ false = rw m (le-ltb n n (omega arith)) in
@@ -72,7 +74,8 @@ next-past p n w pos h =
     last false u e = e
 
 -- the page after the next one, once that is programmed and while one is left. p is a block's pages
-pub next-after : (p n : ℕ) (w : Ahead) → 1 ≤ p → R2 p n (w .er) → 1 ≤ count (p * n) (w .er) → 1 ≤ count (p * n) (after (nextPage p n w) (w .er))
+pub next-after : (p n : ℕ) (w : Ahead) → 1 ≤ p → R2 p n (w .er) → 1 ≤ count (p * n) (w .er)
+    → 1 ≤ count (p * n) (after (nextPage p n w) (w .er))
     → nextAfter p n (after (nextPage p n w) (w .er)) (nextPage p n w) ≡ nextPage p n (onward (nextPage p n w) w)
 unfolding nextAfter
 next-after p n w pos r2 free some =
@@ -91,12 +94,14 @@ next-after p n w pos r2 free some =
 
 -- the same whether a page is left or not: T where none is
 pub next-least : (p n : ℕ) (w : Ahead) → 1 ≤ p → R2 p n (w .er) → 1 ≤ count (p * n) (w .er)
-    → nextAfter p n (after (nextPage p n w) (w .er)) (nextPage p n w) ≡ min (p * n) (nextPage p n (onward (nextPage p n w) w))
+    → nextAfter p n (after (nextPage p n w) (w .er)) (nextPage p n w) ≡ min (p * n) (nextPage p n
+    (onward (nextPage p n w) w))
 unfolding nextAfter
 next-least p n w pos r2 free =
     by-le 1 (count (p * n) er′)
     (λ some. let z = next-in p n (onward N w) pos r2′ some in next-after p n w pos r2 free some ∙ omega (arith, z))
-    (λ less. let none : count (p * n) er′ ≡ 0 = omega (arith, less) in last none ∙ (let z = next-past p n (onward N w) pos none in omega (arith, z)))
+    (λ less. let none : count (p * n) er′ ≡ 0 = omega (arith, less) in
+    last none ∙ (let z = next-past p n (onward N w) pos none in omega (arith, z)))
   where
     b : ℕ
     b = nextBlock p n w
@@ -124,7 +129,8 @@ next-least p n w pos r2 free =
         (λ c q. none-true (p * n) er′ none (p * c + 0) (in-range p n c 0 q (omega arith))) in
         rw (eq-eqb (suc N % p) 0 r, x) refl)
         (λ e. let i : suc j < p = omega (arith, e, found .1) in
-        let x = elsewhere p n w pos r2 (found .0) (found .1) b (suc j) i (λ _ z. omega (arith, z)) ∙ r2 .mono b j (suc j) (found .0) (omega arith) i (found .2) in
+        let x = elsewhere p n w pos r2 (found .0) (found .1) b (suc j) i (λ _ z. omega (arith, z)) ∙ r2 .mono b j
+        (suc j) (found .0) (omega arith) i (found .2) in
         absurd (true-false (er′ (p * b + suc j)) x (none-true (p * n) er′ none (p * b + suc j) (in-range p n b (suc j) (found .0) i))))
 
 -- what is kept is what the image says; o the record at the sweep's start
@@ -142,14 +148,16 @@ pub record Tracks (g : Geometry) (n : ℕ) (o : Opened) (img : List ℕ) (h : Be
   pub crest : ((h .most ≡ o .most) × (seqOf g img (h .root) ≡ o .number)) ⊎ (seqOf g img (h .root) ≡ h .most)
 
 -- the next page while one is left
-pub next-of : (g : Geometry) → Shape g → (n : ℕ) (o : Opened) (img : List ℕ) (h : Beside) → Held g n img → Tracks g n o img h
+pub next-of : (g : Geometry) → Shape g → (n : ℕ) (o : Opened) (img : List ℕ) (h : Beside) → Held g n img
+    → Tracks g n o img h
     → 1 ≤ count (pagesOf g n) (chipOf g n img .er) → h .next ≡ nextPage (g .pages) n (ahead g n (chipOf g n img))
 next-of g shape n o img h held t free =
     let z = next-in (g .pages) n (ahead g n (chipOf g n img)) (some-page g (shape-core g shape)) (held .whole .r2) free in
     t .next-is ∙ omega (arith, z)
 
 -- the record of the image, with a right table
-pub tracks-fresh : (g : Geometry) → Core g → (n : ℕ) (img : List ℕ) (h : Kept) → Held g n img → h .at ≡ openedIn g n img → Right g n img (h .table)
+pub tracks-fresh : (g : Geometry) → Core g → (n : ℕ) (img : List ℕ) (h : Kept) → Held g n img → h .at ≡ openedIn g n img
+    → Right g n img (h .table)
     → Tracks g n (h .at) img (besideBy g n h)
 unfolding openedIn
 tracks-fresh g core n img h held e r = record {
@@ -170,7 +178,8 @@ pub low-in : (g : Geometry) (n : ℕ) (img : List ℕ) (t : Table) (q : ℕ) →
 low-in g n img t q q-in r = r .marked .lows q (let z = r .room in omega (arith, z, q-in))
 
 -- the store that moves page q
-pub store-same : (g : Geometry) → Shape g → (n : ℕ) (o : Opened) (img : List ℕ) (h : Beside) (q : ℕ) → Held g n img → q < pagesOf g n
+pub store-same : (g : Geometry) → Shape g → (n : ℕ) (o : Opened) (img : List ℕ) (h : Beside) (q : ℕ) → Held g n img
+    → q < pagesOf g n
     → 1 ≤ count (pagesOf g n) (chipOf g n img .er) → Tracks g n o img h → moveStoreBy g h q img ≡ moveStore g n q img
 unfolding moveStoreBy movePartBy moveStore movePart
 store-same g shape n o img h q held q-in free t =
@@ -179,8 +188,10 @@ store-same g shape n o img h q held q-in free t =
     λ i. program (x i) (built g (suc (t .most-is i)) (suc (t .level-is i)) (λ j. pick (leb (a i) j)
     (onPath (nodeAt g img) (next (nodeAt g img q (a i)) 0) same (renamed (a i) (x i)) (t .level-is i) (named (t .root-is i)) j) []))
 
-module _ (g : Geometry) (shape : Shape g) (n : ℕ) (few : pagesOf g n + g .pages < fourBytes) (img : List ℕ) (held : Held g n img) (q : ℕ)
-    (q-in : q < pagesOf g n) (free : 1 ≤ count (pagesOf g n) (chipOf g n img .er)) (alive : live (placesOf (chipOf g n img)) q ≡ true)
+module _ (g : Geometry) (shape : Shape g) (n : ℕ) (few : pagesOf g n + g .pages < fourBytes) (img : List ℕ)
+    (held : Held g n img) (q : ℕ)
+    (q-in : q < pagesOf g n) (free : 1 ≤ count (pagesOf g n) (chipOf g n img .er))
+    (alive : live (placesOf (chipOf g n img)) q ≡ true)
     (low : suc (maxSeq g n img) < 4294967295) where
   abbrev c : Chip
   c = chipOf g n img
@@ -208,7 +219,8 @@ module _ (g : Geometry) (shape : Shape g) (n : ℕ) (few : pagesOf g n + g .page
           (next-in (g .pages) n (ahead g n c) (some-page g (shape-core g shape)) (held .whole .r2) free)
           (λ j p d. let y = peak-le (pagesOf g n) (c .seq) j p in rw (ne-eqb j N d, eq-eqb N N refl) (omega (arith, y)))
 
-  next-moved : nextAfter (g .pages) n (erased g then) N ≡ min (pagesOf g n) (nextPage (g .pages) n (ahead g n (chipOf g n then)))
+  next-moved : nextAfter (g .pages) n (erased g then) N ≡ min (pagesOf g n)
+      (nextPage (g .pages) n (ahead g n (chipOf g n then)))
   next-moved = ap (λ (f : ℕ → Bool). nextAfter (g .pages) n f N) er-is
       ∙ next-least (g .pages) n (ahead g n c) (some-page g (shape-core g shape)) (held .whole .r2) free
       ∙ sym (ap (λ (w : Ahead). min (pagesOf g n) (nextPage (g .pages) n w)) ahead-is)
@@ -222,7 +234,8 @@ module _ (g : Geometry) (shape : Shape g) (n : ℕ) (few : pagesOf g n + g .page
   -- the root's page has the largest number
   number-is : seqOf g then N ≡ suc (maxSeq g n img)
   unfolding moveTo maxSeq
-  number-is = ap (λ (d : Chip). d .seq N) chip-is ∙ ap (λ (t : Bool). pick t (suc (peak (pagesOf g n) (c .seq))) (c .seq N)) (eq-eqb N N refl)
+  number-is = ap (λ (d : Chip). d .seq N) chip-is
+      ∙ ap (λ (t : Bool). pick t (suc (peak (pagesOf g n) (c .seq))) (c .seq N)) (eq-eqb N N refl)
 
   -- what is kept after the move is what the image then says
   pub beside-moved : (o : Opened) (h : Beside) → Tracks g n o img h → Tracks g n o then (besideMoved g n h q img then)
@@ -237,7 +250,8 @@ module _ (g : Geometry) (shape : Shape g) (n : ℕ) (few : pagesOf g n + g .page
         next-is = ap (nextAfter (g .pages) n (erased g then)) x ∙ next-moved;
         right = subst (Right g n then) (sym (λ i. tableMoved (wordsOf g n) (nodeAt g img) (next (nodeAt g img q (a i)) 0) (a i) (t .level-is i)
             (named (t .root-is i)) (x i) (h .table)))
-            (table-moved g shape n few img held q alive free (let z : maxSeq g n img + 1 < 4294967295 = omega (arith, low) in z) (h .table) (t .right));
+            (table-moved g shape n few img held q alive free (let z : maxSeq g n img + 1 < 4294967295 =
+            omega (arith, low) in z) (h .table) (t .right));
         sum-is = let z = t .sum-is in omega (arith, z, frees);
         grown = let z = t .grown in omega (arith, z);
         height-is = t .height-is;

@@ -1,5 +1,5 @@
--- Collection by what is kept beside the image makes the model's stores ("every victim, store and answer is the same as before"), and record and
--- table stay those worked out afresh. Assumes nothing.
+-- Collection by what is kept beside the image makes the model's stores ("every victim, store and answer is the same as
+-- before"), and record and table stay those worked out afresh. Assumes nothing.
 use mathlib.Core.Path.{_≡_, refl, ap, sym, subst, _∙_}
 use mathlib.Core.List.{List, [], _∷_, _++_}
 use mathlib.Core.Bool.{Bool, true, false}
@@ -52,17 +52,21 @@ pub record Tells (g : Geometry) (n : ℕ) (img : List ℕ) (h : Kept) : Type 0 w
   pub right : Right g n img (h .table)
 
 -- a run is the stores ss from the image img, and what is then kept tells of the image that is left
-pub record Same {A : Type 0} (g : Geometry) (P : List ℕ → A → Type 0) (img : List ℕ) (ss : List Store) (r : Run A) : Type 0 where
+pub record Same {A : Type 0} (g : Geometry) (P : List ℕ → A → Type 0) (img : List ℕ) (ss : List Store)
+    (r : Run A) : Type 0 where
   pub stores-are : r .stores ≡ ss
   pub image-is : r .image ≡ applyAll g ss img
   pub tells : P (r .image) (r .kept)
 
-same-still : {A : Type 0} (g : Geometry) (P : List ℕ → A → Type 0) (img : List ℕ) (h : A) → P img h → Same g P img [] (still h img)
+same-still : {A : Type 0} (g : Geometry) (P : List ℕ → A → Type 0) (img : List ℕ) (h : A) → P img h
+    → Same g P img [] (still h img)
 unfolding applyAll
 same-still g P img h p = record { stores-are = refl; image-is = refl; tells = p }
 
-same-then : {A B : Type 0} (g : Geometry) (P : List ℕ → A → Type 0) (Q : List ℕ → B → Type 0) (img : List ℕ) (ss ts : List Store) (r : Run A)
-    (f : A → List ℕ → Run B) → Same g P img ss r → Same g Q (applyAll g ss img) ts (f (r .kept) (applyAll g ss img)) → Same g Q img (ss ++ ts) (andThen r f)
+same-then : {A B : Type 0} (g : Geometry) (P : List ℕ → A → Type 0) (Q : List ℕ → B → Type 0) (img : List ℕ)
+    (ss ts : List Store) (r : Run A)
+    (f : A → List ℕ → Run B) → Same g P img ss r → Same g Q (applyAll g ss img) ts (f (r .kept) (applyAll g ss img))
+    → Same g Q img (ss ++ ts) (andThen r f)
 same-then g P Q img ss ts r f a b =
     let k = subst (λ j. Same g Q (applyAll g ss img) ts (f (r .kept) j)) (sym (a .image-is)) b in
     record {
@@ -72,12 +76,14 @@ same-then g P Q img ss ts r f a b =
     }
 
 -- the tells of a run, of the image that the stores leave
-pub same-tells : {A : Type 0} (g : Geometry) (P : List ℕ → A → Type 0) (img : List ℕ) (ss : List Store) (r : Run A) → Same g P img ss r
+pub same-tells : {A : Type 0} (g : Geometry) (P : List ℕ → A → Type 0) (img : List ℕ) (ss : List Store) (r : Run A)
+    → Same g P img ss r
     → P (applyAll g ss img) (r .kept)
 same-tells g P img ss r s = subst (λ j. P j (r .kept)) (s .image-is) (s .tells)
 
 -- a table stays right where the places stay
-right-same : (g : Geometry) (n : ℕ) (img img′ : List ℕ) (t : Table) → placesOf (chipOf g n img′) ≡ placesOf (chipOf g n img) → Right g n img t
+right-same : (g : Geometry) (n : ℕ) (img img′ : List ℕ) (t : Table) → placesOf (chipOf g n img′)
+    ≡ placesOf (chipOf g n img) → Right g n img t
     → Right g n img′ t
 right-same g n img img′ t e r = record {
   room = r .room;
@@ -93,7 +99,8 @@ victim-same g n img t e r = victim-alike (full (g .pages) (erased g img)) (λ b.
 
 module _ (g : Geometry) (shape : Shape g) (n : ℕ) (few : pagesOf g n + g .pages < fourBytes) where
   -- one move
-  move-same : (o : Opened) (img : List ℕ) (q : ℕ) (h : Beside) → Held g n img → q < pagesOf g n → 1 ≤ count (pagesOf g n) (chipOf g n img .er)
+  move-same : (o : Opened) (img : List ℕ) (q : ℕ) (h : Beside) → Held g n img → q < pagesOf g n
+      → 1 ≤ count (pagesOf g n) (chipOf g n img .er)
       → live (placesOf (chipOf g n img)) q ≡ true → suc (maxSeq g n img) < 4294967295 → Tracks g n o img h
       → Same g (Tracks g n o) img (moveStore g n q img ∷ []) (moveBy g n q h img)
   unfolding moveBy applyAll
@@ -107,8 +114,10 @@ module _ (g : Geometry) (shape : Shape g) (n : ℕ) (few : pagesOf g n + g .page
       }
 
   -- the moves of a victim's pages
-  sweep-same : (o : Opened) (v : ℕ) → v < n → (j : ℕ) (img : List ℕ) (h : Beside) → j ≤ g .pages → Held g n img → Sweeping g n v j (chipOf g n img)
-      → maxSeq g n img + j < 4294967295 → Tracks g n o img h → Same g (Tracks g n o) img (sweepStores g n v j img) (sweepBy g n v j h img)
+  sweep-same : (o : Opened) (v : ℕ) → v < n → (j : ℕ) (img : List ℕ) (h : Beside) → j ≤ g .pages → Held g n img
+      → Sweeping g n v j (chipOf g n img)
+      → maxSeq g n img + j < 4294967295 → Tracks g n o img h → Same g (Tracks g n o) img (sweepStores g n v j img)
+      (sweepBy g n v j h img)
   unfolding sweepStores sweepBy pageBy applyAll
   sweep-same o v q zero img h b hd s w t = same-still g (Tracks g n o) img h t
   sweep-same o v q (suc j) img h b hd s w t =
@@ -134,7 +143,8 @@ module _ (g : Geometry) (shape : Shape g) (n : ℕ) (few : pagesOf g n + g .page
           (andThen (pick x (moveBy g n (g .pages * v + (g .pages - suc j)) h img) (still h img)) (sweepBy g n v j))
 
       go : (u : Bool) → live (placesOf (chipOf g n img)) (g .pages * v + (g .pages - suc j)) ≡ u
-          → ((i : List ℕ) (k : Beside) → Held g n i → Sweeping g n v j (chipOf g n i) → maxSeq g n i + j < 4294967295 → Tracks g n o i k
+          → ((i : List ℕ) (k : Beside) → Held g n i → Sweeping g n v j (chipOf g n i) → maxSeq g n i + j < 4294967295
+          → Tracks g n o i k
           → Same g (Tracks g n o) i (sweepStores g n v j i) (sweepBy g n v j k i))
           → Out u u
       go true e ih =
@@ -158,12 +168,15 @@ module _ (g : Geometry) (shape : Shape g) (n : ℕ) (few : pagesOf g n + g .page
           }) (omega (arith, w)) t)
 
   -- the erase of an emptied victim: no page of it is live; o the record before the sweep
-  erase-same : (o : Opened) (v : ℕ) → v < n → (img : List ℕ) (h : Beside) → Held g n img → Sweeping g n v 0 (chipOf g n img) → Tracks g n o img h
+  erase-same : (o : Opened) (v : ℕ) → v < n → (img : List ℕ) (h : Beside) → Held g n img → Sweeping g n v 0
+      (chipOf g n img) → Tracks g n o img h
       → Same g (Tells g n) img (erase v ∷ []) (eraseBy g n v o h img)
   unfolding eraseBy applyAll
   erase-same o v q img h hd s t =
-      let dead : (j : ℕ) → j < g .pages → live (placesOf (chipOf g n img)) (g .pages * v + j) ≡ false = λ j z. s .dead j (omega (arith, z)) in
-      let e = ap placesOf (wipe-chip g (shape-core g shape) n img hd v q dead) ∙ erased-places g shape n v q (chipOf g n img) s in
+      let dead : (j : ℕ) → j < g .pages → live (placesOf (chipOf g n img)) (g .pages * v + j) ≡ false =
+      λ j z. s .dead j (omega (arith, z)) in
+      let e = ap placesOf (wipe-chip g (shape-core g shape) n img hd v q dead)
+      ∙ erased-places g shape n v q (chipOf g n img) s in
       record {
         stores-are = refl;
         image-is = refl;
@@ -179,20 +192,25 @@ module _ (g : Geometry) (shape : Shape g) (n : ℕ) (few : pagesOf g n + g .page
 
     -- one round
     clear-same : (k : ℕ) (img : List ℕ) (h : Kept) → Keeps g n base img → Room k (chipOf g n img)
-        → count (pagesOf g n) (chipOf g n img .er) < g .pages + k → maxSeq g n img + g .pages < 4294967295 → Tells g n img h
-        → Same g (Tells g n) img (clearStores g n (theVictim (g .pages) n (chipOf g n img)) img) (clearBy g n (victimBy g n (h .table) img) h img)
+        → count (pagesOf g n) (chipOf g n img .er) < g .pages + k → maxSeq g n img + g .pages < 4294967295
+        → Tells g n img h
+        → Same g (Tells g n) img (clearStores g n (theVictim (g .pages) n (chipOf g n img)) img)
+        (clearBy g n (victimBy g n (h .table) img) h img)
     unfolding clearStores clearBy
     clear-same k img h kp rm lack w r =
         subst (λ (o : Option ℕ). Same g (Tells g n) img (clearStores g n (theVictim (g .pages) n (chipOf g n img)) img) (clearBy g n o h img))
         (sym (victim-same g n img (h .table) whole (r .right))) (go (round-victim g shape n k (chipOf g n img) (kp .held .whole) (kp .r7) rm lack))
       where
-        at : (v : ℕ) → v < n → full (g .pages) (chipOf g n img .er) v ≡ true → livesIn (g .pages) v (chipOf g n img) ≤ count (pagesOf g n) (chipOf g n img .er)
+        at : (v : ℕ) → v < n → full (g .pages) (chipOf g n img .er) v ≡ true → livesIn (g .pages) v
+            (chipOf g n img) ≤ count (pagesOf g n) (chipOf g n img .er)
             → Same g (Tells g n) img (sweepStores g n v (g .pages) img ++ (erase v ∷ []))
             (andThen (sweepBy g n v (g .pages) (besideBy g n h) img) (eraseBy g n v (h .at)))
         at v q f le =
             let c = chipOf g n img in
-            let is-full : (i : ℕ) → i < g .pages → c .er (g .pages * v + i) ≡ false = λ i z. full-none g shape n k c (kp .held .whole) v i q f z in
-            let begin : Sweeping g n v (g .pages) c = record { good = kp .held .whole; full = is-full; few = le; dead = λ i z. absurd (omega arith) } in
+            let is-full : (i : ℕ) → i < g .pages → c .er (g .pages * v + i) ≡ false =
+            λ i z. full-none g shape n k c (kp .held .whole) v i q f z in
+            let begin : Sweeping g n v (g .pages) c =
+            record { good = kp .held .whole; full = is-full; few = le; dead = λ i z. absurd (omega arith) } in
             let ss = sweepStores g n v (g .pages) img in
             let a = sweep-runs g shape n few base v q (g .pages) img (omega arith) (kp .held) begin (kp .r8) (kp .map-is) w in
             let z = runs-end g n base img ss (sweep g n v (g .pages) c) (livesIn (g .pages) v c) 0 a in
@@ -203,14 +221,16 @@ module _ (g : Geometry) (shape : Shape g) (n : ℕ) (few : pagesOf g n + g .page
             same-then g (Tracks g n (h .at)) (Tells g n) img ss (erase v ∷ []) run (eraseBy g n v (h .at)) s
             (erase-same (h .at) v q (applyAll g ss img) (run .kept) (z .held) done (same-tells g (Tracks g n (h .at)) img ss run s))
 
-        go : (v : ℕ) × (theVictim (g .pages) n (chipOf g n img) ≡ some v) × (v < n) × (full (g .pages) (chipOf g n img .er) v ≡ true) ×
+        go : (v : ℕ) × (theVictim (g .pages) n (chipOf g n img) ≡ some v) × (v < n) ×
+            (full (g .pages) (chipOf g n img .er) v ≡ true) ×
             (livesIn (g .pages) v (chipOf g n img) < g .pages) × (livesIn (g .pages) v (chipOf g n img) ≤ count (pagesOf g n) (chipOf g n img .er))
             → Same g (Tells g n) img (clearStores g n (theVictim (g .pages) n (chipOf g n img)) img)
             (clearBy g n (theVictim (g .pages) n (chipOf g n img)) h img)
         go u = subst (λ (o : Option ℕ). Same g (Tells g n) img (clearStores g n o img) (clearBy g n o h img)) (sym (u .1)) (at (u .0) (u .2) (u .3) (u .5))
 
     -- the collector, m rounds
-    pub collect-same : (k m : ℕ) (img : List ℕ) (h : Kept) → Keeps g n base img → Room k (chipOf g n img) → maxSeq g n img + m * g .pages < 4294967295
+    pub collect-same : (k m : ℕ) (img : List ℕ) (h : Kept) → Keeps g n base img → Room k (chipOf g n img)
+        → maxSeq g n img + m * g .pages < 4294967295
         → Tells g n img h → Same g (Tells g n) img (collectStores g n k m img) (collectBy g n k m h img)
     unfolding collectStores collectBy openedIn
     collect-same k zero img h kp rm w r = same-still g (Tells g n) img h r
@@ -229,7 +249,8 @@ module _ (g : Geometry) (shape : Shape g) (n : ℕ) (few : pagesOf g n + g .page
         erased-is = ap (λ (o : Opened). o .erased) (r .at-is)
 
         go : (u : Bool) → ltb (count (pagesOf g n) (chipOf g n img .er)) (g .pages + k) ≡ u
-            → ((i : List ℕ) (j : Kept) → Keeps g n base i → Room k (chipOf g n i) → maxSeq g n i + m * g .pages < 4294967295 → Tells g n i j
+            → ((i : List ℕ) (j : Kept) → Keeps g n base i → Room k (chipOf g n i)
+            → maxSeq g n i + m * g .pages < 4294967295 → Tells g n i j
             → Same g (Tells g n) i (collectStores g n k m i) (collectBy g n k m j i))
             → Same g (Tells g n) img
             (pick u (clearStores g n (theVictim (g .pages) n (chipOf g n img)) img ++ collectStores g n k m
@@ -247,5 +268,6 @@ module _ (g : Geometry) (shape : Shape g) (n : ℕ) (few : pagesOf g n + g .page
             let i = applyAll g cs img in
             same-then g (Tells g n) (Tells g n) img cs (collectStores g n k m i) run (collectBy g n k m) s
             (ih i (run .kept) (runs-end g n base img cs d (g .pages - 1) 1 a) (subst (Room k) (sym (a .chip-is)) (omega (arith, rd .0 .lives, rm)))
-            (let u = a .grows in let x = a .programmed in let o = some-page g (shape-core g shape) in omega (arith, u, x, o, w, y))
+            (let u = a .grows in let x = a .programmed in let o = some-page g (shape-core g shape) in
+            omega (arith, u, x, o, w, y))
             (same-tells g (Tells g n) img cs run s))

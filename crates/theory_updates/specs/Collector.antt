@@ -47,13 +47,16 @@ module _ (g : Geometry) (shape : Shape g) (n : ℕ) (few : pagesOf g n + g .page
   )
 
   -- the moves of a victim's pages
-  pub sweep-runs : (v : ℕ) → v < n → (j : ℕ) (img : List ℕ) → j ≤ g .pages → Held g n img → Sweeping g n v j (chipOf g n img)
+  pub sweep-runs : (v : ℕ) → v < n → (j : ℕ) (img : List ℕ) → j ≤ g .pages → Held g n img → Sweeping g n v j
+      (chipOf g n img)
       → R8 g n (chipOf g n img) → mapOf (chipOf g n img) ≡ base → maxSeq g n img + j < 4294967295
-      → Runs g n base img (sweepStores g n v j img) (sweep g n v j (chipOf g n img)) (livesIn (g .pages) v (chipOf g n img)) 0
+      → Runs g n base img (sweepStores g n v j img) (sweep g n v j (chipOf g n img))
+      (livesIn (g .pages) v (chipOf g n img)) 0
   unfolding sweepStores sweep Along applyAll programs erases moveStore
   sweep-runs v q zero img b h s u m w = runs-none g n base img _ 0
       (record { held = h; r7 = sweeping-r7 v 0 (chipOf g n img) q s; r8 = u; map-is = m })
-  sweep-runs v q (suc j) img b h s r8 m w = go (live (placesOf (chipOf g n img)) (g .pages * v + (g .pages - suc j))) refl
+  sweep-runs v q (suc j) img b h s r8 m w =
+      go (live (placesOf (chipOf g n img)) (g .pages * v + (g .pages - suc j))) refl
       (λ i. sweep-runs v q j i (omega arith))
     where
       p : ℕ
@@ -69,12 +72,15 @@ module _ (g : Geometry) (shape : Shape g) (n : ℕ) (few : pagesOf g n + g .page
       st = moveStore g n (g .pages * v + (g .pages - suc j)) img
 
       go : (u : Bool) → live (placesOf (chipOf g n img)) (g .pages * v + (g .pages - suc j)) ≡ u
-          → ((i : List ℕ) → Held g n i → Sweeping g n v j (chipOf g n i) → R8 g n (chipOf g n i) → mapOf (chipOf g n i) ≡ base → maxSeq g n i + j < 4294967295
-          → Runs g n base i (sweepStores g n v j i) (sweep g n v j (chipOf g n i)) (livesIn (g .pages) v (chipOf g n i)) 0)
+          → ((i : List ℕ) → Held g n i → Sweeping g n v j (chipOf g n i) → R8 g n (chipOf g n i)
+          → mapOf (chipOf g n i) ≡ base → maxSeq g n i + j < 4294967295
+          → Runs g n base i (sweepStores g n v j i) (sweep g n v j (chipOf g n i)) (livesIn (g .pages) v (chipOf g n i))
+          0)
           → Runs g n base img
           (pick u (moveStore g n (g .pages * v + (g .pages - suc j)) img ∷ sweepStores g n v j
           (applyStore g (moveStore g n (g .pages * v + (g .pages - suc j)) img) img)) (sweepStores g n v j img))
-          (pick u (sweep g n v j (moveTo (g .pages * n) (chipOf g n img) (g .pages * v + (g .pages - suc j)) (nextPage (g .pages) n (ahead g n (chipOf g n img)))))
+          (pick u (sweep g n v j (moveTo (g .pages * n) (chipOf g n img) (g .pages * v + (g .pages - suc j))
+          (nextPage (g .pages) n (ahead g n (chipOf g n img)))))
           (sweep g n v j (chipOf g n img))) (livesIn (g .pages) v (chipOf g n img)) 0
       go true e ih =
           let o = moved-on g shape n v j c b s e in
@@ -103,12 +109,14 @@ module _ (g : Geometry) (shape : Shape g) (n : ℕ) (few : pagesOf g n + g .page
           }) r8 m (omega (arith, w))
 
   -- the erase of an emptied victim
-  erase-runs : (v : ℕ) → v < n → (img : List ℕ) → Held g n img → Sweeping g n v 0 (chipOf g n img) → R8 g n (chipOf g n img)
+  erase-runs : (v : ℕ) → v < n → (img : List ℕ) → Held g n img → Sweeping g n v 0 (chipOf g n img)
+      → R8 g n (chipOf g n img)
       → mapOf (chipOf g n img) ≡ base → Runs g n base img (erase v ∷ []) (eraseBlock g v (chipOf g n img)) 0 1
   unfolding Along applyAll Legal programs erases
   erase-runs v q img h s u m =
       let c = chipOf g n img in
-      let dead : (j : ℕ) → j < g .pages → live (placesOf c) (g .pages * v + j) ≡ false = λ j z. s .dead j (omega (arith, z)) in
+      let dead : (j : ℕ) → j < g .pages → live (placesOf c) (g .pages * v + j) ≡ false =
+      λ j z. s .dead j (omega (arith, z)) in
       let ec = wipe-chip g (shape-core g shape) n img h v q dead in
       let mx = wipe-max g (shape-core g shape) n img h v q dead in
       let fr = erased-frees g shape n v q c s in
@@ -136,7 +144,8 @@ module _ (g : Geometry) (shape : Shape g) (n : ℕ) (few : pagesOf g n + g .page
   Roomy k c = count t (live (placesOf c)) + (2 * g .pages + k) ≤ suc t
 
   -- one round
-  pub clear-runs : (k : ℕ) (img : List ℕ) → Keeps g n base img → Roomy k (chipOf g n img) → count t (chipOf g n img .er) < g .pages + k
+  pub clear-runs : (k : ℕ) (img : List ℕ) → Keeps g n base img → Roomy k (chipOf g n img)
+      → count t (chipOf g n img .er) < g .pages + k
       → maxSeq g n img + g .pages < 4294967295
       → Runs g n base img (clearStores g n (theVictim (g .pages) n (chipOf g n img)) img)
       (clear g n (theVictim (g .pages) n (chipOf g n img)) (chipOf g n img)) (g .pages - 1) 1
@@ -146,12 +155,15 @@ module _ (g : Geometry) (shape : Shape g) (n : ℕ) (few : pagesOf g n + g .page
       Out : List Store → Chip → Type 0
       Out ss d = Runs g n base img ss d (g .pages - 1) 1
 
-      at : (v : ℕ) → v < n → full (g .pages) (chipOf g n img .er) v ≡ true → livesIn (g .pages) v (chipOf g n img) < g .pages
+      at : (v : ℕ) → v < n → full (g .pages) (chipOf g n img .er) v ≡ true → livesIn (g .pages) v
+          (chipOf g n img) < g .pages
           → livesIn (g .pages) v (chipOf g n img) ≤ count t (chipOf g n img .er)
-          → Out (sweepStores g n v (g .pages) img ++ (erase v ∷ [])) (eraseBlock g v (sweep g n v (g .pages) (chipOf g n img)))
+          → Out (sweepStores g n v (g .pages) img ++ (erase v ∷ [])) (eraseBlock g v
+          (sweep g n v (g .pages) (chipOf g n img)))
       at v q f less le =
           let c = chipOf g n img in
-          let is-full : (i : ℕ) → i < g .pages → c .er (g .pages * v + i) ≡ false = λ i z. full-none g shape n k c (h .held .whole) v i q f z in
+          let is-full : (i : ℕ) → i < g .pages → c .er (g .pages * v + i) ≡ false =
+          λ i z. full-none g shape n k c (h .held .whole) v i q f z in
           let sw = emptied g shape n v c (h .held .whole) is-full le in
           let ss = sweepStores g n v (g .pages) img in
           let a = sweep-runs v q (g .pages) img (omega arith) (h .held) (record {
@@ -168,13 +180,16 @@ module _ (g : Geometry) (shape : Shape g) (n : ℕ) (few : pagesOf g n + g .page
           (livesIn (g .pages) v c + 0) (g .pages - 1) (0 + 1) 1 (ap (eraseBlock g v) (a .chip-is)) (omega (arith, less)) (omega arith)
           (runs-then g n base img ss (erase v ∷ []) (sweep g n v (g .pages) c) (eraseBlock g v (chipOf g n i)) (livesIn (g .pages) v c) 0 0 1 a b)
 
-      go : (v : ℕ) × (theVictim (g .pages) n (chipOf g n img) ≡ some v) × (v < n) × (full (g .pages) (chipOf g n img .er) v ≡ true) ×
+      go : (v : ℕ) × (theVictim (g .pages) n (chipOf g n img) ≡ some v) × (v < n) ×
+          (full (g .pages) (chipOf g n img .er) v ≡ true) ×
           (livesIn (g .pages) v (chipOf g n img) < g .pages) × (livesIn (g .pages) v (chipOf g n img) ≤ count t (chipOf g n img .er))
-          → Out (clearStores g n (theVictim (g .pages) n (chipOf g n img)) img) (clear g n (theVictim (g .pages) n (chipOf g n img)) (chipOf g n img))
+          → Out (clearStores g n (theVictim (g .pages) n (chipOf g n img)) img)
+          (clear g n (theVictim (g .pages) n (chipOf g n img)) (chipOf g n img))
       go u = subst (λ o. Out (clearStores g n o img) (clear g n o (chipOf g n img))) (sym (u .1)) (at (u .0) (u .2) (u .3) (u .4) (u .5))
 
   -- the collector, m rounds
-  pub collect-runs : (k m : ℕ) (img : List ℕ) → Keeps g n base img → Roomy k (chipOf g n img) → maxSeq g n img + m * g .pages < 4294967295
+  pub collect-runs : (k m : ℕ) (img : List ℕ) → Keeps g n base img → Roomy k (chipOf g n img)
+      → maxSeq g n img + m * g .pages < 4294967295
       → Runs g n base img (collectStores g n k m img) (collect g n k m (chipOf g n img)) (m * (g .pages - 1)) m
   unfolding collectStores collect
   collect-runs k zero img h rm w = runs-none g n base img (zero * (g .pages - 1)) 0 h
@@ -190,7 +205,8 @@ module _ (g : Geometry) (shape : Shape g) (n : ℕ) (few : pagesOf g n + g .page
       cs = clearStores g n (theVictim (g .pages) n (chipOf g n img)) img
 
       go : (u : Bool) → ltb (count t (chipOf g n img .er)) (g .pages + k) ≡ u
-          → ((i : List ℕ) → Keeps g n base i → Roomy k (chipOf g n i) → maxSeq g n i + m * g .pages < 4294967295 → Runs g n base i
+          → ((i : List ℕ) → Keeps g n base i → Roomy k (chipOf g n i) → maxSeq g n i + m * g .pages < 4294967295
+          → Runs g n base i
           (collectStores g n k m i) (collect g n k m (chipOf g n i)) (m * (g .pages - 1)) m)
           → Out (pick u (clearStores g n (theVictim (g .pages) n (chipOf g n img)) img ++ collectStores g n k m
           (applyAll g (clearStores g n (theVictim (g .pages) n (chipOf g n img)) img) img)) []) (pick u (collect g n k m
@@ -206,20 +222,24 @@ module _ (g : Geometry) (shape : Shape g) (n : ℕ) (few : pagesOf g n + g .page
           let i = applyAll g cs img in
           let ci = a .chip-is in
           let b = ih i (runs-end g n base img cs d (g .pages - 1) 1 a) (subst (Roomy k) (sym ci) (omega (arith, rd .0 .lives, rm)))
-          (let u = a .grows in let x = a .programmed in let o = some-page g (shape-core g shape) in omega (arith, u, x, o, w, y)) in
+          (let u = a .grows in let x = a .programmed in let o = some-page g (shape-core g shape) in
+          omega (arith, u, x, o, w, y)) in
           runs-as g n base img (cs ++ collectStores g n k m i) (collect g n k m (chipOf g n i)) (collect g n k m d)
           (g .pages - 1 + m * (g .pages - 1)) (suc m * (g .pages - 1)) (1 + m) (suc m) (ap (collect g n k m) ci) (omega (arith, y′)) (omega arith)
           (runs-then g n base img cs (collectStores g n k m i) d (collect g n k m (chipOf g n i)) (g .pages - 1) (m * (g .pages - 1)) 1 m a b)
 
   -- what the collector leaves for an update that needs k pages
   pub record Collected (k : ℕ) (img : List ℕ) : Type 0 where
-    pub runs : Runs g n base img (collectStores g n k (suc k) img) (collect g n k (suc k) (chipOf g n img)) (suc k * (g .pages - 1)) (suc k)
+    pub runs : Runs g n base img (collectStores g n k (suc k) img) (collect g n k (suc k) (chipOf g n img))
+        (suc k * (g .pages - 1)) (suc k)
     pub keeps : Keeps g n base (applyAll g (collectStores g n k (suc k) img) img)
     pub room : g .pages + k ≤ count t (chipOf g n (applyAll g (collectStores g n k (suc k) img) img) .er)
     pub alike : Same g (chipOf g n img) (chipOf g n (applyAll g (collectStores g n k (suc k) img) img))
-    pub lives : count t (live (placesOf (chipOf g n (applyAll g (collectStores g n k (suc k) img) img)))) ≤ count t (live (placesOf (chipOf g n img)))
+    pub lives : count t (live (placesOf (chipOf g n (applyAll g (collectStores g n k (suc k) img) img)))) ≤ count t
+        (live (placesOf (chipOf g n img)))
 
-  pub collect-done : (k : ℕ) (img : List ℕ) → Keeps g n base img → Roomy k (chipOf g n img) → maxSeq g n img + suc k * g .pages < 4294967295
+  pub collect-done : (k : ℕ) (img : List ℕ) → Keeps g n base img → Roomy k (chipOf g n img)
+      → maxSeq g n img + suc k * g .pages < 4294967295
       → Collected k img
   collect-done k img h rm w =
       let r = collect-runs k (suc k) img h rm w in

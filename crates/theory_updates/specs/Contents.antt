@@ -43,7 +43,8 @@ half-fits k m c h = go (turn k m c)
     go false = (all-take Fits m c h, all-drop Fits m c h)
 
 -- each half has m entries or what is left
-pub half-most : (k m r : ℕ) (c : List Entry) → m ≤ r → length c ≤ m + r → (length (pathHalf k m c) ≤ r) × (length (sideHalf k m c) ≤ r)
+pub half-most : (k m r : ℕ) (c : List Entry) → m ≤ r → length c ≤ m + r → (length (pathHalf k m c) ≤ r) ×
+    (length (sideHalf k m c) ≤ r)
 half-most k m r c a b = go (turn k m c)
   where
     lt : length (take m c) ≤ r
@@ -60,7 +61,8 @@ module _ (k a : ℕ) (k-fits : k < fourBytes) (a-fits : a < fourBytes) where
   one-fits : (e : Entry) → Fits e → All Fits (put k a (e ∷ []))
   one-fits e h = go (ltb (e .key) k) (eqb (e .key) k)
     where
-      go : (t u : Bool) → All Fits (pick t (e ∷ record { key = k; addr = a } ∷ []) (record { key = k; addr = a } ∷ pick u [] (e ∷ [])))
+      go : (t u : Bool) → All Fits (pick t (e ∷ record { key = k; addr = a } ∷ [])
+          (record { key = k; addr = a } ∷ pick u [] (e ∷ [])))
       go true u = (h, ((k-fits, a-fits), tt))
       go false true = ((k-fits, a-fits), tt)
       go false false = ((k-fits, a-fits), (h, tt))
@@ -73,7 +75,8 @@ module _ (k a : ℕ) (k-fits : k < fourBytes) (a-fits : a < fourBytes) where
   one-most : (e : Entry) → length (put k a (e ∷ [])) ≤ 2
   one-most e = go (ltb (e .key) k) (eqb (e .key) k)
     where
-      go : (t u : Bool) → length (pick t (e ∷ record { key = k; addr = a } ∷ []) (record { key = k; addr = a } ∷ pick u [] (e ∷ []))) ≤ 2
+      go : (t u : Bool) → length (pick t (e ∷ record { key = k; addr = a } ∷ []) (record { key = k; addr = a } ∷ pick u
+          [] (e ∷ []))) ≤ 2
       go true u = omega arith
       go false true = omega arith
       go false false = omega arith
@@ -90,7 +93,10 @@ module _ (k a : ℕ) (k-fits : k < fourBytes) (a-fits : a < fourBytes) where
         next-low : next (drop m c) 0 < fourBytes
         next-low = next-fits (drop m c) (all-drop Fits m c h)
 
-        go : (t : Bool) → All Fits (record { key = z; addr = pick t (side l) n } ∷ record { key = next (drop m c) 0; addr = pick t n (side l) } ∷ [])
+        go : (t : Bool) → All Fits (record { key = z; addr = pick t (side l) n } ∷ record {
+          key = next (drop m c) 0;
+          addr = pick t n (side l);
+        } ∷ [])
         go true = ((f, side-fits l), ((next-low, n-fits), tt))
         go false = ((f, n-fits), ((next-low, side-fits l), tt))
 
@@ -100,18 +106,21 @@ module _ (k a : ℕ) (k-fits : k < fourBytes) (a-fits : a < fourBytes) where
         low : min (e .key) k < fourBytes
         low = let z = f .0 in omega (arith, z)
 
-        go : (t : Bool) → All Fits (pick t (record { key = min (e .key) k; addr = n } ∷ []) (two k n (side l) (half l) (min (e .key) k) c))
+        go : (t : Bool) → All Fits (pick t (record { key = min (e .key) k; addr = n } ∷ []) (two k n (side l) (half l)
+            (min (e .key) k) c))
         go true = ((low, n-fits), tt)
         go false = two-fits l (half l) (min (e .key) k) c low h
 
     named-most : (l : ℕ) (e : Entry) (c : List Entry) → length (named k n side half l e c) ≤ 2
     named-most l e c = go (leb (length c) (2 * half l))
       where
-        go : (t : Bool) → length (pick t (record { key = min (e .key) k; addr = n } ∷ []) (two k n (side l) (half l) (min (e .key) k) c)) ≤ 2
+        go : (t : Bool) → length (pick t (record { key = min (e .key) k; addr = n } ∷ []) (two k n (side l) (half l)
+            (min (e .key) k) c)) ≤ 2
         go true = omega arith
         go false = omega arith
 
-module _ (g : Geometry) (shape : Shape g) (n : ℕ) (few : pagesOf g n + g .pages < fourBytes) (k a : ℕ) (k-low : k < fourBytes)
+module _ (g : Geometry) (shape : Shape g) (n : ℕ) (few : pagesOf g n + g .pages < fourBytes) (k a : ℕ)
+    (k-low : k < fourBytes)
     (a-low : a < fourBytes)
     (c : Chip) (whole : Whole g n c) (all-fit : (q l : ℕ) → All Fits (c .nodes q l)) (high : suc (c .level) ≤ g .top)
     (not-high : tooHigh g c k ≡ false) where
@@ -150,14 +159,17 @@ module _ (g : Geometry) (shape : Shape g) (n : ℕ) (few : pagesOf g n + g .page
 
   -- the halves of a level below the root
   cut-most : (j : ℕ) → 1 ≤ j → j ≤ c .level
-      → (length (pathHalf k (half g j) (lists j)) ≤ 2 * half g j) × (length (sideHalf k (half g j) (lists j)) ≤ 2 * half g j)
-  cut-most j b d = let s = shape .some j b (omega (arith, d, high)) in let w = lists-most j b d in half-most k (half g j) (2 * half g j) (lists j)
+      → (length (pathHalf k (half g j) (lists j)) ≤ 2 * half g j) ×
+      (length (sideHalf k (half g j) (lists j)) ≤ 2 * half g j)
+  cut-most j b d = let s = shape .some j b (omega (arith, d, high)) in let w = lists-most j b d in
+      half-most k (half g j) (2 * half g j) (lists j)
       (omega arith) (omega (arith, w, s))
 
   crown-most : grows ≡ true
       → (length (pathHalf k (2 * half g (suc (c .level))) (lists (suc (c .level)))) ≤ 2 * half g (suc (c .level))) ×
       (length (sideHalf k (2 * half g (suc (c .level))) (lists (suc (c .level)))) ≤ 2 * half g (suc (c .level)))
-  crown-most e = let u = grow-all g shape n k a k-low c whole e in half-most k (2 * half g (suc (c .level))) (2 * half g (suc (c .level)))
+  crown-most e = let u = grow-all g shape n k a k-low c whole e in
+      half-most k (2 * half g (suc (c .level))) (2 * half g (suc (c .level)))
       (lists (suc (c .level))) (omega arith) (omega (arith, u .1))
 
   path-part-most : (j : ℕ) → 1 ≤ j → j ≤ c .level → length (pathPart k (half g) j (lists j)) ≤ slotsOf g j
@@ -242,7 +254,8 @@ module _ (g : Geometry) (shape : Shape g) (n : ℕ) (few : pagesOf g n + g .page
           let u = grow-all g shape n k a k-low c whole e in
           parts-most g shape (suc (suc (c .level))) (mainList g n c k a) (omega arith) (omega (arith, u .0)) fits
           (λ j b q. by-le j (c .level) (λ z. rw (le-leb j (c .level) z) (path-part-most j b z))
-          (λ z. let y : j ≡ suc (c .level) = omega (arith, z, q) in rw (lt-leb j (c .level) z, e, eq-eqb j (suc (c .level)) y, y)
+          (λ z. let y : j ≡ suc (c .level) = omega (arith, z, q) in
+          rw (lt-leb j (c .level) z, e, eq-eqb j (suc (c .level)) y, y)
           (let w = crown-most e .0 in let s = shape .even (suc (c .level)) in omega (arith, w, s))))
           (rw (
             lt-leb (suc (suc (c .level))) (c .level) (omega arith),

@@ -62,7 +62,8 @@ remove-most k es = splice-most (λ x. remove k (x ∷ [])) k 0 es one
         go true = omega arith
         go false = omega arith
 
-pub kept-fits : (n : ℕ) → n < fourBytes → (l : ℕ) (e : Entry) (c : List Entry) → Fits e → All Fits c → All Fits (kept n l e c)
+pub kept-fits : (n : ℕ) → n < fourBytes → (l : ℕ) (e : Entry) (c : List Entry) → Fits e → All Fits c
+    → All Fits (kept n l e c)
 kept-fits n q l e [] f h = tt
 kept-fits n q l e (x ∷ c) f h = ((f .0, q), tt)
 
@@ -71,15 +72,18 @@ kept-most n l e [] = omega arith
 kept-most n l e (x ∷ c) = omega arith
 
 -- the collapsed root is a node or the list itself
-pub collapse-all : (P : Entry → Type 0) (r : Nodes) → ((q l : ℕ) → All P (r q l)) → (l : ℕ) (c : List Entry) → All P c → All P (collapse r l c .list)
+pub collapse-all : (P : Entry → Type 0) (r : Nodes) → ((q l : ℕ) → All P (r q l)) → (l : ℕ) (c : List Entry) → All P c
+    → All P (collapse r l c .list)
 unfolding collapse
 collapse-all P r all zero c h = h
 collapse-all P r all (suc l) [] h = h
 collapse-all P r all (suc l) (x ∷ []) h = collapse-all P r all l (r (x .addr) (suc l)) (all (x .addr) (suc l))
 collapse-all P r all (suc l) (x ∷ y ∷ c) h = h
 
-module _ (g : Geometry) (shape : Shape g) (n : ℕ) (few : pagesOf g n + g .pages < fourBytes) (k : ℕ) (k-low : k < fourBytes)
-    (base : List Entry) (img : List ℕ) (keeps : Keeps g n base img) (present : isNone (sought (chipOf g n img) k) ≡ false)
+module _ (g : Geometry) (shape : Shape g) (n : ℕ) (few : pagesOf g n + g .pages < fourBytes) (k : ℕ)
+    (k-low : k < fourBytes)
+    (base : List Entry) (img : List ℕ) (keeps : Keeps g n base img) (present : isNone (sought (chipOf g n img) k)
+    ≡ false)
     (room : g .pages + 1 ≤ count (pagesOf g n) (chipOf g n img .er)) (low : maxSeq g n img + 1 < 4294967295) where
   abbrev c : Chip
   c = chipOf g n img
@@ -120,7 +124,8 @@ module _ (g : Geometry) (shape : Shape g) (n : ℕ) (few : pagesOf g n + g .page
   unfolding deleteList
   lists-most j b d =
       let w = path-most (c .nodes) k (removeIn k) (kept N) 0 (remove-most k) (kept-most N) (fitOf t (c .er)) (λ l. 2 * half g l) (c .level) fourBytes
-      (theRoot c) (λ i. let z = whole .sound .rooted .least i in omega (arith, z)) (whole .sound .rooted .rises) j b d in
+      (theRoot c) (λ i. let z = whole .sound .rooted .least i in
+      omega (arith, z)) (whole .sound .rooted .rises) j b d in
       let e = shape .even j in
       omega (arith, w, e)
 
@@ -178,9 +183,16 @@ module _ (g : Geometry) (shape : Shape g) (n : ℕ) (few : pagesOf g n + g .page
     stays p l h = rw (ne-eqb p N (λ z. new-side g (shape-core g shape) n c (whole .r2) 1 free 1 l (omega arith) (omega arith)
         (subst (fitOf t (c .er) (suc l)) z h))) refl
 
-    final-is : e′ ≡ record { er = taken (g .pages) n (ahead g n c) 1 .er; seq = e′ .seq; nodes = e′ .nodes; level = top .level; root = N }
+    final-is : e′ ≡ record {
+      er = taken (g .pages) n (ahead g n c) 1 .er;
+      seq = e′ .seq;
+      nodes = e′ .nodes;
+      level = top .level;
+      root = N;
+    }
     unfolding rooted taken
-    final-is = let z : height - 1 ≡ top .level = omega arith in λ i. record { er = after N (c .er); seq = e′ .seq; nodes = e′ .nodes; level = z i; root = N }
+    final-is = let z : height - 1 ≡ top .level = omega arith in
+        λ i. record { er = after N (c .er); seq = e′ .seq; nodes = e′ .nodes; level = z i; root = N }
 
     final-done : Whole g n e′ × (mapOf e′ ≡ remove k (mapOf c)) × R8 g n e′ × Stands g n c 1 (deleteCrest c N k) e′
     final-done =
@@ -191,7 +203,8 @@ module _ (g : Geometry) (shape : Shape g) (n : ℕ) (few : pagesOf g n + g .page
           record {
             root-is = ap (λ (x : Chip). x .root) final-is;
             level-is = ap (λ (x : Chip). x .level) final-is;
-            topped = topped g shape n c c 0 1 (builtView g q height (leftList g n c k)) (whole .r2) (let p = some-page g (shape-core g shape) in omega (arith, room, p))
+            topped = topped g shape n c c 0 1 (builtView g q height (leftList g n c k)) (whole .r2)
+                (let p = some-page g (shape-core g shape) in omega (arith, room, p))
                 number-is (omega arith) (omega arith) refl;
           },
         )
@@ -201,7 +214,8 @@ module _ (g : Geometry) (shape : Shape g) (n : ℕ) (few : pagesOf g n + g .page
   store-is = refl
 
   -- the deletion's own store
-  pub delete-own : Updated g n (Stands g n c 1 (deleteCrest c N k)) base (remove k base) img (deleteStore g n (maxSeq g n img) c k ∷ []) 1 0
+  pub delete-own : Updated g n (Stands g n c 1 (deleteCrest c N k)) base (remove k base) img
+      (deleteStore g n (maxSeq g n img) c k ∷ []) 1 0
   unfolding applyAll
   delete-own =
       updated g shape n (Stands g n c 1 (deleteCrest c N k)) base (remove k base) img [] c 0 0 height (leftList g n c k) (deleteStore g n (maxSeq g n img) c k)

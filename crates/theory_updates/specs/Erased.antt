@@ -66,7 +66,8 @@ last-root g n img held top =
     (λ e. omega (arith, y, e, top)))
 
 -- ---- the record
-module _ (g : Geometry) (shape : Shape g) (n : ℕ) (img : List ℕ) (held : Held g n img) (v : ℕ) (v-in : v < n) (sw : Sweeping g n v 0 (chipOf g n img))
+module _ (g : Geometry) (shape : Shape g) (n : ℕ) (img : List ℕ) (held : Held g n img)
+    (v : ℕ) (v-in : v < n) (sw : Sweeping g n v 0 (chipOf g n img))
     (o : Opened) (h : Beside) (t : Tracks g n o img h) where
   abbrev c : Chip
   c = chipOf g n img
@@ -93,11 +94,13 @@ module _ (g : Geometry) (shape : Shape g) (n : ℕ) (img : List ℕ) (held : Hel
 
   er-own : (j : ℕ) → j < g .pages → erased g then (g .pages * v + j) ≡ true
   unfolding eraseBlock
-  er-own j z = ap (λ (d : Chip). d .er (g .pages * v + j)) chip-is ∙ ap (λ b. pick b true (c .er (g .pages * v + j))) (own (g .pages) v j z)
+  er-own j z = ap (λ (d : Chip). d .er (g .pages * v + j)) chip-is
+      ∙ ap (λ b. pick b true (c .er (g .pages * v + j))) (own (g .pages) v j z)
 
   er-other : (b j : ℕ) → j < g .pages → (b ≡ v → ⊥) → erased g then (g .pages * b + j) ≡ erased g img (g .pages * b + j)
   unfolding eraseBlock
-  er-other b j z d = ap (λ (d : Chip). d .er (g .pages * b + j)) chip-is ∙ ap (λ e. pick e true (c .er (g .pages * b + j))) (other (g .pages) v b j z d)
+  er-other b j z d = ap (λ (d : Chip). d .er (g .pages * b + j)) chip-is
+      ∙ ap (λ e. pick e true (c .er (g .pages * b + j))) (other (g .pages) v b j z d)
 
   frees : count (pagesOf g n) (erased g then) ≡ count (pagesOf g n) (c .er) + g .pages
   frees = ap (λ (d : Chip). count (pagesOf g n) (d .er)) chip-is ∙ erased-frees g shape n v v-in c sw
@@ -135,9 +138,11 @@ module _ (g : Geometry) (shape : Shape g) (n : ℕ) (img : List ℕ) (held : Hel
     small : h .most % fourBytes ≡ h .most
     small = mod-eq-of-lt (subst (λ m. m < fourBytes) top (seq-fits g img (h .root) (held .bytes)))
 
-    next-then : nextErased (g .pages) n (erased g then) (h .root) (h .next) ≡ nextPage (g .pages) n (ahead g n (chipOf g n then))
+    next-then : nextErased (g .pages) n (erased g then) (h .root) (h .next) ≡ nextPage (g .pages) n
+        (ahead g n (chipOf g n then))
     next-then =
-        let last : arg (pagesOf g n) (seqOf g then) ≡ h .root = last-root g n then held-then (number-then ∙ sym most-then) ∙ root-then in
+        let last : arg (pagesOf g n) (seqOf g then) ≡ h .root =
+        last-root g n then held-then (number-then ∙ sym most-then) ∙ root-then in
         let pages = some-page g (shape-core g shape) in
         (λ i. nextErased (g .pages) n (erased g then) (sym last i) (t .next-is i))
         ∙ next-erased (g .pages) n v (ahead g n c) (ahead g n (chipOf g n then)) pages (held .whole .r2) (held-then .whole .r2) (sw .full) er-own er-other
@@ -155,7 +160,8 @@ module _ (g : Geometry) (shape : Shape g) (n : ℕ) (img : List ℕ) (held : Hel
     goes-on =
         let number-is = number-then ∙ sym small in
         let most-is = most-then ∙ sym small in
-        let erased-is : count (pagesOf g n) (erased g then) ≡ o .erased - (h .most - o .most) + g .pages = let a = t .sum-is in let b = t .grown in
+        let erased-is : count (pagesOf g n) (erased g then) ≡ o .erased - (h .most - o .most) + g .pages = let a =
+        t .sum-is in let b = t .grown in
         omega (arith, frees, a, b) in
         λ i. record {
           root = root-then i;
@@ -170,7 +176,8 @@ module _ (g : Geometry) (shape : Shape g) (n : ℕ) (img : List ℕ) (held : Hel
   has-top : (eqb (h .most) (o .most) & not (eqb (o .number) (o .most))) ≡ false → seqOf g img (h .root) ≡ h .most
   has-top e = go (t .crest)
     where
-      go : ((h .most ≡ o .most) × (seqOf g img (h .root) ≡ o .number)) ⊎ (seqOf g img (h .root) ≡ h .most) → seqOf g img (h .root) ≡ h .most
+      go : ((h .most ≡ o .most) × (seqOf g img (h .root) ≡ o .number)) ⊎ (seqOf g img (h .root) ≡ h .most)
+          → seqOf g img (h .root) ≡ h .most
       go (inr z) = z
       go (inl z) = by-eq (o .number) (o .most) (λ y. z .1 ∙ y ∙ sym (z .0))
           (λ y. absurd (true-false _ (and-both _ _ (eq-eqb (h .most) (o .most) (z .0)) (ap not (ne-eqb (o .number) (o .most) y))) e))

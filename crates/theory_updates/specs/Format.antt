@@ -67,7 +67,8 @@ fresh-r2 p n er pos h = record {
         (rw (not-first (p * b + 0) (in-range p n b 0 hb (omega arith)) z) refl)))
 
 -- an empty root on it
-fresh-sound : (t : ℕ) (er : ℕ → Bool) (room most : ℕ → ℕ) (top : ℕ) (r : Nodes) → 0 < t → er 0 ≡ false → ((l : ℕ) → r 0 l ≡ [])
+fresh-sound : (t : ℕ) (er : ℕ → Bool) (room most : ℕ → ℕ) (top : ℕ) (r : Nodes) → 0 < t → er 0 ≡ false
+    → ((l : ℕ) → r 0 l ≡ [])
     → Proper (fitOf t er) room most top r 0 0
 unfolding places gather
 fresh-sound t er room most top r i e empty = record {
@@ -81,10 +82,12 @@ count-one : (s : ℕ) → count s (λ q. pick (eqb 0 q) true false) ≤ 1
 unfolding count
 count-one zero = omega arith
 count-one (suc s) = by-eq 0 s (λ e. let z : count s (λ q. pick (eqb 0 q) true false) ≡ 0 =
-    subst (λ m. count m (λ q. pick (eqb 0 q) true false) ≡ 0) e refl in let b = bit-most (pick (eqb 0 s) true false) in omega (arith, z, b))
+    subst (λ m. count m (λ q. pick (eqb 0 q) true false) ≡ 0) e refl in let b = bit-most (pick (eqb 0 s) true false) in
+    omega (arith, z, b))
     (λ e. rw (ne-eqb 0 s e) (omega (arith, count-one s)))
 
-module _ (g : Geometry) (core : Core g) (n : ℕ) (three : 3 ≤ n) (img : List ℕ) (image : Image g n img) (bytes : Small img) where
+module _ (g : Geometry) (core : Core g) (n : ℕ) (three : 3 ≤ n) (img : List ℕ) (image : Image g n img)
+    (bytes : Small img) where
   abbrev t : ℕ
   t = pagesOf g n
 
@@ -113,7 +116,8 @@ module _ (g : Geometry) (core : Core g) (n : ℕ) (three : 3 ≤ n) (img : List 
   wiped-none zero h q i = absurd (omega (arith, i, mul-zero (g .pages)))
   wiped-none (suc m) h q i =
       ap (λ (x : List ℕ). views g x q) (wiped-more m) ∙ ap (λ (v : Views). v q)
-      (views-erase g core (wiped m) m (block-room g core (wiped m) n (wiped-image m) m h)) ∙ go (inB (g .pages) m q) refl
+      (views-erase g core (wiped m) m (block-room g core (wiped m) n (wiped-image m) m h))
+      ∙ go (inB (g .pages) m q) refl
       (wiped-none m (omega arith) q)
     where
       before : inB (g .pages) m q ≡ false → q < g .pages * m
@@ -133,7 +137,8 @@ module _ (g : Geometry) (core : Core g) (n : ℕ) (three : 3 ≤ n) (img : List 
 
   max-none : topOf t (views g bare) ≡ 0
   unfolding topOf
-  max-none = let w = peak-least t (λ q. views g bare q .seq) 0 (λ i h. let e = ap (λ (x : View). x .seq) (none-at i h) in omega (arith, e)) in
+  max-none = let w = peak-least t (λ q. views g bare q .seq) 0 (λ i h. let e =
+      ap (λ (x : View). x .seq) (none-at i h) in omega (arith, e)) in
       omega (arith, w)
 
   parts : Parts g nothing
@@ -173,7 +178,8 @@ module _ (g : Geometry) (core : Core g) (n : ℕ) (three : 3 ≤ n) (img : List 
   seq-is = ap suc (sym max-none)
 
   pub formatted-chip : chipOf g n formatted ≡ d
-  formatted-chip = ap (chipOf g n) formatted-is ∙ program-root g core bare n (wiped-image n) 0 pos 1 1 nothing parts (omega arith) (omega arith)
+  formatted-chip = ap (chipOf g n) formatted-is
+      ∙ program-root g core bare n (wiped-image n) 0 pos 1 1 nothing parts (omega arith) (omega arith)
       (omega arith) seq-is
 
   whole : Whole g n d
@@ -188,7 +194,8 @@ module _ (g : Geometry) (core : Core g) (n : ℕ) (three : 3 ≤ n) (img : List 
   formatted-held = subst (Held g n) (sym formatted-is) (record {
     image = length-store g (program 0 (built g 1 1 nothing)) bare ∙ wiped-image n;
     bytes = store-small g (program 0 (built g 1 1 nothing)) bare (built-small g 1 1 nothing) (wiped-small n);
-    r1 = program-r1 g core bare n (wiped-image n) 0 pos 1 1 nothing parts (omega arith) (omega arith) (let z = core .top-low in omega (arith, z))
+    r1 = program-r1 g core bare n (wiped-image n) 0 pos 1 1 nothing parts (omega arith) (omega arith) (let z =
+        core .top-low in omega (arith, z))
         (omega arith) (λ q h. rw (none-at q h) (record { high = omega arith; rest = refl; some = λ e. absurd (true-false true refl e) }));
     r3 = program-r3 g core bare n (wiped-image n) 0 pos 1 1 nothing parts (omega arith) (omega arith) seq-is
         (record { differ = λ p q hp hq ep eq e. absurd (true-false true refl (sym (ap (λ (x : View). x .er) (none-at p hp)) ∙ ep)) });
@@ -209,7 +216,8 @@ module _ (g : Geometry) (core : Core g) (n : ℕ) (three : 3 ≤ n) (img : List 
   unfolding rooted places gather live
   formatted-lives =
       let e = ap (λ (x : Chip). livePages t x) formatted-chip in
-      let z : placesOf d ≡ record { page = 0; level = 1 } ∷ [] = ap (λ (es : List Entry). record { page = 0; level = 1 } ∷ gather
+      let z : placesOf d ≡ record { page = 0; level = 1 } ∷ [] =
+      ap (λ (es : List Entry). record { page = 0; level = 1 } ∷ gather
       (places (d .nodes) 0) es) (nodes-none 1) in
       let l = ap (λ (spots : List Place). count t (live spots)) z in
       omega (arith, e, l, count-one t)

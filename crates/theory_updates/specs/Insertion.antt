@@ -61,7 +61,8 @@ pub record Inserted (g : Geometry) (n : ℕ) (c : Chip) (m k a : ℕ) (e : Chip)
   pub fuller : Fuller g m c e
   pub stands : Stands g n c m (insertCrest g c (sidePage g n c) m k a) e
 
-module _ (g : Geometry) (shape : Shape g) (n : ℕ) (few : pagesOf g n + g .pages < fourBytes) (k a : ℕ) (k-low : k < fourBytes)
+module _ (g : Geometry) (shape : Shape g) (n : ℕ) (few : pagesOf g n + g .pages < fourBytes) (k a : ℕ)
+    (k-low : k < fourBytes)
     (a-low : a < fourBytes)
     (base : List Entry) (img : List ℕ) (keeps : Keeps g n base img) (not-high : tooHigh g (chipOf g n img) k ≡ false)
     (room : g .pages + needs g (chipOf g n img) k ≤ count (pagesOf g n) (chipOf g n img .er))
@@ -107,7 +108,8 @@ module _ (g : Geometry) (shape : Shape g) (n : ℕ) (few : pagesOf g n + g .page
   free = omega (arith, room)
 
   high : suc (c .level) ≤ g .top
-  high = height-most g (shape-core g shape) n img (let z = side-erased g (shape-core g shape) n c (whole .r2) m free m (omega (arith, m-is)) (omega arith) .1 in omega (arith, z))
+  high = height-most g (shape-core g shape) n img (let z = side-erased g (shape-core g shape) n c (whole .r2) m free m
+      (omega (arith, m-is)) (omega arith) .1 in omega (arith, z))
       (keeps .held)
 
   all-fit : (q l : ℕ) → All Fits (c .nodes q l)
@@ -125,7 +127,8 @@ module _ (g : Geometry) (shape : Shape g) (n : ℕ) (few : pagesOf g n + g .page
     next-side = ap (nextPage (g .pages) n) (laid .ahead-is)
 
     top : suc i ≤ g .top
-    top = by-test grows (λ e. let u = grow-all g shape n k a k-low c whole e in omega (arith, lt, m-is, cut-le, u .0, bit-most grows))
+    top = by-test grows (λ e. let u = grow-all g shape n k a k-low c whole e in
+        omega (arith, lt, m-is, cut-le, u .0, bit-most grows))
         (λ e. omega (arith, lt, m-is, cut-le, high, ap bit e))
 
     here : (q : ℕ) → q ≡ side (suc i) → d′ .nodes q (suc i) ≡ sideList g n c k a (suc i)
@@ -160,7 +163,8 @@ module _ (g : Geometry) (shape : Shape g) (n : ℕ) (few : pagesOf g n + g .page
   left : (i : ℕ) → i ≤ m → count t (taken (g .pages) n (ahead g n c) i .er) + i ≡ count t (c .er)
   left i q = let z = step (g .pages) n (ahead g n c) (some-page g (shape-core g shape)) (whole .r2) i (omega (arith, q, free)) .left in omega (arith, z)
 
-  next-is : (h l : ℕ) (parts : ℕ → List Entry) (x : List ℕ) → nextPage (g .pages) n (ahead g n (chipOf g n x)) ≡ side l → suc (maxSeq g n x) ≡ seq + l
+  next-is : (h l : ℕ) (parts : ℕ → List Entry) (x : List ℕ) → nextPage (g .pages) n (ahead g n (chipOf g n x)) ≡ side l
+      → suc (maxSeq g n x) ≡ seq + l
       → program (side l) (built g (seq + l) h parts) ≡ nextStore g n h parts x
   unfolding nextStore
   next-is h l parts x e f = ap (λ p. program p (built g (seq + l) h parts)) (sym e)
@@ -179,12 +183,14 @@ module _ (g : Geometry) (shape : Shape g) (n : ℕ) (few : pagesOf g n + g .page
       let z = runs-end g n base img ss (s .chip) i 0 (s .runs) in
       let ci = s .runs .chip-is in
       let ok = side-parts g shape n few k a k-low a-low c whole all-fit high not-high (suc i) (omega arith) lt in
-      let cnt : count t (chipOf g n x .er) ≡ count t (taken (g .pages) n (ahead g n c) i .er) = ap (λ (y : Chip). count t (y .er)) ci ∙ ap (λ (y : Ahead). count t (y .er))
+      let cnt : count t (chipOf g n x .er) ≡ count t (taken (g .pages) n (ahead g n c) i .er) =
+      ap (λ (y : Chip). count t (y .er)) ci ∙ ap (λ (y : Ahead). count t (y .er))
       (s .laid .ahead-is) in
       let l = left i (omega (arith, lt)) in
       let few′ : g .pages + 1 ≤ count t (chipOf g n x .er) = omega (arith, cnt, l, room, lt) in
       let low′ : suc (maxSeq g n x) < 4294967295 = omega (arith, s .max-is, low, lt) in
-      let page : nextPage (g .pages) n (ahead g n (chipOf g n x)) ≡ side (suc i) = ap (λ (y : Chip). nextPage (g .pages) n (ahead g n y)) ci ∙ next-side i lt
+      let page : nextPage (g .pages) n (ahead g n (chipOf g n x)) ≡ side (suc i) =
+      ap (λ (y : Chip). nextPage (g .pages) n (ahead g n y)) ci ∙ next-side i lt
       (s .chip) (s .laid) 0 in
       let e = next-is 0 (suc i) p x page (omega (arith, s .max-is)) in
       let r = side-runs g n base shape x z p ok few′ low′ in
@@ -201,7 +207,8 @@ module _ (g : Geometry) (shape : Shape g) (n : ℕ) (few : pagesOf g n + g .page
             (beside (s .chip) (nextPage (g .pages) n (ahead g n (s .chip))) (builtView g q 0 p)) (i + 1) (suc i) (0 + 0) 0
             (ap (λ (y : Chip). beside y (nextPage (g .pages) n (ahead g n y)) (builtView g q 0 p)) ci) (omega arith) (omega arith) all;
         laid = laid-more i lt (s .chip) (s .laid) q (number x ∙ ap (λ (y : Chip). suc (peak t (y .seq))) ci);
-        max-is = ap (maxSeq g n) (all-append g ss (st ∷ []) img) ∙ ap (λ (u : Store). maxSeq g n (applyStore g u x)) e ∙ mx ∙
+        max-is = ap (maxSeq g n) (all-append g ss (st ∷ []) img) ∙ ap (λ (u : Store). maxSeq g n (applyStore g u x)) e
+            ∙ mx ∙
             (let w : suc (maxSeq g n x) ≡ seq + suc i = omega (arith, s .max-is) in w);
       }
 
@@ -229,7 +236,8 @@ module _ (g : Geometry) (shape : Shape g) (n : ℕ) (few : pagesOf g n + g .page
           let long = cut-levels g shape n k a k-low c whole (suc i) (omega arith) b .1 q in
           let e : min i cuts ≡ i = omega (arith, q) in
           let f : suc i ≡ min (suc i) cuts = omega (arith, q) in
-          let z : sideList g n c k a (suc i) ≡ sideHalf k (half g (suc i)) (lists (suc i)) = rw (le-leb (suc i) (c .level) b) refl in
+          let z : sideList g n c k a (suc i) ≡ sideHalf k (half g (suc i)) (lists (suc i)) =
+          rw (le-leb (suc i) (c .level) b) refl in
           rw (lt-leb (length (lists (suc i))) (2 * half g (suc i)) long)
           (subst (λ j. Sided g n base img k a j (sideStores g seq k side lists i ++
           (sideStore g seq side (suc i) (sideHalf k (half g (suc i)) (lists (suc i))) ∷ []))) f
@@ -239,7 +247,8 @@ module _ (g : Geometry) (shape : Shape g) (n : ℕ) (few : pagesOf g n + g .page
 
       stop : Sided g n base img k a (min i cuts) (sideStores g seq k side lists i) → cuts < suc i → Goal
       stop s q =
-          let short : length (lists (suc i)) ≤ 2 * half g (suc i) = by-le (length (lists (suc i))) (2 * half g (suc i)) (λ z. z)
+          let short : length (lists (suc i)) ≤ 2 * half g (suc i) =
+          by-le (length (lists (suc i))) (2 * half g (suc i)) (λ z. z)
           (λ z. absurd (omega (arith, q, cut-levels g shape n k a k-low c whole (suc i) (omega arith) b .0 z))) in
           let f : min i cuts ≡ min (suc i) cuts = omega (arith, q) in
           rw (le-leb (length (lists (suc i))) (2 * half g (suc i)) short, append-nil (sideStores g seq k side lists i))
@@ -287,7 +296,8 @@ module _ (g : Geometry) (shape : Shape g) (n : ℕ) (few : pagesOf g n + g .page
 
   height-in : (1 ≤ height) × (height ≤ g .top)
   unfolding crownHeight
-  height-in = by-test grows (λ e. let u = grow-all g shape n k a k-low c whole e in rw e (omega arith, omega (arith, u .0)))
+  height-in = by-test grows (λ e. let u = grow-all g shape n k a k-low c whole e in
+      rw e (omega arith, omega (arith, u .0)))
       (λ e. rw e (omega arith, high))
 
   module _ (d : Chip) (laid : Laid g n c k a (cuts + bit grows) d) (q : ℕ) (number-is : q ≡ suc (peak t (d .seq)))
@@ -306,7 +316,8 @@ module _ (g : Geometry) (shape : Shape g) (n : ℕ) (few : pagesOf g n + g .page
 
     er-is : after P (d .er) ≡ taken (g .pages) n (ahead g n c) m .er
     unfolding taken
-    er-is = ap (λ (x : Ahead). after (nextPage (g .pages) n x) (x .er)) (laid .ahead-is) ∙ sym (ap (λ j. taken (g .pages) n (ahead g n c) j .er) m-is)
+    er-is = ap (λ (x : Ahead). after (nextPage (g .pages) n x) (x .er)) (laid .ahead-is)
+        ∙ sym (ap (λ j. taken (g .pages) n (ahead g n c) j .er) m-is)
 
     at-N : (j : ℕ) → 1 ≤ j → j ≤ g .top → e′ .nodes N j ≡ mainList g n c k a j
     unfolding rooted
@@ -317,14 +328,21 @@ module _ (g : Geometry) (shape : Shape g) (n : ℕ) (few : pagesOf g n + g .page
     elsewhere p j h = rw (ne-eqb p P (λ z. h (z ∙ page-is))) refl
 
     at-side : (j : ℕ) → 1 ≤ j → j < m → e′ .nodes (side j) j ≡ sideList g n c k a j
-    at-side j b h = elsewhere (side j) j (λ z. let w = side-inj g (shape-core g shape) n c (whole .r2) m free j m b (omega (arith, h)) (omega (arith, m-is))
+    at-side j b h = elsewhere (side j) j (λ z. let w =
+        side-inj g (shape-core g shape) n c (whole .r2) m free j m b (omega (arith, h)) (omega (arith, m-is))
         (omega arith) z in omega (arith, w, h)) ∙ laid .sides j b (omega (arith, h, m-is))
 
     stays : (p l : ℕ) → fitOf t (c .er) (suc l) p → e′ .nodes p (suc l) ≡ c .nodes p (suc l)
     stays p l h = elsewhere p (suc l) (λ z. new-side g (shape-core g shape) n c (whole .r2) m free m l (omega (arith, m-is)) (omega arith)
         (subst (fitOf t (c .er) (suc l)) z h)) ∙ laid .stays p l h
 
-    final-is : e′ ≡ record { er = taken (g .pages) n (ahead g n c) m .er; seq = e′ .seq; nodes = e′ .nodes; level = height - 1; root = N }
+    final-is : e′ ≡ record {
+      er = taken (g .pages) n (ahead g n c) m .er;
+      seq = e′ .seq;
+      nodes = e′ .nodes;
+      level = height - 1;
+      root = N;
+    }
     unfolding rooted
     final-is = λ i. record { er = er-is i; seq = e′ .seq; nodes = e′ .nodes; level = height - 1; root = page-is i }
 
@@ -364,16 +382,21 @@ module _ (g : Geometry) (shape : Shape g) (n : ℕ) (few : pagesOf g n + g .page
       let x = applyAll g ss img in
       let ci = s .runs .chip-is in
       let lf = left i (omega (arith, m-is)) in
-      let cnt : count t (s .chip .er) ≡ count t (taken (g .pages) n (ahead g n c) i .er) = ap (λ (y : Ahead). count t (y .er)) (s .laid .ahead-is) in
-      let chip-most : peak t (s .chip .seq) ≡ peak t (c .seq) + i = sym (ap (λ (y : Chip). peak t (y .seq)) ci) ∙ s .max-is in
-      let page : nextPage (g .pages) n (ahead g n (chipOf g n x)) ≡ N = ap (λ (y : Chip). nextPage (g .pages) n (ahead g n y)) ci ∙ page-is (s .chip) (s .laid)
+      let cnt : count t (s .chip .er) ≡ count t (taken (g .pages) n (ahead g n c) i .er) =
+      ap (λ (y : Ahead). count t (y .er)) (s .laid .ahead-is) in
+      let chip-most : peak t (s .chip .seq) ≡ peak t (c .seq) + i = sym (ap (λ (y : Chip). peak t (y .seq)) ci)
+      ∙ s .max-is in
+      let page : nextPage (g .pages) n (ahead g n (chipOf g n x)) ≡ N =
+      ap (λ (y : Chip). nextPage (g .pages) n (ahead g n y)) ci ∙ page-is (s .chip) (s .laid)
       (suc (peak t (s .chip .seq))) refl chip-most in
       let st = program N (built g (seq + m) height (mainList g n c k a)) in
       let e = next-is height m (mainList g n c k a) x page (omega (arith, s .max-is, m-is)) in
-      let u = updated g shape n (Inserted g n c m k a) base (put k a base) img ss (s .chip) i 0 height (mainList g n c k a) st (s .runs) (omega (arith, cnt, lf, room, m-is))
+      let u = updated g shape n (Inserted g n c m k a) base (put k a base) img ss (s .chip) i 0 height
+      (mainList g n c k a) st (s .runs) (omega (arith, cnt, lf, room, m-is))
       (omega (arith, s .max-is, low, m-is))
       (main-parts g shape n few k a k-low a-low c whole all-fit high not-high) (height-in .0) (height-in .1) e
-      (λ q num. let w = final-done (s .chip) (s .laid) q num chip-most in (w .0, w .1 ∙ ap (put k a) (keeps .map-is), w .2, w .3)) in
+      (λ q num. let w = final-done (s .chip) (s .laid) q num chip-most in
+      (w .0, w .1 ∙ ap (put k a) (keeps .map-is), w .2, w .3)) in
       let z : i + 1 ≡ m = omega (arith, m-is) in
       subst (λ j. Updated g n (Inserted g n c m k a) base (put k a base) img (sideStores g seq k side lists (c .level) ++
       (crownStore g seq k side (suc (c .level)) (lists (suc (c .level))) ++ (st ∷ []))) j 0) z

@@ -1,4 +1,5 @@
--- The record that opening gives of a held image names no more levels than a tree may have: cut or not, they are the image's. Assumes nothing.
+-- The record that opening gives of a held image names no more levels than a tree may have: cut or not, they are the
+-- image's. Assumes nothing.
 use mathlib.Core.Path.{_≡_}
 use mathlib.Core.List.{List}
 use Prim.Native.Nat.{ℕ}

@@ -37,7 +37,8 @@ not-worn g n img h = ltb-false (g .worn) (maxSeq g n img) h
 abbrev pub programMost : Geometry → ℕ → ℕ
 programMost g k = suc k * (g .pages - 1) + k
 
-module _ (g : Geometry) (shape : Shape g) (n : ℕ) (few : pagesOf g n + g .pages < fourBytes) (base : List Entry) (img : List ℕ)
+module _ (g : Geometry) (shape : Shape g) (n : ℕ) (few : pagesOf g n + g .pages < fourBytes) (base : List Entry)
+    (img : List ℕ)
     (keeps : Keeps g n base img) (unworn : maxSeq g n img ≤ g .worn) where
   abbrev c : Chip
   c = chipOf g n img
@@ -46,20 +47,26 @@ module _ (g : Geometry) (shape : Shape g) (n : ℕ) (few : pagesOf g n + g .page
   t = pagesOf g n
 
   -- an image that is not WORN has numbers left for k + 1 rounds and k own pages
-  pub numbers : (k : ℕ) → k ≤ g .top → (maxSeq g n img + suc k * g .pages < 4294967295) × (maxSeq g n img + (suc k * (g .pages - 1) + k) < 4294967295)
+  pub numbers : (k : ℕ) → k ≤ g .top → (maxSeq g n img + suc k * g .pages < 4294967295) ×
+      (maxSeq g n img + (suc k * (g .pages - 1) + k) < 4294967295)
   numbers k h =
-      let a : suc k * g .pages ≤ (g .top + 1) * g .pages = mul-le-mul-right (g .pages) (let z : suc k ≤ g .top + 1 = omega (arith, h) in z) in
-      let b : suc k * (g .pages - 1) ≤ suc k * g .pages = mul-le-mul-left (suc k) (let z : g .pages - 1 ≤ g .pages = omega arith in z) in
+      let a : suc k * g .pages ≤ (g .top + 1) * g .pages = mul-le-mul-right (g .pages) (let z : suc k ≤ g .top + 1 =
+      omega (arith, h) in z) in
+      let b : suc k * (g .pages - 1) ≤ suc k * g .pages = mul-le-mul-left (suc k) (let z : g .pages - 1 ≤ g .pages =
+      omega arith in z) in
       let w = shape .worn-low in
       (omega (arith, a, w, unworn), omega (arith, a, b, w, h, unworn))
 
   -- not ROOM
-  pub roomy : (k : ℕ) → 1 ≤ k → roomless g (freePages g n c) k ≡ false → count t (live (placesOf c)) + (2 * g .pages + k) ≤ suc t
+  pub roomy : (k : ℕ) → 1 ≤ k → roomless g (freePages g n c) k ≡ false
+      → count t (live (placesOf c)) + (2 * g .pages + k) ≤ suc t
   unfolding roomless
-  roomy k h r = let z = ltb-false (freePages g n c) (2 * g .pages - 1 + k) r in let p = some-page g (shape-core g shape) in omega (arith, z, p, h)
+  roomy k h r = let z = ltb-false (freePages g n c) (2 * g .pages - 1 + k) r in let p =
+      some-page g (shape-core g shape) in omega (arith, z, p, h)
 
   -- an insertion
-  module _ (some-pages : 1 ≤ t) (k a : ℕ) (k-low : k < fourBytes) (a-low : a < fourBytes) (not-high : tooHigh g c k ≡ false)
+  module _ (some-pages : 1 ≤ t) (k a : ℕ) (k-low : k < fourBytes) (a-low : a < fourBytes) (not-high : tooHigh g c k
+      ≡ false)
       (not-room : roomless g (freePages g n c) (needs g c k) ≡ false) where
     abbrev m : ℕ
     m = needs g c k
@@ -89,7 +96,8 @@ module _ (g : Geometry) (shape : Shape g) (n : ℕ) (few : pagesOf g n + g .page
     then-space : count t (live (placesOf (chipOf g n then))) + (2 * g .pages + needs g (chipOf g n then) k) ≤ suc t
     then-space = let z = after-collect .lives in omega (arith, z, roomy m m-some not-room, same-m)
 
-    own : Updated g n (Inserted g n (chipOf g n then) (needs g (chipOf g n then) k) k a) base (put k a base) then (ownStores g n (maxSeq g n then) (chipOf g n then) (needs g (chipOf g n then) k) k a)
+    own : Updated g n (Inserted g n (chipOf g n then) (needs g (chipOf g n then) k) k a) base (put k a base) then
+        (ownStores g n (maxSeq g n then) (chipOf g n then) (needs g (chipOf g n then) k) k a)
         (needs g (chipOf g n then) k) 0
     own = own-updated g shape n few k a k-low a-low base then (after-collect .keeps) (after-collect .alike .high-is k k-low ∙ not-high)
         (let z = after-collect .room in omega (arith, z, same-m)) then-low then-space
@@ -118,7 +126,8 @@ module _ (g : Geometry) (shape : Shape g) (n : ℕ) (few : pagesOf g n + g .page
     -- the collector leaves the number of nodes and levels as it was
     fuller : (e : Chip) → Fuller g m (chipOf g n then) e → Fuller g m c e
     fuller e f = record {
-      nodes-are = (let x = after-collect .alike .level-is in let y = after-collect .alike .nodes-is in omega (arith, f .nodes-are, x, y));
+      nodes-are = (let x = after-collect .alike .level-is in let y = after-collect .alike .nodes-is in
+          omega (arith, f .nodes-are, x, y));
       filled = λ h. f .filled (after-collect .alike .filled-is h);
     }
 
@@ -131,17 +140,20 @@ module _ (g : Geometry) (shape : Shape g) (n : ℕ) (few : pagesOf g n + g .page
     last-done =
         let u = subst (λ j. Updated g n (Inserted g n (chipOf g n then) j k a) base (put k a base) then
         (ownStores g n (maxSeq g n then) (chipOf g n then) j k a) j 0) same-m own in
-        let w = updated-after g n (Inserted g n (chipOf g n then) m k a) Last (λ e f. (fuller e (f .fuller), f .stands)) base (put k a base) img (collectStores g n m (suc m) img) (ownStores g n (maxSeq g n then) (chipOf g n then) m k a)
+        let w = updated-after g n (Inserted g n (chipOf g n then) m k a) Last (λ e f. (fuller e (f .fuller), f .stands))
+        base (put k a base) img (collectStores g n m (suc m) img) (ownStores g n (maxSeq g n then) (chipOf g n then) m k a)
         (collect g n m (suc m) c) (suc m * (g .pages - 1)) m (suc m) 0 (after-collect .runs) u in
         let z : suc m + 0 ≡ suc m = omega arith in
         subst (λ j. Updated g n Last base (put k a base) img (collectStores g n m (suc m) img ++ ownStores g n (maxSeq g n then) (chipOf g n then) m k a)
         (programMost g m) j) z w
 
-    pub insert-updated : Updated g n (Fuller g m c) base (put k a base) img (insertStores g n img k a) (programMost g m) (suc m)
+    pub insert-updated : Updated g n (Fuller g m c) base (put k a base) img (insertStores g n img k a) (programMost g m)
+        (suc m)
     insert-updated = updated-also g n Last (Fuller g m c) (λ e f. f .0) base (put k a base) img (insertStores g n img k a) (programMost g m) (suc m) last-done
 
     -- where the root stands at the end
-    pub insert-stands : Stands g n (chipOf g n then) m (insertCrest g (chipOf g n then) (sidePage g n (chipOf g n then)) m k a) (chipOf g n (applyAll g (insertStores g n img k a) img))
+    pub insert-stands : Stands g n (chipOf g n then) m (insertCrest g (chipOf g n then) (sidePage g n (chipOf g n then))
+        m k a) (chipOf g n (applyAll g (insertStores g n img k a) img))
     insert-stands = last-done .also .1
 
   -- a deletion
@@ -150,7 +162,8 @@ module _ (g : Geometry) (shape : Shape g) (n : ℕ) (few : pagesOf g n + g .page
     one-top = let z = shape .top-low in omega (arith, z)
 
     collected-one : Collected g shape n few base 1 img
-    collected-one = collect-done g shape n few base 1 img keeps (let z = keeps .r8 in omega (arith, z)) (numbers 1 one-top .0)
+    collected-one = collect-done g shape n few base 1 img keeps (let z = keeps .r8 in
+        omega (arith, z)) (numbers 1 one-top .0)
 
     abbrev left : List ℕ
     left = applyAll g (collectStores g n 1 2 img) img
@@ -163,7 +176,8 @@ module _ (g : Geometry) (shape : Shape g) (n : ℕ) (few : pagesOf g n + g .page
 
     still : isNone (sought (chipOf g n left) k) ≡ false
     still = ap isNone (sought-map g n (chipOf g n left) (collected-one .keeps .held .whole) k k-low ∙ ap (find k)
-        (collected-one .keeps .map-is ∙ sym (keeps .map-is)) ∙ sym (sought-map g n c (keeps .held .whole) k k-low)) ∙ present
+        (collected-one .keeps .map-is ∙ sym (keeps .map-is)) ∙ sym (sought-map g n c (keeps .held .whole) k k-low))
+        ∙ present
 
     pub delete-low : maxSeq g n left + 1 < 4294967295
     delete-low =
@@ -172,9 +186,13 @@ module _ (g : Geometry) (shape : Shape g) (n : ℕ) (few : pagesOf g n + g .page
         let z = numbers 1 one-top .1 in
         omega (arith, x, y, z)
 
-    pub delete-updated : Updated g n (Stands g n (chipOf g n left) 1 (deleteCrest (chipOf g n left) (sidePage g n (chipOf g n left) 1) k)) base (remove k base) img (deleteStores g n img k) (programMost g 1) 2
+    pub delete-updated : Updated g n (Stands g n (chipOf g n left) 1
+        (deleteCrest (chipOf g n left) (sidePage g n (chipOf g n left) 1) k)) base (remove k base) img (deleteStores g n img k) (programMost g 1) 2
     unfolding deleteStores
     delete-updated =
-        updated-after g n (Stands g n (chipOf g n left) 1 (deleteCrest (chipOf g n left) (sidePage g n (chipOf g n left) 1) k)) (Stands g n (chipOf g n left) 1 (deleteCrest (chipOf g n left) (sidePage g n (chipOf g n left) 1) k)) (λ x z. z) base (remove k base) img (collectStores g n 1 2 img) (deleteStore g n (maxSeq g n left) (chipOf g n left) k ∷ [])
+        updated-after g n (Stands g n (chipOf g n left) 1
+        (deleteCrest (chipOf g n left) (sidePage g n (chipOf g n left) 1) k))
+        (Stands g n (chipOf g n left) 1 (deleteCrest (chipOf g n left) (sidePage g n (chipOf g n left) 1) k))
+        (λ x z. z) base (remove k base) img (collectStores g n 1 2 img) (deleteStore g n (maxSeq g n left) (chipOf g n left) k ∷ [])
         (collect g n 1 2 c) (2 * (g .pages - 1)) 1 2 0 (collected-one .runs)
         (delete-own g shape n few k k-low base left (collected-one .keeps) still (collected-one .room) delete-low)

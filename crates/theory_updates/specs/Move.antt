@@ -34,7 +34,8 @@ use Rattle.model.specs.Legal.{Legal}
 use Rattle.theory_images.specs.Writes.{nextStore, put-legal, put-max, root-chip, root-held}
 use Rattle.theory_updates.specs.Table.{off-table, parts-most}
 
-module _ (g : Geometry) (shape : Shape g) (n : ℕ) (few : pagesOf g n + g .pages < fourBytes) (img : List ℕ) (held : Held g n img) (p : ℕ)
+module _ (g : Geometry) (shape : Shape g) (n : ℕ) (few : pagesOf g n + g .pages < fourBytes) (img : List ℕ)
+    (held : Held g n img) (p : ℕ)
     (free : 1 ≤ count (pagesOf g n) (chipOf g n img .er)) where
   abbrev t : ℕ
   t = pagesOf g n
@@ -88,7 +89,8 @@ module _ (g : Geometry) (shape : Shape g) (n : ℕ) (few : pagesOf g n + g .page
       (λ es h. h) named-fits (node-fits g img (held .bytes)) (c .level) (theRoot c) l))
       (λ l i q. shut (λ (x : List Entry). length x ≤ slotsOf g l) (leb a l) (path l) (omega arith)
       (let w = path-most (c .nodes) (moveKey c p) same (renamed a N) 0 (λ es. omega arith) named-one (fitOf t (c .er)) (λ l. 2 * half g l)
-      (c .level) fourBytes (theRoot c) some-root (held .whole .sound .rooted .rises) l i (omega (arith, q)) in let e = shape .even l in
+      (c .level) fourBytes (theRoot c) some-root (held .whole .sound .rooted .rises) l i (omega (arith, q)) in let e =
+      shape .even l in
       omega (arith, w, e)))
       (shut (λ (x : List Entry). length x ≤ rootMost g (suc (c .level))) (leb a (suc (c .level))) (path (suc (c .level))) (omega arith)
       (let w = path-top (c .nodes) (moveKey c p) same (renamed a N) 0 (λ es. omega arith) named-one (c .level) (theRoot c) in

@@ -1,4 +1,5 @@
--- The next page once a full block was erased, by the one before: in a partly programmed block it stays. p is a block's pages. Assumes nothing.
+-- The next page once a full block was erased, by the one before: in a partly programmed block it stays. p is a block's
+-- pages. Assumes nothing.
 use mathlib.Core.Path.{_≡_, refl, ap, sym, subst, _∙_}
 use mathlib.Core.Bool.{Bool, true, false}
 use Prim.Native.Nat.{ℕ, _+_, _-_, _*_, _/_, _%_, _<_, _≤_, min}
@@ -16,15 +17,18 @@ use Rattle.live_beside.specs.Collect.{nextErased}
 use Rattle.theory_updates.specs.Beside.{next-past}
 
 -- a partly programmed block: its first page is programmed, its last one erased
-mixed-parts : (p : ℕ) (er : ℕ → Bool) (b : ℕ) → mixed p er b ≡ true → (er (p * b + 0) ≡ false) × (er (p * b + (p - 1)) ≡ true)
+mixed-parts : (p : ℕ) (er : ℕ → Bool) (b : ℕ) → mixed p er b ≡ true → (er (p * b + 0) ≡ false) ×
+    (er (p * b + (p - 1)) ≡ true)
 mixed-parts p er b h = go (er (p * b + 0)) refl h
   where
-    go : (t : Bool) → er (p * b + 0) ≡ t → pick t false (er (p * b + (p - 1))) ≡ true → (er (p * b + 0) ≡ false) × (er (p * b + (p - 1)) ≡ true)
+    go : (t : Bool) → er (p * b + 0) ≡ t → pick t false (er (p * b + (p - 1))) ≡ true → (er (p * b + 0) ≡ false) ×
+        (er (p * b + (p - 1)) ≡ true)
     go true e i = absurd (true-false false i refl)
     go false e i = (e, i)
 
 -- where no block is partly programmed it is page 0 of the first wholly erased one met
-next-round : (p n : ℕ) (w : Ahead) → 1 ≤ p → R2 p n (w .er) → ((c : ℕ) → c < n → mixed p (w .er) c ≡ false) → 1 ≤ count (p * n) (w .er)
+next-round : (p n : ℕ) (w : Ahead) → 1 ≤ p → R2 p n (w .er) → ((c : ℕ) → c < n → mixed p (w .er) c ≡ false)
+    → 1 ≤ count (p * n) (w .er)
     → nextPage p n w ≡ p * round n (w .last / p) (λ c. w .er (p * c + 0))
 unfolding nextBlock
 next-round p n w pos r2 none free =
@@ -33,7 +37,8 @@ next-round p n w pos r2 none free =
     let m : least n (mixed p (w .er)) ≡ n = least-none (mixed p (w .er)) n none in
     let t : ltb (least n (mixed p (w .er))) n ≡ false = rw m (le-ltb n n (omega arith)) in
     let z : b ≡ round n (w .last / p) (λ c. w .er (p * c + 0)) = rw t refl in
-    let last = r2 .mono b (firstIn p (w .er) b) (p - 1) (found .0) (let y = found .1 in omega (arith, y)) (omega arith) (found .2) in
+    let last = r2 .mono b (firstIn p (w .er) b) (p - 1) (found .0) (let y = found .1 in
+    omega (arith, y)) (omega arith) (found .2) in
     let f : firstIn p (w .er) b ≡ 0 = least-of (λ i. w .er (p * b + i)) p 0 (record {
       most = omega arith;
       before = λ i q. absurd (omega arith);
@@ -41,16 +46,20 @@ next-round p n w pos r2 none free =
     }) in
     ap (λ j. p * b + j) f ∙ (let y = ap (λ c. p * c) z in omega (arith, y))
   where
-    head : (b : ℕ) (t : Bool) → w .er (p * b + 0) ≡ t → pick t false (w .er (p * b + (p - 1))) ≡ false → w .er (p * b + (p - 1)) ≡ true → w .er (p * b + 0) ≡ true
+    head : (b : ℕ) (t : Bool) → w .er (p * b + 0) ≡ t → pick t false (w .er (p * b + (p - 1))) ≡ false
+        → w .er (p * b + (p - 1)) ≡ true → w .er (p * b + 0) ≡ true
     head b true e i k = e
     head b false e i k = absurd (true-false (w .er (p * b + (p - 1))) k i)
 
 mod-zero : (p x : ℕ) → 1 ≤ p → p * x % p ≡ 0
-mod-zero p x h = ap (λ y. y % p) (let z : p * x ≡ p * x + 0 = omega arith in z) ∙ mul-add-mod-self-left p x 0 ∙ mod-eq-of-lt (let z : 0 < p = omega arith in z)
+mod-zero p x h = ap (λ y. y % p) (let z : p * x ≡ p * x + 0 = omega arith in z) ∙ mul-add-mod-self-left p x 0
+    ∙ mod-eq-of-lt (let z : 0 < p = omega arith in z)
 
-module _ (p n v : ℕ) (w w′ : Ahead) (pos : 1 ≤ p) (r2 : R2 p n (w .er)) (r2′ : R2 p n (w′ .er)) (full : (i : ℕ) → i < p → w .er (p * v + i) ≡ false)
+module _ (p n v : ℕ) (w w′ : Ahead) (pos : 1 ≤ p) (r2 : R2 p n (w .er)) (r2′ : R2 p n (w′ .er)) (full : (i : ℕ) → i < p
+    → w .er (p * v + i) ≡ false)
     (wiped : (i : ℕ) → i < p → w′ .er (p * v + i) ≡ true)
-    (stays : (b i : ℕ) → i < p → (b ≡ v → ⊥) → w′ .er (p * b + i) ≡ w .er (p * b + i)) (free : 1 ≤ count (p * n) (w′ .er)) where
+    (stays : (b i : ℕ) → i < p → (b ≡ v → ⊥) → w′ .er (p * b + i) ≡ w .er
+    (p * b + i)) (free : 1 ≤ count (p * n) (w′ .er)) where
   abbrev x : ℕ
   x = min (p * n) (nextPage p n w)
 
@@ -92,5 +101,7 @@ module _ (p n v : ℕ) (w w′ : Ahead) (pos : 1 ≤ p) (r2 : R2 p n (w .er)) (r
 
   pub next-erased : nextErased p n (w′ .er) (w′ .last) x ≡ nextPage p n w′
   next-erased = by-test (ltb (least n (mixed p (w .er))) n)
-      (λ e. let z = ltb-true (least n (mixed p (w .er))) n e in in-mixed (least n (mixed p (w .er))) z (least-is (mixed p (w .er)) n .there z))
-      (λ e. let z = ltb-false (least n (mixed p (w .er))) n e in in-none (λ c q. least-is (mixed p (w .er)) n .before c (omega (arith, z, q))))
+      (λ e. let z = ltb-true (least n (mixed p (w .er))) n e in
+      in-mixed (least n (mixed p (w .er))) z (least-is (mixed p (w .er)) n .there z))
+      (λ e. let z = ltb-false (least n (mixed p (w .er))) n e in
+      in-none (λ c q. least-is (mixed p (w .er)) n .before c (omega (arith, z, q))))

@@ -1,5 +1,5 @@
--- An update's own stores by the record are the model's: they hang on the pages of the levels up to the root's and on N alone, and these are the
--- pages to come. Assumes nothing.
+-- An update's own stores by the record are the model's: they hang on the pages of the levels up to the root's and on N
+-- alone, and these are the pages to come. Assumes nothing.
 use mathlib.Core.Path.{_≡_, refl, ap, _∙_}
 use mathlib.Core.List.{List, [], _∷_, _++_}
 use Prim.Native.Nat.{ℕ, zero, suc, _+_, _-_, _*_, _≤_, min}
@@ -35,7 +35,8 @@ module _ (r : Nodes) (k : ℕ) (leaf : List Entry → List Entry) (name name′ 
   edited-alike zero h e = refl
   edited-alike (suc l) h e =
       let below = edited-alike l (λ j b q. h j b (omega (arith, q))) in
-      let one : (x : Entry) → name (suc l) x (edited r k leaf name l x) ≡ name′ (suc l) x (edited r k leaf name′ l x) = λ x.
+      let one : (x : Entry) → name (suc l) x (edited r k leaf name l x) ≡ name′ (suc l) x (edited r k leaf name′ l x) =
+      λ x.
       h (suc l) (omega arith) (omega arith) x (edited r k leaf name l x) ∙ ap (name′ (suc l) x) (below x) in
       ap (λ (f : Entry → List Entry). splice f k (r (e .addr) (suc (suc l)))) (λ i x. one x i)
 
@@ -73,7 +74,8 @@ module _ (g : Geometry) (seq : ℕ) (c : Chip) (side side′ : ℕ → ℕ) (m k
       λ i. a i ++ pick (leb (length (b i)) (2 * half g (suc l))) []
       (program (d i) (built g (seq + suc l) 0 (only (suc l) (sideHalf k (half g (suc l)) (b i)))) ∷ [])
 
-  crown-alike : crownStore g seq k side (suc (c .level)) (lists (suc (c .level))) ≡ crownStore g seq k side′ (suc (c .level)) (lists′ (suc (c .level)))
+  crown-alike : crownStore g seq k side (suc (c .level)) (lists (suc (c .level))) ≡ crownStore g seq k side′
+      (suc (c .level)) (lists′ (suc (c .level)))
   unfolding crownStore sideStore
   crown-alike =
       let l = suc (c .level) in
@@ -81,7 +83,8 @@ module _ (g : Geometry) (seq : ℕ) (c : Chip) (side side′ : ℕ → ℕ) (m k
       let d = same l (omega arith) (omega arith) in
       λ i. pick (fills g l (length (b i))) (program (d i) (built g (seq + l) 0 (only l (sideHalf k (2 * half g l) (b i)))) ∷ []) []
 
-  height-alike : crownHeight g (suc (c .level)) (lists (suc (c .level))) ≡ crownHeight g (suc (c .level)) (lists′ (suc (c .level)))
+  height-alike : crownHeight g (suc (c .level)) (lists (suc (c .level))) ≡ crownHeight g (suc (c .level))
+      (lists′ (suc (c .level)))
   height-alike = ap (crownHeight g (suc (c .level))) (lists-alike (suc (c .level)))
 
   part-alike : (j : ℕ) → insertPart g c k a (side m) side j ≡ insertPart g c k a (side′ m) side′ j
@@ -113,7 +116,8 @@ module _ (g : Geometry) (shape : Shape g) (n : ℕ) (img : List ℕ) (held : Hel
   side-by zero b h = absurd (omega (arith, b))
   side-by (suc l) b h = pages-right g (shape-core g shape) n img held l (omega (arith, h))
 
-  module _ (m k a : ℕ) (levels : suc (c .level) ≤ count (pagesOf g n) (c .er)) (some : 1 ≤ m) (most : m ≤ count (pagesOf g n) (c .er)) where
+  module _ (m k a : ℕ) (levels : suc (c .level) ≤ count (pagesOf g n) (c .er))
+      (some : 1 ≤ m) (most : m ≤ count (pagesOf g n) (c .er)) where
     pub own-by : ownBy g n img (openedIn g n img) m k a ≡ ownStores g n (maxSeq g n img) c m k a
     unfolding ownStoresAt ownStores openedIn
     own-by = ap (λ (d : Chip). ownStoresAt g (maxSeq g n img) d (sidesBy g n img (openedIn g n img)) m k a) (chip-right g (shape-core g shape) n img held)

@@ -1,4 +1,5 @@
--- ROOM by the record and the words is ROOM: no live page is erased, so T − L is at least F; and by R8 there is room for one page. Assumes nothing.
+-- ROOM by the record and the words is ROOM: no live page is erased, so T − L is at least F; and by R8 there is room for
+-- one page. Assumes nothing.
 use mathlib.Core.Path.{_≡_, ap, sym, _∙_}
 use mathlib.Core.Bool.{Bool, true, false}
 use Prim.Native.Nat.{ℕ, zero, suc, _+_, _-_, _*_, _≤_}
@@ -38,15 +39,18 @@ module _ (g : Geometry) (n : ℕ) (c : Chip) (whole : Whole g n c) where
   pub free-most : count (pagesOf g n) (c .er) ≤ freePages g n c
   free-most =
       let z = count-apart (pagesOf g n) (c .er) (live (placesOf c)) (λ j. by-test (c .er j)
-      (λ e. let y = bit-most (c .er j) in let w : bit (live (placesOf c) j) ≡ 0 = ap bit (dead j e) in omega (arith, y, w))
+      (λ e. let y = bit-most (c .er j) in let w : bit (live (placesOf c) j) ≡ 0 = ap bit (dead j e) in
+      omega (arith, y, w))
       (λ e. let y = bit-most (live (placesOf c) j) in let w : bit (c .er j) ≡ 0 = ap bit e in omega (arith, y, w))) in
       omega (arith, z)
 
-  both-same : (k : ℕ) → (roomless g (count (pagesOf g n) (c .er)) k & roomless g (freePages g n c) k) ≡ roomless g (freePages g n c) k
+  both-same : (k : ℕ) → (roomless g (count (pagesOf g n) (c .er)) k & roomless g (freePages g n c) k) ≡ roomless g
+      (freePages g n c) k
   unfolding roomless
   both-same k = by-le (2 * g .pages - 1 + k) (freePages g n c)
       (λ q. rw (le-ltb (freePages g n c) (2 * g .pages - 1 + k) q) (and-none (ltb (count (pagesOf g n) (c .er)) (2 * g .pages - 1 + k))))
-      (λ q. rw (lt-ltb (count (pagesOf g n) (c .er)) (2 * g .pages - 1 + k) (omega (arith, q, free-most))) (and-true (ltb (freePages g n c) (2 * g .pages - 1 + k))))
+      (λ q. rw (lt-ltb (count (pagesOf g n) (c .er)) (2 * g .pages - 1 + k) (omega (arith, q, free-most)))
+      (and-true (ltb (freePages g n c) (2 * g .pages - 1 + k))))
 
   -- R8 leaves room for one page
   module _ (some : 1 ≤ g .pages) (r8 : R8 g n c) where
@@ -54,7 +58,8 @@ module _ (g : Geometry) (n : ℕ) (c : Chip) (whole : Whole g n c) where
     unfolding roomless
     one-roomy k low = le-ltb (freePages g n c) (2 * g .pages - 1 + k) (omega (arith, some, r8, low))
 
-    pub room-same : (k : ℕ) → (ltb 1 k & roomless g (count (pagesOf g n) (c .er)) k & roomless g (freePages g n c) k) ≡ roomless g (freePages g n c) k
+    pub room-same : (k : ℕ) → (ltb 1 k & roomless g (count (pagesOf g n) (c .er)) k & roomless g (freePages g n c) k)
+        ≡ roomless g (freePages g n c) k
     room-same k = by-le k 1
         (λ q. rw (one-roomy k q) (and-none (ltb 1 k & roomless g (count (pagesOf g n) (c .er)) k)))
         (λ q. rw (lt-ltb 1 k q, and-true (roomless g (count (pagesOf g n) (c .er)) k)) (both-same k))

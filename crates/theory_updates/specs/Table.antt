@@ -27,14 +27,17 @@ module _ (g : Geometry) (shape : Shape g) where
   off-table l h b e i = by-le (suc h) l (λ z. z) (λ z. absurd (true-false (inTable g l) (in-table g l i (omega (arith, z, b))) e))
 
   -- levels below h within the slots, level h within the root's, nothing above
-  pub parts-most : (h : ℕ) (parts : ℕ → List Entry) → 1 ≤ h → h ≤ g .top → ((l : ℕ) → 1 ≤ l → l ≤ g .top → All Fits (parts l))
+  pub parts-most : (h : ℕ) (parts : ℕ → List Entry) → 1 ≤ h → h ≤ g .top
+      → ((l : ℕ) → 1 ≤ l → l ≤ g .top → All Fits (parts l))
       → ((l : ℕ) → 1 ≤ l → l < h → length (parts l) ≤ slotsOf g l)
       → length (parts h) ≤ rootMost g h → ((l : ℕ) → h < l → parts l ≡ []) → Parts g parts
-  parts-most h parts a b fits low high above = parts-table g shape h parts fits low (λ q. root-inside h (length (parts h)) q high)
+  parts-most h parts a b fits low high above =
+      parts-table g shape h parts fits low (λ q. root-inside h (length (parts h)) q high)
       (λ l q. ap length (above l q)) bytes
     where
       bytes : (l : ℕ) → 1 ≤ l → l ≤ g .top → length (parts l) < 256
       bytes l i k = by-le (suc l) h (λ z. let x = low l i z in let y = slots-byte l i k in omega (arith, x, y))
-          (λ z. by-eq l h (λ e. let y = shape .byte l i k in let u = ap (λ m. length (parts m)) e in let w = ap (rootMost g) e in
+          (λ z. by-eq l h (λ e. let y = shape .byte l i k in let u = ap (λ m. length (parts m)) e in let w =
+          ap (rootMost g) e in
           omega (arith, high, y, u, w))
           (λ e. let x = ap length (above l (omega (arith, z, e))) in omega (arith, x)))

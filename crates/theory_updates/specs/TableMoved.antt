@@ -34,11 +34,13 @@ abbrev afterMove : ℕ → Chip → ℕ → ℕ → Table → Table
 afterMove m c q new t = tableMoved m (c .nodes) (moveKey c q) (lowLevel (placesOf c) q) (c .level) (theRoot c) new t
 
 -- on any two chips whose lowest live levels are those before and after the move
-module _ (c c′ : Chip) (q new m : ℕ) (lows : Lowered new (lowLevel (placesOf c) q) (placesOf c) (movePath c q) (placesOf c′)) (t : Table)
+module _ (c c′ : Chip) (q new m : ℕ) (lows : Lowered new (lowLevel (placesOf c) q) (placesOf c) (movePath c q)
+    (placesOf c′)) (t : Table)
     (marks : Marked c (t .levels)) (inside : new < length (t .levels)) where
   level-moved : (p : ℕ) → p < length (t .levels) → lowIn (afterMove m c q new t) p ≡ lowLevel (placesOf c′) p
   level-moved p h = by-eq p new
-      (λ z. rw z (moved-new m (c .nodes) (moveKey c q) (lowLevel (placesOf c) q) (c .level) (theRoot c) new t inside ∙ sym (lows .on-new)))
+      (λ z. rw z (moved-new m (c .nodes) (moveKey c q) (lowLevel (placesOf c) q) (c .level) (theRoot c) new t inside
+      ∙ sym (lows .on-new)))
       (λ d. go d (subst (λ x. Off (movePath c q) p x (lowIn (afterMove m c q new t) p)) (marks .lows p h)
       (moved-low m (c .nodes) (moveKey c q) (lowLevel (placesOf c) q) (c .level) (theRoot c) new t p d)))
     where
@@ -56,7 +58,8 @@ module _ (c c′ : Chip) (q new m : ℕ) (lows : Lowered new (lowLevel (placesOf
     ));
   }
 
-module _ (g : Geometry) (shape : Shape g) (n : ℕ) (few : pagesOf g n + g .pages < fourBytes) (img : List ℕ) (held : Held g n img) (q : ℕ)
+module _ (g : Geometry) (shape : Shape g) (n : ℕ) (few : pagesOf g n + g .pages < fourBytes) (img : List ℕ)
+    (held : Held g n img) (q : ℕ)
     (alive : live (placesOf (chipOf g n img)) q ≡ true) (free : 1 ≤ count (pagesOf g n) (chipOf g n img .er))
     (low : maxSeq g n img + 1 < 4294967295) where
   abbrev c : Chip
@@ -65,7 +68,8 @@ module _ (g : Geometry) (shape : Shape g) (n : ℕ) (few : pagesOf g n + g .page
   abbrev new : ℕ
   new = nextPage (g .pages) n (ahead g n c)
 
-  lows : Lowered new (lowLevel (placesOf c) q) (placesOf c) (movePath c q) (placesOf (chipOf g n (applyStore g (moveStore g n q img) img)))
+  lows : Lowered new (lowLevel (placesOf c) q) (placesOf c) (movePath c q)
+      (placesOf (chipOf g n (applyStore g (moveStore g n q img) img)))
   lows = subst (λ (d : Chip). Lowered new (lowLevel (placesOf c) q) (placesOf c) (movePath c q) (placesOf d))
       (sym (move-chip g shape n few img held q free alive (omega arith))) (low-moved g shape n c (held .whole) q alive free)
 

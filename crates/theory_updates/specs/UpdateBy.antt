@@ -1,5 +1,5 @@
--- Insert and delete by the record and the table: the outcome is the model's, the record is that of the image that is left, and the words are
--- those worked out afresh from it. Assumes nothing.
+-- Insert and delete by the record and the table: the outcome is the model's, the record is that of the image that is
+-- left, and the words are those worked out afresh from it. Assumes nothing.
 use mathlib.Core.Path.{_≡_, refl, ap, sym, _∙_}
 use mathlib.Core.List.{List, [], _∷_, _++_}
 use mathlib.Core.Bool.{Bool, true, false}
@@ -43,8 +43,10 @@ use Rattle.theory_updates.specs.OwnBy.{own-by, crest-by, page-by}
 use Rattle.theory_updates.specs.Records.{record-made, made-by}
 use Rattle.theory_updates.specs.Room.{room-same}
 
-module _ (g : Geometry) (shape : Shape g) (n : ℕ) (few : pagesOf g n + g .pages < fourBytes) (base : List Entry) (img : List ℕ)
-    (keeps : Keeps g n base img) (some-pages : 1 ≤ pagesOf g n) (whole : g .pages ≡ 32 * blockWords g) (h : Kept) (tells : Tells g n img h)
+module _ (g : Geometry) (shape : Shape g) (n : ℕ) (few : pagesOf g n + g .pages < fourBytes) (base : List Entry)
+    (img : List ℕ)
+    (keeps : Keeps g n base img) (some-pages : 1 ≤ pagesOf g n) (whole : g .pages ≡ 32 * blockWords g)
+    (h : Kept) (tells : Tells g n img h)
     (nodes : Few g) (tall : g .top ≤ g .pages) where
   abbrev c : Chip
   c = chipOf g n img
@@ -85,7 +87,8 @@ module _ (g : Geometry) (shape : Shape g) (n : ℕ) (few : pagesOf g n + g .page
         let r = collectBy g n m (suc m) h img in
         madeBy g n (r .stores ++ ownBy g n (r .image) (r .kept .at) m k a) (r .kept .at) m (crestBy g n (r .image) (r .kept .at) m k a) al img words
 
-    insert-made : maxSeq g n img ≤ g .worn → tooHigh g c k ≡ false → roomless g (freePages g n c) m ≡ false → from m ≡ left (made g puts al img)
+    insert-made : maxSeq g n img ≤ g .worn → tooHigh g c k ≡ false → roomless g (freePages g n c) m ≡ false
+        → from m ≡ left (made g puts al img)
     unfolding insertStores
     insert-made w y z =
         let most = m-top g shape n few base img keeps w some-pages k a k-low a-low y z in
@@ -100,7 +103,8 @@ module _ (g : Geometry) (shape : Shape g) (n : ℕ) (few : pagesOf g n + g .page
         let high = height-most g (shape-core g shape) n then some-pages held in
         let levels : suc (d .level) ≤ count (pagesOf g n) (d .er) = omega (arith, high, tall, room) in
         let enough : m ≤ count (pagesOf g n) (d .er) = omega (arith, room) in
-        let at : collectBy g n m (suc m) h img .kept .at ≡ openedIn g n then = s .tells .at-is ∙ ap (openedIn g n) (s .image-is) in
+        let at : collectBy g n m (suc m) h img .kept .at ≡ openedIn g n then =
+        s .tells .at-is ∙ ap (openedIn g n) (s .image-is) in
         let own = own-by g shape n then held m k a levels some enough in
         let crest = crest-by g shape n then held m k a levels some enough in
         let u = insert-updated g shape n few base img keeps w some-pages k a k-low a-low y z in
@@ -116,7 +120,8 @@ module _ (g : Geometry) (shape : Shape g) (n : ℕ) (few : pagesOf g n + g .page
     room-is : roomlessBy g n h m ≡ roomless g (freePages g n c) m
     unfolding openedIn
     room-is =
-        let f : freeBy g n (h .table) ≡ freePages g n c = ap (λ l. pagesOf g n - l) (all-ones g (live (placesOf c)) n words whole (tells .right .told)) in
+        let f : freeBy g n (h .table) ≡ freePages g n c =
+        ap (λ l. pagesOf g n - l) (all-ones g (live (placesOf c)) n words whole (tells .right .told)) in
         (λ i. ltb 1 m & roomless g (tells .at-is i .erased) m & roomless g (f i) m)
         ∙ room-same g n c (keeps .held .whole) (some-page g (shape-core g shape)) (keeps .r8) m
 
@@ -141,7 +146,8 @@ module _ (g : Geometry) (shape : Shape g) (n : ℕ) (few : pagesOf g n + g .page
     abbrev takes : List Store
     takes = deleteStores g n img k
 
-    delete-made : maxSeq g n img ≤ g .worn → isNone (sought c k) ≡ false → deleteMade g n h img k al ≡ left (made g takes al img)
+    delete-made : maxSeq g n img ≤ g .worn → isNone (sought c k) ≡ false
+        → deleteMade g n h img k al ≡ left (made g takes al img)
     unfolding deleteMade deleteStores deleteStore deleteStoreAt openedIn
     delete-made w present =
         let s = collect-same g shape n few base whole 1 2 img h keeps (let z = keeps .r8 in omega (arith, z))
@@ -151,7 +157,8 @@ module _ (g : Geometry) (shape : Shape g) (n : ℕ) (few : pagesOf g n + g .page
         let d = chipOf g n then in
         let held = delete-keeps g shape n few base img keeps w some-pages k k-low present .held in
         let room = delete-collected g shape n few base img keeps w some-pages k k-low present in
-        let at : collectBy g n 1 2 h img .kept .at ≡ openedIn g n then = s .tells .at-is ∙ ap (openedIn g n) (s .image-is) in
+        let at : collectBy g n 1 2 h img .kept .at ≡ openedIn g n then =
+        s .tells .at-is ∙ ap (openedIn g n) (s .image-is) in
         let page = page-by g shape n then held (omega (arith, room)) in
         let chip = chip-right g (shape-core g shape) n then held in
         let u = delete-updated g shape n few base img keeps w some-pages k k-low present in
@@ -159,7 +166,8 @@ module _ (g : Geometry) (shape : Shape g) (n : ℕ) (few : pagesOf g n + g .page
         let t = deleteCrest d (sidePage g n d 1) k in
         let Z = Stands g n d 1 t in
         let goes = record-made g n then (applyAll g takes img) 1 t (u .also) (u .end .held) (omega (arith, low)) in
-        (λ i. madeBy g n (s .stores-are i ++ (deleteStoreAt g (at i .most) (chipBy g (s .image-is i) (at i)) (pageBy g n (s .image-is i) (at i) 0) k ∷ [])) (at i) 1
+        (λ i. madeBy g n (s .stores-are i ++ (deleteStoreAt g (at i .most) (chipBy g (s .image-is i) (at i))
+        (pageBy g n (s .image-is i) (at i) 0) k ∷ [])) (at i) 1
         (deleteCrest (chipBy g (s .image-is i) (at i)) (pageBy g n (s .image-is i) (at i) 0) k) al img words)
         ∙ (λ i. madeBy g n (first ++ (deleteStoreAt g (maxSeq g n then) (chip i) (page i) k ∷ [])) (openedIn g n then) 1
         (deleteCrest (chip i) (page i) k) al img words)

@@ -1,4 +1,5 @@
--- An update's stores: a run that keeps the old map, then one page with a root, after which the new one stands. Assumes nothing.
+-- An update's stores: a run that keeps the old map, then one page with a root, after which the new one stands. Assumes
+-- nothing.
 use mathlib.Core.Path.{_≡_, refl, ap, sym, subst, _∙_}
 use mathlib.Core.List.{List, [], _∷_, _++_, append-assoc}
 use mathlib.Core.Logic.{inl}
@@ -30,7 +31,8 @@ pub record Stands (g : Geometry) (n : ℕ) (c : Chip) (m : ℕ) (t : Crest) (e :
   pub topped : Topped g n c m e
 
 -- Z is what more is known of the chip at the end
-pub record Updated (g : Geometry) (n : ℕ) (Z : Chip → Type 0) (old new : List Entry) (img : List ℕ) (ss : List Store) (b e : ℕ) : Type 0 where
+pub record Updated (g : Geometry) (n : ℕ) (Z : Chip → Type 0) (old new : List Entry) (img : List ℕ) (ss : List Store)
+    (b e : ℕ) : Type 0 where
   pub init : List Store
   pub last : Store
   pub list-is : ss ≡ init ++ (last ∷ [])
@@ -47,11 +49,14 @@ number g n x = refl
 
 -- the last store: of the chip after it is known that it is whole and holds the new map
 pub updated : (g : Geometry) → Shape g
-    → (n : ℕ) (Z : Chip → Type 0) (old new : List Entry) (img : List ℕ) (ss : List Store) (d : Chip) (b e h : ℕ) (parts : ℕ → List Entry) (s : Store)
+    → (n : ℕ) (Z : Chip → Type 0) (old new : List Entry) (img : List ℕ) (ss : List Store)
+    (d : Chip) (b e h : ℕ) (parts : ℕ → List Entry) (s : Store)
     → Runs g n old img ss d b e
-    → g .pages + 1 ≤ count (pagesOf g n) (d .er) → suc (maxSeq g n (applyAll g ss img)) < 4294967295 → Parts g parts → 1 ≤ h → h ≤ g .top
+    → g .pages + 1 ≤ count (pagesOf g n) (d .er) → suc (maxSeq g n (applyAll g ss img)) < 4294967295 → Parts g parts
+    → 1 ≤ h → h ≤ g .top
     → s ≡ nextStore g n h parts (applyAll g ss img)
-    → ((q : ℕ) → q ≡ suc (peak (pagesOf g n) (d .seq)) → Whole g n (rooted d (nextPage (g .pages) n (ahead g n d)) (builtView g q h parts)) ×
+    → ((q : ℕ) → q ≡ suc (peak (pagesOf g n) (d .seq)) → Whole g n (rooted d (nextPage (g .pages) n (ahead g n d))
+    (builtView g q h parts)) ×
     (mapOf (rooted d (nextPage (g .pages) n (ahead g n d)) (builtView g q h parts)) ≡ new) ×
     R8 g n (rooted d (nextPage (g .pages) n (ahead g n d)) (builtView g q h parts)) ×
     Z (rooted d (nextPage (g .pages) n (ahead g n d)) (builtView g q h parts)))
@@ -62,14 +67,16 @@ updated g shape n Z old new img ss d b e h parts s r f low ok i k se good =
     let t = pagesOf g n in
     let z = runs-end g n old img ss d b e r in
     let ci = r .chip-is in
-    let many : g .pages + 1 ≤ count t (chipOf g n x .er) = subst (λ (y : Chip). g .pages + 1 ≤ count t (y .er)) (sym ci) f in
+    let many : g .pages + 1 ≤ count t (chipOf g n x .er) =
+    subst (λ (y : Chip). g .pages + 1 ≤ count t (y .er)) (sym ci) f in
     let free : 1 ≤ count t (chipOf g n x .er) = omega (arith, many) in
     let q = suc (maxSeq g n x) in
     let rc = root-chip g (shape-core g shape) n x (z .held) free parts ok low h k i in
     let ge = subst (λ (y : Chip). Whole g n (rooted y (nextPage (g .pages) n (ahead g n y)) (builtView g q h parts)) ×
     (mapOf (rooted y (nextPage (g .pages) n (ahead g n y)) (builtView g q h parts)) ≡ new) ×
     R8 g n (rooted y (nextPage (g .pages) n (ahead g n y)) (builtView g q h parts)) ×
-    Z (rooted y (nextPage (g .pages) n (ahead g n y)) (builtView g q h parts))) (sym ci) (good q (number g n x ∙ ap (λ (y : Chip). suc (peak t (y .seq))) ci)) in
+    Z (rooted y (nextPage (g .pages) n (ahead g n y)) (builtView g q h parts))) (sym ci)
+    (good q (number g n x ∙ ap (λ (y : Chip). suc (peak t (y .seq))) ci)) in
     let fr = root-frees g (shape-core g shape) n x (z .held) free parts ok low h k i in
     let done : Keeps g n new (applyStore g (nextStore g n h parts x) x) = record {
       held = root-held g (shape-core g shape) n x (z .held) free parts ok low h k i
@@ -87,13 +94,17 @@ updated g shape n Z old new img ss d b e h parts s r f low ok i k se good =
       end = subst (Keeps g n new) (sym (all-append g ss (s ∷ []) img)) (subst (λ (u : Store). Keeps g n new (applyStore g u x)) (sym se) done);
       also = subst (λ (u : List ℕ). Z (chipOf g n u)) (sym (all-append g ss (s ∷ []) img)) (subst (λ (u : Store). Z (chipOf g n (applyStore g u x)))
           (sym se) (subst Z (sym rc) (ge .3)));
-      programmed = let w = programs-append ss (s ∷ []) in let v = ap (λ (u : Store). programs (u ∷ [])) se in omega (arith, w, v, r .programmed);
-      wiped = let w = erases-append ss (s ∷ []) in let v = ap (λ (u : Store). erases (u ∷ [])) se in omega (arith, w, v, r .wiped);
+      programmed = let w = programs-append ss (s ∷ []) in let v = ap (λ (u : Store). programs (u ∷ [])) se in
+          omega (arith, w, v, r .programmed);
+      wiped = let w = erases-append ss (s ∷ []) in let v = ap (λ (u : Store). erases (u ∷ [])) se in
+          omega (arith, w, v, r .wiped);
     }
 
 -- an update after a run that keeps the map
-pub updated-after : (g : Geometry) (n : ℕ) (Y Z : Chip → Type 0) → ((x : Chip) → Y x → Z x) → (old new : List Entry) (img : List ℕ) (ss ts : List Store) (d : Chip) (a b e f : ℕ)
-    → Runs g n old img ss d a e → Updated g n Y old new (applyAll g ss img) ts b f → Updated g n Z old new img (ss ++ ts) (a + b) (e + f)
+pub updated-after : (g : Geometry) (n : ℕ) (Y Z : Chip → Type 0) → ((x : Chip) → Y x → Z x) → (old new : List Entry)
+    (img : List ℕ) (ss ts : List Store) (d : Chip) (a b e f : ℕ)
+    → Runs g n old img ss d a e → Updated g n Y old new (applyAll g ss img) ts b f → Updated g n Z old new img
+    (ss ++ ts) (a + b) (e + f)
 updated-after g n Y Z so old new img ss ts d a b e f r u = record {
   init = ss ++ u .init;
   last = u .last;
@@ -107,7 +118,8 @@ updated-after g n Y Z so old new img ss ts d a b e f r u = record {
 }
 
 -- less may be said of the chip at the end
-pub updated-also : (g : Geometry) (n : ℕ) (Y Z : Chip → Type 0) → ((x : Chip) → Y x → Z x) → (old new : List Entry) (img : List ℕ) (ss : List Store) (b e : ℕ)
+pub updated-also : (g : Geometry) (n : ℕ) (Y Z : Chip → Type 0) → ((x : Chip) → Y x → Z x) → (old new : List Entry)
+    (img : List ℕ) (ss : List Store) (b e : ℕ)
     → Updated g n Y old new img ss b e → Updated g n Z old new img ss b e
 updated-also g n Y Z so old new img ss b e u = record {
   init = u .init;

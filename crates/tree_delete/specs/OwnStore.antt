@@ -34,23 +34,28 @@ use Rattle.tree_delete.specs.Own.{topStore, rootStore, leftAt, storeBy, 
 
 -- ---- page N
 pub top-is : (g : Geometry) (at seq l : ℕ) (c : List Entry) (bs : List ℕ) (b r : Budget) (i o : List ℕ)
-    → Ran g (program at (take (pageBytes g) bs) ∷ []) b r i o → take (pageBytes g) bs ≡ built g seq (l + 1) (only (l + 1) c)
+    → Ran g (program at (take (pageBytes g) bs) ∷ []) b r i o → take (pageBytes g) bs ≡ built g seq
+    (l + 1) (only (l + 1) c)
     → Ran g (topStore g at seq l c ∷ []) b r i o
 unfolding topStore
 top-is g at seq l c bs b r i o run eb =
     let s : l + 1 ≡ suc l = add-one l in
     rw (eb, s) at run
 
-pub root-stay : (g : Geometry) (j : Job) (l : ℕ) (i p o : List ℕ) (c : List Entry) (t : Top) (b r : Budget) → Ran g (pathStore g (j .page) (j .seq + 1) l c p ∷ []) b r i o
-    → Collapses (nodeAt g i) l c t → t .level ≡ l → Owns g (rootStore g j l i p c ∷ []) (leftAt g j l i c) b (record { budget = r; page = j .page; level = l }) i o
+pub root-stay : (g : Geometry) (j : Job) (l : ℕ) (i p o : List ℕ) (c : List Entry) (t : Top) (b r : Budget)
+    → Ran g (pathStore g (j .page) (j .seq + 1) l c p ∷ []) b r i o
+    → Collapses (nodeAt g i) l c t → t .level ≡ l → Owns g (rootStore g j l i p c ∷ []) (leftAt g j l i c) b
+    (record { budget = r; page = j .page; level = l }) i o
 unfolding rootStore
 root-stay g j l i p o c t b r run cl q =
     let s : j .seq + 1 ≡ suc (j .seq) = add-one (j .seq) in
     let e : collapse (nodeAt g i) l c .level ≡ l = sym (cl .level) ∙ q in
     record { ran = rw (eq-eqb (collapse (nodeAt g i) l c .level) l e) (rw s at run); crest = rw e }
 
-pub root-fall : (g : Geometry) (j : Job) (l : ℕ) (i p o : List ℕ) (c : List Entry) (t : Top) (b r : Budget) → Ran g (topStore g (j .page) (j .seq + 1) (t .level) (entries (t .node)) ∷ []) b r i o
-    → Collapses (nodeAt g i) l c t → (t .level ≡ l → ⊥) → Owns g (rootStore g j l i p c ∷ []) (leftAt g j l i c) b (record { budget = r; page = j .page; level = t .level }) i o
+pub root-fall : (g : Geometry) (j : Job) (l : ℕ) (i p o : List ℕ) (c : List Entry) (t : Top) (b r : Budget)
+    → Ran g (topStore g (j .page) (j .seq + 1) (t .level) (entries (t .node)) ∷ []) b r i o
+    → Collapses (nodeAt g i) l c t → (t .level ≡ l → ⊥) → Owns g (rootStore g j l i p c ∷ []) (leftAt g j l i c) b
+    (record { budget = r; page = j .page; level = t .level }) i o
 unfolding rootStore
 root-fall g j l i p o c t b r run cl q =
     let s : j .seq + 1 ≡ suc (j .seq) = add-one (j .seq) in
@@ -66,7 +71,8 @@ nothing g j m c e = ap (λ (v : Change). storesOf g v j m c) e
 
 pub with-is : (g : Geometry) (j : Job) (l : ℕ) (e : Entry) (b : Budget) (r : Own) (u : Changed) (i h o p q : List ℕ)
     → Owns g (rootStore g j l h q (entries (u .node)) ∷ []) (leftAt g j l h (entries (u .node))) (u .budget) r h o
-    → Changes g j l e b u i h p q → p ≡ blanks longestPage → j .change ≡ Remove → Owns g (storeBy g j l e i ∷ []) (topBy g j l e i) b r i o
+    → Changes g j l e b u i h p q → p ≡ blanks longestPage → j .change ≡ Remove
+    → Owns g (storeBy g j l e i ∷ []) (topBy g j l e i) b r i o
 unfolding storeBy
 with-is g j l e b r u i h o p q w ch ep ec =
     let s = still g j l e b u i h p q ch (λ m c. nothing g j m c ec) in

@@ -37,13 +37,17 @@ use Rattle.live_beside.specs.Update.{deleteStoreAt, deleteCrest}
 use Rattle.tree_delete.specs.Own.{rootAt, topStore, rootStore, storeBy, topBy, Removes}
 
 -- a root that does not fall keeps its entries
-keeps : (r : Nodes) (l : ℕ) (c : List Entry) → (collapse r l c .level ≤ l) × (collapse r l c .level ≡ l → collapse r l c .list ≡ c)
+keeps : (r : Nodes) (l : ℕ) (c : List Entry) → (collapse r l c .level ≤ l) ×
+    (collapse r l c .level ≡ l → collapse r l c .list ≡ c)
 unfolding collapse
 keeps r zero c = (omega arith, λ e. refl)
 keeps r (suc l) [] = (omega arith, λ e. refl)
 keeps r (suc l) (x ∷ []) =
-    let h = keeps r l (r (x .addr) (suc l)) in
-    (omega (arith, h .0), λ e. absurd (let z : collapse r l (r (x .addr) (suc l)) .level ≡ suc l = e in omega (arith, h .0)))
+    let h = keeps r l (r (x .addr) (suc l)) in (
+      omega (arith, h .0),
+      λ e. absurd (let z : collapse r l (r (x .addr) (suc l)) .level ≡ suc l = e in
+          omega (arith, h .0)),
+    )
 keeps r (suc l) (x ∷ y ∷ c) = (omega arith, λ e. refl)
 
 -- a root that is left stands no higher
@@ -62,18 +66,32 @@ module _ (g : Geometry) (c : Chip) (k n : ℕ) where
 
     part-low : (x : ℕ) → x ≤ c .level → deletePart c k n x ≡ deleteList c k n x
     unfolding deletePart
-    part-low x h = rw (ne-eqb x (suc (deleteTop c k n .level)) (λ q. let z : x ≡ suc (deleteTop c k n .level) = q in absurd (omega (arith, e))), eq-eqb (deleteTop c k n .level) (c .level) e, and-true, le-leb x (c .level) h)
+    part-low x h = rw (
+      ne-eqb x (suc (deleteTop c k n .level)) (λ q. let z : x ≡ suc (deleteTop c k n .level) = q in
+          absurd (omega (arith, e))),
+      eq-eqb (deleteTop c k n .level) (c .level) e,
+      and-true,
+      le-leb x (c .level) h,
+    )
 
     part-top : deletePart c k n (suc (c .level)) ≡ deleteList c k n (suc (c .level))
     unfolding deletePart
-    part-top = rw (eq-eqb (suc (c .level)) (suc (deleteTop c k n .level)) (let q : suc (c .level) ≡ suc (deleteTop c k n .level) = omega (arith, e) in q)) list-is
+    part-top = rw (eq-eqb (suc (c .level)) (suc (deleteTop c k n .level))
+        (let q : suc (c .level) ≡ suc (deleteTop c k n .level) = omega (arith, e) in q)) list-is
 
     part-above : (x : ℕ) → suc (c .level) < x → deletePart c k n x ≡ []
     unfolding deletePart
-    part-above x h = rw (ne-eqb x (suc (deleteTop c k n .level)) (λ q. let z : x ≡ suc (deleteTop c k n .level) = q in absurd (omega (arith, e))), lt-leb x (c .level) (omega arith), eq-eqb (deleteTop c k n .level) (c .level) e, and-true)
+    part-above x h = rw (
+      ne-eqb x (suc (deleteTop c k n .level)) (λ q. let z : x ≡ suc (deleteTop c k n .level) = q in
+          absurd (omega (arith, e))),
+      lt-leb x (c .level) (omega arith),
+      eq-eqb (deleteTop c k n .level) (c .level) e,
+      and-true,
+    )
 
   -- where the tree shrinks
-  part-only : (deleteTop c k n .level ≡ c .level → ⊥) → (x : ℕ) → deletePart c k n x ≡ only (suc (deleteTop c k n .level)) (deleteTop c k n .list) x
+  part-only : (deleteTop c k n .level ≡ c .level → ⊥) → (x : ℕ)
+      → deletePart c k n x ≡ only (suc (deleteTop c k n .level)) (deleteTop c k n .list) x
   unfolding deletePart
   part-only h x = rw (ne-eqb (deleteTop c k n .level) (c .level) h, and-false)
 
@@ -86,7 +104,8 @@ module _ (g : Geometry) (i : List ℕ) (at seq l p k : ℕ) (j : Job) (pj : Remo
 
   top-of : changed g j i l (rootAt p) ≡ deleteList (chipWith g i l p) k (j .page) (suc l)
   unfolding changed pathOf
-  top-of = sym (path-top (nodeAt g i) (j .key) (leafOf (j .change) (j .key)) (nameOf g (j .change) j) l (rootAt p)) ∙ list-of (suc l)
+  top-of = sym (path-top (nodeAt g i) (j .key) (leafOf (j .change) (j .key)) (nameOf g (j .change) j) l (rootAt p))
+      ∙ list-of (suc l)
 
   part-of : (x : ℕ) → partsOf g j i l (rootAt p) x ≡ deleteList (chipWith g i l p) k (j .page) x
   unfolding partsOf partOf
@@ -96,35 +115,45 @@ module _ (g : Geometry) (i : List ℕ) (at seq l p k : ℕ) (j : Job) (pj : Remo
   c = chipWith g i l p
 
   stays : pageBytes g ≤ longestPage → deleteTop c k (j .page) .level ≡ l
-      → take (pageBytes g) (sealed g (bare g (suc l) (g .top - suc l) (laidLevel g (laid g (partsOf g j i l (rootAt p)) l (blanks longestPage)) (suc l) (changed g j i l (rootAt p)))) (suc (j .seq)) (suc l))
+      → take (pageBytes g) (sealed g (bare g (suc l) (g .top - suc l)
+      (laidLevel g (laid g (partsOf g j i l (rootAt p)) l (blanks longestPage)) (suc l) (changed g j i l (rootAt p)))) (suc (j .seq)) (suc l))
       ≡ built g (suc seq) (suc (deleteTop c k (j .page) .level)) (deletePart c k (j .page))
   unfolding c
   stays le e =
       let low : laid g (partsOf g j i l (rootAt p)) l (blanks longestPage) ≡ laid g (deletePart (chipWith g i l p) k (j .page)) l (blanks longestPage) =
-      laid-agree g (partsOf g j i l (rootAt p)) (deletePart (chipWith g i l p) k (j .page)) l (blanks longestPage) (λ x a h. part-of x ∙ sym (part-low g (chipWith g i l p) k (j .page) e x h)) in
-      let up : laidLevel g (laid g (partsOf g j i l (rootAt p)) l (blanks longestPage)) (suc l) (changed g j i l (rootAt p)) ≡ laid g (deletePart (chipWith g i l p) k (j .page)) (suc l) (blanks longestPage) =
-      (λ z. laidLevel g (low z) (suc l) ((top-of ∙ sym (part-top g (chipWith g i l p) k (j .page) e)) z)) ∙ laid-more g (deletePart (chipWith g i l p) k (j .page)) l (blanks longestPage) in
+      laid-agree g (partsOf g j i l (rootAt p)) (deletePart (chipWith g i l p) k (j .page)) l (blanks longestPage)
+      (λ x a h. part-of x ∙ sym (part-low g (chipWith g i l p) k (j .page) e x h)) in
+      let up : laidLevel g (laid g (partsOf g j i l (rootAt p)) l (blanks longestPage)) (suc l)
+      (changed g j i l (rootAt p)) ≡ laid g (deletePart (chipWith g i l p) k (j .page)) (suc l) (blanks longestPage) =
+      (λ z. laidLevel g (low z) (suc l) ((top-of ∙ sym (part-top g (chipWith g i l p) k (j .page) e)) z)) ∙ laid-more g
+      (deletePart (chipWith g i l p) k (j .page)) l (blanks longestPage) in
       (λ z. take (pageBytes g) (sealed g (bare g (suc l) (g .top - suc l) (up z)) (suc (pj .number z)) (suc l)))
-      ∙ page-is g (deletePart (chipWith g i l p) k (j .page)) (suc l) (suc seq) (suc l) (blanks longestPage) _ refl refl le (part-above g (chipWith g i l p) k (j .page) e)
+      ∙ page-is g (deletePart (chipWith g i l p) k (j .page)) (suc l) (suc seq) (suc l) (blanks longestPage) _ refl refl
+      le (part-above g (chipWith g i l p) k (j .page) e)
       ∙ sym (λ z. built g (suc seq) (suc (e z)) (deletePart (chipWith g i l p) k (j .page)))
 
   falls : collapse (nodeAt g i) l (changed g j i l (rootAt p)) ≡ deleteTop c k (j .page)
   unfolding c deleteTop
   falls = ap (λ (es : List Entry). collapse (nodeAt g i) l es) top-of
 
-  store-is : pageBytes g ≤ longestPage → storeBy g j l (rootAt p) i ≡ program (j .page) (built g (suc seq) (suc (deleteTop c k (j .page) .level)) (deletePart c k (j .page)))
+  store-is : pageBytes g ≤ longestPage → storeBy g j l (rootAt p) i ≡ program (j .page)
+      (built g (suc seq) (suc (deleteTop c k (j .page) .level)) (deletePart c k (j .page)))
   unfolding storeBy rootStore pathStore topStore c
   store-is le = go (eqb (collapse (nodeAt g i) l (changed g j i l (rootAt p)) .level) l) refl
     where
       go : (t : Bool) → eqb (collapse (nodeAt g i) l (changed g j i l (rootAt p)) .level) l ≡ t
           → pick t
-          (program (j .page) (take (pageBytes g) (sealed g (bare g (suc l) (g .top - suc l) (laidLevel g (laid g (partsOf g j i l (rootAt p)) l (blanks longestPage)) (suc l) (changed g j i l (rootAt p)))) (suc (j .seq)) (suc l))))
-          (program (j .page) (built g (suc (j .seq)) (suc (collapse (nodeAt g i) l (changed g j i l (rootAt p)) .level)) (only (suc (collapse (nodeAt g i) l (changed g j i l (rootAt p)) .level)) (collapse (nodeAt g i) l (changed g j i l (rootAt p)) .list))))
+          (program (j .page) (take (pageBytes g) (sealed g
+          (bare g (suc l) (g .top - suc l) (laidLevel g (laid g (partsOf g j i l (rootAt p)) l (blanks longestPage))
+          (suc l) (changed g j i l (rootAt p)))) (suc (j .seq)) (suc l))))
+          (program (j .page) (built g (suc (j .seq)) (suc (collapse (nodeAt g i) l (changed g j i l (rootAt p)) .level))
+          (only (suc (collapse (nodeAt g i) l (changed g j i l (rootAt p)) .level)) (collapse (nodeAt g i) l (changed g j i l (rootAt p)) .list))))
           ≡ program (j .page) (built g (suc seq) (suc (deleteTop c k (j .page) .level)) (deletePart c k (j .page)))
       go true q = ap (λ (bs : List ℕ). program (j .page) bs) (stays le (sym (λ z. falls z .level) ∙ eqb-true _ _ q))
       go false q =
           (λ z. program (j .page) (built g (suc (pj .number z)) (suc (falls z .level)) (only (suc (falls z .level)) (falls z .list))))
-          ∙ sym (λ z. program (j .page) (built g (suc seq) (suc (deleteTop c k (j .page) .level)) (λ x. part-only g c k (j .page) (λ r. eqb-false _ _ q ((λ z. falls z .level) ∙ r)) x z)))
+          ∙ sym (λ z. program (j .page) (built g (suc seq) (suc (deleteTop c k (j .page) .level))
+          (λ x. part-only g c k (j .page) (λ r. eqb-false _ _ q ((λ z. falls z .level) ∙ r)) x z)))
 
   own-is : pageBytes g ≤ longestPage → storeBy g j l (rootAt p) i ≡ deleteStoreAt g seq (chipWith g i l p) at k
   unfolding deleteStoreAt c
@@ -132,13 +161,16 @@ module _ (g : Geometry) (i : List ℕ) (at seq l p k : ℕ) (j : Job) (pj : Remo
 
   crest-is : topBy g j l (rootAt p) i ≡ deleteCrest (chipWith g i l p) at k
   unfolding c
-  crest-is = (λ z. record { page = j .page; level = falls z .level }) ∙ (λ z. record { page = pj .page z; level = deleteTop c k (pj .page z) .level })
+  crest-is = (λ z. record { page = j .page; level = falls z .level })
+      ∙ (λ z. record { page = pj .page z; level = deleteTop c k (pj .page z) .level })
 
 -- by the record
-pub deleted : (g : Geometry) (n : ℕ) (i : List ℕ) (o : Opened) (k : ℕ) (j : Job) (b : Budget) (r : Own) (then : List ℕ) (l : ℕ)
+pub deleted : (g : Geometry) (n : ℕ) (i : List ℕ) (o : Opened) (k : ℕ) (j : Job) (b : Budget) (r : Own) (then : List ℕ)
+    (l : ℕ)
     → Owns g (storeBy g j l (rootAt (o .root)) i ∷ []) (topBy g j l (rootAt (o .root)) i) b r i then
     → l ≡ levelBy g o → Removes (nextBy g n o) (o .most) k j → pageBytes g ≤ longestPage
-    → Owns g (deleteStoreAt g (o .most) (chipBy g i o) (pageBy g n i o 0) k ∷ []) (deleteCrest (chipBy g i o) (pageBy g n i o 0) k) b r i then
+    → Owns g (deleteStoreAt g (o .most) (chipBy g i o) (pageBy g n i o 0) k ∷ []) (deleteCrest (chipBy g i o)
+    (pageBy g n i o 0) k) b r i then
 unfolding pageFrom
 deleted g n i o k j b r then l run eh pj le =
     let e : storeBy g j l (rootAt (o .root)) i ≡ deleteStoreAt g (o .most) (chipWith g i l (o .root)) (nextBy g n o) k =

@@ -25,7 +25,8 @@ use tree_split::Job;
 // Page N where the tree shrinks: the new root alone.
 fn store_top(g: Geometry, img: &mut [u8], b: Budget, at: u32, seq: u64, t: Top) -> Budget
     requires { ⌜ (t .node .count ≤ 256) × (t .level < 255) × (pageBytes g ≤ longestPage) × (Countable b) ⌝ }
-    ensures { λ r. ⌜ Ran g (topStore g at seq (t .level) (entries (t .node)) ∷ []) b r (now (img .entry)) (now (img .exit)) ⌝ }
+    ensures { λ r. ⌜ Ran g (topStore g at seq (t .level) (entries (t .node)) ∷ []) b r (now (img .entry))
+        (now (img .exit)) ⌝ }
 {
     let level = t.level + 1;
     let n = t.node;
@@ -35,9 +36,11 @@ fn store_top(g: Geometry, img: &mut [u8], b: Budget, at: u32, seq: u64, t: Top) 
 
 // Page N, once the path is changed.
 fn store_root(g: Geometry, img: &mut [u8], page: &mut [u8], job: Job, level: u32, u: Changed) -> Own
-    requires { ⌜ (u .node .count ≤ 256) × (level < 255) × (pageBytes g ≤ longestPage) × (job .seq < fourBytes) × (Countable (u .budget)) ⌝ }
+    requires { ⌜ (u .node .count ≤ 256) × (level < 255) × (pageBytes g ≤ longestPage) × (job .seq < fourBytes) ×
+        (Countable (u .budget)) ⌝ }
     ensures { λ r.
-        ⌜ Owns g (rootStore g job level (now (img .entry)) (now (page .entry)) (entries (u .node)) ∷ []) (leftAt g job level (now (img .entry)) (entries (u .node))) (u .budget) r
+        ⌜ Owns g (rootStore g job level (now (img .entry)) (now (page .entry)) (entries (u .node)) ∷ []) (leftAt g job
+        level (now (img .entry)) (entries (u .node))) (u .budget) r
         (now (img .entry)) (now (img .exit)) ⌝ }
 {
     let c = u.node;
@@ -70,9 +73,11 @@ fn store_root(g: Geometry, img: &mut [u8], page: &mut [u8], job: Job, level: u32
 
 // The store of a job of removing.
 fn delete_with(g: Geometry, img: &mut [u8], b: Budget, job: Job, level: u32, root: u32) -> Own
-    requires { ⌜ (level < 255) × (pageBytes g ≤ longestPage) × (job .seq < fourBytes) × (Countable b) × (job .change ≡ Change.Remove) ⌝ }
+    requires { ⌜ (level < 255) × (pageBytes g ≤ longestPage) × (job .seq < fourBytes) × (Countable b) ×
+        (job .change ≡ Change.Remove) ⌝ }
     ensures { λ r.
-        ⌜ Owns g (storeBy g job level (rootAt root) (now (img .entry)) ∷ []) (topBy g job level (rootAt root) (now (img .entry))) b r (now (img .entry)) (now (img .exit)) ⌝ }
+        ⌜ Owns g (storeBy g job level (rootAt root) (now (img .entry)) ∷ []) (topBy g job level (rootAt root)
+        (now (img .entry))) b r (now (img .entry)) (now (img .exit)) ⌝ }
 {
     let mut page = chip_page::blank();
     let u = tree_path::change(
@@ -113,7 +118,8 @@ fn delete_job(g: Geometry, n: u16, o: Opened, key: u32) -> Job
 pub fn delete_own(g: Geometry, img: &mut [u8], n: u16, b: Budget, o: Opened, key: u32) -> Own
     requires { ⌜ (o .height < 256) × (pageBytes g ≤ longestPage) × (Countable b) ⌝ }
     ensures { λ r.
-        ⌜ Owns g (deleteStoreAt g (o .most) (chipBy g (now (img .entry)) o) (pageBy g n (now (img .entry)) o 0) key ∷ []) (deleteCrest (chipBy g (now (img .entry)) o) (pageBy g n (now (img .entry)) o 0) key) b r
+        ⌜ Owns g (deleteStoreAt g (o .most) (chipBy g (now (img .entry)) o) (pageBy g n (now (img .entry)) o 0)
+        key ∷ []) (deleteCrest (chipBy g (now (img .entry)) o) (pageBy g n (now (img .entry)) o 0) key) b r
         (now (img .entry)) (now (img .exit)) ⌝ }
 {
     let level = chip_survey::level_by(g, o.height);

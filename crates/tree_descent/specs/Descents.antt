@@ -24,18 +24,21 @@ unfolding leaf
 leaf-step r k zero p h = absurd (omega arith)
 leaf-step r k (suc l) p h = rw (add-one (suc l), sub-one) refl
 
-pub leaf-go : (g : Geometry) (img : List ℕ) (w : List Entry) (k l p : ℕ) (e : Entry) → w ≡ leaf (nodeAt g img) k l (named p) → e ≡ chosen k (nodeAt g img p (l + 1)) → 0 < l
+pub leaf-go : (g : Geometry) (img : List ℕ) (w : List Entry) (k l p : ℕ) (e : Entry) → w ≡ leaf (nodeAt g img) k l
+    (named p) → e ≡ chosen k (nodeAt g img p (l + 1)) → 0 < l
     → w ≡ leaf (nodeAt g img) k (l - 1) (named (e .addr))
 leaf-go g img w k l p e inv ee h =
     inv ∙ leaf-step (nodeAt g img) k l p h ∙ rw (← ee) (leaf-named (nodeAt g img) k (l - 1) e)
 
-pub leaf-end : (g : Geometry) (img : List ℕ) (w : List Entry) (k l p : ℕ) → w ≡ leaf (nodeAt g img) k l (named p) → l ≤ 0 → nodeAt g img p 1 ≡ w
+pub leaf-end : (g : Geometry) (img : List ℕ) (w : List Entry) (k l p : ℕ) → w ≡ leaf (nodeAt g img) k l (named p)
+    → l ≤ 0 → nodeAt g img p 1 ≡ w
 unfolding leaf
 leaf-end g img w k l p inv h =
     let z : l ≡ 0 = omega arith in
     sym (inv ∙ rw z refl)
 
-pub sought-is : (g : Geometry) (img : List ℕ) (l p k q : ℕ) (r : Found) → nodeAt g img q 1 ≡ leaf (nodeAt g img) k l (named p)
+pub sought-is : (g : Geometry) (img : List ℕ) (l p k q : ℕ) (r : Found) → nodeAt g img q 1 ≡ leaf (nodeAt g img) k l
+    (named p)
     → found r ≡ findIn k (nodeAt g img q 1) → found r ≡ sought (chipWith g img l p) k
 sought-is g img l p k q r e er = er ∙ ap (λ (es : List Entry). findIn k es) e
 

@@ -37,11 +37,13 @@ storesBy g j i last l e =
     ++ (crownStore g (j .seq) (j .key) (sideOf j) (suc l) (changed g j i l e)
     ++ (program (j .page) (built g last (crownHeight g (suc l) (changed g j i l e)) (crownParts g j i l e)) ∷ []))
 
-pub record Climbs (g : Geometry) (j : Job) (l : ℕ) (e : Entry) (b : Budget) (r : Summit) (i o p q : List ℕ) : Type 0 where
-  pub page : q ≡ laid g (crownParts g j i l e) (suc (suc l)) p
-  pub height : r .height ≡ crownHeight g (suc l) (changed g j i l e)
-  pub some : 1 ≤ r .height
-  pub ran : Ran g (sidesUp g j (pathOf g j i l e) l ++ crownStore g (j .seq) (j .key) (sideOf j) (suc l) (changed g j i l e)) b (r .budget) i o
+pub record Climbs (g : Geometry) (j : Job) (l : ℕ) (e : Entry) (b : Budget) (r : Summit) (i o p q : List ℕ) : Type 0
+  where
+    pub page : q ≡ laid g (crownParts g j i l e) (suc (suc l)) p
+    pub height : r .height ≡ crownHeight g (suc l) (changed g j i l e)
+    pub some : 1 ≤ r .height
+    pub ran : Ran g (sidesUp g j (pathOf g j i l e) l ++ crownStore g (j .seq) (j .key) (sideOf j) (suc l)
+        (changed g j i l e)) b (r .budget) i o
 
 -- where the root stands once all are made
 abbrev pub topBy : Geometry → Job → List ℕ → ℕ → Entry → Crest

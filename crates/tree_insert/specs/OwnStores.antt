@@ -56,17 +56,24 @@ module _ (g : Geometry) (j : Job) (i : List ℕ) (l : ℕ) (e : Entry) where
   unfolding topPart crownPart
   no-more m h =
       let a : eqb m (suc l) ≡ false = ne-eqb m (suc l) (λ q. let z : m ≡ suc l = q in absurd (omega arith)) in
-      let b : eqb m (suc (suc l)) ≡ false = ne-eqb m (suc (suc l)) (λ q. let z : m ≡ suc (suc l) = q in absurd (omega arith)) in
+      let b : eqb m (suc (suc l)) ≡ false = ne-eqb m (suc (suc l)) (λ q. let z : m ≡ suc (suc l) = q in
+      absurd (omega arith)) in
       sym (upper m (omega arith)) ∙ rw (a, b) (neither (fills g (suc l) (length (changed g j i l e))))
     where
       neither : (t : Bool) → pick {A = List Entry} t [] [] ≡ []
       neither true = refl
       neither false = refl
 
-  laid-up : (p : List ℕ) → laidLevel g (laidLevel g (laid g (partsOf g j i l e) l p) (suc l) (topPart g j (suc l) (changed g j i l e) (suc l))) (suc (suc l)) (topPart g j (suc l) (changed g j i l e) (suc (suc l)))
+  laid-up : (p : List ℕ) → laidLevel g (laidLevel g (laid g (partsOf g j i l e) l p) (suc l)
+      (topPart g j (suc l) (changed g j i l e) (suc l))) (suc (suc l)) (topPart g j (suc l) (changed g j i l e) (suc (suc l)))
       ≡ laid g (crownParts g j i l e) (suc (suc l)) p
   laid-up p =
-      rw (laid-agree g (partsOf g j i l e) (crownParts g j i l e) l p (λ m a h. lower m h), upper (suc l) (omega arith), upper (suc (suc l)) (omega arith), laid-more g (crownParts g j i l e) l p)
+      rw (
+        laid-agree g (partsOf g j i l e) (crownParts g j i l e) l p (λ m a h. lower m h),
+        upper (suc l) (omega arith),
+        upper (suc (suc l)) (omega arith),
+        laid-more g (crownParts g j i l e) l p,
+      )
       (laid-more g (crownParts g j i l e) (suc l) p)
 
 some-height : (g : Geometry) (l : ℕ) (c : List Entry) → 1 ≤ crownHeight g (suc l) c
@@ -78,7 +85,8 @@ some-height g l c = go (fills g (suc l) (length c))
     go false = omega arith
 
 pub climbs : (g : Geometry) (j : Job) (l : ℕ) (e : Entry) (b : Budget) (u : Changed) (r : Summit) (i h o p d q : List ℕ)
-    → Crowned g j (l + 1) (entries (u .node)) (u .budget) r h o d q → Changes g j l e b u i h p d → Climbs g j l e b r i o p q
+    → Crowned g j (l + 1) (entries (u .node)) (u .budget) r h o d q → Changes g j l e b u i h p d
+    → Climbs g j l e b r i o p q
 climbs g j l e b u r i h o p d q cr ch =
     let s : l + 1 ≡ suc l = add-one l in
     record {
@@ -89,14 +97,18 @@ climbs g j l e b u r i h o p d q cr ch =
     }
 
 pub inserts : (g : Geometry) (j : Job) (l : ℕ) (e : Entry) (b r : Budget) (w : Summit) (last : ℕ) (i h o p q : List ℕ)
-    → Ran g (program (j .page) (take (pageBytes g) (sealed g (bare g (l + 2) (g .top - (l + 2)) q) last (w .height))) ∷ []) (w .budget) r h o
+    → Ran g (program (j .page) (take (pageBytes g) (sealed g (bare g (l + 2) (g .top - (l + 2)) q) last (w .height))) ∷
+    []) (w .budget) r h o
     → Climbs g j l e b w i h p q → p ≡ blanks longestPage → pageBytes g ≤ longestPage
-    → Owns g (storesBy g j i last l e) (topBy g j i l e) b (record { budget = r; page = j .page; level = w .height - 1 }) i o
+    → Owns g (storesBy g j i last l e) (topBy g j i l e) b
+    (record { budget = r; page = j .page; level = w .height - 1 }) i o
 unfolding storesBy
 inserts g j l e b r w last i h o p q run c ep le =
     let s : l + 2 ≡ suc (suc l) = omega arith in
-    let bytes : take (pageBytes g) (sealed g (bare g (l + 2) (g .top - (l + 2)) q) last (w .height)) ≡ built g last (crownHeight g (suc l) (changed g j i l e)) (crownParts g j i l e) =
-    rw (s, c .page, c .height) (page-is g (crownParts g j i l e) (suc (suc l)) last (crownHeight g (suc l) (changed g j i l e)) p _ refl ep le (no-more g j i l e)) in
+    let bytes : take (pageBytes g) (sealed g (bare g (l + 2) (g .top - (l + 2)) q) last (w .height)) ≡ built g last
+    (crownHeight g (suc l) (changed g j i l e)) (crownParts g j i l e) =
+    rw (s, c .page, c .height) (page-is g (crownParts g j i l e) (suc (suc l)) last
+    (crownHeight g (suc l) (changed g j i l e)) p _ refl ep le (no-more g j i l e)) in
     record {
       ran = rw (← append-two) (ran-then g _ _ _ _ _ _ _ _ (c .ran) (rw bytes at run));
       crest = rw (c .height);
@@ -113,9 +125,11 @@ side-is : (page : ℕ → ℕ) (x : ℕ) → 1 ≤ x → page (x - 1) ≡ sideBy
 side-is page zero h = absurd (omega arith)
 side-is page (suc x) h = rw sub-one
 
-pub puts : (g : Geometry) (n : ℕ) (i : List ℕ) (o : Opened) (m k a : ℕ) (ps : List ℕ) (c x y z w l : ℕ) → Coming (g .pages) n (erased g i) w c ps → w ≡ min (pagesOf g n) (o .next)
+pub puts : (g : Geometry) (n : ℕ) (i : List ℕ) (o : Opened) (m k a : ℕ) (ps : List ℕ) (c x y z w l : ℕ)
+    → Coming (g .pages) n (erased g i) w c ps → w ≡ min (pagesOf g n) (o .next)
     → c ≡ max x (y + 1) → x ≡ m → y ≡ l → z ≡ o .most → z < fourBytes → 1 ≤ m
-    → Puts (sidesOn g n i o) (o .most) l m k a (record { key = k; page = getD ps (x - 1) 0; seq = z; sides = ps; change = Put a })
+    → Puts (sidesOn g n i o) (o .most) l m k a
+    (record { key = k; page = getD ps (x - 1) 0; seq = z; sides = ps; change = Put a })
 unfolding sideOf sidesOn
 puts g n i o m k a ps c x y z w l cm ew ec ex ey ez low h = record {
   key = refl;

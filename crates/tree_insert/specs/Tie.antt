@@ -29,19 +29,23 @@ use Rattle.live_beside.specs.Update.{ownStoresAt, insertCrest, sidesBy, ownBy, 
 use Rattle.tree_insert.specs.Own.{rootAt, crownParts, storesBy, topBy, sidesOn, Puts}
 
 -- what is made of a level depends on the page of that level's other half alone
-named-agree : (g : Geometry) (k₁ k₂ n₁ n₂ : ℕ) (f h : ℕ → ℕ) (x : ℕ) (e : Entry) (c : List Entry) → k₁ ≡ k₂ → n₁ ≡ n₂ → f x ≡ h x
+named-agree : (g : Geometry) (k₁ k₂ n₁ n₂ : ℕ) (f h : ℕ → ℕ) (x : ℕ) (e : Entry) (c : List Entry) → k₁ ≡ k₂ → n₁ ≡ n₂
+    → f x ≡ h x
     → named k₁ n₁ f (half g) x e c ≡ named k₂ n₂ h (half g) x e c
 named-agree g k₁ k₂ n₁ n₂ f h x e c ek en ef = rw (ek, en, ef)
 
-split-agree : (g : Geometry) (s₁ s₂ k₁ k₂ l : ℕ) (f h : ℕ → ℕ) (xs ys : List Entry) → s₁ ≡ s₂ → k₁ ≡ k₂ → xs ≡ ys → f l ≡ h l → splitStore g s₁ k₁ f l xs ≡ splitStore g s₂ k₂ h l ys
+split-agree : (g : Geometry) (s₁ s₂ k₁ k₂ l : ℕ) (f h : ℕ → ℕ) (xs ys : List Entry) → s₁ ≡ s₂ → k₁ ≡ k₂ → xs ≡ ys
+    → f l ≡ h l → splitStore g s₁ k₁ f l xs ≡ splitStore g s₂ k₂ h l ys
 unfolding splitStore sideStore
 split-agree g s₁ s₂ k₁ k₂ l f h xs ys es ek ex ef = rw (es, ek, ex, ef)
 
-crown-agree : (g : Geometry) (s₁ s₂ k₁ k₂ l : ℕ) (f h : ℕ → ℕ) (xs ys : List Entry) → s₁ ≡ s₂ → k₁ ≡ k₂ → xs ≡ ys → f l ≡ h l → crownStore g s₁ k₁ f l xs ≡ crownStore g s₂ k₂ h l ys
+crown-agree : (g : Geometry) (s₁ s₂ k₁ k₂ l : ℕ) (f h : ℕ → ℕ) (xs ys : List Entry) → s₁ ≡ s₂ → k₁ ≡ k₂ → xs ≡ ys
+    → f l ≡ h l → crownStore g s₁ k₁ f l xs ≡ crownStore g s₂ k₂ h l ys
 unfolding crownStore sideStore
 crown-agree g s₁ s₂ k₁ k₂ l f h xs ys es ek ex ef = rw (es, ek, ex, ef)
 
-part-agree : (g : Geometry) (k₁ k₂ n₁ n₂ l : ℕ) (f h : ℕ → ℕ) (xs ys : List Entry) (m : ℕ) → k₁ ≡ k₂ → n₁ ≡ n₂ → xs ≡ ys → f l ≡ h l → crownPart g k₁ n₁ f l xs m ≡ crownPart g k₂ n₂ h l ys m
+part-agree : (g : Geometry) (k₁ k₂ n₁ n₂ l : ℕ) (f h : ℕ → ℕ) (xs ys : List Entry) (m : ℕ) → k₁ ≡ k₂ → n₁ ≡ n₂ → xs ≡ ys
+    → f l ≡ h l → crownPart g k₁ n₁ f l xs m ≡ crownPart g k₂ n₂ h l ys m
 unfolding crownPart
 part-agree g k₁ k₂ n₁ n₂ l f h xs ys m ek en ex ef = rw (ek, en, ex, ef)
 
@@ -50,7 +54,8 @@ lists : Geometry → List ℕ → (ℕ → ℕ) → ℕ → ℕ → ℕ → ℕ 
 lists g i side l p m k a x = insertList g (chipWith g i l p) k a (side m) side x
 
 module _ (g : Geometry) (i : List ℕ) (side : ℕ → ℕ) (seq l p m k a : ℕ) (j : Job) (pj : Puts side seq l m k a j) where
-  name-is : (x : ℕ) (e : Entry) (c : List Entry) → 1 ≤ x → x ≤ l → nameOf g (j .change) j x e c ≡ named k (side m) side (half g) x e c
+  name-is : (x : ℕ) (e : Entry) (c : List Entry) → 1 ≤ x → x ≤ l → nameOf g (j .change) j x e c ≡ named k (side m) side
+      (half g) x e c
   unfolding nameOf
   name-is x e c lo hi =
       ap (λ (v : Change). nameOf g v j x e c) (pj .change)
@@ -65,15 +70,19 @@ module _ (g : Geometry) (i : List ℕ) (side : ℕ → ℕ) (seq l p m k a : ℕ
 
   top-is : changed g j i l (rootAt p) ≡ lists g i side l p m k a (suc l)
   unfolding changed pathOf
-  top-is = sym (path-top (nodeAt g i) (j .key) (leafOf (j .change) (j .key)) (nameOf g (j .change) j) l (rootAt p)) ∙ list-is (suc l)
+  top-is = sym (path-top (nodeAt g i) (j .key) (leafOf (j .change) (j .key)) (nameOf g (j .change) j) l (rootAt p))
+      ∙ list-is (suc l)
 
-  stores-is : (x : ℕ) → 1 ≤ x → x ≤ l → storesOf g (j .change) j x (pathOf g j i l (rootAt p) x) ≡ splitStore g seq k side x (lists g i side l p m k a x)
+  stores-is : (x : ℕ) → 1 ≤ x → x ≤ l → storesOf g (j .change) j x (pathOf g j i l (rootAt p) x) ≡ splitStore g seq k
+      side x (lists g i side l p m k a x)
   unfolding storesOf
   stores-is x lo hi =
       ap (λ (v : Change). storesOf g v j x (pathOf g j i l (rootAt p) x)) (pj .change)
-      ∙ split-agree g (j .seq) seq (j .key) k x (sideOf j) side (pathOf g j i l (rootAt p) x) (lists g i side l p m k a x) (pj .number) (pj .key) (list-is x) (pj .sides x lo (omega arith))
+      ∙ split-agree g (j .seq) seq (j .key) k x (sideOf j) side (pathOf g j i l (rootAt p) x)
+      (lists g i side l p m k a x) (pj .number) (pj .key) (list-is x) (pj .sides x lo (omega arith))
 
-  sides-is : (x : ℕ) → x ≤ l → sidesUp g j (pathOf g j i l (rootAt p)) x ≡ sideStores g seq k side (lists g i side l p m k a) x
+  sides-is : (x : ℕ) → x ≤ l → sidesUp g j (pathOf g j i l (rootAt p)) x ≡ sideStores g seq k side
+      (lists g i side l p m k a) x
   unfolding sidesUp sideStores
   sides-is zero h = refl
   sides-is (suc x) h = λ z. sides-is x (omega arith) z ++ stores-is (suc x) (omega arith) h z
@@ -87,13 +96,15 @@ module _ (g : Geometry) (i : List ℕ) (side : ℕ → ℕ) (seq l p m k a : ℕ
   part-is : (x : ℕ) → crownParts g j i l (rootAt p) x ≡ insertPart g (chipWith g i l p) k a (side m) side x
   unfolding crownParts insertPart topPart lists
   part-is x = λ z. pick (leb x l) (low-is x z)
-      (part-agree g (j .key) k (j .page) (side m) (suc l) (sideOf j) side (changed g j i l (rootAt p)) (lists g i side l p m k a (suc l)) x (pj .key) (pj .page) top-is (pj .sides (suc l) (omega arith) (omega arith)) z)
+      (part-agree g (j .key) k (j .page) (side m) (suc l) (sideOf j) side (changed g j i l (rootAt p))
+      (lists g i side l p m k a (suc l)) x (pj .key) (pj .page) top-is (pj .sides (suc l) (omega arith) (omega arith)) z)
 
   own-is : storesBy g j i (seq + m) l (rootAt p) ≡ ownStoresAt g seq (chipWith g i l p) side m k a
   unfolding storesBy ownStoresAt lists
   own-is = λ z.
       sides-is l (omega arith) z
-      ++ (crown-agree g (j .seq) seq (j .key) k (suc l) (sideOf j) side (changed g j i l (rootAt p)) (lists g i side l p m k a (suc l)) (pj .number) (pj .key) top-is (pj .sides (suc l) (omega arith) (omega arith)) z
+      ++ (crown-agree g (j .seq) seq (j .key) k (suc l) (sideOf j) side (changed g j i l (rootAt p))
+      (lists g i side l p m k a (suc l)) (pj .number) (pj .key) top-is (pj .sides (suc l) (omega arith) (omega arith)) z
       ++ (program (pj .page z) (built g (seq + m) (crownHeight g (suc l) (top-is z)) (λ x. part-is x z)) ∷ []))
 
   crest-is : topBy g j i l (rootAt p) ≡ insertCrest g (chipWith g i l p) side m k a
@@ -101,7 +112,8 @@ module _ (g : Geometry) (i : List ℕ) (side : ℕ → ℕ) (seq l p m k a : ℕ
   crest-is = λ z. record { page = pj .page z; level = crownHeight g (suc l) (top-is z) - 1 }
 
 -- by the record
-pub inserted : (g : Geometry) (n : ℕ) (i : List ℕ) (o : Opened) (m k a : ℕ) (j : Job) (b : Budget) (r : Own) (then : List ℕ) (last l : ℕ)
+pub inserted : (g : Geometry) (n : ℕ) (i : List ℕ) (o : Opened) (m k a : ℕ) (j : Job) (b : Budget) (r : Own)
+    (then : List ℕ) (last l : ℕ)
     → Owns g (storesBy g j i last l (rootAt (o .root))) (topBy g j i l (rootAt (o .root))) b r i then
     → last ≡ o .most + m → l ≡ levelBy g o → Puts (sidesOn g n i o) (o .most) l m k a j
     → Owns g (ownBy g n i o m k a) (crestBy g n i o m k a) b r i then

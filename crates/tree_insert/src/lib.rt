@@ -27,7 +27,8 @@ fn climb(
     root: u32,
 ) -> Summit
     requires { ⌜ (level < 255) × (pageBytes g ≤ longestPage) × (job .seq < fourBytes) × (Countable b) ⌝ }
-    ensures { λ r. ⌜ Climbs g job level (rootAt root) b r (now (img .entry)) (now (img .exit)) (now (page .entry)) (now (page .exit)) ⌝ }
+    ensures { λ r. ⌜ Climbs g job level (rootAt root) b r (now (img .entry)) (now (img .exit)) (now (page .entry))
+        (now (page .exit)) ⌝ }
 {
     let u = tree_path::change(
         g,
@@ -55,7 +56,8 @@ fn insert_with(
 ) -> Own
     requires { ⌜ (level < 255) × (pageBytes g ≤ longestPage) × (job .seq < fourBytes) × (Countable b) ⌝ }
     ensures { λ r.
-        ⌜ Owns g (storesBy g job (now (img .entry)) last level (rootAt root)) (topBy g job (now (img .entry)) level (rootAt root)) b r (now (img .entry)) (now (img .exit)) ⌝ }
+        ⌜ Owns g (storesBy g job (now (img .entry)) last level (rootAt root)) (topBy g job (now (img .entry)) level
+        (rootAt root)) b r (now (img .entry)) (now (img .exit)) ⌝ }
 {
     let mut page = chip_page::blank();
     let w = climb(g, &mut *img, &mut page, b, job, level, root);
@@ -140,7 +142,8 @@ pub fn insert_own(
 ) -> Own
     requires { ⌜ (o .height < 256) × (1 ≤ m) × (m ≤ 256) × (pageBytes g ≤ longestPage) × (Countable b) ⌝ }
     ensures { λ r.
-        ⌜ Owns g (ownBy g n (now (img .entry)) o m key addr) (crestBy g n (now (img .entry)) o m key addr) b r (now (img .entry)) (now (img .exit)) ⌝ }
+        ⌜ Owns g (ownBy g n (now (img .entry)) o m key addr) (crestBy g n (now (img .entry)) o m key addr) b r
+        (now (img .entry)) (now (img .exit)) ⌝ }
 {
     let level = chip_survey::level_by(g, o.height);
     let job = insert_job(g, &*img, n, o, m, level, key, addr);

@@ -49,22 +49,26 @@ tab-entries img at (suc n) =
 pub load-start : (z : List Entry) (f : ℕ → Entry) → z ≡ written z 0 f 0
 load-start z f = written-none z 0 f
 
-pub load-go : (img : List ℕ) (at : ℕ) (z m : List Entry) (k : ℕ) (x : Entry) → m ≡ written z 0 (λ j. entryAt img (at + 8 * j)) k → x ≡ entryAt img (at + 8 * k)
+pub load-go : (img : List ℕ) (at : ℕ) (z m : List Entry) (k : ℕ) (x : Entry) → m ≡ written z 0
+    (λ j. entryAt img (at + 8 * j)) k → x ≡ entryAt img (at + 8 * k)
     → set m k x ≡ written z 0 (λ j. entryAt img (at + 8 * j)) (k + 1)
 load-go img at z m k x e f = rw f (filled-more z (λ j. entryAt img (at + 8 * j)) k m e)
 
-pub loaded : (img : List ℕ) (at n : ℕ) (z : List Entry) (m : Node) (k : ℕ) → m .e ≡ written z 0 (λ j. entryAt img (at + 8 * j)) k → length z ≡ 256
+pub loaded : (img : List ℕ) (at n : ℕ) (z : List Entry) (m : Node) (k : ℕ) → m .e ≡ written z 0
+    (λ j. entryAt img (at + 8 * j)) k → length z ≡ 256
     → m .count ≡ n → n ≤ 256 → k ≤ n → n ≤ k → entries m ≡ entriesAt img at n
 unfolding entries
 loaded img at n z m k e len c q h g =
     let done : k ≡ n = omega arith in
     rw (c, e, done) (take-written no-entry z (λ j. entryAt img (at + 8 * j)) n (omega arith) ∙ tab-entries img at n)
 
-pub load-is : (g : Geometry) (img : List ℕ) (p l at n : ℕ) (m : Node) → entries m ≡ entriesAt img at n → at ≡ nodePlace g p l → n ≡ nodeCount g img p l → entries m ≡ nodeAt g img p l
+pub load-is : (g : Geometry) (img : List ℕ) (p l at n : ℕ) (m : Node) → entries m ≡ entriesAt img at n
+    → at ≡ nodePlace g p l → n ≡ nodeCount g img p l → entries m ≡ nodeAt g img p l
 load-is g img p l at n m em ea en = em ∙ node-read g img p l at n ea en
 
 -- ---- the way down
-pub takes : (g : Geometry) (img : List ℕ) (p l k at n i : ℕ) (m : Node) (x : Entry) → at ≡ nodePlace g p l → n ≡ nodeCount g img p l → i ≡ place k (entriesAt img at n)
+pub takes : (g : Geometry) (img : List ℕ) (p l k at n i : ℕ) (m : Node) (x : Entry) → at ≡ nodePlace g p l
+    → n ≡ nodeCount g img p l → i ≡ place k (entriesAt img at n)
     → x ≡ entryAt img (at + 8 * i) → entries m ≡ entriesAt img at n → m .count ≡ n → i ≤ n - 1 → n < 256 → (n ≡ 0 → ⊥)
     → Takes (nodeAt g img p l) k (record { node = m; at = i; entry = x })
 takes g img p l k at n i m x ea en ei ex em cm h few some =
@@ -77,7 +81,8 @@ takes g img p l k at n i m x ea en ei ex em cm h few some =
       few = omega arith;
     }
 
-pub takes-none : (g : Geometry) (img : List ℕ) (p l k at n : ℕ) (m : Node) → at ≡ nodePlace g p l → n ≡ nodeCount g img p l
+pub takes-none : (g : Geometry) (img : List ℕ) (p l k at n : ℕ) (m : Node) → at ≡ nodePlace g p l
+    → n ≡ nodeCount g img p l
     → entries m ≡ entriesAt img at n → m .count ≡ n → n ≡ 0
     → Takes (nodeAt g img p l) k (record { node = m; at = 0; entry = record { key = 0; addr = 0 } })
 unfolding place chosen halve
@@ -93,7 +98,8 @@ takes-none g img p l k at n m ea en em cm z =
     }
 
 -- ---- put and remove, by where the key stands
-module _ (img : List ℕ) (at n k i : ℕ) (m : Node) (b : Bool) (ei : i ≡ ahead k (entriesAt img at n)) (em : entries m ≡ entriesAt img at n)
+module _ (img : List ℕ) (at n k i : ℕ) (m : Node) (b : Bool) (ei : i ≡ ahead k (entriesAt img at n))
+    (em : entries m ≡ entriesAt img at n)
     (eb : b ≡ holds k (entriesAt img at n)) where
   abbrev es : List Entry
   es = entriesAt img at n
@@ -104,12 +110,14 @@ module _ (img : List ℕ) (at n k i : ℕ) (m : Node) (b : Bool) (ei : i ≡ ahe
       let less = place-is k es (w .0) .inside in
       rw (c, ei, w .2) (rw entries-length at less)
 
-  pub put-found : (a : ℕ) (r : Node) → entries r ≡ set (entries m) i (record { key = k; addr = a }) → b ≡ true → entries r ≡ putIn k a es
+  pub put-found : (a : ℕ) (r : Node) → entries r ≡ set (entries m) i (record { key = k; addr = a }) → b ≡ true
+      → entries r ≡ putIn k a es
   put-found a r f q =
       let w = sym eb ∙ q in
       f ∙ rw (em, ei) (sym (put-over k es (held k es w .0) a w))
 
-  pub put-new : (a : ℕ) (r : Node) → entries r ≡ insertAt i (record { key = k; addr = a }) (entries m) → b ≡ false → entries r ≡ putIn k a es
+  pub put-new : (a : ℕ) (r : Node) → entries r ≡ insertAt i (record { key = k; addr = a }) (entries m) → b ≡ false
+      → entries r ≡ putIn k a es
   put-new a r f q = f ∙ rw (em, ei) (sym (put-in k a es (sym eb ∙ q)))
 
   pub removed-one : (r : Node) → entries r ≡ removeAt i (entries m) → b ≡ true → entries r ≡ removeIn k es
@@ -120,11 +128,13 @@ module _ (img : List ℕ) (at n k i : ℕ) (m : Node) (b : Bool) (ei : i ≡ ahe
   pub removed-none : b ≡ false → entries m ≡ removeIn k es
   removed-none q = em ∙ sym (remove-out k es (sym eb ∙ q))
 
-pub put-is : (g : Geometry) (img : List ℕ) (p l k a at n : ℕ) (m : Node) → entries m ≡ putIn k a (entriesAt img at n) → at ≡ nodePlace g p l → n ≡ nodeCount g img p l
+pub put-is : (g : Geometry) (img : List ℕ) (p l k a at n : ℕ) (m : Node) → entries m ≡ putIn k a (entriesAt img at n)
+    → at ≡ nodePlace g p l → n ≡ nodeCount g img p l
     → entries m ≡ putIn k a (nodeAt g img p l)
 put-is g img p l k a at n m em ea en = em ∙ rw (node-read g img p l at n ea en)
 
-pub remove-is : (g : Geometry) (img : List ℕ) (p l k at n : ℕ) (m : Node) → entries m ≡ removeIn k (entriesAt img at n) → at ≡ nodePlace g p l → n ≡ nodeCount g img p l
+pub remove-is : (g : Geometry) (img : List ℕ) (p l k at n : ℕ) (m : Node) → entries m ≡ removeIn k (entriesAt img at n)
+    → at ≡ nodePlace g p l → n ≡ nodeCount g img p l
     → entries m ≡ removeIn k (nodeAt g img p l)
 remove-is g img p l k at n m em ea en = em ∙ rw (node-read g img p l at n ea en)
 

@@ -29,25 +29,29 @@ pub first-some : (n : Node) → length (n .e) ≡ 256 → (n .count ≡ 0 → �
 unfolding entries
 first-some n len h = first (n .e) (n .count) (omega arith) (omega arith)
 
-pub collapse-leaf : (r : Nodes) (l : ℕ) (c : Node) → c .count ≤ 256 → l ≡ 0 → Collapses r l (entries c) (record { level = 0; node = c })
+pub collapse-leaf : (r : Nodes) (l : ℕ) (c : Node) → c .count ≤ 256 → l ≡ 0 → Collapses r l (entries c)
+    (record { level = 0; node = c })
 unfolding collapse
 collapse-leaf r zero c few z = record { level = refl; list = refl; few = few; low = omega arith }
 collapse-leaf r (suc l) c few z = absurd (omega arith)
 
-stays : (r : Nodes) (l : ℕ) (es : List Entry) → (length es ≡ 1 → ⊥) → (suc l ≡ collapse r (suc l) es .level) × (es ≡ collapse r (suc l) es .list)
+stays : (r : Nodes) (l : ℕ) (es : List Entry) → (length es ≡ 1 → ⊥) → (suc l ≡ collapse r (suc l) es .level) ×
+    (es ≡ collapse r (suc l) es .list)
 unfolding collapse
 stays r l [] h = (refl, refl)
 stays r l (x ∷ []) h = absurd (h refl)
 stays r l (x ∷ y ∷ es) h = (refl, refl)
 
-pub collapse-stay : (r : Nodes) (l m : ℕ) (c : Node) → m ≡ length (entries c) → c .count ≤ 256 → (m ≡ 1 → ⊥) → (l ≡ 0 → ⊥)
+pub collapse-stay : (r : Nodes) (l m : ℕ) (c : Node) → m ≡ length (entries c) → c .count ≤ 256 → (m ≡ 1 → ⊥)
+    → (l ≡ 0 → ⊥)
     → Collapses r l (entries c) (record { level = l; node = c })
 collapse-stay r zero m c em few h z = absurd (z refl)
 collapse-stay r (suc l) m c em few h z =
     let s = stays r l (entries c) (λ q. h (em ∙ q)) in
     record { level = s .0; list = s .1; few = few; low = omega arith }
 
-falls : (r : Nodes) (l : ℕ) (es : List Entry) → length es ≡ 1 → collapse r (suc l) es ≡ collapse r l (r (firstOf es .addr) (suc l))
+falls : (r : Nodes) (l : ℕ) (es : List Entry) → length es ≡ 1 → collapse r (suc l) es ≡ collapse r l
+    (r (firstOf es .addr) (suc l))
 unfolding collapse firstOf
 falls r l [] h = absurd (omega arith)
 falls r l (x ∷ []) h = refl
@@ -58,7 +62,8 @@ pub collapse-on : (r : Nodes) (l m : ℕ) (c d : Node) (x : Entry) (t : Top) →
     → m ≡ length (entries c) → m ≡ 1 → (l ≡ 0 → ⊥) → Collapses r l (entries c) t
 collapse-on r zero m c d x t cl ex ed em h z = absurd (z refl)
 collapse-on r (suc l) m c d x t cl ex ed em h z =
-    let f : collapse r (suc l) (entries c) ≡ collapse r l (entries d) = falls r l (entries c) (sym em ∙ h) ∙ rw (ed, ex) in
+    let f : collapse r (suc l) (entries c) ≡ collapse r l (entries d) = falls r l (entries c) (sym em ∙ h)
+    ∙ rw (ed, ex) in
     let k : Collapses r l (entries d) t = rw sub-one at cl in
     record {
       level = k .level ∙ rw f;

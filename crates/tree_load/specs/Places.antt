@@ -21,7 +21,8 @@ use Rattle.tree_node.specs.Node.{replaceBy}
 use Rattle.tree_node.specs.Changes.{no-entry}
 
 -- splice is a replacement at the place that descent takes
-pub splice-is : (f : Entry → List Entry) (k : ℕ) (es : List Entry) → splice f k es ≡ replaceBy (place k es) (f (chosen k es)) es
+pub splice-is : (f : Entry → List Entry) (k : ℕ) (es : List Entry) → splice f k es ≡ replaceBy (place k es)
+    (f (chosen k es)) es
 unfolding splice chosen replaceBy
 splice-is f k [] = refl
 splice-is f k (e ∷ es) = swap-cut f (place k (e ∷ es)) (e ∷ es) (place-is k (e ∷ es) (omega arith) .inside)
@@ -47,22 +48,26 @@ module _ (k : ℕ) (es : List Entry) (n : 0 < length es) where
   unfolding removeIn splice chosen removeAt
   remove-in q =
       let w = held k es q in
-      swap-cut (λ x. remove k (x ∷ [])) (place k es) es (place-is k es n .inside) ∙ rw (w .2, eq-eqb _ _ (w .1), add-one)
+      swap-cut (λ x. remove k (x ∷ [])) (place k es) es (place-is k es n .inside)
+      ∙ rw (w .2, eq-eqb _ _ (w .1), add-one)
 
   remove-other : (chosen k es .key ≡ k → ⊥) → removeIn k es ≡ es
   unfolding removeIn splice chosen
-  remove-other q = swap-cut (λ x. remove k (x ∷ [])) (place k es) es (place-is k es n .inside) ∙ rw (ne-eqb _ _ q) (sym cut)
+  remove-other q = swap-cut (λ x. remove k (x ∷ [])) (place k es) es (place-is k es n .inside)
+      ∙ rw (ne-eqb _ _ q) (sym cut)
 
   module _ (a : ℕ) where
     put-at : putIn k a es ≡ take (place k es) es ++ (put k a (chosen k es ∷ []) ++ drop (suc (place k es)) es)
     unfolding putIn splice chosen
     put-at = go es n
       where
-        go : (l : List Entry) → 0 < length l → putIn k a l ≡ take (place k l) l ++ (put k a (entryOf l (place k l) ∷ []) ++ drop (suc (place k l)) l)
+        go : (l : List Entry) → 0 < length l → putIn k a l ≡ take (place k l) l ++ (put k a
+            (entryOf l (place k l) ∷ []) ++ drop (suc (place k l)) l)
         go [] m = absurd (omega arith)
         go (e ∷ l) m = swap-cut (λ x. put k a (x ∷ [])) (place k (e ∷ l)) (e ∷ l) (place-is k (e ∷ l) m .inside)
 
-    put-by : (l : List Entry) → put k a (chosen k es ∷ []) ≡ l → putIn k a es ≡ take (place k es) es ++ (l ++ drop (suc (place k es)) es)
+    put-by : (l : List Entry) → put k a (chosen k es ∷ []) ≡ l
+        → putIn k a es ≡ take (place k es) es ++ (l ++ drop (suc (place k es)) es)
     put-by l e = put-at ∙ ap (λ (m : List Entry). take (place k es) es ++ (m ++ drop (suc (place k es)) es)) e
 
     abbrev new : Entry
@@ -71,7 +76,8 @@ module _ (k : ℕ) (es : List Entry) (n : 0 < length es) where
     pub put-over : holds k es ≡ true → putIn k a es ≡ set es (ahead k es) new
     put-over q =
         let w = held k es q in
-        put-by (new ∷ []) (one-same k a (chosen k es) (w .1)) ∙ rw (w .2) (sym (set-split es (place k es) new (place-is k es n .inside)))
+        put-by (new ∷ []) (one-same k a (chosen k es) (w .1))
+        ∙ rw (w .2) (sym (set-split es (place k es) new (place-is k es n .inside)))
 
     into : (t : Bool) → ltb (chosen k es .key) k ≡ t → (chosen k es .key ≡ k → ⊥)
         → putIn k a es ≡ insertAt (pick t (suc (place k es)) (place k es)) new es
@@ -84,7 +90,8 @@ module _ (k : ℕ) (es : List Entry) (n : 0 < length es) where
         put-by (new ∷ chosen k es ∷ []) (one-above k a (chosen k es) (ltb-false _ _ e) q)
         ∙ ap (λ (l : List Entry). take (place k es) es ++ (new ∷ l)) (sym (drop-cons es (place k es) no-entry (place-is k es n .inside)))
 
-pub put-in : (k a : ℕ) (es : List Entry) → holds k es ≡ false → putIn k a es ≡ insertAt (ahead k es) (record { key = k; addr = a }) es
+pub put-in : (k a : ℕ) (es : List Entry) → holds k es ≡ false → putIn k a es ≡ insertAt (ahead k es)
+    (record { key = k; addr = a }) es
 unfolding putIn ahead holds insertAt
 put-in k a [] q = refl
 put-in k a (e ∷ es) q =

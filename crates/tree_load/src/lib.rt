@@ -1,5 +1,5 @@
-// Nodes of an image, by value: as they stand, with a key put in or taken out, and with the place that descent takes; and the
-// root that is left.
+// Nodes of an image, by value: as they stand, with a key put in or taken out, and with the place that descent takes;
+// and the root that is left.
 ghost use mathlib.Core.Path.{_≡_};
 ghost use Prim.Native.Nat.{_+_, _*_, _-_, _≤_, _<_};
 ghost use Rattle.model.specs.Bytes.{entriesAt, nodeAt};

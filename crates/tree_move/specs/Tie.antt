@@ -45,14 +45,16 @@ module _ (g : Geometry) (i : List ℕ) (p most l m low k : ℕ) (j : Job) (pj : 
 
   top-of : changed g j i l (named p) ≡ moved g i l p low (j .key) (j .page) (suc l)
   unfolding changed pathOf
-  top-of = sym (path-top (nodeAt g i) (j .key) (leafOf (j .change) (j .key)) (nameOf g (j .change) j) l (named p)) ∙ list-of (suc l)
+  top-of = sym (path-top (nodeAt g i) (j .key) (leafOf (j .change) (j .key)) (nameOf g (j .change) j) l (named p))
+      ∙ list-of (suc l)
 
   parts : ℕ → List Entry
   parts x = pick (leb low x) (moved g i l p low (j .key) (j .page) x) []
 
   part-of : (x : ℕ) → partsOf g j i l (named p) x ≡ parts x
   unfolding partsOf partOf parts
-  part-of x = ap (λ (v : Change). partOf g v (j .key) x (pathOf g j i l (named p) x)) (pj .change) ∙ (λ z. pick (leb low x) (list-of x z) [])
+  part-of x = ap (λ (v : Change). partOf g v (j .key) x (pathOf g j i l (named p) x)) (pj .change)
+      ∙ (λ z. pick (leb low x) (list-of x z) [])
 
   top-part : pick (leb low (suc l)) (changed g j i l (named p)) [] ≡ parts (suc l)
   unfolding parts
@@ -62,11 +64,14 @@ module _ (g : Geometry) (i : List ℕ) (p most l m low k : ℕ) (j : Job) (pj : 
   unfolding parts moved
   above x h = (λ z. pick (leb low x) (path-above (nodeAt g i) (j .key) same (renamed low (j .page)) l (named p) x h z) []) ∙ either (leb low x)
 
-  bytes-is : pageBytes g ≤ longestPage → storeBy g j low l (named p) i ≡ program (j .page) (built g (suc most) (suc l) parts)
+  bytes-is : pageBytes g ≤ longestPage → storeBy g j low l (named p) i ≡ program (j .page)
+      (built g (suc most) (suc l) parts)
   unfolding storeBy pathStore
   bytes-is le =
-      let low-is : laid g (partsOf g j i l (named p)) l (blanks longestPage) ≡ laid g parts l (blanks longestPage) = laid-agree g (partsOf g j i l (named p)) parts l (blanks longestPage) (λ x a h. part-of x) in
-      let up : laidLevel g (laid g (partsOf g j i l (named p)) l (blanks longestPage)) (suc l) (pick (leb low (suc l)) (changed g j i l (named p)) []) ≡ laid g parts (suc l) (blanks longestPage) =
+      let low-is : laid g (partsOf g j i l (named p)) l (blanks longestPage) ≡ laid g parts l (blanks longestPage) =
+      laid-agree g (partsOf g j i l (named p)) parts l (blanks longestPage) (λ x a h. part-of x) in
+      let up : laidLevel g (laid g (partsOf g j i l (named p)) l (blanks longestPage)) (suc l)
+      (pick (leb low (suc l)) (changed g j i l (named p)) []) ≡ laid g parts (suc l) (blanks longestPage) =
       (λ z. laidLevel g (low-is z) (suc l) (top-part z)) ∙ laid-more g parts l (blanks longestPage) in
       (λ z. program (j .page) (take (pageBytes g) (sealed g (bare g (suc l) (g .top - suc l) (up z)) (suc (pj .number z)) (suc l))))
       ∙ ap (λ (bs : List ℕ). program (j .page) bs) (page-is g parts (suc l) (suc most) (suc l) (blanks longestPage) _ refl refl le above)
@@ -87,7 +92,8 @@ module _ (g : Geometry) (i : List ℕ) (p most l m low k : ℕ) (j : Job) (pj : 
     unfolding moveStoreBy h
     store-is le = bytes-is le ∙ (λ z. program (pj .page z) (built g (suc most) (suc l) (λ x. parts-is x z)))
 
-  pub was-moved : (b r : Budget) (o : List ℕ) → Ran g (storeBy g j low l (named p) i ∷ []) b r i o → pageBytes g ≤ longestPage → Moved g p most l m low k b r i o
+  pub was-moved : (b r : Budget) (o : List ℕ) → Ran g (storeBy g j low l (named p) i ∷ []) b r i o
+      → pageBytes g ≤ longestPage → Moved g p most l m low k b r i o
   unfolding h
   was-moved b r o run le = record { ran = λ t q el ek. rw (store-is t q el ek le) at run }
 

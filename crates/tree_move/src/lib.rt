@@ -63,8 +63,10 @@ fn move_with(
     level: u32,
     root: u32,
 ) -> Budget
-    requires { ⌜ (level < 255) × (pageBytes g ≤ longestPage) × (job .seq < 8589934592) × (Countable b) × (job .change ≡ Change.Rename low) ⌝ }
-    ensures { λ r. ⌜ Ran g (storeBy g job low level (named root) (now (img .entry)) ∷ []) b r (now (img .entry)) (now (img .exit)) ⌝ }
+    requires { ⌜ (level < 255) × (pageBytes g ≤ longestPage) × (job .seq < 8589934592) × (Countable b) ×
+        (job .change ≡ Change.Rename low) ⌝ }
+    ensures { λ r. ⌜ Ran g (storeBy g job low level (named root) (now (img .entry)) ∷ []) b r (now (img .entry))
+        (now (img .exit)) ⌝ }
 {
     let mut page = chip_page::blank();
     let u = tree_path::change(

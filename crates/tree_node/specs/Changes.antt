@@ -39,11 +39,13 @@ first (x ∷ e) (suc c) h g = refl
 pub first-none : (n : Node) → n .count ≡ 0 → 0 ≡ next (entries n) 0
 first-none n e = rw (empty-is n e)
 
-pub first-some : (n : Node) → length (n .e) ≡ 256 → (n .count ≡ 0 → ⊥) → getD (n .e) 0 no-entry .key ≡ next (entries n) 0
+pub first-some : (n : Node) → length (n .e) ≡ 256 → (n .count ≡ 0 → ⊥) → getD (n .e) 0 no-entry .key ≡ next (entries n)
+    0
 unfolding entries
 first-some n len h = first (n .e) (n .count) (omega arith) (omega arith)
 
-pub replaced : (n : Node) (i : ℕ) (x : Entry) → entries (record { e = set (n .e) i x; count = n .count }) ≡ set (entries n) i x
+pub replaced : (n : Node) (i : ℕ) (x : Entry) → entries (record { e = set (n .e) i x; count = n .count })
+    ≡ set (entries n) i x
 unfolding entries
 replaced n i x = take-set (n .count) i x (n .e)
 
@@ -63,7 +65,8 @@ pub shift-down : (z m : List Entry) (i j : ℕ) → m ≡ written z 0 (λ k. get
     → set m j (getD z (i + j) no-entry) ≡ written z 0 (λ k. getD z (i + k) no-entry) (j + 1)
 shift-down z m i j e = filled-more z (λ k. getD z (i + k) no-entry) j m e
 
-pub inserts : (n : Node) (m : List Entry) (i j : ℕ) (x : Entry) → m ≡ written (n .e) (i + 1) (λ k. getD (n .e) (i + k) no-entry) j → length (n .e) ≡ 256
+pub inserts : (n : Node) (m : List Entry) (i j : ℕ) (x : Entry) → m ≡ written (n .e)
+    (i + 1) (λ k. getD (n .e) (i + k) no-entry) j → length (n .e) ≡ 256
     → j ≤ n .count - i → n .count - i ≤ j → i ≤ n .count → n .count < 256
     → entries (record { e = set m i x; count = n .count + 1 }) ≡ insertAt i x (entries n)
 unfolding entries
@@ -71,7 +74,8 @@ inserts n m i j x e len h g p q =
     let done : j ≡ n .count - i = omega arith in
     rw (e, done) (inserted no-entry (n .e) (n .count) (omega arith) i x p (omega arith))
 
-pub removes : (n : Node) (m : List Entry) (i j : ℕ) → m ≡ written (n .e) i (λ k. getD (n .e) (i + 1 + k) no-entry) j → length (n .e) ≡ 256
+pub removes : (n : Node) (m : List Entry) (i j : ℕ) → m ≡ written (n .e) i (λ k. getD (n .e) (i + 1 + k) no-entry) j
+    → length (n .e) ≡ 256
     → j ≤ n .count - 1 - i → n .count - 1 - i ≤ j → i < n .count → n .count ≤ 256
     → entries (record { e = m; count = n .count - 1 }) ≡ removeAt i (entries n)
 unfolding entries
@@ -108,7 +112,8 @@ none-right n h p = short-drop (n .count) h (n .e) p
 pub rights-none : (n m : Node) (h : ℕ) → entries m ≡ [] → n .count ≤ h → entries m ≡ drop h (entries n)
 rights-none n m h e p = e ∙ none-right n h p
 
-pub rights : (n : Node) (m : List Entry) (h j : ℕ) → m ≡ written (n .e) 0 (λ k. getD (n .e) (h + k) no-entry) j → length (n .e) ≡ 256
+pub rights : (n : Node) (m : List Entry) (h j : ℕ) → m ≡ written (n .e) 0 (λ k. getD (n .e) (h + k) no-entry) j
+    → length (n .e) ≡ 256
     → j ≤ n .count - h → n .count - h ≤ j → h < n .count → n .count ≤ 256
     → entries (record { e = m; count = n .count - h }) ≡ drop h (entries n)
 unfolding entries
@@ -133,12 +138,14 @@ two-places i x y [] h = absurd (omega arith)
 two-places zero x y (e ∷ es) h = refl
 two-places (suc i) x y (e ∷ es) h = ap (λ (l : List Entry). e ∷ l) (two-places i x y es (omega arith))
 
-replace-two : (i : ℕ) (x y : Entry) (es : List Entry) → i < length es → insertAt (i + 1) y (set es i x) ≡ replaceBy i (x ∷ y ∷ []) es
+replace-two : (i : ℕ) (x y : Entry) (es : List Entry) → i < length es → insertAt (i + 1) y (set es i x) ≡ replaceBy i
+    (x ∷ y ∷ []) es
 unfolding replaceBy insertAt
 replace-two i x y [] h = absurd (omega arith)
 replace-two i x y (e ∷ es) h = rw add-one (two-places i x y (e ∷ es) h)
 
-pub two-is : (n m r : Node) (i : ℕ) (x y : Entry) → entries r ≡ insertAt (i + 1) y (entries m) → entries m ≡ set (entries n) i x → i < length (entries n)
+pub two-is : (n m r : Node) (i : ℕ) (x y : Entry) → entries r ≡ insertAt (i + 1) y (entries m)
+    → entries m ≡ set (entries n) i x → i < length (entries n)
     → entries r ≡ replaceBy i (x ∷ y ∷ []) (entries n)
 two-is n m r i x y f e h = f ∙ rw e (replace-two i x y (entries n) h)
 
@@ -147,20 +154,24 @@ unfolding replaceBy
 nil i cs [] h = refl
 nil i cs (e ∷ es) h = absurd (omega arith)
 
-pub spliced-empty : (n : Node) (i k : ℕ) (c : Carry) → k ≡ length (entries n) → k ≡ 0 → entries n ≡ replaceBy i (carried c) (entries n)
+pub spliced-empty : (n : Node) (i k : ℕ) (c : Carry) → k ≡ length (entries n) → k ≡ 0 → entries n ≡ replaceBy i
+    (carried c) (entries n)
 spliced-empty n i k c ek h = nil i (carried c) (entries n) (sym ek ∙ h)
 
-pub spliced-none : (n r : Node) (i k : ℕ) (c : Carry) → entries r ≡ removeAt i (entries n) → c ≡ Nothing → k ≡ length (entries n) → k ≡ n .count → i ≤ n .count - 1 → (k ≡ 0 → ⊥)
+pub spliced-none : (n r : Node) (i k : ℕ) (c : Carry) → entries r ≡ removeAt i (entries n) → c ≡ Nothing
+    → k ≡ length (entries n) → k ≡ n .count → i ≤ n .count - 1 → (k ≡ 0 → ⊥)
     → entries r ≡ replaceBy i (carried c) (entries n)
 unfolding carried
 spliced-none n r i k c e ec ek en h z = e ∙ rw ec (replace-none i (entries n) (omega arith))
 
-pub spliced-one : (n r : Node) (i k : ℕ) (c : Carry) (x : Entry) → entries r ≡ set (entries n) i x → c ≡ One x → k ≡ length (entries n) → k ≡ n .count → i ≤ n .count - 1 → (k ≡ 0 → ⊥)
+pub spliced-one : (n r : Node) (i k : ℕ) (c : Carry) (x : Entry) → entries r ≡ set (entries n) i x → c ≡ One x
+    → k ≡ length (entries n) → k ≡ n .count → i ≤ n .count - 1 → (k ≡ 0 → ⊥)
     → entries r ≡ replaceBy i (carried c) (entries n)
 unfolding carried
 spliced-one n r i k c x e ec ek en h z = e ∙ rw ec (replace-one i x (entries n) (omega arith))
 
-pub spliced-two : (n r : Node) (i : ℕ) (c : Carry) (x y : Entry) → entries r ≡ replaceBy i (x ∷ y ∷ []) (entries n) → c ≡ Two x y
+pub spliced-two : (n r : Node) (i : ℕ) (c : Carry) (x y : Entry) → entries r ≡ replaceBy i (x ∷ y ∷ []) (entries n)
+    → c ≡ Two x y
     → entries r ≡ replaceBy i (carried c) (entries n)
 unfolding carried
 spliced-two n r i c x y e ec = e ∙ rw ec

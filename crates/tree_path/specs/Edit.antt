@@ -1,4 +1,5 @@
--- The path as an update changes it: its nodes, page N, the stores of the other halves. Definitions alone; assumes nothing.
+-- The path as an update changes it: its nodes, page N, the stores of the other halves. Definitions alone; assumes
+-- nothing.
 use Prim.Native.Nat.{ℕ, zero, suc, _+_, _≤_}
 use mathlib.Core.Path.{_≡_}
 use mathlib.Core.List.{List, [], _++_}
@@ -33,14 +34,16 @@ unfoldable pub sidesUp : Geometry → Job → (ℕ → List Entry) → ℕ → L
 sidesUp g j lists zero = []
 sidesUp g j lists (suc l) = sidesUp g j lists l ++ storesOf g (j .change) j (suc l) (lists (suc l))
 
-pub record Rejoined (g : Geometry) (j : Job) (l : ℕ) (t : Taken) (c : List Entry) (b : Budget) (r : Changed) (i o p q : List ℕ) : Type 0 where
+pub record Rejoined (g : Geometry) (j : Job) (l : ℕ) (t : Taken) (c : List Entry)
+    (b : Budget) (r : Changed) (i o p q : List ℕ) : Type 0 where
   pub node : entries (r .node) ≡ replaceBy (t .at) (nameOf g (j .change) j l (t .entry) c) (entries (t .node))
   pub few : r .node .count ≤ 256
   pub page : q ≡ laidLevel g p l (partOf g (j .change) (j .key) l c)
   pub ran : Ran g (storesOf g (j .change) j l c) b (r .budget) i o
 
-pub record Changes (g : Geometry) (j : Job) (l : ℕ) (e : Entry) (b : Budget) (r : Changed) (i o p q : List ℕ) : Type 0 where
-  pub node : entries (r .node) ≡ changed g j i l e
-  pub few : r .node .count ≤ 256
-  pub page : q ≡ laid g (partsOf g j i l e) l p
-  pub ran : Ran g (sidesUp g j (pathOf g j i l e) l) b (r .budget) i o
+pub record Changes (g : Geometry) (j : Job) (l : ℕ) (e : Entry) (b : Budget) (r : Changed) (i o p q : List ℕ) : Type 0
+  where
+    pub node : entries (r .node) ≡ changed g j i l e
+    pub few : r .node .count ≤ 256
+    pub page : q ≡ laid g (partsOf g j i l e) l p
+    pub ran : Ran g (sidesUp g j (pathOf g j i l e) l) b (r .budget) i o

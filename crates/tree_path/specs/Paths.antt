@@ -17,7 +17,8 @@ module _ (r : Nodes) (k : ℕ) (leaf : List Entry → List Entry) (name : ℕ �
   path-top (suc l) e = rw (eq-eqb (suc (suc l)) (suc (suc l)) refl)
 
   -- below it the path is that of the entry taken
-  pub path-below : (l : ℕ) (e : Entry) (j : ℕ) → j ≤ suc l → onPath r k leaf name (suc l) e j ≡ onPath r k leaf name l (chosen k (r (e .addr) (suc (suc l)))) j
+  pub path-below : (l : ℕ) (e : Entry) (j : ℕ) → j ≤ suc l → onPath r k leaf name (suc l) e j ≡ onPath r k leaf name l
+      (chosen k (r (e .addr) (suc (suc l)))) j
   unfolding onPath
   path-below l e j h = rw (ne-eqb j (suc (suc l)) (λ q. let z : j ≡ suc (suc l) = q in absurd (omega arith)))
 
@@ -30,8 +31,10 @@ module _ (r : Nodes) (k : ℕ) (leaf : List Entry → List Entry) (name : ℕ �
       (path-above l (chosen k (r (e .addr) (suc (suc l)))) j (omega arith))
 
 -- only the levels that the path has count
-pub edited-agree : (r : Nodes) (k : ℕ) (leaf : List Entry → List Entry) (f h : ℕ → Entry → List Entry → List Entry) (l : ℕ) (e : Entry)
-    → ((m : ℕ) (x : Entry) (c : List Entry) → 1 ≤ m → m ≤ l → f m x c ≡ h m x c) → edited r k leaf f l e ≡ edited r k leaf h l e
+pub edited-agree : (r : Nodes) (k : ℕ) (leaf : List Entry → List Entry) (f h : ℕ → Entry → List Entry → List Entry)
+    (l : ℕ) (e : Entry)
+    → ((m : ℕ) (x : Entry) (c : List Entry) → 1 ≤ m → m ≤ l → f m x c ≡ h m x c)
+    → edited r k leaf f l e ≡ edited r k leaf h l e
 unfolding edited
 edited-agree r k leaf f h zero e q = refl
 edited-agree r k leaf f h (suc l) e q =
@@ -39,8 +42,10 @@ edited-agree r k leaf f h (suc l) e q =
     (λ i x. (ap (λ (c : List Entry). f (suc l) x c) (edited-agree r k leaf f h l x (λ m y c a b. q m y c a (omega arith)))
     ∙ q (suc l) x (edited r k leaf h l x) (omega arith) (omega arith)) i)
 
-pub path-agree : (r : Nodes) (k : ℕ) (leaf : List Entry → List Entry) (f h : ℕ → Entry → List Entry → List Entry) (l : ℕ) (e : Entry) (j : ℕ)
-    → ((m : ℕ) (x : Entry) (c : List Entry) → 1 ≤ m → m ≤ l → f m x c ≡ h m x c) → onPath r k leaf f l e j ≡ onPath r k leaf h l e j
+pub path-agree : (r : Nodes) (k : ℕ) (leaf : List Entry → List Entry) (f h : ℕ → Entry → List Entry → List Entry)
+    (l : ℕ) (e : Entry) (j : ℕ)
+    → ((m : ℕ) (x : Entry) (c : List Entry) → 1 ≤ m → m ≤ l → f m x c ≡ h m x c)
+    → onPath r k leaf f l e j ≡ onPath r k leaf h l e j
 unfolding onPath
 path-agree r k leaf f h zero e j q = rw (edited-agree r k leaf f h zero e q)
 path-agree r k leaf f h (suc l) e j q =

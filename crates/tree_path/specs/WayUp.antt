@@ -32,21 +32,26 @@ use Rattle.tree_path.specs.Edit.{changed, pathOf, partsOf, sidesUp, Rejo
 use Rattle.tree_path.specs.Paths.{path-top, path-below}
 
 -- ---- the leaf
-pub leaf-put : (w : Change) (k a : ℕ) (m : Node) (es : List Entry) → entries m ≡ putIn k a es → w ≡ Put a → entries m ≡ leafOf w k es
+pub leaf-put : (w : Change) (k a : ℕ) (m : Node) (es : List Entry) → entries m ≡ putIn k a es → w ≡ Put a
+    → entries m ≡ leafOf w k es
 unfolding leafOf
 leaf-put w k a m es em q = em ∙ rw q
 
-pub leaf-remove : (w : Change) (k : ℕ) (m : Node) (es : List Entry) → entries m ≡ removeIn k es → w ≡ Remove → entries m ≡ leafOf w k es
+pub leaf-remove : (w : Change) (k : ℕ) (m : Node) (es : List Entry) → entries m ≡ removeIn k es → w ≡ Remove
+    → entries m ≡ leafOf w k es
 unfolding leafOf
 leaf-remove w k m es em q = em ∙ rw q
 
-pub leaf-same : (w : Change) (k a : ℕ) (m : Node) (es : List Entry) → entries m ≡ es → w ≡ Rename a → entries m ≡ leafOf w k es
+pub leaf-same : (w : Change) (k a : ℕ) (m : Node) (es : List Entry) → entries m ≡ es → w ≡ Rename a
+    → entries m ≡ leafOf w k es
 unfolding leafOf
 leaf-same w k a m es em q = em ∙ rw q
 
 -- ---- one level up
-pub rejoined : (g : Geometry) (j : Job) (l : ℕ) (t : Taken) (c : List Entry) (n : Node) (b : Budget) (f : Climbed) (i o p q : List ℕ)
-    → Finished g j l (t .entry) c b f i o p q → entries n ≡ replaceBy (t .at) (carried (f .carry)) (entries (t .node)) → n .count ≤ t .node .count + 1 → t .node .count < 256
+pub rejoined : (g : Geometry) (j : Job) (l : ℕ) (t : Taken) (c : List Entry)
+    (n : Node) (b : Budget) (f : Climbed) (i o p q : List ℕ)
+    → Finished g j l (t .entry) c b f i o p q → entries n ≡ replaceBy (t .at) (carried (f .carry)) (entries (t .node))
+    → n .count ≤ t .node .count + 1 → t .node .count < 256
     → Rejoined g j l t c b (record { node = n; budget = f .budget }) i o p q
 rejoined g j l t c n b f i o p q fin en h few = record {
   node = en ∙ rw (fin .carry);
@@ -57,12 +62,15 @@ rejoined g j l t c n b f i o p q fin en h few = record {
 
 -- ---- the way
 pub change-leaf : (g : Geometry) (j : Job) (l : ℕ) (e : Entry) (b : Budget) (c : Node) (i p : List ℕ)
-    → entries c ≡ leafOf (j .change) (j .key) (nodeAt g i (e .addr) 1) → c .count ≤ 256 → l ≡ 0 → Changes g j l e b (record { node = c; budget = b }) i i p p
+    → entries c ≡ leafOf (j .change) (j .key) (nodeAt g i (e .addr) 1) → c .count ≤ 256 → l ≡ 0 → Changes g j l e b
+    (record { node = c; budget = b }) i i p p
 unfolding changed edited sidesUp
-change-leaf g j zero e b c i p ec few z = record { node = ec; few = few; page = laid-none g (partsOf g j i 0 e) p; ran = ran-none g b i }
+change-leaf g j zero e b c i p ec few z =
+    record { node = ec; few = few; page = laid-none g (partsOf g j i 0 e) p; ran = ran-none g b i }
 change-leaf g j (suc l) e b c i p ec few z = absurd (omega arith)
 
-sides-agree : (g : Geometry) (j : Job) (f h : ℕ → List Entry) (l : ℕ) → ((m : ℕ) → m ≤ l → f m ≡ h m) → sidesUp g j f l ≡ sidesUp g j h l
+sides-agree : (g : Geometry) (j : Job) (f h : ℕ → List Entry) (l : ℕ) → ((m : ℕ) → m ≤ l → f m ≡ h m)
+    → sidesUp g j f l ≡ sidesUp g j h l
 unfolding sidesUp
 sides-agree g j f h zero e = refl
 sides-agree g j f h (suc l) e = rw (sides-agree g j f h l (λ m p. e m (omega arith)), e (suc l) (omega arith))
@@ -80,13 +88,15 @@ module _ (g : Geometry) (j : Job) (i : List ℕ) (l : ℕ) (e : Entry) where
   unfolding x pathOf
   below m h = path-below (nodeAt g i) (j .key) (leafOf (j .change) (j .key)) (nameOf g (j .change) j) l e m h
 
-  parts-up : (p : List ℕ) → laidLevel g (laid g (partsOf g j i l x) l p) (suc l) (partOf g (j .change) (j .key) (suc l) (changed g j i l x)) ≡ laid g (partsOf g j i (suc l) e) (suc l) p
+  parts-up : (p : List ℕ) → laidLevel g (laid g (partsOf g j i l x) l p) (suc l) (partOf g (j .change) (j .key) (suc l)
+      (changed g j i l x)) ≡ laid g (partsOf g j i (suc l) e) (suc l) p
   unfolding partsOf
   parts-up p =
       rw (← top) (laid-more g (partsOf g j i l x) l p)
       ∙ laid-agree g (partsOf g j i l x) (partsOf g j i (suc l) e) (suc l) p (λ m a h. rw (below m h))
 
-  sides-up : sidesUp g j (pathOf g j i l x) l ++ storesOf g (j .change) j (suc l) (changed g j i l x) ≡ sidesUp g j (pathOf g j i (suc l) e) (suc l)
+  sides-up : sidesUp g j (pathOf g j i l x) l ++ storesOf g (j .change) j (suc l) (changed g j i l x) ≡ sidesUp g j
+      (pathOf g j i (suc l) e) (suc l)
   unfolding sidesUp
   sides-up = rw (← top) (sides-agree g j (pathOf g j i l x) (pathOf g j i (suc l) e) (suc l) (λ m h. sym (below m h)))
 
@@ -95,10 +105,12 @@ module _ (g : Geometry) (j : Job) (i : List ℕ) (l : ℕ) (e : Entry) where
   took t tk = tk .entry
 
   spliced : (t : Taken) → Takes (nodeAt g i (e .addr) (suc (suc l))) (j .key) t
-      → replaceBy (t .at) (nameOf g (j .change) j (suc l) x (changed g j i l x)) (entries (t .node)) ≡ changed g j i (suc l) e
+      → replaceBy (t .at) (nameOf g (j .change) j (suc l) x (changed g j i l x)) (entries (t .node)) ≡ changed g j i
+      (suc l) e
   unfolding x changed edited
   spliced t tk =
-      rw (tk .node, tk .at) (sym (splice-is (λ y. nameOf g (j .change) j (suc l) y (edited (nodeAt g i) (j .key) (leafOf (j .change) (j .key)) (nameOf g (j .change) j) l y)) (j .key) (nodeAt g i (e .addr) (suc (suc l)))))
+      rw (tk .node, tk .at) (sym (splice-is (λ y. nameOf g (j .change) j (suc l) y
+      (edited (nodeAt g i) (j .key) (leafOf (j .change) (j .key)) (nameOf g (j .change) j) l y)) (j .key) (nodeAt g i (e .addr) (suc (suc l)))))
 
   change-suc : (b : Budget) (r u : Changed) (t : Taken) (h o p d q : List ℕ)
       → Takes (nodeAt g i (e .addr) (suc (suc l))) (j .key) t → Changes g j l (t .entry) b u i h p d
@@ -113,15 +125,18 @@ module _ (g : Geometry) (j : Job) (i : List ℕ) (l : ℕ) (e : Entry) where
         ran = rw (← sides-up) (ran-then g _ _ _ _ _ _ _ _ (rw ex at (ch .ran)) (rw w at (rj .ran)));
       }
 
-pub change-on : (g : Geometry) (j : Job) (l : ℕ) (e : Entry) (b : Budget) (r u : Changed) (t : Taken) (i h o p d q : List ℕ)
-    → Rejoined g j l t (entries (u .node)) (u .budget) r h o d q → Takes (nodeAt g i (e .addr) (l + 1)) (j .key) t → Changes g j (l - 1) (t .entry) b u i h p d
+pub change-on : (g : Geometry) (j : Job) (l : ℕ) (e : Entry) (b : Budget) (r u : Changed) (t : Taken) (i h o p d
+    q : List ℕ)
+    → Rejoined g j l t (entries (u .node)) (u .budget) r h o d q → Takes (nodeAt g i (e .addr) (l + 1)) (j .key) t
+    → Changes g j (l - 1) (t .entry) b u i h p d
     → (l ≡ 0 → ⊥) → Changes g j l e b r i o p q
 change-on g j zero e b r u t i h o p d q rj tk ch z = absurd (z refl)
 change-on g j (suc l) e b r u t i h o p d q rj tk ch z =
     change-suc g j i l e b r u t h o p d q (rw add-one at tk) (rw sub-one at ch) rj
 
 -- ---- a change that stores nothing on the way
-no-stores : (g : Geometry) (j : Job) (f : ℕ → List Entry) (l : ℕ) → ((m : ℕ) (c : List Entry) → storesOf g (j .change) j m c ≡ []) → sidesUp g j f l ≡ []
+no-stores : (g : Geometry) (j : Job) (f : ℕ → List Entry) (l : ℕ)
+    → ((m : ℕ) (c : List Entry) → storesOf g (j .change) j m c ≡ []) → sidesUp g j f l ≡ []
 unfolding sidesUp
 no-stores g j f zero e = refl
 no-stores g j f (suc l) e = λ z. no-stores g j f l e z ++ e (suc l) (f (suc l)) z
@@ -135,7 +150,8 @@ unfolding applyAll careful
 same-image g ss b r i o run e = run .image ∙ rw (e, take-none (b .left))
 
 -- it leaves the image as it is
-pub still : (g : Geometry) (j : Job) (l : ℕ) (e : Entry) (b : Budget) (u : Changed) (i h p q : List ℕ) → Changes g j l e b u i h p q
+pub still : (g : Geometry) (j : Job) (l : ℕ) (e : Entry) (b : Budget) (u : Changed) (i h p q : List ℕ)
+    → Changes g j l e b u i h p q
     → ((m : ℕ) (c : List Entry) → storesOf g (j .change) j m c ≡ []) → (h ≡ i) × Ran g [] b (u .budget) i i
 still g j l e b u i h p q ch none =
     let z : sidesUp g j (pathOf g j i l e) l ≡ [] = no-stores g j (pathOf g j i l e) l none in

@@ -24,7 +24,8 @@ pub struct Changed {
 }
 
 fn leaf(g: Geometry, img: &[u8], job: Job, page: u32) -> Node
-    ensures { λ r. ⌜ (entries r ≡ leafOf (job .change) (job .key) (nodeAt g (now (img .entry)) page 1)) × (r .count ≤ 256) ⌝ }
+    ensures { λ r. ⌜ (entries r ≡ leafOf (job .change) (job .key) (nodeAt g (now (img .entry)) page 1)) ×
+        (r .count ≤ 256) ⌝ }
 {
     let change = job.change;
     match change {
@@ -44,8 +45,10 @@ fn rejoin(
     t: Taken,
     u: Changed,
 ) -> Changed
-    requires { ⌜ (t .at ≤ t .node .count - 1) × (t .node .count < 256) × (u .node .count ≤ 256) × (pageBytes g ≤ longestPage) × (job .seq < 8589934592) × (Countable (u .budget)) ⌝ }
-    ensures { λ r. ⌜ Rejoined g job below t (entries (u .node)) (u .budget) r (now (img .entry)) (now (img .exit)) (now (page .entry)) (now (page .exit)) ⌝ }
+    requires { ⌜ (t .at ≤ t .node .count - 1) × (t .node .count < 256) × (u .node .count ≤ 256) ×
+        (pageBytes g ≤ longestPage) × (job .seq < 8589934592) × (Countable (u .budget)) ⌝ }
+    ensures { λ r. ⌜ Rejoined g job below t (entries (u .node)) (u .budget) r (now (img .entry)) (now (img .exit))
+        (now (page .entry)) (now (page .exit)) ⌝ }
 {
     let c = u.node;
     let left = u.budget;
@@ -72,7 +75,8 @@ pub fn change(
     e: Entry,
 ) -> Changed
     requires { ⌜ (below < 256) × (pageBytes g ≤ longestPage) × (job .seq < 8589934592) × (Countable b) ⌝ }
-    ensures { λ r. ⌜ Changes g job below e b r (now (img .entry)) (now (img .exit)) (now (page .entry)) (now (page .exit)) ⌝ }
+    ensures { λ r. ⌜ Changes g job below e b r (now (img .entry)) (now (img .exit)) (now (page .entry))
+        (now (page .exit)) ⌝ }
 {
     if below == 0 {
         let c = leaf(g, &*img, job, e.addr);

@@ -26,13 +26,15 @@ use Rattle.tree_plan.specs.declared.Run.{Run}
 use Rattle.tree_plan.specs.Plan.{high, Counts, Plans}
 
 -- ---- seek
-pub seek-leaf : (g : Geometry) (img : List ℕ) (k l : ℕ) (e : Entry) (r : Found) → found r ≡ findIn k (nodeAt g img (e .addr) 1) → l ≡ 0
+pub seek-leaf : (g : Geometry) (img : List ℕ) (k l : ℕ) (e : Entry) (r : Found) → found r ≡ findIn k
+    (nodeAt g img (e .addr) 1) → l ≡ 0
     → found r ≡ findIn k (leaf (nodeAt g img) k l e)
 unfolding leaf
 seek-leaf g img k zero e r er z = er
 seek-leaf g img k (suc l) e r er z = absurd (omega arith)
 
-pub seek-on : (g : Geometry) (img : List ℕ) (k l : ℕ) (e x : Entry) (r : Found) → found r ≡ findIn k (leaf (nodeAt g img) k (l - 1) x) → x ≡ chosen k (nodeAt g img (e .addr) (l + 1)) → (l ≡ 0 → ⊥)
+pub seek-on : (g : Geometry) (img : List ℕ) (k l : ℕ) (e x : Entry) (r : Found) → found r ≡ findIn k
+    (leaf (nodeAt g img) k (l - 1) x) → x ≡ chosen k (nodeAt g img (e .addr) (l + 1)) → (l ≡ 0 → ⊥)
     → found r ≡ findIn k (leaf (nodeAt g img) k l e)
 unfolding leaf
 seek-on g img k zero e x r er ex z = absurd (z refl)
@@ -47,10 +49,12 @@ unfolding found
 absent-yes o f e q = rw (← e, q)
 
 -- ---- run
-pub full-is : (g : Geometry) (img : List ℕ) (p l n h : ℕ) → n ≡ nodeCount g img p l → h ≡ half g l → eqb n (2 * h) ≡ eqb (length (nodeAt g img p l)) (2 * half g l)
+pub full-is : (g : Geometry) (img : List ℕ) (p l n h : ℕ) → n ≡ nodeCount g img p l → h ≡ half g l
+    → eqb n (2 * h) ≡ eqb (length (nodeAt g img p l)) (2 * half g l)
 full-is g img p l n h en eh = rw (node-length, en, eh)
 
-pub run-end : (g : Geometry) (img : List ℕ) (k : ℕ) (absent : Bool) (l : ℕ) (e : Entry) → l ≡ 0 → Counts g img k absent l e (record { splits = 0; gains = absent })
+pub run-end : (g : Geometry) (img : List ℕ) (k : ℕ) (absent : Bool) (l : ℕ) (e : Entry) → l ≡ 0
+    → Counts g img k absent l e (record { splits = 0; gains = absent })
 unfolding splits gains
 run-end g img k absent zero e z = record { count = refl; more = refl; few = omega arith }
 run-end g img k absent (suc l) e z = absurd (omega arith)
@@ -62,10 +66,12 @@ most n l false h = omega arith
 module _ (g : Geometry) (img : List ℕ) (k : ℕ) (absent : Bool) (e x : Entry) (r : Run) where
   run-suc : (l : ℕ) (t : Bool) → Counts g img k absent l x r → x ≡ chosen k (nodeAt g img (e .addr) (suc l))
       → (eqb (length (nodeAt g img (e .addr) (suc l))) (2 * half g (suc l)) & r .gains) ≡ t
-      → (splits (nodeAt g img) k (half g) absent (suc l) e ≡ bit t + r .splits) × (gains (nodeAt g img) k (half g) absent (suc l) e ≡ t)
+      → (splits (nodeAt g img) k (half g) absent (suc l) e ≡ bit t + r .splits) ×
+      (gains (nodeAt g img) k (half g) absent (suc l) e ≡ t)
   unfolding splits gains
   run-suc l t c ex q =
-      let w : (eqb (length (nodeAt g img (e .addr) (suc l))) (2 * half g (suc l)) & gains (nodeAt g img) k (half g) absent l (chosen k (nodeAt g img (e .addr) (suc l)))) ≡ t = rw (← ex, ← c .more) q in
+      let w : (eqb (length (nodeAt g img (e .addr) (suc l))) (2 * half g (suc l)) & gains (nodeAt g img) k
+      (half g) absent l (chosen k (nodeAt g img (e .addr) (suc l)))) ≡ t = rw (← ex, ← c .more) q in
       (rw (w, ← ex, ← c .count), w)
 
   made : (l n : ℕ) (t : Bool) → Counts g img k absent l x r → x ≡ chosen k (nodeAt g img (e .addr) (suc l))
@@ -79,22 +85,29 @@ module _ (g : Geometry) (img : List ℕ) (k : ℕ) (absent : Bool) (e x : Entry)
         few = rw en (most (r .splits) l t (c .few));
       }
 
-  pub run-loose : (l : ℕ) (b : Bool) → Counts g img k absent (l - 1) x r → x ≡ chosen k (nodeAt g img (e .addr) l) → b ≡ eqb (length (nodeAt g img (e .addr) l)) (2 * half g l)
+  pub run-loose : (l : ℕ) (b : Bool) → Counts g img k absent (l - 1) x r → x ≡ chosen k (nodeAt g img (e .addr) l)
+      → b ≡ eqb (length (nodeAt g img (e .addr) l)) (2 * half g l)
       → not b ≡ true → (l ≡ 0 → ⊥) → Counts g img k absent l e (record { splits = r .splits; gains = false })
   run-loose zero b c ex eb q z = absurd (z refl)
   run-loose (suc l) b c ex eb q z = made l (r .splits) false (rw sub-one at c) ex (rw (← eb, not-true b q) (and-false (r .gains))) (omega arith)
 
-  pub run-none : (l : ℕ) (b : Bool) → Counts g img k absent (l - 1) x r → x ≡ chosen k (nodeAt g img (e .addr) l) → b ≡ eqb (length (nodeAt g img (e .addr) l)) (2 * half g l)
-      → not b ≡ false → not (r .gains) ≡ true → (l ≡ 0 → ⊥) → Counts g img k absent l e (record { splits = r .splits; gains = false })
+  pub run-none : (l : ℕ) (b : Bool) → Counts g img k absent (l - 1) x r → x ≡ chosen k (nodeAt g img (e .addr) l)
+      → b ≡ eqb (length (nodeAt g img (e .addr) l)) (2 * half g l)
+      → not b ≡ false → not (r .gains) ≡ true → (l ≡ 0 → ⊥) → Counts g img k absent l e
+      (record { splits = r .splits; gains = false })
   run-none zero b c ex eb q s z = absurd (z refl)
   run-none (suc l) b c ex eb q s z =
-      made l (r .splits) false (rw sub-one at c) ex (rw (← eb, not-false b q) (and-true (r .gains) ∙ not-true (r .gains) s)) (omega arith)
+      made l (r .splits) false (rw sub-one at c) ex (rw (← eb, not-false b q) (and-true (r .gains)
+      ∙ not-true (r .gains) s)) (omega arith)
 
-  pub run-one : (l : ℕ) (b : Bool) → Counts g img k absent (l - 1) x r → x ≡ chosen k (nodeAt g img (e .addr) l) → b ≡ eqb (length (nodeAt g img (e .addr) l)) (2 * half g l)
-      → not b ≡ false → not (r .gains) ≡ false → (l ≡ 0 → ⊥) → Counts g img k absent l e (record { splits = r .splits + 1; gains = true })
+  pub run-one : (l : ℕ) (b : Bool) → Counts g img k absent (l - 1) x r → x ≡ chosen k (nodeAt g img (e .addr) l)
+      → b ≡ eqb (length (nodeAt g img (e .addr) l)) (2 * half g l)
+      → not b ≡ false → not (r .gains) ≡ false → (l ≡ 0 → ⊥) → Counts g img k absent l e
+      (record { splits = r .splits + 1; gains = true })
   run-one zero b c ex eb q s z = absurd (z refl)
   run-one (suc l) b c ex eb q s z =
-      made l (r .splits + 1) true (rw sub-one at c) ex (rw (← eb, not-false b q) (and-true (r .gains) ∙ not-false (r .gains) s)) refl
+      made l (r .splits + 1) true (rw sub-one at c) ex (rw (← eb, not-false b q) (and-true (r .gains)
+      ∙ not-false (r .gains) s)) refl
 
 -- ---- the root
 pub fills-top : (g : Geometry) (l m t k : ℕ) → t ≡ g .top → k ≡ l → t ≤ k → false ≡ fills g l m
@@ -121,25 +134,31 @@ pub high-low : (g : Geometry) (l m k t : ℕ) (b : Bool) → k ≡ l → t ≡ g
 unfolding high
 high-low g l m k t b ek et h = simp (← ek, ← et, ne-eqb k t h, and-false)
 
-pub high-loose : (g : Geometry) (l m k t s : ℕ) (b : Bool) → k ≡ l → t ≡ g .top → s ≡ rootSlots g l → k ≡ t → (m ≡ s → ⊥) → false ≡ high g l m b
+pub high-loose : (g : Geometry) (l m k t s : ℕ) (b : Bool) → k ≡ l → t ≡ g .top → s ≡ rootSlots g l → k ≡ t
+    → (m ≡ s → ⊥) → false ≡ high g l m b
 unfolding high
 high-loose g l m k t s b ek et es h q = simp (eq-eqb l (g .top) (sym ek ∙ h ∙ et), and-true, ← es, ne-eqb m s q, and-false)
 
-pub high-is : (g : Geometry) (l m k t s : ℕ) (b : Bool) → k ≡ l → t ≡ g .top → s ≡ rootSlots g l → k ≡ t → m ≡ s → b ≡ high g l m b
+pub high-is : (g : Geometry) (l m k t s : ℕ) (b : Bool) → k ≡ l → t ≡ g .top → s ≡ rootSlots g l → k ≡ t → m ≡ s
+    → b ≡ high g l m b
 unfolding high
 high-is g l m k t s b ek et es h q = simp (eq-eqb l (g .top) (sym ek ∙ h ∙ et), ← es, eq-eqb m s q, and-true)
 
 pub planned : (g : Geometry) (img : List ℕ) (l p k : ℕ) (a : Bool) (x : Entry) (r : Run) (m m′ n : ℕ) (grows h : Bool)
-    → Counts g img k a l x r → a ≡ isNone (findIn k (leaf (nodeAt g img) k l (record { key = 0; addr = p }))) → x ≡ chosen k (nodeAt g img p (l + 1)) → m ≡ nodeCount g img p (l + 1)
-    → m′ ≡ m + bit (r .gains) → grows ≡ fills g (l + 1) m′ → n ≡ suc (r .splits + bit grows) → n ≤ r .splits + 2 → h ≡ high g (l + 1) m (r .gains)
+    → Counts g img k a l x r → a ≡ isNone (findIn k (leaf (nodeAt g img) k l (record { key = 0; addr = p })))
+    → x ≡ chosen k (nodeAt g img p (l + 1)) → m ≡ nodeCount g img p (l + 1)
+    → m′ ≡ m + bit (r .gains) → grows ≡ fills g (l + 1) m′ → n ≡ suc (r .splits + bit grows) → n ≤ r .splits + 2
+    → h ≡ high g (l + 1) m (r .gains)
     → Plans g (chipWith g img l p) k (record { absent = a; needs = n; high = h })
 unfolding needs tooHigh high rootGains
 planned g img l p k a x r m m′ n grows h c ea ex em em′ eg en few eh =
     let s : l + 1 ≡ suc l = add-one l in
     let lm : length (nodeAt g img p (suc l)) ≡ m = node-length g img p (suc l) ∙ sym (em ∙ rw s) in
-    let gs : gains (nodeAt g img) k (half g) (isNone (findIn k (leaf (nodeAt g img) k l (record { key = 0; addr = p })))) l (chosen k (nodeAt g img p (suc l))) ≡ r .gains =
+    let gs : gains (nodeAt g img) k (half g) (isNone (findIn k
+    (leaf (nodeAt g img) k l (record { key = 0; addr = p })))) l (chosen k (nodeAt g img p (suc l))) ≡ r .gains =
     rw (← ea, ← s, ← ex) (sym (c .more)) in
-    let ss : splits (nodeAt g img) k (half g) (isNone (findIn k (leaf (nodeAt g img) k l (record { key = 0; addr = p })))) l (chosen k (nodeAt g img p (suc l))) ≡ r .splits =
+    let ss : splits (nodeAt g img) k (half g)
+    (isNone (findIn k (leaf (nodeAt g img) k l (record { key = 0; addr = p })))) l (chosen k (nodeAt g img p (suc l))) ≡ r .splits =
     rw (← ea, ← s, ← ex) (sym (c .count)) in
     record {
       absent = ea;

@@ -1,4 +1,5 @@
-// What an update will need, read before it begins: whether the key is there, how many pages, whether the tree is too high.
+// What an update will need, read before it begins: whether the key is there, how many pages, whether the tree is too
+// high.
 ghost use mathlib.Core.Path.{_≡_};
 ghost use Prim.Native.Nat.{suc, _+_, _*_, _-_, _≤_, _<_};
 ghost use lib.Dec.{eqb};

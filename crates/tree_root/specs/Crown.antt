@@ -44,7 +44,8 @@ pub record Crowns (g : Geometry) (j : Job) (l : ℕ) (c : List Entry) (r : Crown
   pub some : r .side .count ≤ 256
   pub pair : r .above .count ≤ 256
 
-pub record Crowned (g : Geometry) (j : Job) (l : ℕ) (c : List Entry) (b : Budget) (r : Summit) (i o p q : List ℕ) : Type 0 where
+pub record Crowned (g : Geometry) (j : Job) (l : ℕ) (c : List Entry)
+    (b : Budget) (r : Summit) (i o p q : List ℕ) : Type 0 where
   pub page : q ≡ laidLevel g (laidLevel g p l (topPart g j l c l)) (suc l) (topPart g j l c (suc l))
   pub height : r .height ≡ crownHeight g l c
   pub low : r .height ≤ suc l

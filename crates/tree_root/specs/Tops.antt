@@ -40,11 +40,13 @@ first-two [] a b h = absurd (omega arith)
 first-two (x ∷ []) a b h = absurd (omega arith)
 first-two (x ∷ y ∷ e) a b h = refl
 
-pub one-is : (n : Node) (a : Entry) → n .count ≡ 1 → length (n .e) ≡ 256 → entries (record { e = set (n .e) 0 a; count = n .count }) ≡ a ∷ []
+pub one-is : (n : Node) (a : Entry) → n .count ≡ 1 → length (n .e) ≡ 256
+    → entries (record { e = set (n .e) 0 a; count = n .count }) ≡ a ∷ []
 unfolding entries
 one-is n a c h = rw c (first-one (n .e) a h)
 
-pub two-is : (n : Node) (a b : Entry) → n .count ≡ 2 → length (n .e) ≡ 256 → entries (record { e = set (set (n .e) 0 a) 1 b; count = n .count }) ≡ a ∷ b ∷ []
+pub two-is : (n : Node) (a b : Entry) → n .count ≡ 2 → length (n .e) ≡ 256
+    → entries (record { e = set (set (n .e) 0 a) 1 b; count = n .count }) ≡ a ∷ b ∷ []
 unfolding entries
 two-is n a b c h = rw c (first-two (n .e) a b h)
 
@@ -61,8 +63,10 @@ unfolding carried
 node-two n c x y e q = e ∙ rw q
 
 -- ---- the root
-pub grown : (g : Geometry) (j : Job) (l : ℕ) (c : List Entry) (s : Cut) (n : Node) (h low o : ℕ) → Halved (j .key) (j .page) o (2 * h) low c s → h ≡ half g l → low ≡ next c 0 → o ≡ sideOf j l
-    → entries n ≡ carried (s .carry) → n .count ≤ 2 → Grows g j l c (record { path = s .path; above = n; side = s .side; grows = true })
+pub grown : (g : Geometry) (j : Job) (l : ℕ) (c : List Entry) (s : Cut) (n : Node) (h low o : ℕ) → Halved (j .key)
+    (j .page) o (2 * h) low c s → h ≡ half g l → low ≡ next c 0 → o ≡ sideOf j l
+    → entries n ≡ carried (s .carry) → n .count ≤ 2
+    → Grows g j l c (record { path = s .path; above = n; side = s .side; grows = true })
 grown g j l c s n h low o hv eh el eo en cn = record {
   path = hv .path ∙ rw eh;
   above = en ∙ hv .carry ∙ rw (eh, el, eo);
@@ -120,11 +124,14 @@ low-height : (l : ℕ) (b : Bool) → pick b (suc l) l ≤ suc l
 low-height l true = omega arith
 low-height l false = omega arith
 
-pub lay-is : (g : Geometry) (l : ℕ) (es xs : List Entry) (p d q : List ℕ) → q ≡ laidLevel g d (l + 1) xs → d ≡ laidLevel g p l es → q ≡ laidLevel g (laidLevel g p l es) (l + 1) xs
+pub lay-is : (g : Geometry) (l : ℕ) (es xs : List Entry) (p d q : List ℕ) → q ≡ laidLevel g d (l + 1) xs
+    → d ≡ laidLevel g p l es → q ≡ laidLevel g (laidLevel g p l es) (l + 1) xs
 lay-is g l es xs p d q eq ed = eq ∙ rw ed
 
-pub crowned : (g : Geometry) (j : Job) (l : ℕ) (c : List Entry) (s : Crown) (b d : Budget) (h : ℕ) (i o p q : List ℕ) → Crowns g j l c s
-    → q ≡ laidLevel g (laidLevel g p l (entries (s .path))) (l + 1) (entries (s .above)) → Ran g (cutStores g j l (s .grows) (entries (s .side))) b d i o → h ≡ pick (s .grows) (suc l) l
+pub crowned : (g : Geometry) (j : Job) (l : ℕ) (c : List Entry) (s : Crown) (b d : Budget) (h : ℕ) (i o p q : List ℕ)
+    → Crowns g j l c s
+    → q ≡ laidLevel g (laidLevel g p l (entries (s .path))) (l + 1) (entries (s .above))
+    → Ran g (cutStores g j l (s .grows) (entries (s .side))) b d i o → h ≡ pick (s .grows) (suc l) l
     → Crowned g j l c b (record { height = h; budget = d }) i o p q
 unfolding crownHeight
 crowned g j l c s b d h i o p q cr ep run eh = record {
@@ -134,11 +141,14 @@ crowned g j l c s b d h i o p q cr ep run eh = record {
   ran = rw (cr .side) at run;
 }
 
-pub last-is : (g : Geometry) (at : ℕ) (c q : List ℕ) (b r : Budget) (i o : List ℕ) → Ran g (program at (take (pageBytes g) q) ∷ []) b r i o → q ≡ c → Ran g (program at (take (pageBytes g) c) ∷ []) b r i o
+pub last-is : (g : Geometry) (at : ℕ) (c q : List ℕ) (b r : Budget) (i o : List ℕ)
+    → Ran g (program at (take (pageBytes g) q) ∷ []) b r i o → q ≡ c → Ran g (program at (take (pageBytes g) c) ∷ []) b
+    r i o
 last-is g at c q b r i o run eq = rw eq at run
 
 pub path-is : (g : Geometry) (at seq l : ℕ) (c : List Entry) (p q : List ℕ) (b r : Budget) (i o : List ℕ)
-    → Ran g (program at (take (pageBytes g) (sealed g (bare g (l + 1) (g .top - (l + 1)) q) seq (l + 1))) ∷ []) b r i o → q ≡ laidLevel g p (l + 1) c
+    → Ran g (program at (take (pageBytes g) (sealed g (bare g (l + 1) (g .top - (l + 1)) q) seq (l + 1))) ∷ []) b r i o
+    → q ≡ laidLevel g p (l + 1) c
     → Ran g (pathStore g at seq l c p ∷ []) b r i o
 unfolding pathStore
 path-is g at seq l c p q b r i o run eq =

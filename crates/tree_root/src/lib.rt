@@ -34,7 +34,8 @@ pub struct Summit {
     pub budget: Budget,
 }
 
-// What an update's own stores leave: the allowance, and where the root stands if all were made: its page, and the levels below it.
+// What an update's own stores leave: the allowance, and where the root stands if all were made: its page, and the
+// levels below it.
 pub struct Own {
     pub budget: Budget,
     pub page: u32,
@@ -93,7 +94,8 @@ fn grow(g: Geometry, job: Job, level: u32, c: Node) -> Crown
 }
 
 fn stay(c: Node) -> Crown
-    ensures { λ r. ⌜ (r .path ≡ c) × (entries (r .above) ≡ []) × (r .above .count ≡ 0) × (r .side .count ≡ 0) × (r .grows ≡ false) ⌝ }
+    ensures { λ r. ⌜ (r .path ≡ c) × (entries (r .above) ≡ []) × (r .above .count ≡ 0) × (r .side .count ≡ 0) ×
+        (r .grows ≡ false) ⌝ }
 {
     let none = tree_node::empty();
     Crown {
@@ -129,7 +131,8 @@ fn height_of(level: u32, grows: bool) -> u32
 // Lays the root, and the new root above it or no node.
 fn lay_crown(g: Geometry, page: &mut [u8], level: u32, path: Node, above: Node)
     requires { ⌜ (path .count ≤ 256) × (above .count ≤ 256) × (level < 65536) ⌝ }
-    ensures { λ _. ⌜ now (page .exit) ≡ laidLevel g (laidLevel g (now (page .entry)) level (entries path)) (level + 1) (entries above) ⌝ }
+    ensures { λ _. ⌜ now (page .exit) ≡ laidLevel g (laidLevel g (now (page .entry)) level (entries path))
+        (level + 1) (entries above) ⌝ }
 {
     chip_page::lay_level(g, &mut *page, level, path);
     chip_page::lay_level(g, &mut *page, level + 1, above);
@@ -145,8 +148,10 @@ pub fn settle(
     level: u32,
     c: Node,
 ) -> Summit
-    requires { ⌜ (c .count ≤ 256) × (level < 65536) × (pageBytes g ≤ longestPage) × (job .seq < 8589934592) × (Countable b) ⌝ }
-    ensures { λ r. ⌜ Crowned g job level (entries c) b r (now (img .entry)) (now (img .exit)) (now (page .entry)) (now (page .exit)) ⌝ }
+    requires { ⌜ (c .count ≤ 256) × (level < 65536) × (pageBytes g ≤ longestPage) × (job .seq < 8589934592) ×
+        (Countable b) ⌝ }
+    ensures { λ r. ⌜ Crowned g job level (entries c) b r (now (img .entry)) (now (img .exit)) (now (page .entry))
+        (now (page .exit)) ⌝ }
 {
     let s = crown_of(g, job, level, c);
     let path = s.path;
@@ -173,7 +178,8 @@ pub fn store_last(
     height: u32,
 ) -> Budget
     requires { ⌜ (from < 65536) × (Countable b) ⌝ }
-    ensures { λ r. ⌜ Ran g (Store.program at (take (pageBytes g) (sealed g (bare g from (g .top - from) (now (page .entry))) seq height)) ∷ []) b r (now (img .entry)) (now (img .exit)) ⌝ }
+    ensures { λ r. ⌜ Ran g (Store.program at (take (pageBytes g)
+        (sealed g (bare g from (g .top - from) (now (page .entry))) seq height)) ∷ []) b r (now (img .entry)) (now (img .exit)) ⌝ }
 {
     chip_page::close(g, &mut *page, from, seq, height);
     chip_store::put_page(g, &mut *img, b, at, &*page)
@@ -191,7 +197,8 @@ pub fn store_path(
     c: Node,
 ) -> Budget
     requires { ⌜ (c .count ≤ 256) × (level < 255) × (Countable b) ⌝ }
-    ensures { λ r. ⌜ Ran g (pathStore g at seq level (entries c) (now (page .entry)) ∷ []) b r (now (img .entry)) (now (img .exit)) ⌝ }
+    ensures { λ r. ⌜ Ran g (pathStore g at seq level (entries c) (now (page .entry)) ∷ []) b r (now (img .entry))
+        (now (img .exit)) ⌝ }
 {
     chip_page::lay_level(g, &mut *page, level + 1, c);
     store_last(g, &mut *img, &mut *page, b, at, level + 1, seq, level + 1)

@@ -29,7 +29,8 @@ module _ (img : List ℕ) (at n k : ℕ) where
 
   module _ (lo hi : ℕ) (inv : place k (entriesAt img at n) ≡ halve (hi - lo) k (entriesAt img at n) lo hi) where
     one-less : lo + 1 < hi → place k (entriesAt img at n) ≡ halve (suc (hi - lo - 1)) k (entriesAt img at n) lo hi
-    one-less h = let q : hi - lo ≡ suc (hi - lo - 1) = omega arith in inv ∙ ap (λ (s : ℕ). halve s k (entriesAt img at n) lo hi) q
+    one-less h = let q : hi - lo ≡ suc (hi - lo - 1) = omega arith in
+        inv ∙ ap (λ (s : ℕ). halve s k (entriesAt img at n) lo hi) q
 
     pub place-left : (b : ℕ) → b ≡ u32At img (at + 8 * (lo + (hi - lo) / 2)) → lo + 1 < hi → hi ≤ n → k < b
         → place k (entriesAt img at n) ≡ halve (lo + (hi - lo) / 2 - lo) k (entriesAt img at n) lo (lo + (hi - lo) / 2)
@@ -39,7 +40,8 @@ module _ (img : List ℕ) (at n k : ℕ) where
         ∙ halve-steps k (entriesAt img at n) (hi - lo - 1) (lo + (hi - lo) / 2 - lo) lo (lo + (hi - lo) / 2) (omega arith) (omega arith)
 
     pub place-right : (b : ℕ) → b ≡ u32At img (at + 8 * (lo + (hi - lo) / 2)) → lo + 1 < hi → hi ≤ n → b ≤ k
-        → place k (entriesAt img at n) ≡ halve (hi - (lo + (hi - lo) / 2)) k (entriesAt img at n) (lo + (hi - lo) / 2) hi
+        → place k (entriesAt img at n) ≡ halve (hi - (lo + (hi - lo) / 2)) k (entriesAt img at n)
+        (lo + (hi - lo) / 2) hi
     place-right b e h m g =
         one-less h
         ∙ halve-right k (entriesAt img at n) (hi - lo - 1) lo hi (rw (key-get img at n (lo + (hi - lo) / 2) (omega arith), ← e) g)
@@ -58,9 +60,11 @@ module _ (img : List ℕ) (at n k : ℕ) where
   unfolding holds
   holds-none z = rw (entries-none img at n z)
 
-  module _ (i b : ℕ) (ei : i ≡ place k (entriesAt img at n)) (h : i ≤ n - 1) (some-n : n ≡ 0 → ⊥) (eb : b ≡ u32At img (at + 8 * i)) where
+  module _ (i b : ℕ) (ei : i ≡ place k (entriesAt img at n)) (h : i ≤ n - 1) (some-n : n ≡ 0 → ⊥) (eb : b ≡ u32At img
+      (at + 8 * i)) where
     key-read : chosen k (entriesAt img at n) .key ≡ b
-    key-read = ap (λ (x : Entry). x .key) (sym (chosen-read img at n k i (entryAt img (at + 8 * i)) ei h some-n refl)) ∙ key-is img (at + 8 * i) ∙ sym eb
+    key-read = ap (λ (x : Entry). x .key) (sym (chosen-read img at n k i (entryAt img (at + 8 * i)) ei h some-n refl))
+        ∙ key-is img (at + 8 * i) ∙ sym eb
 
     full : 0 < length (entriesAt img at n)
     full = rw (entries-length img at n) (omega arith)
@@ -83,7 +87,8 @@ module _ (img : List ℕ) (at n k : ℕ) where
     unfolding found
     find-hit a ea q =
         let w = held k (entriesAt img at n) (sym eb ∙ q) in
-        let less : place k (entriesAt img at n) < n = rw entries-length at (place-is k (entriesAt img at n) (w .0) .inside) in
+        let less : place k (entriesAt img at n) < n =
+        rw entries-length at (place-is k (entriesAt img at n) (w .0) .inside) in
         let z = ei ∙ w .2 in
         ap some (ea ∙ sym (addr-is img (at + 8 * i)) ∙ ap (λ (x : Entry). x .addr)
         (chosen-read img at n k i (entryAt img (at + 8 * i)) z (omega (arith, less, z)) (λ o. absurd (omega (arith, less, o))) refl))
@@ -93,7 +98,8 @@ module _ (img : List ℕ) (at n k : ℕ) where
     unfolding found
     find-miss q = sym (find-by k (entriesAt img at n) ∙ rw (← eb, q))
 
-pub find-node : (g : Geometry) (img : List ℕ) (p l at n k : ℕ) (r : Found) → n ≡ nodeCount g img p l → at ≡ nodePlace g p l
+pub find-node : (g : Geometry) (img : List ℕ) (p l at n k : ℕ) (r : Found) → n ≡ nodeCount g img p l
+    → at ≡ nodePlace g p l
     → found r ≡ findIn k (entriesAt img at n) → found r ≡ findIn k (nodeAt g img p l)
 find-node g img p l at n k r en ea er = er ∙ rw (node-read g img p l at n ea en)
 

@@ -55,7 +55,8 @@ pub fn chosen_entry(g: Geometry, img: &[u8], page: u32, level: u32, key: u32) ->
 pub fn stand_of(img: &[u8], at: usize, n: usize, key: u32) -> Stand
     requires { ⌜ at + 8 * n < 1152921504606846976 ⌝ }
     ensures { λ r.
-        ⌜ (r .at ≡ ahead key (entriesAt (now (img .entry)) at n)) × (r .here ≡ holds key (entriesAt (now (img .entry)) at n)) × (r .at ≤ n) ⌝ }
+        ⌜ (r .at ≡ ahead key (entriesAt (now (img .entry)) at n)) ×
+        (r .here ≡ holds key (entriesAt (now (img .entry)) at n)) × (r .at ≤ n) ⌝ }
 {
     if n == 0 {
         return Stand { at: 0, here: false };

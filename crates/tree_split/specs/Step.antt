@@ -70,7 +70,8 @@ pub record Stepped (g : Geometry) (j : Job) (w : Change) (l : ℕ) (e : Entry) (
   pub few : r .path .count ≤ 256
   pub some : r .side .count ≤ 256
 
-pub record Finished (g : Geometry) (j : Job) (l : ℕ) (e : Entry) (c : List Entry) (b : Budget) (r : Climbed) (i o p q : List ℕ) : Type 0 where
+pub record Finished (g : Geometry) (j : Job) (l : ℕ) (e : Entry) (c : List Entry)
+    (b : Budget) (r : Climbed) (i o p q : List ℕ) : Type 0 where
   pub carry : carried (r .carry) ≡ nameOf g (j .change) j l e c
   pub page : q ≡ laidLevel g p l (partOf g (j .change) (j .key) l c)
   pub ran : Ran g (storesOf g (j .change) j l c) b (r .budget) i o

@@ -1,4 +1,5 @@
-// One step of an update's way up: a changed node goes on page N, its other half on a page alone, and what names them stands above.
+// One step of an update's way up: a changed node goes on page N, its other half on a page alone, and what names them
+// stands above.
 ghost use mathlib.Core.Path.{_≡_};
 ghost use Prim.Native.Nat.{_+_, _*_, _-_, _≤_, _<_, min};
 ghost use mathlib.Core.Bool.{false};
@@ -21,7 +22,8 @@ pub enum Change {
     Rename(u32),
 }
 
-// An update: its key, the page N, the largest sequence number, the pages of the other halves from level 1 on, what it does.
+// An update: its key, the page N, the largest sequence number, the pages of the other halves from level 1 on, what it
+// does.
 pub struct Job {
     pub key: u32,
     pub page: u32,
@@ -226,7 +228,8 @@ pub fn finish(
     c: Node,
 ) -> Climbed
     requires { ⌜ (c .count ≤ 256) × (pageBytes g ≤ longestPage) × (job .seq < 8589934592) × (Countable b) ⌝ }
-    ensures { λ r. ⌜ Finished g job level e (entries c) b r (now (img .entry)) (now (img .exit)) (now (page .entry)) (now (page .exit)) ⌝ }
+    ensures { λ r. ⌜ Finished g job level e (entries c) b r (now (img .entry)) (now (img .exit)) (now (page .entry))
+        (now (page .exit)) ⌝ }
 {
     let s = step(g, job, level, e, c);
     let path = s.path;
