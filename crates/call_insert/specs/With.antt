@@ -18,7 +18,7 @@ use Rattle.call_answers.specs.declared.Answer.the-variants.{Length, Worn, Heigh
 use Rattle.call_answers.specs.Answers.{told}
 use Rattle.chip_read.specs.Chip.{chipWith, goodBlocks}
 use Rattle.chip_read.specs.Blocks.{some-blocks}
-use Rattle.theory_trees.specs.Tests.{by-le}
+use Rattle.theory_counts.specs.Cases.{by-le}
 use Rattle.chip_store.specs.declared.Budget.{Budget}
 use Rattle.chip_store.specs.Runs.{ran-none}
 use Rattle.tree_plan.specs.declared.Plan.{Plan}

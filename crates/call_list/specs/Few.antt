@@ -18,9 +18,9 @@ use Rattle.model.specs.Rules.{r5, verdict}
 use Rattle.model.specs.Listing.{rangedOf}
 use Rattle.open_record.specs.Opened.{pairsMost}
 use Rattle.theory_counts.specs.Lowest.{or-sound}
-use Rattle.theory_trees.specs.Nodes.{fitOf}
-use Rattle.theory_trees.specs.Judge.{r5-most, r5-rises}
-use Rattle.theory_trees.specs.Between.{between-fewer, ranged-root, mostUnder, root-most}
+use Rattle.theory_nodes.specs.Nodes.{fitOf}
+use Rattle.theory_nodes.specs.Judge.{r5-most, r5-rises}
+use Rattle.theory_nodes.specs.Between.{between-fewer, ranged-root, mostUnder, root-most}
 
 -- the most pairs of a tree, l levels below its root
 abbrev mostOf : Geometry → ℕ → ℕ

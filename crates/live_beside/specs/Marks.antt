@@ -15,9 +15,9 @@ use Rattle.geometry.specs.declared.Entry.{Entry}
 use Rattle.geometry.specs.Tests.{pick}
 use Rattle.model.specs.Image.{Nodes}
 use Rattle.model.specs.Tree.{Place, chosen}
-use Rattle.theory_trees.specs.Tests.{by-eq}
-use Rattle.theory_trees.specs.Lists.{Mem}
-use Rattle.theory_trees.specs.PathPlaces.{spot, pathPlaces, path-few}
+use Rattle.theory_counts.specs.Cases.{by-eq}
+use Rattle.theory_lists.specs.All.{Mem}
+use Rattle.theory_nodes.specs.PathPlaces.{spot, pathPlaces, path-few}
 use Rattle.live_walk.specs.Table.{liveIn}
 use Rattle.live_words.specs.Words.{word, Told, Past}
 use Rattle.live_words.specs.Filled.{word-same, past-none, past-then, past-set}

@@ -15,7 +15,7 @@ use Rattle.model.specs.Image.{Nodes, Chip, theRoot}
 use Rattle.model.specs.Tree.{gather, Place, places, placesOf, live, lowLevel, livePages}
 use Rattle.model.specs.Next.{inBlock}
 use Rattle.theory_counts.specs.Tally.{count-same}
-use Rattle.theory_trees.specs.Lists.{All, all-append}
+use Rattle.theory_lists.specs.All.{All, all-append}
 use Rattle.live_walk.specs.Table.{lower, noteOne, noteAll, Zeros, Marked, liveIn}
 
 lower-none : (l : ℕ) → lower 0 l ≡ l

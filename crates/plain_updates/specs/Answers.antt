@@ -17,7 +17,7 @@ use Rattle.model.specs.Update.{isNone}
 use Rattle.model.specs.Calls.{Outcome, refused, made, worn}
 use Rattle.model.specs.Plain.{plainHigh, plainInsertStores, plainNeeds, plainInsertRest, plainInsert}
 use Rattle.model.specs.Plain.{plainRoomless, plainDeleteStores, plainLeaves, plainDeleteRest, plainDelete}
-use Rattle.theory_trees.specs.Tests.{true-false}
+use Rattle.theory_counts.specs.Cases.{true-false}
 use Rattle.theory_chips.specs.Whole.{map-rises}
 use Rattle.theory_chips.specs.PlainPresent.{present-pages}
 use Rattle.theory_demands.specs.Words.{Ready, mapAt, Rising, OneOf}

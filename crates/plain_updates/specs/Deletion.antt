@@ -22,8 +22,8 @@ use Rattle.model.specs.Update.{isNone}
 use Rattle.model.specs.Plain.{keptOn, Plan, noneLeft, emptied, keptPage, plainLess, plainTop, plainShrinks, plainLeaves}
 use Rattle.model.specs.Plain.{keptPlans, deletePlans, plainDeleteStores}
 use Rattle.model.specs.Calls.{worn}
-use Rattle.theory_trees.specs.Lists.{All, all-append}
-use Rattle.theory_trees.specs.Nodes.{fitOf}
+use Rattle.theory_lists.specs.All.{All, all-append}
+use Rattle.theory_nodes.specs.Nodes.{fitOf}
 use Rattle.theory_trees.specs.Lengths.{path-all, path-top, path-most}
 use Rattle.theory_chips.specs.Whole.{Whole}
 use Rattle.theory_chips.specs.Pages.{side-most}

@@ -18,7 +18,7 @@ use Rattle.model.specs.Tree.{next}
 use Rattle.model.specs.Stores.{Store}
 use Rattle.model.specs.Edit.{putIn}
 use Rattle.model.specs.Plain.{both, Plan, laid, plainCuts, plainGrows, plainNeeds, leftPage, rightPage, plainList, plansTo, crownPlans, insertPlans}
-use Rattle.theory_trees.specs.Tests.{by-test}
+use Rattle.theory_counts.specs.Cases.{by-test}
 use Rattle.theory_chips.specs.Whole.{Whole}
 use Rattle.theory_chips.specs.PlainPlans.{Cut, plans-length, whole-plan}
 use Rattle.theory_chips.specs.PlainInsertion.{root-list, grow-long, stay-short, cut-levels}

@@ -25,9 +25,9 @@ use Rattle.model.specs.Update.{isNone, rootNode}
 use Rattle.model.specs.Plain.{both, renewed, Plan, plainGrows, plainCuts, plainHigh, leftPage, rightPage, plainList, plainNeeds}
 use Rattle.model.specs.Plain.{levelPlans, plansTo, crownPlans, insertPlans, plainInsertStores}
 use Rattle.model.specs.Calls.{worn}
-use Rattle.theory_trees.specs.Tests.{by-eq, by-le, by-test, true-false}
-use Rattle.theory_trees.specs.Lists.{All, all-append}
-use Rattle.theory_trees.specs.Nodes.{fitOf}
+use Rattle.theory_counts.specs.Cases.{by-eq, by-le, by-test, true-false}
+use Rattle.theory_lists.specs.All.{All, all-append}
+use Rattle.theory_nodes.specs.Nodes.{fitOf}
 use Rattle.theory_trees.specs.Cuts.{splits-le}
 use Rattle.theory_trees.specs.Lengths.{all-take, all-drop, path-all, path-top, path-most}
 use Rattle.theory_chips.specs.Whole.{Whole}

@@ -19,8 +19,8 @@ use Rattle.model.specs.Page.{built, only}
 use Rattle.model.specs.Stores.{Store, program, applyStore, applyAll, erases}
 use Rattle.model.specs.Legal.{Legal}
 use Rattle.model.specs.Plain.{Plan, laid}
-use Rattle.theory_trees.specs.Tests.{by-eq}
-use Rattle.theory_trees.specs.Nodes.{fitOf}
+use Rattle.theory_counts.specs.Cases.{by-eq}
+use Rattle.theory_nodes.specs.Nodes.{fitOf}
 use Rattle.theory_chips.specs.Next.{R2, step, nth-erased}
 use Rattle.theory_chips.specs.Whole.{some-page, Whole}
 use Rattle.theory_chips.specs.Pages.{side-inj, new-side}

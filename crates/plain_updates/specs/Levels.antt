@@ -14,7 +14,7 @@ use Rattle.model.specs.Image.{Chip}
 use Rattle.model.specs.Next.{ahead, nth}
 use Rattle.model.specs.Stores.{Store}
 use Rattle.model.specs.Plain.{Plan, noneLeft, laid, levelPlans, plansTo, keptPlans}
-use Rattle.theory_trees.specs.Tests.{by-le, by-test}
+use Rattle.theory_counts.specs.Cases.{by-le, by-test}
 use Rattle.theory_chips.specs.PlainPlans.{Cut, Empty, plans-length, kept-length}
 use Rattle.plain_levels.specs.Levels.{nodeStore, leftPlace, rightPlace, levelStores, storesTo, keptStores}
 

@@ -13,7 +13,7 @@ use Rattle.geometry.specs.Shape.{Core, plain-core, plain-most}
 use Rattle.model.specs.Image.{pagesOf}
 use Rattle.model.specs.Page.{only}
 use Rattle.model.specs.Plain.{Plan}
-use Rattle.theory_trees.specs.Lists.{All}
+use Rattle.theory_lists.specs.All.{All}
 use Rattle.theory_chips.specs.Next.{block-in}
 use Rattle.theory_chips.specs.Whole.{some-page}
 use Rattle.theory_chips.specs.PlainPlans.{planAt}

@@ -25,7 +25,7 @@ use Rattle.model.specs.Update.{isNone, formatStores}
 use Rattle.model.specs.Calls.{Outcome, made, answered, lookup, worn, format}
 use Rattle.model.specs.Plain.{plainHigh, plainInsertStores, plainNeeds, plainRoomless, plainInsertRest, plainInsert}
 use Rattle.model.specs.Plain.{plainDeleteStores, plainLeaves, plainDeleteRest, plainDelete}
-use Rattle.theory_trees.specs.Lists.{All}
+use Rattle.theory_lists.specs.All.{All}
 use Rattle.theory_chips.specs.Whole.{sought-map}
 use Rattle.theory_images.specs.Held.{Held, plain-held, held-plain}
 use Rattle.theory_images.specs.Lengths.{Blocks, good-blocks, blocks-same, length-same, length-all}

@@ -15,7 +15,7 @@ use Rattle.model.specs.Image.{Nodes, Chip}
 use Rattle.model.specs.Tree.{next, gather, Place, places}
 use Rattle.model.specs.Rules.{first, names, rising, own, ownRoot, judgeEntries, judgeNode, r5}
 use Rattle.theory_counts.specs.Lowest.{bad-good, good-unless}
-use Rattle.theory_trees.specs.Lists.{All, all-append}
+use Rattle.theory_lists.specs.All.{All, all-append}
 use Rattle.sound_links.specs.Loose.{Inside}
 
 good-first : (v w : Finding) → first v w ≡ Good → (v ≡ Good) × (w ≡ Good)

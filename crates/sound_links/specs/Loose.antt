@@ -8,7 +8,7 @@ use Rattle.geometry.specs.Tests.{pick, _&_}
 use Rattle.model.specs.Image.{Nodes, Chip}
 use Rattle.model.specs.Tree.{Place, placesOf}
 use Rattle.model.specs.Rules.{namesPage}
-use Rattle.theory_trees.specs.Lists.{All}
+use Rattle.theory_lists.specs.All.{All}
 
 unfoldable pub looseIn : Nodes → List ℕ → ℕ → ℕ → Bool
 looseIn r tbl l p = ltb (getD tbl p 0) l & not (namesPage p (r p l))

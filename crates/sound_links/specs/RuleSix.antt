@@ -20,8 +20,8 @@ use Rattle.chip_read.specs.Chip.{named, chipWith}
 use Rattle.chip_read.specs.Node.{node-read, entries-start, entries-turn, entries-past, addr-is}
 use Rattle.theory_counts.specs.Lowest.{unless-true, unless-false}
 use Rattle.theory_counts.specs.Least.{by-lt}
-use Rattle.theory_trees.specs.Lists.{All, Mem, all-map, all-both, all-get, all-mem}
-use Rattle.theory_trees.specs.Live.{mem-live, low-is}
+use Rattle.theory_lists.specs.All.{All, Mem, all-map, all-both, all-get, all-mem}
+use Rattle.theory_nodes.specs.Live.{mem-live, low-is}
 use Rattle.live_walk.specs.Table.{rest, Marked}
 use Rattle.live_walk.specs.Lows.{Level, place-levels}
 use Rattle.live_walk.specs.Walking.{places-named, rest-leaf, rest-start, rest-turn, rest-end}

@@ -13,7 +13,7 @@ use Rattle.model.specs.Count.{count}
 use Rattle.model.specs.Next.{inBlock}
 use Rattle.model.specs.Collect.{better, victim}
 use Rattle.theory_counts.specs.Least.{by-lt}
-use Rattle.theory_trees.specs.Tests.{true-false}
+use Rattle.theory_counts.specs.Cases.{true-false}
 use Rattle.theory_chips.specs.Count.{sum, count-blocks, count-three}
 
 -- blocks that are not full, but one, m, have no dead page: then a full block has one, or all dead pages are m's

@@ -19,11 +19,11 @@ use Rattle.model.specs.Next.{mixed, full, inBlock}
 use Rattle.model.specs.Collect.{livesIn, theVictim}
 use Rattle.theory_counts.specs.Least.{Least, least-is}
 use Rattle.theory_counts.specs.Tally.{count-same}
-use Rattle.theory_trees.specs.Tests.{by-le, by-test, true-false}
-use Rattle.theory_trees.specs.Lists.{all-map}
-use Rattle.theory_trees.specs.Nodes.{fitOf, fit-page}
+use Rattle.theory_counts.specs.Cases.{by-le, by-test, true-false}
+use Rattle.theory_lists.specs.All.{all-map}
+use Rattle.theory_nodes.specs.Nodes.{fitOf, fit-page}
 use Rattle.theory_trees.specs.Proper.{root-fit}
-use Rattle.theory_trees.specs.Live.{dead-live}
+use Rattle.theory_nodes.specs.Live.{dead-live}
 use Rattle.theory_chips.specs.Count.{count-drop, count-none}
 use Rattle.theory_chips.specs.Blocks.{Found, victim-is, dead-block}
 use Rattle.theory_chips.specs.Whole.{some-page, Whole, Same, same-self, same-then}

@@ -10,7 +10,7 @@ use Rattle.geometry.specs.Tests.{pick, _&_, and-right}
 use Rattle.model.specs.Count.{count, least}
 use Rattle.model.specs.Next.{mixed, firstIn, Ahead, round, nextBlock, nextPage, after, onward}
 use Rattle.theory_counts.specs.Least.{least-is, least-of, least-none}
-use Rattle.theory_trees.specs.Tests.{by-eq, by-test, true-false}
+use Rattle.theory_counts.specs.Cases.{by-eq, by-test, true-false}
 use Rattle.theory_chips.specs.Next.{R2, after-false, next-found, mixed-next, elsewhere, r2-next}
 
 round-true : (n b : ℕ) (f : ℕ → Bool) → round n b f < n → f (round n b f) ≡ true

@@ -14,9 +14,9 @@ use Rattle.model.specs.Count.{count}
 use Rattle.model.specs.Tree.{Place, live}
 use Rattle.model.specs.Next.{inBlock, after}
 use Rattle.theory_counts.specs.Tally.{bit-most}
-use Rattle.theory_trees.specs.Tests.{by-eq}
-use Rattle.theory_trees.specs.Lists.{All, Mem}
-use Rattle.theory_trees.specs.Live.{mem-live, dead-live, within-live}
+use Rattle.theory_counts.specs.Cases.{by-eq}
+use Rattle.theory_lists.specs.All.{All, Mem}
+use Rattle.theory_nodes.specs.Live.{mem-live, dead-live, within-live}
 use Rattle.theory_trees.specs.Leaf.{hits, Shifted}
 
 below-suc : (n t : ℕ) → bit (ltb n (suc t)) ≡ bit (ltb n t) + bit (eqb t n)

@@ -19,9 +19,9 @@ use Rattle.model.specs.Tree.{under, places, placesOf, live, mapOf, next, chosen
 use Rattle.model.specs.Next.{ahead, taken}
 use Rattle.model.specs.Edit.{remove, removeIn, kept, Top, collapse}
 use Rattle.model.specs.Update.{isNone, rootNode, sidePage, deleteList, deleteTop, deletePart}
-use Rattle.theory_trees.specs.Tests.{by-le}
-use Rattle.theory_trees.specs.Lists.{split}
-use Rattle.theory_trees.specs.Nodes.{Ok, the, fitOf}
+use Rattle.theory_counts.specs.Cases.{by-le}
+use Rattle.theory_nodes.specs.Entries.{split}
+use Rattle.theory_nodes.specs.Nodes.{Ok, the, fitOf}
 use Rattle.theory_trees.specs.Edit.{splice-length, atRoot}
 use Rattle.theory_trees.specs.Delete.{deleted, DeleteMade, none-left, none-made}
 use Rattle.theory_trees.specs.Proper.{Proper, delete-stay, delete-collapse}

@@ -19,12 +19,12 @@ use Rattle.model.specs.Image.{Chip}
 use Rattle.model.specs.Tree.{mapOf, placesOf, live, find}
 use Rattle.model.specs.Next.{mixed, inBlock}
 use Rattle.theory_counts.specs.Tally.{count-same}
-use Rattle.theory_trees.specs.Tests.{by-eq, true-false}
-use Rattle.theory_trees.specs.Lists.{All, Mem, all-map, all-mem}
-use Rattle.theory_trees.specs.Nodes.{Rooted, rooted-with, fitOf}
+use Rattle.theory_counts.specs.Cases.{by-eq, true-false}
+use Rattle.theory_lists.specs.All.{All, Mem, all-map, all-mem}
+use Rattle.theory_nodes.specs.Nodes.{Rooted, rooted-with, fitOf}
 use Rattle.theory_trees.specs.Frame.{pairs-same, root-places-same, sound-same}
 use Rattle.theory_trees.specs.Like.{root-like-same}
-use Rattle.theory_trees.specs.Live.{mem-live}
+use Rattle.theory_nodes.specs.Live.{mem-live}
 use Rattle.theory_chips.specs.Count.{count-all, count-none, sum-point, count-blocks}
 use Rattle.theory_chips.specs.Next.{page-inj, R2}
 use Rattle.theory_chips.specs.Whole.{Whole, sought-map, Same, same-like}

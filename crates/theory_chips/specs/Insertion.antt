@@ -20,14 +20,14 @@ use Rattle.model.specs.Next.{ahead, taken}
 use Rattle.model.specs.Edit.{put, putIn, pathHalf, sideHalf, two, named, pathPart, gains, splits}
 use Rattle.model.specs.Update.{isNone, rootNode, rootGains, fills, needs, tooHigh, insertList, crownPart, insertPart, crownHeight, sidePage}
 use Rattle.theory_counts.specs.Tally.{bit-most}
-use Rattle.theory_trees.specs.Tests.{by-eq, by-test, true-false}
-use Rattle.theory_trees.specs.Nodes.{the, fitOf}
+use Rattle.theory_counts.specs.Cases.{by-eq, by-test, true-false}
+use Rattle.theory_nodes.specs.Nodes.{the, fitOf}
 use Rattle.theory_trees.specs.Edit.{atRoot}
 use Rattle.theory_trees.specs.Insert.{inserted, InsertMade}
 use Rattle.theory_trees.specs.Proper.{insert-stay, insert-grow}
 use Rattle.theory_trees.specs.Path.{put-as, root-is, onPath-top, made-from}
 use Rattle.theory_trees.specs.Splits.{root-size, all-below, splits-le, splits-are}
-use Rattle.theory_trees.specs.Lists.{All}
+use Rattle.theory_lists.specs.All.{All}
 use Rattle.theory_trees.specs.Fill.{Filled, root-filled, grown-filled, two-nodes, root-nodes}
 use Rattle.theory_trees.specs.Leaf.{bottom, bottom-fit, sides, sides-length, stay-shifted, grow-shifted}
 use Rattle.theory_chips.specs.Count.{lives-shifted}

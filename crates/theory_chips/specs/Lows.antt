@@ -14,8 +14,8 @@ use Rattle.model.specs.Image.{Chip, theRoot}
 use Rattle.model.specs.Tree.{Place, placesOf, live, lowLevel}
 use Rattle.model.specs.Next.{ahead, nextPage, after}
 use Rattle.model.specs.Collect.{moveKey}
-use Rattle.theory_trees.specs.Nodes.{fitOf}
-use Rattle.theory_trees.specs.PathPlaces.{pathPlaces}
+use Rattle.theory_nodes.specs.Nodes.{fitOf}
+use Rattle.theory_nodes.specs.PathPlaces.{pathPlaces}
 use Rattle.theory_trees.specs.Lows.{Lowered, lowered}
 use Rattle.theory_chips.specs.Whole.{Whole}
 use Rattle.theory_chips.specs.Moves.{moveTo, keep, not-new, stays, low, made, at-root, fit-new, k-low}

@@ -19,14 +19,14 @@ use Rattle.model.specs.Tree.{mapOf, placesOf, live, lowLevel, next, chosen, fin
 use Rattle.model.specs.Next.{firstIn, ahead, nextBlock, nextPage, after}
 use Rattle.model.specs.Edit.{splice, renamed, same}
 use Rattle.model.specs.Collect.{moveKey, movePart}
-use Rattle.theory_trees.specs.Tests.{true-false}
-use Rattle.theory_trees.specs.Lists.{All, Mem, all-get}
-use Rattle.theory_trees.specs.Nodes.{fitOf, fit-page}
+use Rattle.theory_counts.specs.Cases.{true-false}
+use Rattle.theory_lists.specs.All.{All, Mem, all-get}
+use Rattle.theory_nodes.specs.Nodes.{fitOf, fit-page}
 use Rattle.theory_trees.specs.Move.{moved, MoveMade}
 use Rattle.theory_trees.specs.Proper.{places-level, root-first, root-fit, Moved, move-sound}
 use Rattle.theory_trees.specs.Path.{same-as, same-root, root-is, onPath-top, made-from}
 use Rattle.theory_trees.specs.Like.{Likes, Like, move-root-like}
-use Rattle.theory_trees.specs.Live.{dead-live, within-live, low-is}
+use Rattle.theory_nodes.specs.Live.{dead-live, within-live, low-is}
 use Rattle.theory_chips.specs.Count.{count-gone, count-moved}
 use Rattle.theory_chips.specs.Next.{after-false, next-found, next-in, r2-next}
 use Rattle.theory_chips.specs.Whole.{some-page, Whole, sought-map, Same, same-like}

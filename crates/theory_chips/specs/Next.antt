@@ -11,7 +11,7 @@ use Rattle.geometry.specs.Tests.{pick, _&_, and-left, and-right, and-both}
 use Rattle.model.specs.Count.{count, least}
 use Rattle.model.specs.Next.{mixed, firstIn, Ahead, round, nextBlock, nextPage, after, taken, nth}
 use Rattle.theory_counts.specs.Least.{by-lt, Least, least-is, least-most, least-zero, least-hit}
-use Rattle.theory_trees.specs.Tests.{by-eq, true-false}
+use Rattle.theory_counts.specs.Cases.{by-eq, true-false}
 use Rattle.theory_chips.specs.Count.{some-true, count-gone}
 
 -- a block ends before the next one begins

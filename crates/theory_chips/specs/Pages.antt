@@ -14,8 +14,8 @@ use Rattle.model.specs.Image.{Chip}
 use Rattle.model.specs.Next.{mixed, Ahead, ahead, round, nextBlock, nextPage, after, taken, nth}
 use Rattle.model.specs.Update.{sidePage}
 use Rattle.theory_counts.specs.Least.{least-most}
-use Rattle.theory_trees.specs.Tests.{by-eq, by-le, true-false}
-use Rattle.theory_trees.specs.Nodes.{fitOf}
+use Rattle.theory_counts.specs.Cases.{by-eq, by-le, true-false}
+use Rattle.theory_nodes.specs.Nodes.{fitOf}
 use Rattle.theory_chips.specs.Next.{after-false, R2, round-most, nth-erased, nth-apart}
 use Rattle.theory_chips.specs.Whole.{some-page}
 

@@ -22,9 +22,9 @@ use Rattle.model.specs.Edit.{remove, removeIn, Top, collapse}
 use Rattle.model.specs.Update.{isNone, rootNode, deleteList}
 use Rattle.model.specs.Plain.{keptOn, Plan, noneLeft, emptied, keptPage, plainLess, plainTop, keptPlans, deletePlans, plainShrinks, plainLeaves}
 use Rattle.theory_counts.specs.Tally.{count-most, count-same}
-use Rattle.theory_trees.specs.Tests.{by-le, by-test, true-false}
-use Rattle.theory_trees.specs.Lists.{split}
-use Rattle.theory_trees.specs.Nodes.{Ok, the, fitOf}
+use Rattle.theory_counts.specs.Cases.{by-le, by-test, true-false}
+use Rattle.theory_nodes.specs.Entries.{split}
+use Rattle.theory_nodes.specs.Nodes.{Ok, the, fitOf}
 use Rattle.theory_trees.specs.Edit.{splice-length, atRoot}
 use Rattle.theory_trees.specs.Delete.{deletedOn, none-left, none-held}
 use Rattle.theory_trees.specs.Proper.{Proper}

@@ -15,9 +15,9 @@ use Rattle.model.specs.Tree.{next, place, chosen}
 use Rattle.model.specs.Edit.{swap, splice, edited, onPath, remove, removeIn, kept}
 use Rattle.model.specs.Plain.{keptOn, noneLeft}
 use Rattle.theory_counts.specs.Tally.{count-most}
-use Rattle.theory_trees.specs.Tests.{by-eq, by-le}
-use Rattle.theory_trees.specs.Lists.{Rises, split}
-use Rattle.theory_trees.specs.Nodes.{Ok}
+use Rattle.theory_counts.specs.Cases.{by-eq, by-le}
+use Rattle.theory_nodes.specs.Entries.{Rises, split}
+use Rattle.theory_nodes.specs.Nodes.{Ok}
 use Rattle.theory_trees.specs.Edit.{splice-length}
 use Rattle.theory_trees.specs.Path.{remove-as, onPath-top, onPath-below}
 

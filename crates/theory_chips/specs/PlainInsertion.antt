@@ -22,8 +22,8 @@ use Rattle.model.specs.Edit.{put, putIn, gains, splits}
 use Rattle.model.specs.Update.{isNone, rootNode}
 use Rattle.model.specs.Plain.{both, renewed, Plan, plainCuts, plainGrows, leftPage, rightPage, plainList, levelPlans, plansTo, crownPlans, insertPlans}
 use Rattle.theory_counts.specs.Tally.{bit-most}
-use Rattle.theory_trees.specs.Tests.{by-eq, by-le, by-test, true-false}
-use Rattle.theory_trees.specs.Nodes.{the, fitOf}
+use Rattle.theory_counts.specs.Cases.{by-eq, by-le, by-test, true-false}
+use Rattle.theory_nodes.specs.Nodes.{the, fitOf}
 use Rattle.theory_trees.specs.Edit.{atRoot}
 use Rattle.theory_trees.specs.Plain.{renews, RenewHeld, RenewMade}
 use Rattle.theory_trees.specs.PlainInsert.{plain-stay, plain-grow}

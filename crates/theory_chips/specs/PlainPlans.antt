@@ -13,7 +13,7 @@ use Rattle.geometry.specs.declared.Entry.{Entry}
 use Rattle.geometry.specs.Geometry.{half}
 use Rattle.geometry.specs.Tests.{pick}
 use Rattle.model.specs.Plain.{Plan, noneLeft, levelPlans, plansTo, keptPlans}
-use Rattle.theory_trees.specs.Tests.{by-eq, by-le, by-test}
+use Rattle.theory_counts.specs.Cases.{by-eq, by-le, by-test}
 
 -- a place beyond all plans
 abbrev pub noPlan : Plan

@@ -11,7 +11,7 @@ use Rattle.model.specs.Image.{Chip}
 use Rattle.model.specs.Tree.{mapOf, placesOf, live}
 use Rattle.model.specs.Next.{ahead, nextPage}
 use Rattle.model.specs.Collect.{livesIn}
-use Rattle.theory_trees.specs.Tests.{by-eq, true-false}
+use Rattle.theory_counts.specs.Cases.{by-eq, true-false}
 use Rattle.theory_chips.specs.Count.{count-drop}
 use Rattle.theory_chips.specs.Whole.{Whole, Same, same-self, same-then}
 use Rattle.theory_chips.specs.Moves.{moveTo, MoveStep, move-step}

@@ -16,8 +16,8 @@ use Rattle.model.specs.Rules.{inOrder, secondMixed, r2, spareRoom, r7, ample, r
 use Rattle.model.specs.Next.{mixed, full, firstIn, inBlock}
 use Rattle.theory_counts.specs.Least.{least-is, least-none, none-passes, any-clear}
 use Rattle.theory_counts.specs.Lowest.{good-unless}
-use Rattle.theory_trees.specs.Tests.{by-eq, by-le, by-test, true-false}
-use Rattle.theory_trees.specs.Judge.{unless-both}
+use Rattle.theory_counts.specs.Cases.{by-eq, by-le, by-test, true-false}
+use Rattle.theory_nodes.specs.Judge.{unless-both}
 use Rattle.theory_chips.specs.Next.{R2}
 use Rattle.theory_chips.specs.Collect.{R7, R8}
 

@@ -14,9 +14,10 @@ use Rattle.model.specs.Image.{Nodes, Chip}
 use Rattle.model.specs.Tree.{gather, under, Place, places, mapOf, next, chosen, find, sought}
 use Rattle.model.specs.Edit.{gains, splits}
 use Rattle.model.specs.Update.{isNone, rootNode, rootGains, needs, tooHigh}
-use Rattle.theory_trees.specs.Tests.{true-false}
-use Rattle.theory_trees.specs.Lists.{All, Rises, split}
-use Rattle.theory_trees.specs.Nodes.{Ok, Rooted, fitOf}
+use Rattle.theory_counts.specs.Cases.{true-false}
+use Rattle.theory_lists.specs.All.{All}
+use Rattle.theory_nodes.specs.Entries.{Rises, split}
+use Rattle.theory_nodes.specs.Nodes.{Ok, Rooted, fitOf}
 use Rattle.theory_trees.specs.Proper.{Proper}
 use Rattle.theory_trees.specs.Seek.{find-root, root-rises}
 use Rattle.theory_trees.specs.Fill.{Filled, list-nodes-like, list-filled-like}

@@ -22,7 +22,7 @@ use Rattle.theory_images.specs.Lengths.{Blocks, good-blocks, blocks-same, lengt
 use Rattle.theory_updates.specs.Along.{Along, along-take, Keeps}
 use Rattle.theory_updates.specs.Updated.{Updated}
 use Rattle.theory_updates.specs.Lists.{programMost}
-use Rattle.theory_trees.specs.Lists.{Rises}
+use Rattle.theory_nodes.specs.Entries.{Rises}
 use Rattle.theory_chips.specs.Whole.{map-rises}
 use Rattle.theory_demands.specs.Words.{Ready, mapAt, Holds, Lawful, Kept}
 

@@ -19,7 +19,7 @@ use Rattle.model.specs.Rules.{verdict}
 use Rattle.model.specs.Stores.{Store, applyAll, programs}
 use Rattle.model.specs.Update.{isNone, needs, tooHigh, insertStores, deleteStores}
 use Rattle.model.specs.Calls.{Outcome, refused, damaged, made, byVerdict, judged, judgedCall, worn, roomless, freePages, insertRest, insert, deleteRest, delete}
-use Rattle.theory_trees.specs.Lists.{All}
+use Rattle.theory_lists.specs.All.{All}
 use Rattle.theory_demands.specs.Words.{Ready, Began}
 use Rattle.theory_demands.specs.Tests.{Test, tested, Untouched, Unmet, tested-untouched, tested-passed}
 

@@ -13,7 +13,7 @@ use Rattle.model.specs.Next.{mixed, firstIn}
 use Rattle.model.specs.Rules.{inOrder, secondMixed, unless, r2}
 use Rattle.theory_counts.specs.Least.{least-is}
 use Rattle.theory_counts.specs.Lowest.{bad-good}
-use Rattle.theory_trees.specs.Tests.{by-eq, by-le, by-test, true-false}
+use Rattle.theory_counts.specs.Cases.{by-eq, by-le, by-test, true-false}
 use Rattle.theory_chips.specs.Next.{block-in}
 use Rattle.theory_chips.specs.Tests.{any-one}
 use Rattle.theory_demands.specs.Findings.{bad-unless}

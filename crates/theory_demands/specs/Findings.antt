@@ -21,8 +21,9 @@ use Rattle.model.specs.Image.{Nodes}
 use Rattle.model.specs.Rules.{lowest, unless, first, names, rising, own, judgeEntries, judgeNode, lowestPage, orElse, isSound}
 use Rattle.theory_counts.specs.Least.{Least, least-is}
 use Rattle.theory_counts.specs.Lowest.{bad-good}
-use Rattle.theory_trees.specs.Lists.{All, Mem, all-right, next-append}
-use Rattle.theory_trees.specs.Tests.{by-le}
+use Rattle.theory_lists.specs.All.{All, Mem, all-right}
+use Rattle.theory_nodes.specs.Entries.{next-append}
+use Rattle.theory_counts.specs.Cases.{by-le}
 
 pageIn : Finding → ℕ
 pageIn Good = 0

@@ -18,7 +18,7 @@ use Rattle.model.specs.Image.{blocksOf, goodLength, Chip, chipOf, pagesOf, root
 use Rattle.model.specs.Rules.{r2, names, ownRoot, judgeEntries, judgeNode, r5, verdict}
 use Rattle.theory_counts.specs.Lowest.{bad-good}
 use Rattle.theory_counts.specs.Peak.{arg-less}
-use Rattle.theory_trees.specs.Lists.{All}
+use Rattle.theory_lists.specs.All.{All}
 use Rattle.theory_chips.specs.Next.{block-in}
 use Rattle.theory_images.specs.Lengths.{good-blocks}
 use Rattle.theory_demands.specs.Findings.{bad-unless, rising-names, entries-below, node-below}

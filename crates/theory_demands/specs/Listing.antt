@@ -21,8 +21,8 @@ use Rattle.model.specs.Tree.{entryOf, find}
 use Rattle.model.specs.Rules.{verdict}
 use Rattle.model.specs.Calls.{byVerdict, judged}
 use Rattle.model.specs.Listing.{between, rangedOf, writtenOf, filled, lists, listsNone, listing}
-use Rattle.theory_trees.specs.Nodes.{fitOf}
-use Rattle.theory_trees.specs.Between.{ranged-root}
+use Rattle.theory_nodes.specs.Nodes.{fitOf}
+use Rattle.theory_nodes.specs.Between.{ranged-root}
 use Rattle.theory_demands.specs.Words.{Ready, mapAt, Rising}
 use Rattle.theory_demands.specs.Bridges.{ready-keeps}
 use Rattle.theory_demands.specs.Demands.{map-sorted}

@@ -21,8 +21,8 @@ use Rattle.model.specs.Tree.{placesOf, live}
 use Rattle.model.specs.Rules.{verdict}
 use Rattle.model.specs.Collect.{livesIn}
 use Rattle.model.specs.Calls.{Outcome, refused, insertRest, deleteRest, insert, delete}
-use Rattle.theory_trees.specs.Tests.{true-false}
-use Rattle.theory_trees.specs.Lists.{All}
+use Rattle.theory_counts.specs.Cases.{true-false}
+use Rattle.theory_lists.specs.All.{All}
 use Rattle.live_words.specs.Words.{blockWords, wordsOf, blockOnes, Told, Past}
 use Rattle.live_words.specs.Live.{Reply, reply, liveWords, leavesWords, withWords, insertLive, deleteLive}
 use Rattle.live_words.specs.Ones.{block-ones}

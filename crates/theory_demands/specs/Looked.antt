@@ -16,9 +16,9 @@ use Rattle.model.specs.Tree.{gather, under, next, Place, entryOf, place}
 use Rattle.model.specs.Halving.{Placed, place-is}
 use Rattle.model.specs.Listing.{upTo, reached, ranged}
 use Rattle.theory_counts.specs.Least.{by-lt}
-use Rattle.theory_trees.specs.Lists.{Rises, rises-right, next-le}
-use Rattle.theory_trees.specs.Nodes.{Ok, under-in, the}
-use Rattle.theory_trees.specs.Between.{between-all, ranged-is}
+use Rattle.theory_nodes.specs.Entries.{Rises, rises-right, next-le}
+use Rattle.theory_nodes.specs.Nodes.{Ok, under-in, the}
+use Rattle.theory_nodes.specs.Between.{between-all, ranged-is}
 
 -- the nodes that the walk under an entry at level l looks at
 unfoldable pub looked : Nodes → ℕ → ℕ → ℕ → Entry → List Place

@@ -11,7 +11,7 @@ use Rattle.geometry.specs.declared.Entry.{Entry}
 use Rattle.geometry.specs.Tests.{pick}
 use Rattle.model.specs.Tree.{find}
 use Rattle.model.specs.Edit.{put, remove}
-use Rattle.theory_trees.specs.Lists.{Rises}
+use Rattle.theory_nodes.specs.Entries.{Rises}
 use Rattle.theory_trees.specs.Splits.{above-none}
 use Rattle.theory_demands.specs.Words.{Rising}
 

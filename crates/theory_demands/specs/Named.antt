@@ -22,7 +22,7 @@ use Rattle.model.specs.Tree.{Place, placesOf}
 use Rattle.model.specs.Rules.{wellFormed, r1, r2, repeated, r3, r4, own, ownRoot, judgeNode, r5, loose, lowestPage, r6, r7, r8, asked, verdict}
 use Rattle.theory_counts.specs.Least.{Least, least-is}
 use Rattle.theory_counts.specs.Lowest.{bad-good}
-use Rattle.theory_trees.specs.Tests.{by-le, true-false}
+use Rattle.theory_counts.specs.Cases.{by-le, true-false}
 use Rattle.theory_chips.specs.Tests.{any-one}
 use Rattle.theory_demands.specs.Disorder.{FirstErased, SecondMixed, r2-names}
 use Rattle.theory_demands.specs.Findings.{bad-unless, zero-page, or-led, bad-lowest, broke, Led, led, LowestPlace, lowest-place}

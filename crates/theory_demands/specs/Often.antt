@@ -11,7 +11,7 @@ use Rattle.geometry.specs.Shape.{Known, shape}
 use Rattle.geometry.specs.Bounds.{fourBytes}
 use Rattle.model.specs.Image.{blocksOf}
 use Rattle.model.specs.Calls.{Outcome, insert, delete}
-use Rattle.theory_trees.specs.Lists.{All}
+use Rattle.theory_lists.specs.All.{All}
 use Rattle.live_words.specs.Words.{wordsOf, Past}
 use Rattle.live_words.specs.Live.{insertLive, deleteLive}
 use Rattle.open_record.specs.declared.Opened.{Opened}

@@ -22,7 +22,7 @@ use Rattle.model.specs.Stores.{applyAll, programs, erases}
 use Rattle.model.specs.Edit.{put, gains, remove}
 use Rattle.model.specs.Update.{isNone, rootNode, rootGains, needs, tooHigh, insertStores, deleteStore, deleteStores}
 use Rattle.model.specs.Calls.{Outcome, refused, damaged, made, byVerdict, judged, answered, lookup, worn, roomless, freePages, insert, delete}
-use Rattle.theory_trees.specs.Tests.{true-false}
+use Rattle.theory_counts.specs.Cases.{true-false}
 use Rattle.theory_chips.specs.Whole.{sought-map}
 use Rattle.theory_chips.specs.Insertion.{Fuller}
 use Rattle.theory_images.specs.Lengths.{blocks-same, length-all}

@@ -15,8 +15,8 @@ use Rattle.geometry.specs.Bounds.{fourBytes}
 use Rattle.model.specs.Bytes.{byteAt}
 use Rattle.model.specs.Image.{blocksOf, goodLength, chipOf}
 use Rattle.model.specs.Calls.{Outcome, roomless, freePages, insert, delete, format}
-use Rattle.theory_trees.specs.Tests.{by-le}
-use Rattle.theory_trees.specs.Lists.{All}
+use Rattle.theory_counts.specs.Cases.{by-le}
+use Rattle.theory_lists.specs.All.{All}
 use Rattle.live_words.specs.Words.{wordsOf}
 use Rattle.open_record.specs.Opened.{opened}
 use Rattle.live_beside.specs.Update.{Returned}

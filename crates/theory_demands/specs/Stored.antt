@@ -15,7 +15,8 @@ use Rattle.geometry.specs.Shape.{Shape}
 use Rattle.geometry.specs.Bounds.{fourBytes}
 use Rattle.model.specs.Edit.{put}
 use Rattle.model.specs.Calls.{Outcome, insert}
-use Rattle.theory_trees.specs.Lists.{All, In, all-append, all-map}
+use Rattle.theory_lists.specs.All.{All, all-append, all-map}
+use Rattle.theory_nodes.specs.Entries.{In}
 use Rattle.theory_trees.specs.Insert.{put-local}
 use Rattle.text_decimals.specs.Decimals.{largest}
 use Rattle.text_carrying.specs.Carrying.{word, counted, storeOne, storeAll}

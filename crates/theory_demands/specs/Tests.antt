@@ -8,7 +8,7 @@ use Prim.Native.Nat.{ℕ, _≤_}
 use native.Mathlib.Omega.{arith}
 use Rattle.geometry.specs.Tests.{pick}
 use Rattle.model.specs.Calls.{Outcome, refused}
-use Rattle.theory_trees.specs.Lists.{All}
+use Rattle.theory_lists.specs.All.{All}
 use Rattle.theory_demands.specs.Words.{Began, OneOf}
 
 pub record Test : Type 0 where

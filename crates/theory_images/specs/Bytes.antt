@@ -18,8 +18,8 @@ use Rattle.model.specs.Bytes.{byteAt, u32At, blank, entriesAt}
 use Rattle.model.specs.Page.{putU32, putEntry, putEntries}
 use Rattle.model.specs.Stores.{written}
 use Rattle.theory_lists.specs.Written.{written-before, written-after}
-use Rattle.theory_trees.specs.Tests.{by-eq}
-use Rattle.theory_trees.specs.Lists.{All}
+use Rattle.theory_counts.specs.Cases.{by-eq}
+use Rattle.theory_lists.specs.All.{All}
 
 -- ---- the n bytes of b from q on are those of a from p on: what is read there is alike
 abbrev pub Copy : List ℕ → ℕ → List ℕ → ℕ → ℕ → Type 0

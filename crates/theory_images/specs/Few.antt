@@ -14,9 +14,10 @@ use Rattle.geometry.specs.Bounds.{fourBytes}
 use Rattle.model.specs.Image.{pagesOf, Nodes, Chip, chipOf}
 use Rattle.model.specs.Tree.{gather, places, mapOf, placesOf}
 use Rattle.model.specs.Listing.{rangedOf}
-use Rattle.theory_trees.specs.Lists.{All, Rises, rises-all}
-use Rattle.theory_trees.specs.Nodes.{Ok, Rooted, fitOf}
-use Rattle.theory_trees.specs.Between.{between-fewer, ranged-root, mostUnder, root-most}
+use Rattle.theory_lists.specs.All.{All}
+use Rattle.theory_nodes.specs.Entries.{Rises, rises-all}
+use Rattle.theory_nodes.specs.Nodes.{Ok, Rooted, fitOf}
+use Rattle.theory_nodes.specs.Between.{between-fewer, ranged-root, mostUnder, root-most}
 use Rattle.theory_images.specs.Held.{Held, height-most}
 
 -- the most nodes from the one that an entry at level l names down

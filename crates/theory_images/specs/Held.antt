@@ -25,11 +25,11 @@ use Rattle.model.specs.Rules.{lowest, wellFormed, r1, r2, repeated, r3, r4, r5,
 use Rattle.theory_counts.specs.Least.{least-none, any-clear}
 use Rattle.theory_counts.specs.Peak.{arg-less}
 use Rattle.theory_counts.specs.Lowest.{lowest-good, good-lowest, good-unless, or-sound}
-use Rattle.theory_trees.specs.Tests.{by-eq, by-le, true-false}
-use Rattle.theory_trees.specs.Lists.{all-map}
-use Rattle.theory_trees.specs.Nodes.{fitOf, fit-page}
+use Rattle.theory_counts.specs.Cases.{by-eq, by-le, true-false}
+use Rattle.theory_lists.specs.All.{all-map}
+use Rattle.theory_nodes.specs.Nodes.{fitOf, fit-page}
 use Rattle.theory_trees.specs.Proper.{root-fit}
-use Rattle.theory_trees.specs.Judge.{unless-both, r5-rooted, rooted-r5, r6-tied, tied-r6}
+use Rattle.theory_nodes.specs.Judge.{unless-both, r5-rooted, rooted-r5, r6-tied, tied-r6}
 use Rattle.theory_chips.specs.Whole.{some-page, Whole}
 use Rattle.theory_chips.specs.Next.{block-in}
 use Rattle.theory_chips.specs.Collect.{R7, R8}

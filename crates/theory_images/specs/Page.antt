@@ -20,8 +20,8 @@ use Rattle.model.specs.Bytes.{byteAt, u32At, blank, erased, seqAt, heightAt, co
 use Rattle.model.specs.Codes.{codesFit}
 use Rattle.model.specs.Image.{pagesOf, seqOf, heightOf, maxSeq, rootScore, rootOf, chipOf}
 use Rattle.model.specs.Page.{putU32, putEntries, putLevel, putLevels, numbered, sealed, built, only}
-use Rattle.theory_trees.specs.Tests.{by-eq}
-use Rattle.theory_trees.specs.Lists.{All}
+use Rattle.theory_counts.specs.Cases.{by-eq}
+use Rattle.theory_lists.specs.All.{All}
 use Rattle.theory_chips.specs.Erase.{blankNode}
 use Rattle.theory_images.specs.Bytes.{Copy, copy-byte, copy-u32, copy-blank, copy-entries, blank-all, blank-get, Off, length-word, word-off, length-entries, entries-off, word-same, Fits, entries-same}
 use Rattle.theory_images.specs.Codes.{copy-codes, length-coded, coded-off, coded-fits}

@@ -16,8 +16,8 @@ use Rattle.model.specs.Bytes.{byteAt, u32At, entriesAt, nodePlace, nodeCount, n
 use Rattle.model.specs.Codes.{freshCode, putCode}
 use Rattle.model.specs.Page.{putU32, putEntry, putEntries, putLevel, putLevels, numbered, coded, sealed, built}
 use Rattle.model.specs.Stores.{Store, program, erase, written, applyStore}
-use Rattle.theory_trees.specs.Tests.{by-eq}
-use Rattle.theory_trees.specs.Lists.{All}
+use Rattle.theory_counts.specs.Cases.{by-eq}
+use Rattle.theory_lists.specs.All.{All}
 use Rattle.theory_images.specs.Bytes.{Fits}
 
 abbrev pub Small : List ℕ → Type 0

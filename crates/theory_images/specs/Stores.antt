@@ -19,7 +19,7 @@ use Rattle.model.specs.Image.{pagesOf, Chip, chipOf}
 use Rattle.model.specs.Page.{built}
 use Rattle.model.specs.Stores.{Store, program, erase, written, applyStore}
 use Rattle.theory_lists.specs.Written.{length-written, written-inside}
-use Rattle.theory_trees.specs.Tests.{by-eq, true-false}
+use Rattle.theory_counts.specs.Cases.{by-eq, true-false}
 use Rattle.theory_chips.specs.Next.{block-in}
 use Rattle.theory_chips.specs.Erase.{inB, range, eraseBlock}
 use Rattle.theory_images.specs.Bytes.{Off, written-off}

@@ -15,7 +15,7 @@ use Rattle.model.specs.Image.{Chip}
 use Rattle.model.specs.Next.{after}
 use Rattle.theory_counts.specs.Least.{by-lt}
 use Rattle.theory_counts.specs.Peak.{peak-at, arg-less}
-use Rattle.theory_trees.specs.Tests.{by-eq, true-false}
+use Rattle.theory_counts.specs.Cases.{by-eq, true-false}
 use Rattle.theory_chips.specs.Erase.{inB, blankNode, eraseBlock}
 
 -- all that anyone reads of a page; an erased page reads as `(noView g)`

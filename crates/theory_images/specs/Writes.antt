@@ -20,8 +20,8 @@ use Rattle.model.specs.Next.{firstIn, ahead, nextBlock, nextPage, after, onward
 use Rattle.model.specs.Page.{built}
 use Rattle.model.specs.Stores.{Store, program, erase, applyStore}
 use Rattle.model.specs.Legal.{Legal}
-use Rattle.theory_trees.specs.Tests.{by-test, true-false}
-use Rattle.theory_trees.specs.Nodes.{fitOf}
+use Rattle.theory_counts.specs.Cases.{by-test, true-false}
+use Rattle.theory_nodes.specs.Nodes.{fitOf}
 use Rattle.theory_trees.specs.Frame.{pairs-same, root-places-same, sound-same}
 use Rattle.theory_chips.specs.Count.{count-gone}
 use Rattle.theory_chips.specs.Next.{next-found, next-in, r2-next}

@@ -13,7 +13,7 @@ use Rattle.geometry.specs.Bounds.{fourBytes}
 use Rattle.text_lines.specs.Lines.{fields}
 use Rattle.text_decimals.specs.Decimals.{numberOf}
 use Rattle.text_decimals.specs.Back.{number-most}
-use Rattle.theory_trees.specs.Lists.{All}
+use Rattle.theory_lists.specs.All.{All}
 use Rattle.log_lines.specs.declared.Order.{Order}
 use Rattle.log_lines.specs.declared.Order.the-variants.{Format, Insert, Delete, Lookup, Limited}
 use Rattle.log_lines.specs.declared.Line.{Line}

@@ -22,8 +22,8 @@ use Rattle.model.specs.Update.{isNone, formatStores}
 use Rattle.model.specs.Calls.{Outcome, refused, made, answered, format, worn}
 use Rattle.log_lines.specs.declared.Order.{Order}
 use Rattle.log_lines.specs.declared.Order.the-variants.{Format, Insert, Delete, Lookup, Limited}
-use Rattle.theory_trees.specs.Tests.{true-false}
-use Rattle.theory_trees.specs.Lists.{All}
+use Rattle.theory_counts.specs.Cases.{true-false}
+use Rattle.theory_lists.specs.All.{All}
 use Rattle.theory_images.specs.Lengths.{good-blocks, blocks-same, length-all}
 use Rattle.theory_updates.specs.Format.{formatted-max}
 use Rattle.theory_demands.specs.Words.{Holds, Began, OneOf}

@@ -11,7 +11,7 @@ use Rattle.log_lines.specs.declared.Order.{Order}
 use Rattle.log_lines.specs.declared.Order.the-variants.{Format, Insert, Delete, Lookup, Limited}
 use Rattle.log_lines.specs.Replay.{largestAllowance, obeyed, blankImage}
 use Rattle.compare_scores.specs.Scores.{plainObeyed}
-use Rattle.theory_trees.specs.Lists.{All}
+use Rattle.theory_lists.specs.All.{All}
 use Rattle.theory_demands.specs.Refusals.{Refuses, lookup-refuses, insert-refuses, delete-refuses}
 use Rattle.theory_demands.specs.Builds.{format-holds}
 use Rattle.plain_updates.specs.Words.{plain-format-holds}

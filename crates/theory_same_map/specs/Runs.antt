@@ -21,7 +21,7 @@ use Rattle.log_lines.specs.Replay.{errorAfter, formAfter}
 use Rattle.compare_scores.specs.declared.Score.{Score}
 use Rattle.compare_scores.specs.Scores.{stops, isUpdate, counts, scored}
 use Rattle.compare_scores.specs.Compare.{report, ending, met, reported, compared}
-use Rattle.theory_trees.specs.Tests.{true-false}
+use Rattle.theory_counts.specs.Cases.{true-false}
 use Rattle.theory_same_map.specs.Words.{Images, blankImages, byMu, byPlain, afterOrder, Accepts, mapAfter, Same, Reaches, at-start, goes-on, Counted, Ended}
 use Rattle.theory_same_map.specs.Fitting.{form-after}
 use Rattle.theory_same_map.specs.Numbers.{largestOn}

@@ -16,7 +16,7 @@ use Rattle.log_lines.specs.Replay.{formAfter}
 use Rattle.compare_scores.specs.declared.Score.{Score}
 use Rattle.compare_scores.specs.Scores.{stops, none-yet, counts}
 use Rattle.compare_scores.specs.Compare.{reported, compared}
-use Rattle.theory_trees.specs.Lists.{All}
+use Rattle.theory_lists.specs.All.{All}
 use Rattle.theory_demands.specs.Words.{mapAt}
 use Rattle.theory_same_map.specs.Words.{Images, blankImages, byMu, byPlain, afterOrder, Fits, BothAccept, Alike, mapAfter, Same}
 use Rattle.theory_same_map.specs.Words.{afterAll, mapAfterAll, AllAccepted, AllAlike, ordersOf, Reaches, at-start, Counted, Ended}

@@ -15,8 +15,9 @@ use Rattle.model.specs.Image.{Nodes}
 use Rattle.model.specs.Tree.{gather, under, next, chosen}
 use Rattle.model.specs.Edit.{splice, put, putIn}
 use Rattle.model.specs.Plain.{both}
-use Rattle.theory_trees.specs.Lists.{All, In, Rises, gather-append, gather-one, next-append, rises-left, rises-right, next-le}
-use Rattle.theory_trees.specs.Nodes.{Ok, next-more, the, Rooted}
+use Rattle.theory_lists.specs.All.{All}
+use Rattle.theory_nodes.specs.Entries.{In, Rises, gather-append, gather-one, next-append, rises-left, rises-right}
+use Rattle.theory_nodes.specs.Nodes.{Ok, next-more, the, Rooted}
 use Rattle.theory_trees.specs.Edit.{Local, splice-op, edit, atRoot, Made, Out, Changed, edit-list, edit-list-ok}
 
 put-after : (k a lo : ℕ) (xs ys : List Entry) → All (In lo k) xs → put k a (xs ++ ys) ≡ xs ++ put k a ys
@@ -52,10 +53,6 @@ pub put-in : (k a hi : ℕ) (es : List Entry) → k < hi → Rises (λ y x. Unit
 unfolding putIn
 put-in k a hi [] q h = refl
 put-in k a hi (e ∷ es) q h = put-splice k a hi (e ∷ es) (omega arith) q h
-
-pub first-below : (P : ℕ → Entry → Type 0) (y : ℕ) (es : List Entry) → 1 ≤ length es → Rises P y es → next es 0 < y
-first-below P y [] n h = absurd (omega arith)
-first-below P y (e ∷ es) n h = omega (arith, next-le P y es (h .2))
 
 first-less : (P : ℕ → Entry → Type 0) (y m : ℕ) (c : List Entry) → 1 ≤ m → m < length c → Rises P y c
     → next c y < next (drop m c) 0

@@ -17,9 +17,9 @@ use Rattle.model.specs.Edit.{splice, onPath, put, putIn, gains, splits}
 use Rattle.model.specs.Update.{isNone}
 use Rattle.model.specs.Plain.{both}
 use Rattle.theory_counts.specs.Tally.{bit-most}
-use Rattle.theory_trees.specs.Tests.{by-eq, and-pick}
-use Rattle.theory_trees.specs.Lists.{Rises, gather-one, rises-map, Split, split}
-use Rattle.theory_trees.specs.Nodes.{Ok}
+use Rattle.theory_counts.specs.Cases.{by-eq, and-pick}
+use Rattle.theory_nodes.specs.Entries.{Rises, gather-one, rises-map, Split, split}
+use Rattle.theory_nodes.specs.Nodes.{Ok}
 use Rattle.theory_trees.specs.Edit.{splice-length, edit, atRoot}
 use Rattle.theory_trees.specs.Above.{put-in, above}
 use Rattle.theory_trees.specs.Seek.{find-list}

@@ -13,8 +13,9 @@ use Rattle.model.specs.Image.{Nodes}
 use Rattle.model.specs.Tree.{gather, under, next, chosen}
 use Rattle.model.specs.Edit.{splice, remove, removeIn, kept, Top, collapse}
 use Rattle.model.specs.Plain.{keptOn}
-use Rattle.theory_trees.specs.Lists.{All, In, Rises, gather-eq, gather-one, rises-map, rises-all, split, splice-cong}
-use Rattle.theory_trees.specs.Nodes.{Ok, ok-more, ok-same, under-same, the, Rooted}
+use Rattle.theory_lists.specs.All.{All}
+use Rattle.theory_nodes.specs.Entries.{In, Rises, gather-eq, gather-one, rises-map, rises-all, split, splice-cong}
+use Rattle.theory_nodes.specs.Nodes.{Ok, ok-more, ok-same, under-same, the, Rooted}
 use Rattle.theory_trees.specs.Edit.{Local, splice-op, splice-length, splice-rises, edit, atRoot, Made, made-map, Out, edit-list, edit-list-ok}
 
 remove-after : (k lo : ℕ) (xs ys : List Entry) → All (In lo k) xs → remove k (xs ++ ys) ≡ xs ++ remove k ys

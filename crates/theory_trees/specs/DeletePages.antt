@@ -9,8 +9,9 @@ use Rattle.geometry.specs.declared.Entry.{Entry}
 use Rattle.model.specs.Image.{Nodes}
 use Rattle.model.specs.Tree.{gather, Place, places, chosen}
 use Rattle.model.specs.Edit.{splice, remove, kept}
-use Rattle.theory_trees.specs.Lists.{All, Rises, Some, all-append, all-map, gather-all, rises-all}
-use Rattle.theory_trees.specs.Nodes.{Ok, places-fit, places-same, Rooted}
+use Rattle.theory_lists.specs.All.{All, Some, all-append, all-map}
+use Rattle.theory_nodes.specs.Entries.{Rises, gather-all, rises-all}
+use Rattle.theory_nodes.specs.Nodes.{Ok, places-fit, places-same, Rooted}
 use Rattle.theory_trees.specs.Edit.{splice-some, edit, Made, no-places, page-where, list-places}
 use Rattle.theory_trees.specs.Delete.{deleted, DeleteHeld, DeleteMade}
 use Rattle.theory_trees.specs.Tied.{Where}

@@ -9,28 +9,14 @@ use Rattle.geometry.specs.declared.Entry.{Entry}
 use Rattle.model.specs.Image.{Nodes}
 use Rattle.model.specs.Tree.{gather, under, Place, places, next, chosen}
 use Rattle.model.specs.Edit.{splice}
-use Rattle.theory_trees.specs.Lists.{All, In, Rises, Some, all-append, all-map, some-left, some-right, gather-append, gather-eq, gather-one, gather-all, all-gather, next-append, rises-append, rises-map, rises-all, rises-more, gather-in, Split, split}
-use Rattle.theory_trees.specs.Nodes.{Ok, ok-more, under-in, ok-same, under-same, places-same}
+use Rattle.theory_lists.specs.All.{All, Some, all-append, some-left, some-right}
+use Rattle.theory_nodes.specs.Entries.{In, Rises, gather-append, gather-eq, gather-one, gather-all, all-gather, next-append, rises-append, rises-map, rises-all, rises-more, Split, split}
+use Rattle.theory_nodes.specs.Nodes.{Ok, ok-more, under-in, ok-same, under-same, places-same}
 
 -- an operation on sorted lists that works at k only
 pub record Local (k : ℕ) (op : List Entry → List Entry) : Type 0 where
   pub after : (lo : ℕ) (xs ys : List Entry) → All (In lo k) xs → op (xs ++ ys) ≡ xs ++ op ys
   pub before : (lo hi : ℕ) (ys zs : List Entry) → k < lo → All (In lo hi) zs → op (ys ++ zs) ≡ op ys ++ zs
-
--- what is joined keeps the bounds of its parts
-module _ (k : ℕ) (P : ℕ → Entry → Type 0) (d : Entry → List Entry)
-    (range : (y : ℕ) (x : Entry) → x .key < y → P y x → All (In (x .key) y) (d x)) where
-  -- from lo on
-  pub rises-in : (lo hi : ℕ) (es : List Entry) → lo ≤ next es hi → Rises P hi es → All (In lo hi) (gather d es)
-  rises-in lo hi es q h = gather-in d lo hi es q (rises-map P (λ y x. All (In (x .key) y) (d x)) hi es (λ y x q _ i. range y x q i) h)
-
-  -- below k, of the entries before the chosen one
-  pub pre-in : (z : ℕ) (pre : List Entry) → ((0 < length pre) → z ≤ k) → Rises P z pre → All (In 0 k) (gather d pre)
-  unfolding gather
-  pre-in z [] u h = tt
-  pre-in z (e ∷ pre) u h = let b = u (omega arith) in
-      all-map (In 0 z) (In 0 k) (gather d (e ∷ pre)) (λ x i. omega (arith, i, b))
-      (rises-in 0 z (e ∷ pre) (omega arith) h)
 
 module _ (k : ℕ) (op : List Entry → List Entry) (loc : Local k op) (P : ℕ → Entry → Type 0)
     (d d′ f : Entry → List Entry)

@@ -16,9 +16,10 @@ use Rattle.model.specs.Image.{Nodes}
 use Rattle.model.specs.Tree.{gather, under, Place, places, next, chosen, find}
 use Rattle.model.specs.Edit.{splice, put, putIn, turn, pathHalf, sideHalf, two, named, gains, splits}
 use Rattle.model.specs.Update.{isNone}
-use Rattle.theory_trees.specs.Tests.{by-test}
-use Rattle.theory_trees.specs.Lists.{All, Rises, all-append, all-map, all-left, all-right, all-gather, gather-append, gather-eq, rises-all, rises-map, rises-both, Split, split}
-use Rattle.theory_trees.specs.Nodes.{Ok, ok-with, places-fit, places-same, node-same}
+use Rattle.theory_counts.specs.Cases.{by-test}
+use Rattle.theory_lists.specs.All.{All, all-append, all-map, all-left, all-right}
+use Rattle.theory_nodes.specs.Entries.{Rises, all-gather, gather-append, gather-eq, rises-all, rises-map, rises-both, Split, split}
+use Rattle.theory_nodes.specs.Nodes.{Ok, ok-with, places-fit, places-same, node-same}
 use Rattle.theory_trees.specs.Edit.{edit, atRoot, Made, no-places, page-where, edit-list-places}
 use Rattle.theory_trees.specs.Insert.{Halves, InsertHeld, inserted, InsertMade, ins-list-ok}
 use Rattle.theory_trees.specs.InsertPages.{two-where}

@@ -5,9 +5,10 @@ use Prim.Native.Nat.{ℕ, suc, _≤_}
 use Rattle.geometry.specs.declared.Entry.{Entry}
 use Rattle.model.specs.Image.{Nodes}
 use Rattle.model.specs.Tree.{gather, under, Place, places}
-use Rattle.theory_trees.specs.Lists.{All, Rises, all-map, all-both, gather-eq, rises-map, rises-all}
-use Rattle.theory_trees.specs.Nodes.{Ok, node-same, ok-same, under-same, places-same, the, Rooted}
-use Rattle.theory_trees.specs.Tied.{TiedTo, Tied}
+use Rattle.theory_lists.specs.All.{All, all-map, all-both}
+use Rattle.theory_nodes.specs.Entries.{Rises, gather-eq, rises-map, rises-all}
+use Rattle.theory_nodes.specs.Nodes.{Ok, node-same, ok-same, under-same, places-same, the, Rooted}
+use Rattle.theory_nodes.specs.Tied.{TiedTo, Tied}
 use Rattle.theory_trees.specs.Proper.{Proper, root-fit}
 
 module _ (top : ℕ) (room most : ℕ → ℕ) (r s : Nodes) (fit fit′ : ℕ → ℕ → Type 0) (keep : (l b : ℕ) → fit l b → fit′ l b)

@@ -13,12 +13,12 @@ use Rattle.model.specs.Image.{Nodes}
 use Rattle.model.specs.Tree.{under, next, chosen}
 use Rattle.model.specs.Edit.{splice, put, putIn, turn, pathHalf, sideHalf, two, named, pathPart}
 use Rattle.model.specs.Plain.{both}
-use Rattle.theory_trees.specs.Lists.{Rises}
-use Rattle.theory_trees.specs.Nodes.{Ok, the, Rooted}
+use Rattle.theory_nodes.specs.Entries.{Rises}
+use Rattle.theory_nodes.specs.Nodes.{Ok, the, Rooted}
 use Rattle.theory_trees.specs.Edit.{edit, atRoot, Made, Changed, made-map}
 use Rattle.theory_trees.specs.Above.{Both, AboveHeld}
 use Rattle.theory_trees.specs.Above as over
-pub use Rattle.theory_trees.specs.Above.{put-local, put-splice, put-in, first-below}
+pub use Rattle.theory_trees.specs.Above.{put-local, put-splice, put-in}
 
 -- the halves stand where they should: the path half on n, the other on its side page
 abbrev pub Halves : ℕ → ℕ → (ℕ → ℕ) → Nodes → (ℕ → ℕ → Type 0) → ℕ → ℕ → List Entry → Type 0

@@ -13,8 +13,9 @@ use Rattle.geometry.specs.Tests.{pick}
 use Rattle.model.specs.Image.{Nodes}
 use Rattle.model.specs.Tree.{gather, Place, places, next, chosen}
 use Rattle.model.specs.Edit.{splice, put, putIn, turn, pathHalf, two, named, pathPart}
-use Rattle.theory_trees.specs.Lists.{All, Rises, Some, all-left, all-right, all-append, all-map, gather-append, next-append, Split, split}
-use Rattle.theory_trees.specs.Nodes.{Ok, places-fit, Rooted}
+use Rattle.theory_lists.specs.All.{All, Some, all-left, all-right, all-append, all-map}
+use Rattle.theory_nodes.specs.Entries.{Rises, gather-append, next-append, Split, split}
+use Rattle.theory_nodes.specs.Nodes.{Ok, places-fit, Rooted}
 use Rattle.theory_trees.specs.Edit.{edit, atRoot, Made, no-places, page-where, edit-list-places}
 use Rattle.theory_trees.specs.Insert.{Halves, InsertHeld, inserted, InsertMade, Fresh, ins-list-ok, fresh}
 use Rattle.theory_trees.specs.Tied.{Where}

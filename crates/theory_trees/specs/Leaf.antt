@@ -14,10 +14,12 @@ use Rattle.geometry.specs.Tests.{pick, bit}
 use Rattle.model.specs.Image.{Nodes}
 use Rattle.model.specs.Tree.{gather, Place, places, next, chosen}
 use Rattle.model.specs.Edit.{splice, put, putIn, two, named, pathHalf, remove, removeIn, kept, collapse}
-use Rattle.theory_trees.specs.Lists.{All, Rises, Mem, all-left, all-append, all-map, gather-eq, gather-all, all-gather, next-append, next-le, rises-all, Split, split}
-use Rattle.theory_trees.specs.Nodes.{Ok, next-more, places-same, the, Rooted, rooted-with}
+use Rattle.theory_lists.specs.All.{All, Mem, all-left, all-append, all-map}
+use Rattle.theory_nodes.specs.Entries.{Rises, gather-eq, gather-all, all-gather, next-append, next-le, rises-all, Split, split}
+use Rattle.theory_nodes.specs.Nodes.{Ok, next-more, places-same, the, Rooted, rooted-with}
 use Rattle.theory_trees.specs.Edit.{splice-length, edit, atRoot, Made, no-places, page-where}
-use Rattle.theory_trees.specs.Insert.{Halves, InsertHeld, inserted, InsertMade, first-below}
+use Rattle.theory_trees.specs.Insert.{Halves, InsertHeld, inserted, InsertMade}
+use Rattle.theory_nodes.specs.Entries.{first-below}
 use Rattle.theory_trees.specs.Delete.{deleted, DeleteHeld, DeleteMade, delete-made, none-left, the-top}
 use Rattle.theory_trees.specs.Move.{Tie, off-path}
 use Rattle.theory_trees.specs.Tied.{tie-all, Where}

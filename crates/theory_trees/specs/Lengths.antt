@@ -13,9 +13,10 @@ use Rattle.model.specs.Image.{Nodes}
 use Rattle.model.specs.Tree.{next, entryOf, place, chosen}
 use Rattle.model.specs.Edit.{swap, splice, edited, onPath}
 use Rattle.model.specs.Halving.{place-is}
-use Rattle.theory_trees.specs.Tests.{by-eq}
-use Rattle.theory_trees.specs.Lists.{All, Rises, all-append}
-use Rattle.theory_trees.specs.Nodes.{Ok}
+use Rattle.theory_counts.specs.Cases.{by-eq}
+use Rattle.theory_lists.specs.All.{All, all-append}
+use Rattle.theory_nodes.specs.Entries.{Rises}
+use Rattle.theory_nodes.specs.Nodes.{Ok}
 
 swap-all : (P : Entry → Type 0) (f : Entry → List Entry) (i : ℕ) (es : List Entry) → ((e : Entry) → P e → All P (f e))
     → All P es → All P (swap f i es)

@@ -1,7 +1,4 @@
 -- Theorems about trees of nodes: what an insertion, a deletion and a move make of them. No bytes, no chip.
-pub mod Tests
-pub mod Lists
-pub mod Nodes
 pub mod Edit
 pub mod Above
 pub mod Insert
@@ -17,17 +14,13 @@ pub mod PlainInsert
 pub mod PlainDelete
 pub mod Frame
 pub mod Seek
-pub mod Between
 pub mod Path
 pub mod Lengths
 pub mod Cuts
 pub mod Splits
 pub mod Like
-pub mod Live
 pub mod Leaf
-pub mod PathPlaces
 pub mod Swap
 pub mod OnPath
 pub mod Lows
-pub mod Judge
 pub mod Fill

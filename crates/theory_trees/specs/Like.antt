@@ -13,8 +13,8 @@ use Rattle.model.specs.Image.{Nodes}
 use Rattle.model.specs.Tree.{next, entryOf, place, chosen}
 use Rattle.model.specs.Edit.{splice, gains, splits}
 use Rattle.model.specs.Halving.{place-is, place-keys}
-use Rattle.theory_trees.specs.Lists.{Rises, Split, split}
-use Rattle.theory_trees.specs.Nodes.{Ok}
+use Rattle.theory_nodes.specs.Entries.{Rises, Split, split}
+use Rattle.theory_nodes.specs.Nodes.{Ok}
 use Rattle.theory_trees.specs.Edit.{edit, Made}
 use Rattle.theory_trees.specs.Move.{moved, MoveMade}
 

@@ -11,13 +11,13 @@ use borrow.Author.Tests.{ne-eqb}
 use Rattle.model.specs.Image.{Nodes}
 use Rattle.model.specs.Tree.{Place, places, next, chosen, live, lowLevel}
 use Rattle.model.specs.Edit.{splice}
-use Rattle.theory_trees.specs.Lists.{All, Mem, all-map, all-get}
-use Rattle.theory_trees.specs.Nodes.{the, rooted-with}
+use Rattle.theory_lists.specs.All.{All, Mem, all-map, all-get}
+use Rattle.theory_nodes.specs.Nodes.{the, rooted-with}
 use Rattle.theory_trees.specs.Tied.{tie-all}
 use Rattle.theory_trees.specs.Move.{moved, MoveMade, Tie}
 use Rattle.theory_trees.specs.Proper.{Proper, places-level, root-fit, Moved, move-sound}
-use Rattle.theory_trees.specs.Live.{low-is, live-none, mem-live}
-use Rattle.theory_trees.specs.PathPlaces.{spot, pathPlaces, path-levels}
+use Rattle.theory_nodes.specs.Live.{low-is, live-none, mem-live}
+use Rattle.theory_nodes.specs.PathPlaces.{spot, pathPlaces, path-levels}
 use Rattle.theory_trees.specs.Swap.{Come, Swapped, root-swap}
 use Rattle.theory_trees.specs.OnPath.{OnIt, root-on}
 

@@ -13,11 +13,12 @@ use Rattle.geometry.specs.Tests.{pick}
 use Rattle.model.specs.Image.{Nodes}
 use Rattle.model.specs.Tree.{gather, under, Place, places, next, chosen}
 use Rattle.model.specs.Edit.{splice, renamed}
-use Rattle.theory_trees.specs.Tests.{by-le}
-use Rattle.theory_trees.specs.Lists.{All, Rises, Some, all-append, all-map, all-both, gather-eq, gather-all, next-le, rises-all, rises-floor}
-use Rattle.theory_trees.specs.Nodes.{Ok, next-more, places-fit, ok-same, under-same, places-same, the, Rooted}
+use Rattle.theory_counts.specs.Cases.{by-le}
+use Rattle.theory_lists.specs.All.{All, Some, all-append, all-map, all-both}
+use Rattle.theory_nodes.specs.Entries.{Rises, gather-eq, gather-all, next-le, rises-all, rises-floor}
+use Rattle.theory_nodes.specs.Nodes.{Ok, next-more, places-fit, ok-same, under-same, places-same, the, Rooted}
 use Rattle.theory_trees.specs.Edit.{Local, splice-some, edit, Made, Out, no-places, edit-list, edit-list-ok, edit-list-places}
-use Rattle.theory_trees.specs.Insert.{first-below}
+use Rattle.theory_nodes.specs.Entries.{first-below}
 
 same-local : (k : ℕ) → Local k (λ x. x)
 same-local k = record { after = λ lo xs ys h. refl; before = λ lo hi ys zs q h. refl }

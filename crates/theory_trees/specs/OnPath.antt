@@ -13,11 +13,12 @@ use Rattle.geometry.specs.Tests.{pick}
 use Rattle.model.specs.Image.{Nodes}
 use Rattle.model.specs.Tree.{gather, Place, places, next, chosen}
 use Rattle.model.specs.Edit.{splice}
-use Rattle.theory_trees.specs.Lists.{All, Rises, Mem, all-append, all-map, all-get, gather-append, gather-all, rises-all, rises-floor, Split, split}
-use Rattle.theory_trees.specs.Nodes.{Ok, the, Rooted}
+use Rattle.theory_lists.specs.All.{All, Mem, all-append, all-map, all-get}
+use Rattle.theory_nodes.specs.Entries.{Rises, gather-append, gather-all, rises-all, rises-floor, Split, split}
+use Rattle.theory_nodes.specs.Nodes.{Ok, the, Rooted}
 use Rattle.theory_trees.specs.Edit.{no-places}
 use Rattle.theory_trees.specs.Move.{Tie, off-path, below}
-use Rattle.theory_trees.specs.PathPlaces.{spot, pathPlaces, Within, in-range, path-in}
+use Rattle.theory_nodes.specs.PathPlaces.{spot, pathPlaces, Within, in-range, path-in}
 
 -- a place on page q is on the path
 abbrev pub OnIt : ℕ → List Place → Place → Type 0

@@ -9,8 +9,8 @@ use Rattle.geometry.specs.declared.Entry.{Entry}
 use Rattle.model.specs.Image.{Nodes}
 use Rattle.model.specs.Tree.{next, place, chosen}
 use Rattle.model.specs.Edit.{swap, splice, edited, onPath, put, putIn, remove, removeIn, same}
-use Rattle.theory_trees.specs.Lists.{Rises, rises-map, split, splice-cong}
-use Rattle.theory_trees.specs.Nodes.{Ok, the}
+use Rattle.theory_nodes.specs.Entries.{Rises, rises-map, split, splice-cong}
+use Rattle.theory_nodes.specs.Nodes.{Ok, the}
 use Rattle.theory_trees.specs.Edit.{edit, atRoot, Made}
 
 -- a leaf's operation is the splice of what it makes of one pair

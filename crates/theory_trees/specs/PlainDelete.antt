@@ -11,11 +11,12 @@ use Rattle.model.specs.Image.{Nodes}
 use Rattle.model.specs.Tree.{gather, under, Place, places, chosen}
 use Rattle.model.specs.Edit.{splice, remove, removeIn, Top, collapse}
 use Rattle.model.specs.Plain.{keptOn}
-use Rattle.theory_trees.specs.Lists.{All, Rises, all-append, all-map, gather-all, rises-all}
-use Rattle.theory_trees.specs.Nodes.{Ok, places-fit, places-same, the, Rooted}
+use Rattle.theory_lists.specs.All.{All, all-append, all-map}
+use Rattle.theory_nodes.specs.Entries.{Rises, gather-all, rises-all}
+use Rattle.theory_nodes.specs.Nodes.{Ok, places-fit, places-same, the, Rooted}
 use Rattle.theory_trees.specs.Edit.{atRoot, Made, made-map, no-places, page-where, edit-list-places}
 use Rattle.theory_trees.specs.Delete.{deletedOn, DeleteHeldOn, DeleteMadeOn, less-pairs, less-ok, the-top, collapse-pairs, collapse-ok}
-use Rattle.theory_trees.specs.Tied.{Tied}
+use Rattle.theory_nodes.specs.Tied.{Tied}
 use Rattle.theory_trees.specs.Proper.{Proper, with-live}
 use Rattle.theory_trees.specs.Plain.{KeptHeld, KeptMade}
 use Rattle.theory_trees.specs.PlainTied.{LiveFit, PlainWhere, plain-tied}

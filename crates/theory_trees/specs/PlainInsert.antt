@@ -15,11 +15,12 @@ use Rattle.model.specs.Image.{Nodes}
 use Rattle.model.specs.Tree.{gather, under, Place, places, next, chosen}
 use Rattle.model.specs.Edit.{splice, put, putIn}
 use Rattle.model.specs.Plain.{both, renewed}
-use Rattle.theory_trees.specs.Lists.{All, all-left, all-right, all-append, all-map, gather-append}
-use Rattle.theory_trees.specs.Nodes.{Ok, places-fit, the, Rooted}
+use Rattle.theory_lists.specs.All.{All, all-left, all-right, all-append, all-map}
+use Rattle.theory_nodes.specs.Entries.{gather-append}
+use Rattle.theory_nodes.specs.Nodes.{Ok, places-fit, the, Rooted}
 use Rattle.theory_trees.specs.Edit.{atRoot, Made, made-map, no-places, page-where, edit-list-places}
 use Rattle.theory_trees.specs.Above.{Both, AboveHeld, stay-pairs, stay-ok, grow-pairs, grow-ok}
-use Rattle.theory_trees.specs.Tied.{Tied}
+use Rattle.theory_nodes.specs.Tied.{Tied}
 use Rattle.theory_trees.specs.Proper.{Proper, with-live}
 use Rattle.theory_trees.specs.Plain.{renews, RenewHeld, RenewMade}
 use Rattle.theory_trees.specs.PlainTied.{LiveFit, PlainWhere, plain-tied}

@@ -7,8 +7,9 @@ use Prim.Native.Nat.{ℕ, zero, suc, _≤_}
 use native.Mathlib.Omega.{arith}
 use Rattle.model.specs.Image.{Nodes}
 use Rattle.model.specs.Tree.{Place}
-use Rattle.theory_trees.specs.Lists.{All, Mem, all-map}
-use Rattle.theory_trees.specs.Tied.{TiedTo, Tied, live-tied}
+use Rattle.theory_lists.specs.All.{All, Mem, all-map}
+use Rattle.theory_nodes.specs.Tied.{TiedTo, Tied}
+use Rattle.theory_trees.specs.Tied.{live-tied}
 use Rattle.theory_trees.specs.Proper.{LiveAt}
 
 -- a page that fits and is live

@@ -10,13 +10,16 @@ use Rattle.model.specs.Image.{Nodes}
 use Rattle.model.specs.Tree.{under, Place, places, next, chosen}
 use Rattle.model.specs.Edit.{splice, put, putIn, two, remove, removeIn, collapse}
 use Rattle.model.specs.Calls.{made}
-use Rattle.theory_trees.specs.Lists.{All, Rises, Mem, all-map, all-get, all-mem, gather-all, rises-all}
-use Rattle.theory_trees.specs.Nodes.{Ok, places-fit, the, Rooted, rooted-with}
+use Rattle.theory_lists.specs.All.{All, Mem, all-map, all-get, all-mem}
+use Rattle.theory_nodes.specs.Entries.{Rises, gather-all, rises-all}
+use Rattle.theory_nodes.specs.Nodes.{Ok, places-fit, the, Rooted, rooted-with}
 use Rattle.theory_trees.specs.Edit.{edit, atRoot}
-use Rattle.theory_trees.specs.Insert.{Halves, inserted, InsertMade, first-below, stay-pairs, stay-ok, grow-pairs, grow-ok}
+use Rattle.theory_trees.specs.Insert.{Halves, inserted, InsertMade, stay-pairs, stay-ok, grow-pairs, grow-ok}
+use Rattle.theory_nodes.specs.Entries.{first-below}
 use Rattle.theory_trees.specs.Delete.{deleted, DeleteMade, delete-made, less-pairs, less-ok, the-top, collapse-pairs, collapse-ok}
 use Rattle.theory_trees.specs.Move.{moved, MoveMade, move-pairs, move-ok, Tie, MoveWhere, moved-where, moved-dead}
-use Rattle.theory_trees.specs.Tied.{Tied, tie-all, Where, tied-new, live-tied}
+use Rattle.theory_nodes.specs.Tied.{Tied}
+use Rattle.theory_trees.specs.Tied.{tie-all, Where, tied-new, live-tied}
 use Rattle.theory_trees.specs.InsertPages.{stay-where, grow-where}
 use Rattle.theory_trees.specs.DeletePages.{leftLowOf, less-where, collapse-where}
 

@@ -13,9 +13,10 @@ use Rattle.geometry.specs.Tests.{pick}
 use Rattle.model.specs.Image.{Nodes}
 use Rattle.model.specs.Tree.{gather, under, next, chosen, leaf, find, findIn}
 use Rattle.model.specs.Edit.{splice}
-use Rattle.theory_trees.specs.Lists.{All, In, Rises, gather-append, gather-one, rises-append, next-le, rises-more, Split, split}
-use Rattle.theory_trees.specs.Nodes.{Ok, under-in, the, Rooted}
-use Rattle.theory_trees.specs.Edit.{rises-in, pre-in}
+use Rattle.theory_lists.specs.All.{All}
+use Rattle.theory_nodes.specs.Entries.{In, Rises, gather-append, gather-one, rises-append, next-le, rises-more, Split, split}
+use Rattle.theory_nodes.specs.Nodes.{Ok, under-in, the, Rooted}
+use Rattle.theory_nodes.specs.Entries.{rises-in, pre-in}
 
 find-after : (k lo : ℕ) (xs ys : List Entry) → All (In lo k) xs → find k (xs ++ ys) ≡ find k ys
 unfolding find

@@ -11,8 +11,8 @@ use Rattle.model.specs.Image.{Nodes}
 use Rattle.model.specs.Tree.{gather, under, chosen, find}
 use Rattle.model.specs.Edit.{splice, onPath, putIn, named, gains, splits}
 use Rattle.model.specs.Update.{isNone}
-use Rattle.theory_trees.specs.Lists.{Rises}
-use Rattle.theory_trees.specs.Nodes.{Ok}
+use Rattle.theory_nodes.specs.Entries.{Rises}
+use Rattle.theory_nodes.specs.Nodes.{Ok}
 use Rattle.theory_trees.specs.Edit.{atRoot}
 use Rattle.theory_trees.specs.Insert.{inserted, leftOf, rightOf}
 use Rattle.theory_trees.specs.Cuts as cuts

@@ -14,13 +14,14 @@ use Rattle.geometry.specs.Tests.{pick}
 use Rattle.model.specs.Image.{Nodes}
 use Rattle.model.specs.Tree.{gather, Place, places, next, chosen}
 use Rattle.model.specs.Edit.{splice}
-use Rattle.theory_trees.specs.Lists.{All, Rises, Mem, all-append, all-map, all-both, all-get, all-mem}
-use Rattle.theory_trees.specs.Lists.{gather-append, gather-eq, gather-all, rises-all, Split, split}
-use Rattle.theory_trees.specs.Nodes.{Ok, places-same, the, Rooted}
+use Rattle.theory_lists.specs.All.{All, Mem, all-append, all-map, all-both, all-get, all-mem}
+use Rattle.theory_nodes.specs.Entries.{Rises}
+use Rattle.theory_nodes.specs.Entries.{gather-append, gather-eq, gather-all, rises-all, Split, split}
+use Rattle.theory_nodes.specs.Nodes.{Ok, places-same, the, Rooted}
 use Rattle.theory_trees.specs.Edit.{edit, Made, no-places}
 use Rattle.theory_trees.specs.Move.{moved, MoveMade}
 use Rattle.theory_trees.specs.Proper.{all-any, places-level}
-use Rattle.theory_trees.specs.PathPlaces.{spot, pathPlaces, mem-left, mem-right, mem-middle, Within, in-range, in-list, path-in}
+use Rattle.theory_nodes.specs.PathPlaces.{spot, pathPlaces, mem-left, mem-right, mem-middle, Within, in-range, in-list, path-in}
 
 -- a new place is on page n at level a or above, or is old and off the path
 abbrev pub Come : ℕ → ℕ → List Place → List Place → Place → Type 0

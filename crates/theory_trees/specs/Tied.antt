@@ -1,4 +1,4 @@
--- R6, in its short form: of two live nodes on one page the upper one names the page. Assumes nothing.
+-- R6 in its short form, kept by what an update changes. Assumes nothing.
 use mathlib.Core.Path.{_≡_, sym, subst, _∙_}
 use mathlib.Core.List.{List}
 use mathlib.Core.Logic.{_⊎_, inl, inr}
@@ -6,16 +6,9 @@ use Prim.Native.Nat.{ℕ, zero, suc, _<_, _≤_}
 use native.Mathlib.Omega.{arith}
 use Rattle.model.specs.Image.{Nodes}
 use Rattle.model.specs.Tree.{Place}
-use Rattle.theory_trees.specs.Lists.{All, Some, Mem, all-map, all-both, all-get}
-use Rattle.theory_trees.specs.Nodes.{node-same}
+use Rattle.theory_lists.specs.All.{All, Some, Mem, all-map, all-both, all-get}
+use Rattle.theory_nodes.specs.Nodes.{node-same}
 use Rattle.theory_trees.specs.Move.{Tie}
-
--- R6: of two live nodes x and y on one page the upper one, x, has an entry that names the page
-abbrev pub TiedTo : Nodes → Place → Place → Type 0
-TiedTo r x y = x .page ≡ y .page → y .level < x .level → Some (λ e. e .addr ≡ x .page) (r (x .page) (x .level))
-
-abbrev pub Tied : Nodes → List Place → Type 0
-Tied r spots = All (λ x. All (TiedTo r x) spots) spots
 
 tie-at : (r : Nodes) (p a j q : ℕ) → (q ≡ p → a ≤ j) → (q ≡ p → a < j → Some (λ e. e .addr ≡ p) (r p j)) → Tie r p a j q
 tie-at r p a zero q f g = tt

@@ -23,7 +23,7 @@ use Rattle.model.specs.Stores.{program, applyStore}
 use Rattle.model.specs.Edit.{onPath, renamed, same}
 use Rattle.model.specs.Collect.{movePart, moveStore}
 use Rattle.theory_counts.specs.Least.{least-none}
-use Rattle.theory_trees.specs.Tests.{by-eq, by-le, by-test, true-false}
+use Rattle.theory_counts.specs.Cases.{by-eq, by-le, by-test, true-false}
 use Rattle.theory_chips.specs.Count.{count-gone}
 use Rattle.theory_chips.specs.Next.{R2, in-range, next-found, next-in, elsewhere, r2-next}
 use Rattle.theory_chips.specs.Coming.{next-within, next-beyond}

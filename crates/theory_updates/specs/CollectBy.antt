@@ -23,7 +23,7 @@ use Rattle.model.specs.Next.{full}
 use Rattle.model.specs.Stores.{Store, erase, applyStore, applyAll}
 use Rattle.model.specs.Collect.{livesIn, theVictim, moveStore, sweepStores, clearStores, collectStores}
 use Rattle.chip_store.specs.Runs.{all-append}
-use Rattle.theory_trees.specs.Tests.{by-eq}
+use Rattle.theory_counts.specs.Cases.{by-eq}
 use Rattle.theory_chips.specs.Next.{in-range}
 use Rattle.theory_chips.specs.Blocks.{victim-alike}
 use Rattle.theory_chips.specs.Whole.{some-page}

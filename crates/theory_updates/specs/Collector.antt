@@ -21,7 +21,7 @@ use Rattle.model.specs.Tree.{mapOf, Place, placesOf, live}
 use Rattle.model.specs.Next.{full, ahead, nextPage}
 use Rattle.model.specs.Stores.{Store, erase, applyStore, applyAll, programs, erases}
 use Rattle.model.specs.Collect.{livesIn, theVictim, moveStore, sweepStores, clearStores, collectStores}
-use Rattle.theory_trees.specs.Tests.{by-eq}
+use Rattle.theory_counts.specs.Cases.{by-eq}
 use Rattle.theory_chips.specs.Whole.{some-page, Same}
 use Rattle.theory_chips.specs.Moves.{moveTo}
 use Rattle.theory_chips.specs.Sweep.{sweep, Sweeping, moved-on, emptied}

@@ -19,9 +19,9 @@ use Rattle.model.specs.Page.{only}
 use Rattle.model.specs.Edit.{put, putIn, turn, pathHalf, sideHalf, two, named, pathPart, splits}
 use Rattle.model.specs.Update.{isNone, rootNode, fills, needs, tooHigh, insertList, crownPart, insertPart, crownHeight, sidePage}
 use Rattle.theory_counts.specs.Tally.{bit-most}
-use Rattle.theory_trees.specs.Tests.{by-le, by-test}
-use Rattle.theory_trees.specs.Lists.{All}
-use Rattle.theory_trees.specs.Nodes.{fitOf}
+use Rattle.theory_counts.specs.Cases.{by-le, by-test}
+use Rattle.theory_lists.specs.All.{All}
+use Rattle.theory_nodes.specs.Nodes.{fitOf}
 use Rattle.theory_trees.specs.Lengths.{splice-all, splice-most, all-take, all-drop, path-all, path-most}
 use Rattle.theory_chips.specs.Whole.{Whole}
 use Rattle.theory_chips.specs.Pages.{side-most}

@@ -20,9 +20,9 @@ use Rattle.model.specs.Next.{ahead, nextPage, after, taken}
 use Rattle.model.specs.Stores.{applyAll}
 use Rattle.model.specs.Edit.{remove, removeIn, kept, Top, collapse}
 use Rattle.model.specs.Update.{isNone, sidePage, deleteList, deleteTop, deletePart, deleteStore}
-use Rattle.theory_trees.specs.Tests.{by-eq}
-use Rattle.theory_trees.specs.Lists.{All}
-use Rattle.theory_trees.specs.Nodes.{fitOf}
+use Rattle.theory_counts.specs.Cases.{by-eq}
+use Rattle.theory_lists.specs.All.{All}
+use Rattle.theory_nodes.specs.Nodes.{fitOf}
 use Rattle.theory_trees.specs.Lengths.{splice-all, splice-most, path-all, path-most}
 use Rattle.theory_chips.specs.Whole.{some-page, Whole}
 use Rattle.theory_chips.specs.Collect.{R8}

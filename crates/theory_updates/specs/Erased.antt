@@ -19,7 +19,7 @@ use Rattle.model.specs.Image.{pagesOf, seqOf, heightOf, maxSeq, rootOf, Chip, c
 use Rattle.model.specs.Tree.{placesOf, live}
 use Rattle.model.specs.Next.{ahead, nextPage}
 use Rattle.model.specs.Stores.{erase, applyStore}
-use Rattle.theory_trees.specs.Tests.{by-eq, by-test, true-false}
+use Rattle.theory_counts.specs.Cases.{by-eq, by-test, true-false}
 use Rattle.theory_chips.specs.Whole.{some-page}
 use Rattle.theory_chips.specs.Sweep.{Sweeping}
 use Rattle.theory_chips.specs.Erase.{inB, own, other, eraseBlock, erased-good, erased-frees}

@@ -24,9 +24,9 @@ use Rattle.model.specs.Stores.{program, erase, applyStore, applyAll}
 use Rattle.model.specs.Update.{rootNode, erasures, formatStores}
 use Rattle.theory_counts.specs.Tally.{bit-most, count-same}
 use Rattle.chip_store.specs.Runs.{all-append}
-use Rattle.theory_trees.specs.Tests.{by-eq, by-le, true-false}
-use Rattle.theory_trees.specs.Nodes.{fitOf}
-use Rattle.theory_trees.specs.Tied.{Tied}
+use Rattle.theory_counts.specs.Cases.{by-eq, by-le, true-false}
+use Rattle.theory_nodes.specs.Nodes.{fitOf}
+use Rattle.theory_nodes.specs.Tied.{Tied}
 use Rattle.theory_trees.specs.Proper.{Proper}
 use Rattle.theory_chips.specs.Count.{count-all, count-gone}
 use Rattle.theory_chips.specs.Next.{block-in, page-inj, in-range, R2}

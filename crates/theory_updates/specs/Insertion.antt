@@ -23,9 +23,9 @@ use Rattle.model.specs.Edit.{put, sideHalf, splits}
 use Rattle.model.specs.Update.{isNone, rootNode, fills, needs, tooHigh, insertList, sideStore, splitStore, sideStores, crownStore, crownHeight, sidePage, ownStores}
 use Rattle.theory_counts.specs.Tally.{bit-most}
 use Rattle.chip_store.specs.Runs.{all-append, programs-append}
-use Rattle.theory_trees.specs.Tests.{by-eq, by-le, by-test}
-use Rattle.theory_trees.specs.Lists.{All}
-use Rattle.theory_trees.specs.Nodes.{fitOf}
+use Rattle.theory_counts.specs.Cases.{by-eq, by-le, by-test}
+use Rattle.theory_lists.specs.All.{All}
+use Rattle.theory_nodes.specs.Nodes.{fitOf}
 use Rattle.theory_chips.specs.Next.{R2, step}
 use Rattle.theory_chips.specs.Whole.{some-page, Whole}
 use Rattle.theory_chips.specs.Collect.{R8}

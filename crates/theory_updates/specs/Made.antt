@@ -15,7 +15,7 @@ use Rattle.model.specs.Stores.{Store, program, erase, applyStore, applyAll}
 use Rattle.model.specs.Legal.{Legal}
 use Rattle.chip_store.specs.Careful.{madeOf, Cautious}
 use Rattle.chip_store.specs.Cautious.{cautious-careful}
-use Rattle.theory_trees.specs.Tests.{by-le}
+use Rattle.theory_counts.specs.Cases.{by-le}
 use Rattle.theory_images.specs.Held.{Held}
 use Rattle.theory_updates.specs.Along.{Along, along-take, Keeps}
 use Rattle.theory_updates.specs.Updated.{Updated}

@@ -19,8 +19,8 @@ use Rattle.model.specs.Next.{ahead, nextPage, after}
 use Rattle.model.specs.Stores.{Store, applyStore}
 use Rattle.model.specs.Edit.{onPath, renamed, same}
 use Rattle.model.specs.Collect.{moveKey, movePart, moveStore}
-use Rattle.theory_trees.specs.Lists.{All}
-use Rattle.theory_trees.specs.Nodes.{fitOf}
+use Rattle.theory_lists.specs.All.{All}
+use Rattle.theory_nodes.specs.Nodes.{fitOf}
 use Rattle.theory_trees.specs.Lengths.{path-all, path-top, path-most, path-none}
 use Rattle.theory_chips.specs.Next.{next-in}
 use Rattle.theory_chips.specs.Whole.{some-page, Whole}

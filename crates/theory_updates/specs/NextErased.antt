@@ -11,7 +11,7 @@ use Rattle.geometry.specs.Tests.{pick}
 use Rattle.model.specs.Count.{count, least}
 use Rattle.model.specs.Next.{mixed, firstIn, Ahead, round, nextBlock, nextPage}
 use Rattle.theory_counts.specs.Least.{least-is, least-of, least-none, least-same}
-use Rattle.theory_trees.specs.Tests.{by-eq, by-le, by-test, true-false}
+use Rattle.theory_counts.specs.Cases.{by-eq, by-le, by-test, true-false}
 use Rattle.theory_chips.specs.Next.{R2, in-range, next-found, next-in, mixed-next}
 use Rattle.live_beside.specs.Collect.{nextErased}
 use Rattle.theory_updates.specs.Beside.{next-past}

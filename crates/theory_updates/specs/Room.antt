@@ -15,10 +15,10 @@ use Rattle.model.specs.Image.{pagesOf, Chip}
 use Rattle.model.specs.Tree.{placesOf, live}
 use Rattle.model.specs.Calls.{roomless, freePages}
 use Rattle.theory_counts.specs.Tally.{bit-most}
-use Rattle.theory_trees.specs.Tests.{by-le, by-test, true-false}
-use Rattle.theory_trees.specs.Lists.{all-map}
-use Rattle.theory_trees.specs.Nodes.{fitOf, fit-page}
-use Rattle.theory_trees.specs.Live.{dead-live}
+use Rattle.theory_counts.specs.Cases.{by-le, by-test, true-false}
+use Rattle.theory_lists.specs.All.{all-map}
+use Rattle.theory_nodes.specs.Nodes.{fitOf, fit-page}
+use Rattle.theory_nodes.specs.Live.{dead-live}
 use Rattle.theory_trees.specs.Proper.{root-fit}
 use Rattle.theory_chips.specs.Whole.{Whole}
 use Rattle.theory_chips.specs.Collect.{R8}

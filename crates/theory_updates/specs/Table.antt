@@ -9,8 +9,8 @@ use Rattle.geometry.specs.declared.Geometry.{Geometry}
 use Rattle.geometry.specs.declared.Entry.{Entry}
 use Rattle.geometry.specs.Geometry.{slots, firstSlot, slotsOf, rootSlots, rootMost, inTable}
 use Rattle.geometry.specs.Shape.{Shape, most-slots}
-use Rattle.theory_trees.specs.Tests.{by-eq, by-le, true-false}
-use Rattle.theory_trees.specs.Lists.{All}
+use Rattle.theory_counts.specs.Cases.{by-eq, by-le, true-false}
+use Rattle.theory_lists.specs.All.{All}
 use Rattle.theory_images.specs.Bytes.{Fits}
 use Rattle.theory_images.specs.Page.{in-table, Parts, parts-table}
 

@@ -16,7 +16,7 @@ use Rattle.model.specs.Tree.{placesOf, live, lowLevel}
 use Rattle.model.specs.Next.{ahead, nextPage}
 use Rattle.model.specs.Stores.{applyStore}
 use Rattle.model.specs.Collect.{moveKey, moveStore}
-use Rattle.theory_trees.specs.Tests.{by-eq}
+use Rattle.theory_counts.specs.Cases.{by-eq}
 use Rattle.theory_trees.specs.Lows.{Lowered}
 use Rattle.theory_chips.specs.Next.{next-in}
 use Rattle.theory_chips.specs.Whole.{some-page}

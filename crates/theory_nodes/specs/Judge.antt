@@ -20,11 +20,12 @@ use Rattle.model.specs.Image.{Nodes, Chip}
 use Rattle.model.specs.Tree.{Place, placesOf, lowLevel, next}
 use Rattle.model.specs.Rules.{unless, first, names, rising, own, ownRoot, judgeEntries, judgeNode, r5, namesPage, loose, lowestPage, r6}
 use Rattle.theory_counts.specs.Lowest.{bad-good, unless-true, good-unless}
-use Rattle.theory_trees.specs.Tests.{true-false, and-pick}
-use Rattle.theory_trees.specs.Lists.{All, Rises, Some, Mem, all-map, all-both, all-get, all-mem, next-le, rises-map}
-use Rattle.theory_trees.specs.Nodes.{Ok, ok-fit, Rooted, fitOf}
-use Rattle.theory_trees.specs.Tied.{TiedTo, Tied}
-use Rattle.theory_trees.specs.Live.{mem-live, low-is}
+use Rattle.theory_counts.specs.Cases.{true-false, and-pick}
+use Rattle.theory_lists.specs.All.{All, Some, Mem, all-map, all-both, all-get, all-mem}
+use Rattle.theory_nodes.specs.Entries.{Rises, next-le, rises-map}
+use Rattle.theory_nodes.specs.Nodes.{Ok, ok-fit, Rooted, fitOf}
+use Rattle.theory_nodes.specs.Tied.{TiedTo, Tied}
+use Rattle.theory_nodes.specs.Live.{mem-live, low-is}
 
 -- ---- findings
 pub unless-both : (t : Bool) (p : ℕ) (v : Finding) → t ≡ true → v ≡ Good → unless t p v ≡ Good

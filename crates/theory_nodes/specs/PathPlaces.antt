@@ -13,9 +13,10 @@ use Rattle.geometry.specs.Tests.{pick}
 use Rattle.model.specs.Image.{Nodes}
 use Rattle.model.specs.Tree.{gather, Place, places, next, chosen}
 use Rattle.model.specs.Edit.{splice}
-use Rattle.theory_trees.specs.Lists.{All, Rises, Mem, all-map, some-left, some-right, gather-append, gather-all, rises-all, rises-floor, Split, split}
-use Rattle.theory_trees.specs.Nodes.{Ok, next-more}
-use Rattle.theory_trees.specs.Insert.{first-below}
+use Rattle.theory_lists.specs.All.{All, Mem, all-map, some-left, some-right}
+use Rattle.theory_nodes.specs.Entries.{Rises, gather-append, gather-all, rises-all, rises-floor, Split, split}
+use Rattle.theory_nodes.specs.Nodes.{Ok, next-more}
+use Rattle.theory_nodes.specs.Entries.{first-below}
 
 abbrev pub spot : ℕ → ℕ → Place
 spot page level = record { page = page; level = level }

@@ -15,9 +15,10 @@ use Rattle.model.specs.Image.{Nodes}
 use Rattle.model.specs.Tree.{gather, under, next, entryOf, place}
 use Rattle.model.specs.Halving.{place-is}
 use Rattle.model.specs.Listing.{between, upTo, reached, ranged}
-use Rattle.theory_trees.specs.Lists.{All, In, Rises, gather-append, rises-left, rises-right, rises-all, some-before}
-use Rattle.theory_trees.specs.Nodes.{Ok, under-in, the}
-use Rattle.theory_trees.specs.Edit.{rises-in, pre-in}
+use Rattle.theory_lists.specs.All.{All}
+use Rattle.theory_nodes.specs.Entries.{In, Rises, gather-append, rises-left, rises-right, rises-all, some-before}
+use Rattle.theory_nodes.specs.Nodes.{Ok, under-in, the}
+use Rattle.theory_nodes.specs.Entries.{rises-in, pre-in}
 
 -- ---- the part between
 pub between-append : (low high : ℕ) (xs ys : List Entry) → between low high (xs ++ ys) ≡ between low high

@@ -1,7 +1,6 @@
 -- Lists of entries: joined lists, keys that rise, and where descent stands in such a list. Assumes nothing.
 use mathlib.Core.Path.{_≡_, refl, ap, sym, subst, _∙_}
 use mathlib.Core.List.{List, [], _∷_, _++_, append-assoc}
-use mathlib.Core.Logic.{_⊎_, inl, inr}
 use Prim.Native.Nat.{ℕ, zero, suc, _<_, _≤_}
 use native.Mathlib.Omega.{arith}
 use lib.ListN.{length, take, drop}
@@ -10,10 +9,7 @@ use Rattle.geometry.specs.declared.Entry.{Entry}
 use Rattle.model.specs.Tree.{gather, next, entryOf, place, chosen}
 use Rattle.model.specs.Edit.{splice}
 use Rattle.model.specs.Halving.{place-is, swap-cut}
-
-abbrev pub All : {A : Type 0} → (A → Type 0) → List A → Type 0
-All P [] = Unit {0}
-All P (x ∷ xs) = P x × All P xs
+use Rattle.theory_lists.specs.All.{All, all-left, all-right, all-append, all-map}
 
 abbrev pub In : ℕ → ℕ → Entry → Type 0
 In lo hi e = (lo ≤ e .key) × (e .key < hi)
@@ -23,52 +19,7 @@ abbrev pub Rises : (ℕ → Entry → Type 0) → ℕ → List Entry → Type 0
 Rises P hi [] = Unit {0}
 Rises P hi (e ∷ es) = (e .key < next es hi) × P (next es hi) e × Rises P hi es
 
-abbrev pub Some : {A : Type 0} → (A → Type 0) → List A → Type 0
-Some P [] = ⊥
-Some P (x ∷ xs) = P x ⊎ Some P xs
-
-abbrev pub Mem : {A : Type 0} → A → List A → Type 0
-Mem x xs = Some (λ z. z ≡ x) xs
-
 -- ---- lists
-
-pub all-left : {A : Type 0} (P : A → Type 0) (xs ys : List A) → All P (xs ++ ys) → All P xs
-all-left P [] ys h = tt
-all-left P (x ∷ xs) ys h = (h .0, all-left P xs ys (h .1))
-
-pub all-right : {A : Type 0} (P : A → Type 0) (xs ys : List A) → All P (xs ++ ys) → All P ys
-all-right P [] ys h = h
-all-right P (x ∷ xs) ys h = all-right P xs ys (h .1)
-
-pub all-append : {A : Type 0} (P : A → Type 0) (xs ys : List A) → All P xs → All P ys → All P (xs ++ ys)
-all-append P [] ys h i = i
-all-append P (x ∷ xs) ys h i = (h .0, all-append P xs ys (h .1) i)
-
-pub all-map : {A : Type 0} (P Q : A → Type 0) (xs : List A) → ((x : A) → P x → Q x) → All P xs → All Q xs
-all-map P Q [] s h = tt
-all-map P Q (x ∷ xs) s h = (s x (h .0), all-map P Q xs s (h .1))
-
-pub all-both : {A : Type 0} (P Q : A → Type 0) (xs : List A) → All P xs → All Q xs → All (λ x. P x × Q x) xs
-all-both P Q [] h i = tt
-all-both P Q (x ∷ xs) h i = ((h .0, i .0), all-both P Q xs (h .1) (i .1))
-
-pub all-get : {A : Type 0} (P : A → Type 0) (x : A) (xs : List A) → All P xs → Mem x xs → P x
-all-get P x [] h m = absurd m
-all-get P x (z ∷ xs) h (inl e) = subst P e (h .0)
-all-get P x (z ∷ xs) h (inr m) = all-get P x xs (h .1) m
-
-pub all-mem : {A : Type 0} (xs : List A) → All (λ x. Mem x xs) xs
-all-mem [] = tt
-all-mem (x ∷ xs) = (inl refl, all-map (λ y. Mem y xs) (λ y. Mem y (x ∷ xs)) xs (λ y m. inr m) (all-mem xs))
-
-pub some-left : {A : Type 0} (P : A → Type 0) (xs ys : List A) → Some P xs → Some P (xs ++ ys)
-some-left P [] ys h = absurd h
-some-left P (x ∷ xs) ys (inl h) = inl h
-some-left P (x ∷ xs) ys (inr h) = inr (some-left P xs ys h)
-
-pub some-right : {A : Type 0} (P : A → Type 0) (xs ys : List A) → Some P ys → Some P (xs ++ ys)
-some-right P [] ys h = h
-some-right P (x ∷ xs) ys h = inr (some-right P xs ys h)
 
 pub gather-append : {A : Type 0} (d : Entry → List A) (xs ys : List Entry)
     → gather d (xs ++ ys) ≡ gather d xs ++ gather d ys
@@ -220,3 +171,22 @@ splice-cong P f g k hi es n q h e = go (split P k hi es n q h)
   where
     go : Split P k hi es (chosen k es) (λ f. splice f k es) → splice f k es ≡ splice g k es
     go s = s .spliced f ∙ ap (λ m. s .pre ++ (m ++ s .post)) e ∙ sym (s .spliced g)
+
+pub first-below : (P : ℕ → Entry → Type 0) (y : ℕ) (es : List Entry) → 1 ≤ length es → Rises P y es → next es 0 < y
+first-below P y [] n h = absurd (omega arith)
+first-below P y (e ∷ es) n h = omega (arith, next-le P y es (h .2))
+
+-- what is joined keeps the bounds of its parts
+module _ (k : ℕ) (P : ℕ → Entry → Type 0) (d : Entry → List Entry)
+    (range : (y : ℕ) (x : Entry) → x .key < y → P y x → All (In (x .key) y) (d x)) where
+  -- from lo on
+  pub rises-in : (lo hi : ℕ) (es : List Entry) → lo ≤ next es hi → Rises P hi es → All (In lo hi) (gather d es)
+  rises-in lo hi es q h = gather-in d lo hi es q (rises-map P (λ y x. All (In (x .key) y) (d x)) hi es (λ y x q _ i. range y x q i) h)
+
+  -- below k, of the entries before the chosen one
+  pub pre-in : (z : ℕ) (pre : List Entry) → ((0 < length pre) → z ≤ k) → Rises P z pre → All (In 0 k) (gather d pre)
+  unfolding gather
+  pre-in z [] u h = tt
+  pre-in z (e ∷ pre) u h = let b = u (omega arith) in
+      all-map (In 0 z) (In 0 k) (gather d (e ∷ pre)) (λ x i. omega (arith, i, b))
+      (rises-in 0 z (e ∷ pre) (omega arith) h)

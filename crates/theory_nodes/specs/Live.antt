@@ -9,8 +9,8 @@ use lib.Dec.{eqb, leb}
 use borrow.Author.Tests.{eq-eqb, ne-eqb, leb-true, leb-false, eqb-true, eqb-false}
 use Rattle.geometry.specs.Tests.{pick, bit}
 use Rattle.model.specs.Tree.{Place, live, lowLevel}
-use Rattle.theory_trees.specs.Tests.{true-false}
-use Rattle.theory_trees.specs.Lists.{All, Mem, all-map}
+use Rattle.theory_counts.specs.Cases.{true-false}
+use Rattle.theory_lists.specs.All.{All, Mem, all-map}
 
 pub mem-live : (x : Place) (spots : List Place) → Mem x spots → live spots (x .page) ≡ true
 unfolding live

@@ -9,7 +9,8 @@ use lib.ListN.{length}
 use Rattle.geometry.specs.declared.Entry.{Entry}
 use Rattle.model.specs.Image.{Nodes}
 use Rattle.model.specs.Tree.{under, places, next}
-use Rattle.theory_trees.specs.Lists.{All, In, Rises, gather-eq, gather-all, all-gather, rises-map, rises-all, rises-both, rises-more, gather-in}
+use Rattle.theory_lists.specs.All.{All}
+use Rattle.theory_nodes.specs.Entries.{In, Rises, gather-eq, gather-all, all-gather, rises-map, rises-all, rises-both, rises-more, gather-in}
 
 -- R5 below the root: fit says which addresses may stand (level 0: the caller's; above: pages below T, programmed)
 unfoldable pub Ok : (ℕ → ℕ → Type 0) → (ℕ → ℕ) → Nodes → ℕ → ℕ → Entry → Type 0
