@@ -16,7 +16,7 @@ use Rattle.model.specs.Tree.{gather, under, next, chosen}
 use Rattle.model.specs.Edit.{splice, put, putIn}
 use Rattle.model.specs.Plain.{both}
 use Rattle.theory_lists.specs.All.{All}
-use Rattle.theory_nodes.specs.Entries.{In, Rises, gather-append, gather-one, next-append, rises-left, rises-right}
+use Rattle.theory_nodes.specs.Entries.{In, Rises, gather-append, gather-one, next-append, rises-left, rises-right, first-below}
 use Rattle.theory_nodes.specs.Nodes.{Ok, next-more, the, Rooted}
 use Rattle.theory_trees.specs.Edit.{Local, splice-op, edit, atRoot, Made, Out, Changed, edit-list, edit-list-ok}
 

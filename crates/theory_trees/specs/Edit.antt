@@ -10,7 +10,7 @@ use Rattle.model.specs.Image.{Nodes}
 use Rattle.model.specs.Tree.{gather, under, Place, places, next, chosen}
 use Rattle.model.specs.Edit.{splice}
 use Rattle.theory_lists.specs.All.{All, Some, all-append, some-left, some-right}
-use Rattle.theory_nodes.specs.Entries.{In, Rises, gather-append, gather-eq, gather-one, gather-all, all-gather, next-append, rises-append, rises-map, rises-all, rises-more, Split, split}
+use Rattle.theory_nodes.specs.Entries.{In, Rises, gather-append, gather-eq, gather-one, gather-all, all-gather, next-append, rises-append, rises-map, rises-all, rises-more, Split, split, rises-in, pre-in}
 use Rattle.theory_nodes.specs.Nodes.{Ok, ok-more, under-in, ok-same, under-same, places-same}
 
 -- an operation on sorted lists that works at k only
