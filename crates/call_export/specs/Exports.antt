@@ -21,7 +21,7 @@ use Rattle.model.specs.Calls.{Outcome, gives, byVerdict, judged}
 use Rattle.call_answers.specs.declared.Answer.the-variants.{Length, Damaged}
 use Rattle.call_answers.specs.declared.Row.{Row}
 use Rattle.call_answers.specs.Answers.{plain, rowOf, toldBy}
-use Rattle.chip_read.specs.Chip.{entryAt, goodBlocks, chipWith, named}
+use Rattle.chip_read.specs.Chip.{entryAt, goodBlocks, chipWith, naming}
 use Rattle.chip_read.specs.Node.{node-read, entries-turn, entries-past}
 use Rattle.chip_read.specs.Blocks.{none-good, some-good, some-blocks}
 use Rattle.chip_survey.specs.Pass.{chip-is}
@@ -206,14 +206,14 @@ module _ (g : Geometry) (img : List ℕ) (l p : ℕ) where
   abbrev all : List Entry
   all = mapOf (chipWith g img l p)
 
-  tree-is : under (nodeAt g img) (l + 1) (named p) ≡ all
-  tree-is = ap (λ (m : ℕ). under (nodeAt g img) m (named p)) (add-one l)
+  tree-is : under (nodeAt g img) (l + 1) (naming p) ≡ all
+  tree-is = ap (λ (m : ℕ). under (nodeAt g img) m (naming p)) (add-one l)
 
-  pub tree-few : length all < fourBytes → 0 + length (under (nodeAt g img) (l + 1) (named p)) < fourBytes
+  pub tree-few : length all < fourBytes → 0 + length (under (nodeAt g img) (l + 1) (naming p)) < fourBytes
   tree-few h = let q = ap length tree-is in omega (arith, q, h)
 
   -- what the first walk counts
-  module _ (m : Written) (em : m ≡ after (record { records = 0; at = 0 }) (under (nodeAt g img) (l + 1) (named p)))
+  module _ (m : Written) (em : m ≡ after (record { records = 0; at = 0 }) (under (nodeAt g img) (l + 1) (naming p)))
     where
       count-is : m .records ≡ length all
       count-is = ap (λ (w : Written). w .records) em ∙ zero-add _ ∙ ap length tree-is
@@ -236,7 +236,7 @@ module _ (g : Geometry) (img : List ℕ) (l p : ℕ) where
             ∙ sym (rw (lt-leb (length (textOf all)) (length b) (omega (arith, q, h))) refl)
 
         pub tree-whole : (b d : List ℕ) (r : Row) → m .at ≤ length b
-            → d ≡ sets b 0 (textOf (under (nodeAt g img) (l + 1) (named p))) → r ≡ plain 0 n s s
+            → d ≡ sets b 0 (textOf (under (nodeAt g img) (l + 1) (naming p))) → r ≡ plain 0 n s s
             → toldBy r d ≡ exports all b
         unfolding exports
         tree-whole b d r h ed e =

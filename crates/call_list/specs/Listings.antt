@@ -24,7 +24,7 @@ use Rattle.model.specs.Calls.{Outcome, byVerdict, judged}
 use Rattle.model.specs.Listing.{upTo, reached, ranged, rangedOf, writtenOf, lists, listing, asOutcome}
 use Rattle.call_answers.specs.declared.Answer.the-variants.{Done, Length, Damaged}
 use Rattle.call_answers.specs.Answers.{told}
-use Rattle.chip_read.specs.Chip.{entryAt, goodBlocks, chipWith, named}
+use Rattle.chip_read.specs.Chip.{entryAt, goodBlocks, chipWith, naming}
 use Rattle.chip_read.specs.Node.{node-read, entries-step, entries-turn, entries-past}
 use Rattle.chip_read.specs.Blocks.{none-good, some-good, some-blocks}
 use Rattle.live_walk.specs.Stops.{take-append}
@@ -199,11 +199,11 @@ take-most : {A : Type 0} (n : ℕ) (es : List A) → length (take n es) ≤ n
 take-most n es = rw (length-take n es) (omega arith)
 
 module _ (g : Geometry) (img : List ℕ) (l p low high x : ℕ) (b d : List ℕ)
-    (y : Lists g img low high (l + 1) (named p) 0 x b d) where
+    (y : Lists g img low high (l + 1) (naming p) 0 x b d) where
   whole : List Entry
   whole = take pairsMost (rangedOf (chipWith g img l p) low high)
 
-  tree-is : within 0 (ranged (nodeAt g img) low high (l + 1) (named p)) ≡ whole
+  tree-is : within 0 (ranged (nodeAt g img) low high (l + 1) (naming p)) ≡ whole
   unfolding within whole
   tree-is = rw (add-one l) refl
 

@@ -12,8 +12,8 @@ unfoldable pub entryAt : List ℕ → ℕ → Entry
 entryAt img at = record { key = u32At img at; addr = u32At img (at + 4) }
 
 -- an entry that names page p
-abbrev pub named : ℕ → Entry
-named p = record { key = 0; addr = p }
+abbrev pub naming : ℕ → Entry
+naming p = record { key = 0; addr = p }
 
 -- the blocks of an image of good length, else 0
 unfoldable pub goodBlocks : Geometry → List ℕ → ℕ

@@ -7,8 +7,8 @@ use lib.ListN.{length}
 use Rattle.geometry.specs.declared.Geometry.{Geometry}
 use Rattle.model.specs.Bytes.{erased, nodeAt}
 use Rattle.model.specs.Stores.{erase}
-use Rattle.model.specs.Tree.{next}
-use Rattle.chip_read.specs.Chip.{named}
+use Rattle.model.specs.Tree.{following}
+use Rattle.chip_read.specs.Chip.{naming}
 use Rattle.live_words.specs.Words.{wordsOf, Past}
 use Rattle.live_beside.specs.Table.{Table, tableIn, tableMoved}
 use Rattle.open_record.specs.declared.Opened.{Opened}
@@ -60,17 +60,17 @@ pub record Wipes (g : Geometry) (n v : ℕ) (h : Opened) (k : Kept) (b : Budget)
 -- the tables of an image of n blocks once page q, whose lowest live level is low, is moved by its key; img the image
 -- before
 pub record Remarks (g : Geometry) (n l q low key : ℕ) (h : Kept) (img tbl tbl′ ws ws′ : List ℕ) : Type 0 where
-  pub first : key ≡ next (nodeAt g img q low) 0
-  pub table : tableIn tbl′ ws′ ≡ tableMoved (wordsOf g n) (nodeAt g img) key low l (named (h .root)) (h .next)
+  pub first : key ≡ following (nodeAt g img q low) 0
+  pub table : tableIn tbl′ ws′ ≡ tableMoved (wordsOf g n) (nodeAt g img) key low l (naming (h .root)) (h .next)
       (tableIn tbl ws)
   pub long : length tbl′ ≡ length tbl
   pub past : Past (wordsOf g n) ws ws′
 
--- what is kept once the page kept as the next one is programmed; then is the image after
+-- what is kept once the page kept as the following one is programmed; then is the image after
 pub record Onward (g : Geometry) (n : ℕ) (then : List ℕ) (h k : Kept) : Type 0 where
   pub root : k .root ≡ h .next
   pub most : k .most ≡ suc (h .most)
-  pub next : k .next ≡ nextAfter (g .pages) n (erased g then) (h .next)
+  pub following : k .next ≡ nextAfter (g .pages) n (erased g then) (h .next)
 
 -- a collection from the record h
 abbrev pub Collects : Geometry → ℕ → ℕ → ℕ → Budget → Swept → Opened → List ℕ → List ℕ → List ℕ → List ℕ → List ℕ

@@ -17,8 +17,8 @@ use Rattle.geometry.specs.Bounds.{fourBytes}
 use Rattle.model.specs.Bytes.{erased, nodeAt}
 use Rattle.model.specs.Image.{pagesOf}
 use Rattle.model.specs.Stores.{erase, applyStore}
-use Rattle.model.specs.Tree.{next}
-use Rattle.chip_read.specs.Chip.{named}
+use Rattle.model.specs.Tree.{following}
+use Rattle.chip_read.specs.Chip.{naming}
 use Rattle.live_words.specs.Words.{wordsOf, Past}
 use Rattle.live_words.specs.Filled.{past-none, past-then}
 use Rattle.live_beside.specs.Table.{Table, tableIn, tableMoved}
@@ -83,8 +83,8 @@ pub onward : (g : Geometry) (n x : ℕ) (then : List ℕ) (h : Kept) → x ≡ n
 onward g n x then h e = record { root = refl; most = add-one (h .most); next = e }
 
 pub remarks : (g : Geometry) (n l q low key m : ℕ) (h : Kept) (i tbl u ws v : List ℕ)
-    → tableIn u v ≡ tableMoved m (nodeAt g i) key low l (named (h .root)) (h .next) (tableIn tbl ws) → m ≡ wordsOf g n
-    → key ≡ next (nodeAt g i q low) 0
+    → tableIn u v ≡ tableMoved m (nodeAt g i) key low l (naming (h .root)) (h .next) (tableIn tbl ws) → m ≡ wordsOf g n
+    → key ≡ following (nodeAt g i q low) 0
     → length u ≡ length tbl → Past m ws v → Remarks g n l q low key h i tbl u ws v
 remarks g n l q low key m h i tbl u ws v et em ek lg ps =
     record { first = ek; table = rw em at et; long = lg; past = rw em at ps }
@@ -120,11 +120,11 @@ module _ (g : Geometry) (n l q low : ℕ) (i tbl ws : List ℕ) (h : Kept) (b : 
     module _ (k : Kept) (on : Onward g n o h k) where
       key-is : key ≡ keyBy g (besideIn h l (tableIn tbl ws)) q i
       unfolding besideIn
-      key-is = mk .first ∙ ap (λ (a : ℕ). next (nodeAt g i q a) 0) el
+      key-is = mk .first ∙ ap (λ (a : ℕ). following (nodeAt g i q a) 0) el
 
       table-is : tableIn u v ≡ besideMoved g n (besideIn h l (tableIn tbl ws)) q i o .table
       unfolding besideIn besideMoved
-      table-is = mk .table ∙ (λ z. tableMoved (wordsOf g n) (nodeAt g i) (key-is z) (el z) l (named (h .root)) (h .next) (tableIn tbl ws))
+      table-is = mk .table ∙ (λ z. tableMoved (wordsOf g n) (nodeAt g i) (key-is z) (el z) l (naming (h .root)) (h .next) (tableIn tbl ws))
 
       kept-is : besideIn k l (tableIn u v) ≡ besideMoved g n (besideIn h l (tableIn tbl ws)) q i o
       unfolding besideIn besideMoved

@@ -9,12 +9,12 @@ use Rattle.geometry.specs.declared.Entry.{Entry}
 use Rattle.geometry.specs.Tests.{pick}
 use Rattle.model.specs.Bytes.{erased, nodeAt}
 use Rattle.model.specs.Image.{pagesOf}
-use Rattle.model.specs.Tree.{next}
+use Rattle.model.specs.Tree.{following}
 use Rattle.model.specs.Next.{round, after}
 use Rattle.model.specs.Page.{built}
 use Rattle.model.specs.Stores.{Store, program}
 use Rattle.model.specs.Edit.{onPath, renamed, same}
-use Rattle.chip_read.specs.Chip.{named}
+use Rattle.chip_read.specs.Chip.{naming}
 use Rattle.live_words.specs.Words.{wordsOf}
 use Rattle.open_record.specs.declared.Opened.{Opened}
 use Rattle.open_record.specs.Opened.{levelBy}
@@ -28,18 +28,18 @@ pub record Held : Type 0 where
 abbrev pub holding : Opened → Table → Held
 holding o t = record { at = o; table = t }
 
--- ---- the pages to come the page after page x, which has just been programmed and so has the largest number: the next
+-- ---- the pages to come the page after page x, which has just been programmed and so has the largest number: the following
 -- one of its block; past the block's end page 0 of the first wholly erased block after it, round past the end to the
 -- start
 unfoldable pub nextAfter : ℕ → ℕ → (ℕ → Bool) → ℕ → ℕ
 nextAfter p n er x = pick (eqb (suc x % p) 0) (p * round n (x / p) (λ b. er (p * b + 0))) (suc x)
 
--- the i-th page to come, x the next one
+-- the i-th page to come, x the following one
 unfoldable pub pageFrom : ℕ → ℕ → (ℕ → Bool) → ℕ → ℕ → ℕ
 pageFrom p n er x zero = x
 pageFrom p n er x (suc i) = pageFrom p n (after x er) (nextAfter p n (after x er) x) i
 
--- the next page by the record: T where it names one past the image
+-- the following page by the record: T where it names one past the image
 abbrev pub nextBy : Geometry → ℕ → Opened → ℕ
 nextBy g n o = min (pagesOf g n) (o .next)
 
@@ -47,12 +47,12 @@ nextBy g n o = min (pagesOf g n) (o .next)
 abbrev pub pageBy : Geometry → ℕ → List ℕ → Opened → ℕ → ℕ
 pageBy g n img o i = pageFrom (g .pages) n (erased g img) (nextBy g n o) i
 
--- ---- a sweep: the root's page, the largest number, the levels below the root, the next page, and the table
+-- ---- a sweep: the root's page, the largest number, the levels below the root, the following page, and the table
 pub record Beside : Type 0 where
   pub root : ℕ
   pub most : ℕ
   pub level : ℕ
-  pub next : ℕ
+  pub following : ℕ
   pub table : Table
 
 -- at its start
@@ -61,12 +61,12 @@ besideBy g n h = record { root = h .at .root; most = h .at .most; level = levelB
 
 -- the key by which descent comes to the lowest live node of page q
 abbrev pub keyBy : Geometry → Beside → ℕ → List ℕ → ℕ
-keyBy g h q img = next (nodeAt g img q (lowIn (h .table) q)) 0
+keyBy g h q img = following (nodeAt g img q (lowIn (h .table) q)) 0
 
 -- "one page holding the nodes from the root to that page's lowest live node": at level j
 unfoldable pub movePartBy : Geometry → Beside → ℕ → List ℕ → ℕ → List Entry
 movePartBy g h q img j = pick (leb (lowIn (h .table) q) j)
-    (onPath (nodeAt g img) (keyBy g h q img) same (renamed (lowIn (h .table) q) (h .next)) (h .level) (named (h .root)) j) []
+    (onPath (nodeAt g img) (keyBy g h q img) same (renamed (lowIn (h .table) q) (h .next)) (h .level) (naming (h .root)) j) []
 
 -- the store that moves page q
 unfoldable pub moveStoreBy : Geometry → Beside → ℕ → List ℕ → Store
@@ -79,5 +79,5 @@ besideMoved g n h q img then = record {
   most = suc (h .most);
   level = h .level;
   next = nextAfter (g .pages) n (erased g then) (h .next);
-  table = tableMoved (wordsOf g n) (nodeAt g img) (keyBy g h q img) (lowIn (h .table) q) (h .level) (named (h .root)) (h .next) (h .table);
+  table = tableMoved (wordsOf g n) (nodeAt g img) (keyBy g h q img) (lowIn (h .table) q) (h .level) (naming (h .root)) (h .next) (h .table);
 }

@@ -13,7 +13,7 @@ use Rattle.geometry.specs.Bounds.{fourBytes}
 use Rattle.model.specs.Bytes.{nodeAt}
 use Rattle.model.specs.Image.{Nodes}
 use Rattle.model.specs.Tree.{chosen}
-use Rattle.chip_read.specs.Chip.{named}
+use Rattle.chip_read.specs.Chip.{naming}
 use Rattle.live_walk.specs.Table.{liveIn}
 use Rattle.live_words.specs.Words.{word, Past}
 use Rattle.live_words.specs.Filled.{past-none, past-then, past-set}
@@ -62,45 +62,45 @@ unmark-out m p a n x u en h = sym (simp (ne-eqb (getD x p 0) a (λ e. h (en ∙ 
 
 -- ---- a path; it asks an entry for its page only
 pub off-named : (m : ℕ) (r : Nodes) (k a l : ℕ) (e : Entry) (t : Table) → offPath m r k a l e t ≡ offPath m r k a l
-    (named (e .addr)) t
+    (naming (e .addr)) t
 unfolding offPath
 off-named m r k a zero e t = refl
 off-named m r k a (suc l) e t = refl
 
 off-step : (m : ℕ) (r : Nodes) (k a l p : ℕ) (t : Table) → 0 < l → a ≤ l + 1
-    → offPath m r k a l (named p) t ≡ offPath m r k a (l - 1) (chosen k (r p (l + 1))) (unmark m p (l + 1) t)
+    → offPath m r k a l (naming p) t ≡ offPath m r k a (l - 1) (chosen k (r p (l + 1))) (unmark m p (l + 1) t)
 unfolding offPath
 off-step m r k a zero p t h i = absurd (omega arith)
 off-step m r k a (suc l) p t h i = rw (add-one (suc l), sub-one) (simp (le-leb a (suc (suc l)) (omega arith)))
 
-pub off-stop : (m : ℕ) (r : Nodes) (k a l p : ℕ) (w t : Table) → w ≡ offPath m r k a l (named p) t → 0 < l → l + 1 < a
+pub off-stop : (m : ℕ) (r : Nodes) (k a l p : ℕ) (w t : Table) → w ≡ offPath m r k a l (naming p) t → 0 < l → l + 1 < a
     → t ≡ w
 unfolding offPath
 off-stop m r k a zero p w t e h i = absurd (omega arith)
 off-stop m r k a (suc l) p w t e h i = sym (e ∙ simp (lt-leb a (suc (suc l)) (omega arith)))
 
 pub off-go : (m : ℕ) (g : Geometry) (img : List ℕ) (k a l p : ℕ) (e : Entry) (w t o : Table)
-    → w ≡ offPath m (nodeAt g img) k a l (named p) t
+    → w ≡ offPath m (nodeAt g img) k a l (naming p) t
     → e ≡ chosen k (nodeAt g img p (l + 1)) → o ≡ unmark m p (l + 1) t → 0 < l → a ≤ l + 1
-    → w ≡ offPath m (nodeAt g img) k a (l - 1) (named (e .addr)) o
+    → w ≡ offPath m (nodeAt g img) k a (l - 1) (naming (e .addr)) o
 off-go m g img k a l p e w t o ew ee eo h i =
     ew ∙ off-step m (nodeAt g img) k a l p t h i ∙ rw (← ee, ← eo) (off-named m (nodeAt g img) k a (l - 1) e o)
 
-pub off-last : (m : ℕ) (r : Nodes) (k a l p : ℕ) (w t o : Table) → w ≡ offPath m r k a l (named p) t → l ≤ 0 → a ≤ 1
+pub off-last : (m : ℕ) (r : Nodes) (k a l p : ℕ) (w t o : Table) → w ≡ offPath m r k a l (naming p) t → l ≤ 0 → a ≤ 1
     → o ≡ unmark m p 1 t → o ≡ w
 unfolding offPath
 off-last m r k a zero p w t o e h i eo = eo ∙ sym (e ∙ simp (le-leb a 1 i))
 off-last m r k a (suc l) p w t o e h i eo = absurd (omega arith)
 
-pub off-none : (m : ℕ) (r : Nodes) (k a l p : ℕ) (w t : Table) → w ≡ offPath m r k a l (named p) t → l ≤ 0 → 1 < a
+pub off-none : (m : ℕ) (r : Nodes) (k a l p : ℕ) (w t : Table) → w ≡ offPath m r k a l (naming p) t → l ≤ 0 → 1 < a
     → t ≡ w
 unfolding offPath
 off-none m r k a zero p w t e h i = sym (e ∙ simp (lt-leb a 1 i))
 off-none m r k a (suc l) p w t e h i = absurd (omega arith)
 
-pub moved : (m : ℕ) (r : Nodes) (k a l q new : ℕ) (t o z : Table) → o ≡ offPath m r k a l (named q) t
+pub moved : (m : ℕ) (r : Nodes) (k a l q new : ℕ) (t o z : Table) → o ≡ offPath m r k a l (naming q) t
     → z ≡ mark m new a o
-    → z ≡ tableMoved m r k a l (named q) new t
+    → z ≡ tableMoved m r k a l (naming q) new t
 unfolding tableMoved
 moved m r k a l q new t o z eo ez = ez ∙ rw eo
 

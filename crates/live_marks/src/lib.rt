@@ -5,7 +5,7 @@ ghost use lib.ListN.{length, set};
 ghost use Rattle.model.specs.Bytes.{nodeAt};
 ghost use Rattle.live_words.specs.Words.{Past};
 ghost use Rattle.live_beside.specs.Table.{tableIn, mark, unmark, offPath, tableMoved};
-ghost use Rattle.chip_read.specs.Chip.{named};
+ghost use Rattle.chip_read.specs.Chip.{naming};
 use geometry::Geometry;
 
 // The level of a page; outside the table nothing.
@@ -64,7 +64,7 @@ pub fn off_path(
     requires { ⌜ level < 255 ⌝ }
     ensures { λ _.
         ⌜ tableIn (now (table .exit)) (now (words .exit)) ≡ offPath m (nodeAt g (now (img .entry))) key low level
-        (named root) (tableIn (now (table .entry)) (now (words .entry))) ⌝ }
+        (naming root) (tableIn (now (table .entry)) (now (words .entry))) ⌝ }
     ensures { λ _. ⌜ length (now (table .exit)) ≡ length (now (table .entry)) ⌝ }
     ensures { λ _. ⌜ Past m (now (words .entry)) (now (words .exit)) ⌝ }
 {
@@ -100,7 +100,7 @@ pub fn move_marks(
     requires { ⌜ (level < 255) × (low < 256) ⌝ }
     ensures { λ _.
         ⌜ tableIn (now (table .exit)) (now (words .exit)) ≡ tableMoved m (nodeAt g (now (img .entry))) key low level
-        (named root) new (tableIn (now (table .entry)) (now (words .entry))) ⌝ }
+        (naming root) new (tableIn (now (table .entry)) (now (words .entry))) ⌝ }
     ensures { λ _. ⌜ length (now (table .exit)) ≡ length (now (table .entry)) ⌝ }
     ensures { λ _. ⌜ Past m (now (words .entry)) (now (words .exit)) ⌝ }
 {

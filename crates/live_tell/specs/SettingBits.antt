@@ -15,7 +15,7 @@ use Rattle.geometry.specs.Bounds.{fourBytes}
 use Rattle.model.specs.Bytes.{u32At, nodePlace, nodeAt}
 use Rattle.model.specs.Tree.{Place, places, placesOf, live}
 use Rattle.theory_counts.specs.Least.{by-lt}
-use Rattle.chip_read.specs.Chip.{named, chipWith}
+use Rattle.chip_read.specs.Chip.{naming, chipWith}
 use Rattle.live_walk.specs.Stops.{Steps, Walked, Going, leavesAt, walked-none, walked-out, walked-leaf, walked-end, walked-leaves, walked-root, going-turn, going-start, leaves-start, leaves-go, level-two}
 use Rattle.live_words.specs.Words.{wordOf, word, wordsOf, filled}
 use Rattle.live_words.specs.Filled.{length-filled, filled-in, filled-past}
@@ -101,7 +101,7 @@ leaves-same m xs t u e = rw e (all-same m xs t)
 
 pub marked-same : (m : ℕ) (g : Geometry) (img : List ℕ) (l p left r : ℕ) (t u : List ℕ)
     → Walked (markAll m) g img l p left r t u → length u ≡ length t
-marked-same m g img l p left r t u x = rw (x .done) (all-same m (take left (places (nodeAt g img) l (named p))) t)
+marked-same m g img l p left r t u x = rw (x .done) (all-same m (take left (places (nodeAt g img) l (naming p))) t)
 
 -- ---- cleared words
 no-bits : (n at : ℕ) → wordOf nowhere n at ≡ 0

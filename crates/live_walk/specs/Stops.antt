@@ -10,7 +10,7 @@ use native.Mathlib.Numerals.{sub-one, add-one}
 use Rattle.geometry.specs.declared.Geometry.{Geometry}
 use Rattle.model.specs.Bytes.{u32At, nodePlace, nodeCount, nodeAt}
 use Rattle.model.specs.Tree.{Place, places, placesOf}
-use Rattle.chip_read.specs.Chip.{named, chipWith}
+use Rattle.chip_read.specs.Chip.{naming, chipWith}
 use Rattle.live_walk.specs.Table.{noteOne, noteAll, rest}
 use Rattle.theory_counts.specs.Least.{by-lt}
 use Rattle.live_walk.specs.Walking.{rest-leaf, rest-start, rest-turn, rest-end, note-nil, note-cons, walk-same}
@@ -23,8 +23,8 @@ pub record Steps (all : List Place → List ℕ → List ℕ) (one : List ℕ �
 -- the node at level l of page p and what it reaches, the first `left` nodes: t before, u after, r what is left then
 pub record Walked (all : List Place → List ℕ → List ℕ) (g : Geometry) (img : List ℕ)
     (l p left r : ℕ) (t u : List ℕ) : Type 0 where
-  pub done : u ≡ all (take left (places (nodeAt g img) l (named p))) t
-  pub spared : r ≡ left - length (places (nodeAt g img) l (named p))
+  pub done : u ≡ all (take left (places (nodeAt g img) l (naming p))) t
+  pub spared : r ≡ left - length (places (nodeAt g img) l (naming p))
 
 -- the loop over the n entries from byte `at`: left₀ and t₀ at its start, left and t after i of them
 pub record Going (all : List Place → List ℕ → List ℕ) (g : Geometry) (img : List ℕ) (l at n left₀ : ℕ) (t₀ : List ℕ)
@@ -103,7 +103,7 @@ module _ (all : List Place → List ℕ → List ℕ) (one : List ℕ → ℕ �
       (l - 1) a left r t u → i < n
       → Going all g img l at n left₀ t₀ (i + 1) r u
   going-turn g img l at n left₀ t₀ i left t a r u x ea y h =
-      let front = places (nodeAt g img) (l - 1) (named a) in
+      let front = places (nodeAt g img) (l - 1) (naming a) in
       let back = rest g img l at n (i + 1) in
       let e : rest g img l at n i ≡ front ++ back = rw ea (rest-turn g img l at n i h) in
       record {
@@ -178,7 +178,7 @@ note-steps = record { none = note-nil; more = note-cons }
 
 pub noted-same : (g : Geometry) (img : List ℕ) (l p left r : ℕ) (t u : List ℕ) → Walked noteAll g img l p left r t u
     → length u ≡ length t
-noted-same g img l p left r t u x = walk-same (take left (places (nodeAt g img) l (named p))) t u (x .done)
+noted-same g img l p left r t u x = walk-same (take left (places (nodeAt g img) l (naming p))) t u (x .done)
 
 pub ruleset stop-laws = (walked-none, walked-out, walked-leaf, walked-end, going-turn, going-start, walked-root)
 

@@ -18,7 +18,7 @@ use Rattle.model.specs.Count.{count}
 use Rattle.model.specs.Image.{Nodes}
 use Rattle.model.specs.Next.{inBlock}
 use Rattle.model.specs.Tree.{gather, Place, places}
-use Rattle.chip_read.specs.Chip.{entryAt, named}
+use Rattle.chip_read.specs.Chip.{entryAt, naming}
 use Rattle.chip_read.specs.Node.{node-read, entries-start, entries-turn, entries-past, addr-is}
 use Rattle.theory_counts.specs.Least.{by-lt}
 use Rattle.theory_counts.specs.Tally.{count-zero, count-more}
@@ -55,7 +55,7 @@ unfolding noteOne
 note-at tbl p l w o v n e eo ev en = rw (en, ev, eo, e)
 
 -- the walk over a node's entries
-pub places-named : (r : Nodes) (l : ℕ) (e : Entry) → places r l e ≡ places r l (named (e .addr))
+pub places-named : (r : Nodes) (l : ℕ) (e : Entry) → places r l e ≡ places r l (naming (e .addr))
 unfolding places
 places-named r zero e = refl
 places-named r (suc l) e = refl
@@ -72,20 +72,20 @@ leaves r [] = refl
 leaves r (e ∷ es) = leaves r es
 
 pub rest-leaf : (g : Geometry) (img : List ℕ) (l p : ℕ) → l ≡ 1 → places (nodeAt g img) l
-    (named p) ≡ record { page = p; level = l } ∷ []
+    (naming p) ≡ record { page = p; level = l } ∷ []
 rest-leaf g img l p h =
     let f : l - 1 ≡ 0 = omega arith in
-    places-step (nodeAt g img) l (named p) (omega arith) ∙ rw (f, leaves (nodeAt g img) (nodeAt g img p l)) refl
+    places-step (nodeAt g img) l (naming p) (omega arith) ∙ rw (f, leaves (nodeAt g img) (nodeAt g img p l)) refl
 
 pub rest-start : (g : Geometry) (img : List ℕ) (l p at n : ℕ) → at ≡ nodePlace g p l → n ≡ nodeCount g img p l
     → (l ≡ 0 → ⊥)
-    → places (nodeAt g img) l (named p) ≡ record { page = p; level = l } ∷ rest g img l at n 0
+    → places (nodeAt g img) l (naming p) ≡ record { page = p; level = l } ∷ rest g img l at n 0
 unfolding rest
 rest-start g img l p at n ea en h =
-    places-step (nodeAt g img) l (named p) h ∙ rw (← (node-read g img p l at n ea en), entries-start img at n) refl
+    places-step (nodeAt g img) l (naming p) h ∙ rw (← (node-read g img p l at n ea en), entries-start img at n) refl
 
 pub rest-turn : (g : Geometry) (img : List ℕ) (l at n i : ℕ) → i < n
-    → rest g img l at n i ≡ places (nodeAt g img) (l - 1) (named (u32At img (at + 8 * i + 4))) ++ rest g img l at n
+    → rest g img l at n i ≡ places (nodeAt g img) (l - 1) (naming (u32At img (at + 8 * i + 4))) ++ rest g img l at n
     (i + 1)
 unfolding rest gather
 rest-turn g img l at n i h =

@@ -13,17 +13,17 @@ use Rattle.log_feed.specs.Left.{left}
 abbrev pub emptied : Run → Run
 emptied r = record { filled = r .filled; tally = r .tally; over = r .over; wrote = 0 }
 
-pub record Ready (r : Run) (line : List ℕ) : Type 0 where
+pub record Drained (r : Run) (line : List ℕ) : Type 0 where
   pub steady : Steady r line
   pub none : r .wrote ≡ 0
 
-pub ready-start : (r : Run) (line : List ℕ) → r ≡ startOf → length line ≡ 34 → Ready r line
-ready-start r line e n = subst (λ (x : Run). Ready x line) (sym e)
+pub drained-start : (r : Run) (line : List ℕ) → r ≡ startOf → length line ≡ 34 → Drained r line
+drained-start r line e n = subst (λ (x : Run). Drained x line) (sym e)
     (record { steady = record { filled = omega arith; room = n; within = (omega arith, omega arith, omega arith) }; none = refl })
 
 module _ (r s : Run) (line : List ℕ) (e : s ≡ emptied r) where
-  pub ready-emptied : Steady r line → Ready s line
-  ready-emptied h = subst (λ (x : Run). Ready x line) (sym e)
+  pub drained-emptied : Steady r line → Drained s line
+  drained-emptied h = subst (λ (x : Run). Drained x line) (sym e)
       (record { steady = record { filled = h .filled; room = h .room; within = h .within }; none = refl })
 
   pub left-emptied : left s ≡ left r

@@ -4,7 +4,7 @@ ghost use mathlib.Core.Path.{_≡_};
 ghost use Prim.Native.Nat.{_-_, _≤_};
 ghost use lib.ListN.{length};
 ghost use Rattle.log_feed.specs.Left.{left};
-ghost use Rattle.log_day.specs.Emptied.{emptied, Ready};
+ghost use Rattle.log_day.specs.Emptied.{emptied, Drained};
 use libc::STDIN_FILENO;
 use libc::STDOUT_FILENO;
 use log_machine::Run;
@@ -27,8 +27,8 @@ fn write_out(out: &[u8], run: Run) -> Run
 
 // A part that was read is fed, and what it is answered by is written.
 fn play_read(img: &mut [u8], line: &mut [u8], out: &mut [u8], part: &[u8], run: Run) -> Run
-    requires { ⌜ Ready run (now line) × (length (now out) ≡ 65536) × (length (now part) ≤ 65536) ⌝ }
-    ensures ready { λ r. ⌜ Ready r (now (line .exit)) ⌝ }
+    requires { ⌜ Drained run (now line) × (length (now out) ≡ 65536) × (length (now part) ≤ 65536) ⌝ }
+    ensures ready { λ r. ⌜ Drained r (now (line .exit)) ⌝ }
     ensures left { λ r. ⌜ left r ≤ left run - length (now (part .entry)) ⌝ }
 {
     let mut at: usize = 0;
@@ -44,8 +44,8 @@ fn play_read(img: &mut [u8], line: &mut [u8], out: &mut [u8], part: &[u8], run: 
 
 // All of the input, part by part, until it ends or the run is over.
 fn play_input(img: &mut [u8], line: &mut [u8], out: &mut [u8], part: &mut [u8], run: Run) -> Run
-    requires { ⌜ Ready run (now line) × (length (now out) ≡ 65536) × (length (now part) ≡ 65536) ⌝ }
-    ensures { λ r. ⌜ Ready r (now (line .exit)) ⌝ }
+    requires { ⌜ Drained run (now line) × (length (now out) ≡ 65536) × (length (now part) ≡ 65536) ⌝ }
+    ensures { λ r. ⌜ Drained r (now (line .exit)) ⌝ }
 {
     let mut state = run;
     while !state.over {

@@ -9,7 +9,7 @@ use Rattle.geometry.specs.declared.Geometry.{Geometry}
 use Rattle.geometry.specs.declared.Entry.{Entry}
 use Rattle.geometry.specs.Tests.{pick}
 use Rattle.model.specs.Image.{Chip, chipOf, theRoot, pagesOf, maxSeq}
-use Rattle.model.specs.Tree.{next, placesOf, live, lowLevel, erasedPages}
+use Rattle.model.specs.Tree.{following, placesOf, live, lowLevel, erasedPages}
 use Rattle.model.specs.Next.{full, inBlock, ahead, nextPage}
 use Rattle.model.specs.Page.{built}
 use Rattle.model.specs.Stores.{Store, program, erase, applyStore, applyAll}
@@ -33,7 +33,7 @@ theVictim p n c = victim (full p (c .er)) (λ b. livesIn p b c) n
 
 -- the key by which descent comes to the lowest live node of page q: its first
 abbrev pub moveKey : Chip → ℕ → ℕ
-moveKey c q = next (c .nodes q (lowLevel (placesOf c) q)) 0
+moveKey c q = following (c .nodes q (lowLevel (placesOf c) q)) 0
 
 -- "one page holding the nodes from the root to that page's lowest live node": at level j, on the new page m
 unfoldable pub movePart : Chip → ℕ → ℕ → ℕ → List Entry

@@ -8,7 +8,7 @@ use lib.ListN.{length, take, drop}
 use Rattle.geometry.specs.declared.Entry.{Entry}
 use Rattle.geometry.specs.Tests.{pick, bit, _&_}
 use Rattle.model.specs.Image.{Nodes}
-use Rattle.model.specs.Tree.{next, place, chosen}
+use Rattle.model.specs.Tree.{following, place, chosen}
 
 -- entry i gives way to the list f makes of it
 abbrev pub swap : (Entry → List Entry) → ℕ → List Entry → List Entry
@@ -49,7 +49,7 @@ putIn k a (e ∷ es) = splice (λ x. put k a (x ∷ [])) k (e ∷ es)
 -- "The path half is, in a leaf, the half that holds K, and above, the half that names page N": the right one exactly
 -- when its first key is not above K
 abbrev pub turn : ℕ → ℕ → List Entry → Bool
-turn k m c = leb (next (drop m c) 0) k
+turn k m c = leb (following (drop m c) 0) k
 
 abbrev pub pathHalf : ℕ → ℕ → List Entry → List Entry
 pathHalf k m c = pick (turn k m c) (drop m c) (take m c)
@@ -61,7 +61,7 @@ sideHalf k m c = pick (turn k m c) (take m c) (drop m c)
 -- z is the key kept, n the page of the path half, o that of the other
 abbrev pub two : ℕ → ℕ → ℕ → ℕ → ℕ → List Entry → List Entry
 two k n o m z c =
-    record { key = z; addr = pick (turn k m c) o n } ∷ record { key = next (drop m c) 0; addr = pick (turn k m c) n o } ∷ []
+    record { key = z; addr = pick (turn k m c) o n } ∷ record { key = following (drop m c) 0; addr = pick (turn k m c) n o } ∷ []
 
 -- what stands above an edited node c at level l: one entry that names N, its key lowered to K where it is above K, or
 -- two where c exceeds the level's slots, 2 * half

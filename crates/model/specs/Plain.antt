@@ -12,7 +12,7 @@ use Rattle.geometry.specs.Geometry.{half}
 use Rattle.geometry.specs.Tests.{pick, bit, _&_}
 use Rattle.model.specs.Count.{count}
 use Rattle.model.specs.Image.{Chip, chipOf, pagesOf, blocksOf, theRoot, maxSeq}
-use Rattle.model.specs.Tree.{next, sought, erasedPages}
+use Rattle.model.specs.Tree.{following, sought, erasedPages}
 use Rattle.model.specs.Next.{ahead, nth}
 use Rattle.model.specs.Page.{built, only}
 use Rattle.model.specs.Stores.{Store, program}
@@ -23,7 +23,7 @@ use Rattle.model.specs.Calls.{Outcome, refused, made, judgedCall, worn}
 -- ---- what stands above a changed node
 -- two entries over the halves of c: z is the key kept, left and right are the pages
 abbrev pub both : ℕ → ℕ → ℕ → ℕ → List Entry → List Entry
-both left right m z c = record { key = z; addr = left } ∷ record { key = next (drop m c) 0; addr = right } ∷ []
+both left right m z c = record { key = z; addr = left } ∷ record { key = following (drop m c) 0; addr = right } ∷ []
 
 -- what stands above an edited node c at level l: one entry that names `left l`, its key lowered to K where it is above
 -- K, or two where c exceeds the level's slots, 2 * half: `left l` is the page of the left half, `right l` that of the
@@ -89,7 +89,7 @@ plansTo g lists (suc l) = plansTo g lists l ++ levelPlans g (suc l) (lists (suc 
 -- is
 unfoldable pub crownPlans : Geometry → ℕ → Chip → ℕ → ℕ → List Entry → List Plan
 crownPlans g n c cuts l es = pick (leb (length es) (2 * half g l)) []
-    (record { level = suc l; list = both (leftPage g n c cuts l) (rightPage g n c cuts l) (half g l) (next es 0) es } ∷ [])
+    (record { level = suc l; list = both (leftPage g n c cuts l) (rightPage g n c cuts l) (half g l) (following es 0) es } ∷ [])
 
 unfoldable pub insertPlans : Geometry → ℕ → Chip → ℕ → ℕ → List Plan
 insertPlans g n c k a = plansTo g (plainList g n c k a) (suc (c .level))

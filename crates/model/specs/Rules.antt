@@ -17,14 +17,14 @@ use Rattle.model.specs.Bytes.{erased, seqAt, heightAt, tailAt}
 use Rattle.model.specs.Codes.{codesFit}
 use Rattle.model.specs.Count.{count, least, any}
 use Rattle.model.specs.Image.{Nodes, Chip, chipOf, pagesOf, heightOf, rootOf}
-use Rattle.model.specs.Tree.{next, Place, placesOf, live, lowLevel, livePages}
+use Rattle.model.specs.Tree.{following, Place, placesOf, live, lowLevel, livePages}
 use Rattle.model.specs.Next.{mixed, full, firstIn, inBlock}
 
 -- the least page below t that a test finds bad
 unfoldable pub lowest : ℕ → (ℕ → Bool) → Finding
 lowest t f = pick (any t f) (Bad (least t f)) Good
 
--- a finding where the test fails, else what comes next
+-- a finding where the test fails, else what comes following
 unfoldable pub unless : Bool → ℕ → Finding → Finding
 unless true p v = v
 unless false p v = Bad p
@@ -92,7 +92,7 @@ ownRoot g er r t l p =
 -- its subtrees and those left to right
 unfoldable pub judgeEntries : (ℕ → ℕ → ℕ → Finding) → List Entry → ℕ → Finding
 judgeEntries sub [] hi = Good
-judgeEntries sub (e ∷ es) hi = first (sub (e .addr) (e .key) (next es hi)) (judgeEntries sub es hi)
+judgeEntries sub (e ∷ es) hi = first (sub (e .addr) (e .key) (following es hi)) (judgeEntries sub es hi)
 
 unfoldable pub judgeNode : Geometry → (ℕ → Bool) → Nodes → ℕ → ℕ → ℕ → ℕ → ℕ → Finding
 judgeNode g er r t zero p lo hi = Good

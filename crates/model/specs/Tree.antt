@@ -53,10 +53,10 @@ livePages t c = count t (live (placesOf c))
 abbrev pub erasedPages : ℕ → Chip → ℕ
 erasedPages t c = count t (c .er)
 
--- the key that follows: the next entry's, or the bound
-abbrev pub next : List Entry → ℕ → ℕ
-next [] hi = hi
-next (e ∷ es) hi = e .key
+-- the key that follows: the following entry's, or the bound
+abbrev pub following : List Entry → ℕ → ℕ
+following [] hi = hi
+following (e ∷ es) hi = e .key
 
 -- ---- search in a node, by halving
 -- entry i of a node; past the end the pair of zeros

@@ -10,7 +10,7 @@ use Rattle.geometry.specs.declared.Entry.{Entry}
 use Rattle.geometry.specs.Geometry.{half, rootSlots}
 use Rattle.geometry.specs.Tests.{pick, bit, _&_}
 use Rattle.model.specs.Image.{Chip, chipOf, theRoot, maxSeq}
-use Rattle.model.specs.Tree.{next, chosen, sought}
+use Rattle.model.specs.Tree.{following, chosen, sought}
 use Rattle.model.specs.Next.{ahead, nth}
 use Rattle.model.specs.Page.{built, only}
 use Rattle.model.specs.Stores.{Store, program, erase, applyAll}
@@ -50,7 +50,7 @@ insertList g c k a n side j = onPath (c .nodes) k (putIn k a) (named k n side (h
 -- the root's changed node es at level l, as it stands on N at level j: as it is, or halved under a two-entry root
 unfoldable pub crownPart : Geometry → ℕ → ℕ → (ℕ → ℕ) → ℕ → List Entry → ℕ → List Entry
 crownPart g k n side l es j = pick (fills g l (length es))
-    (pick (eqb j l) (pathHalf k (2 * half g l) es) (pick (eqb j (suc l)) (two k n (side l) (2 * half g l) (next es 0) es) []))
+    (pick (eqb j l) (pathHalf k (2 * half g l) es) (pick (eqb j (suc l)) (two k n (side l) (2 * half g l) (following es 0) es) []))
     (pick (eqb j l) es [])
 
 -- what N holds at level j

@@ -9,7 +9,7 @@ use Rattle.geometry.specs.declared.Entry.{Entry}
 use Rattle.geometry.specs.Geometry.{half}
 use Rattle.geometry.specs.Tests.{pick}
 use Rattle.model.specs.Image.{Chip, chipOf, theRoot, maxSeq}
-use Rattle.model.specs.Tree.{next, sought}
+use Rattle.model.specs.Tree.{following, sought}
 use Rattle.model.specs.Page.{built, only}
 use Rattle.model.specs.Stores.{Store, program, applyAll, programs, erases}
 use Rattle.model.specs.Edit.{onPath, putIn, removeIn, Top, collapse}
@@ -43,7 +43,7 @@ storesTo g page seq cuts lists (suc l) = storesTo g page seq cuts lists l ++ lev
 
 -- the new root over the halves of es, that of level h
 abbrev pub crownList : Geometry → (ℕ → ℕ) → ℕ → ℕ → List Entry → List Entry
-crownList g page cuts h es = both (page (leftPlace cuts h)) (page (rightPlace cuts h)) (half g h) (next es 0) es
+crownList g page cuts h es = both (page (leftPlace cuts h)) (page (rightPlace cuts h)) (half g h) (following es 0) es
 
 -- the root, at level h: whole, or its halves under a new one
 unfoldable pub rootStores : Geometry → (ℕ → ℕ) → ℕ → ℕ → ℕ → List Entry → List Store
@@ -82,7 +82,7 @@ deleteStoresAt g c k page seq v = pick (eqb (topAt c k page v .level) (c .level)
     (nodeStore g page seq 0 (suc (topAt c k page v .level)) (suc (topAt c k page v .level)) (topAt c k page v .list) ∷ [])
 
 -- ---- the calls on an image of n blocks, whatever it holds: erased pages alone are programmed
--- the pages to come, after the next one
+-- the pages to come, after the following one
 abbrev pub pagesBy : Geometry → ℕ → List ℕ → ℕ → ℕ
 pagesBy g n img i = pageBy g n img (openedIn g n img) i
 

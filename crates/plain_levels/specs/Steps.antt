@@ -10,7 +10,7 @@ use Rattle.geometry.specs.Geometry.{half}
 use Rattle.geometry.specs.Tests.{pick}
 use Rattle.geometry.specs.Bounds.{fourBytes}
 use Rattle.model.specs.Bytes.{nodeAt}
-use Rattle.model.specs.Tree.{next}
+use Rattle.model.specs.Tree.{following}
 use Rattle.model.specs.Stores.{Store}
 use Rattle.model.specs.Edit.{edited, onPath, putIn, removeIn, collapse}
 use Rattle.model.specs.Plain.{keptOn, noneLeft}
@@ -57,7 +57,7 @@ pairOf j l z y = record { key = z; addr = pageAt j (leftPlace (j .levels) l) } �
 pub record Halved (g : Geometry) (j : Job) (l z : ℕ) (c : List Entry) (r : Halves) : Type 0 where
   pub left : entries (r .left) ≡ take (half g l) c
   pub right : entries (r .right) ≡ drop (half g l) c
-  pub carry : carried (r .carry) ≡ pairOf j l z (next (drop (half g l) c) 0)
+  pub carry : carried (r .carry) ≡ pairOf j l z (following (drop (half g l) c) 0)
   pub few : r .left .count ≤ 256
   pub some : r .right .count ≤ 256
 
@@ -66,7 +66,7 @@ halfStores g j l c = aloneStore g j (leftPlace (j .levels) l) 0 l (take (half g 
 
 pub record Parted (g : Geometry) (j : Job) (l z : ℕ) (c : List Entry) (b : Budget) (r : Climbed) (i o : List ℕ) : Type 0
   where
-    pub carry : carried (r .carry) ≡ pairOf j l z (next (drop (half g l) c) 0)
+    pub carry : carried (r .carry) ≡ pairOf j l z (following (drop (half g l) c) 0)
     pub ran : Ran g (halfStores g j l c) b (r .budget) i o
 
 pub record Settled (g : Geometry) (j : Job) (w : Change) (l : ℕ) (e : Entry) (c : List Entry)
@@ -103,15 +103,10 @@ pub record Changes (g : Geometry) (j : Job) (l : ℕ) (e : Entry) (b : Budget) (
 -- halved under a new one
 unfoldable pub grownStores : Geometry → Job → ℕ → List Entry → List Store
 grownStores g j l c = halfStores g j l c
-    ++ (aloneStore g j (leftPlace (j .levels) (suc l)) (suc l) (suc l) (pairOf j l (next c 0) (next (drop (half g l) c) 0)) ∷ [])
+    ++ (aloneStore g j (leftPlace (j .levels) (suc l)) (suc l) (suc l) (pairOf j l (following c 0) (following (drop (half g l) c) 0)) ∷ [])
 
 unfoldable pub topStores : Geometry → Job → ℕ → List Entry → List Store
 topStores g j l c = rootStores g (pageAt j) (j .seq) (j .levels) l c
-
--- ---- the whole, by its job
--- the entry that names the root
-abbrev pub rootAt : ℕ → Entry
-rootAt p = record { key = 0; addr = p }
 
 -- e names the root, l levels are below it
 unfoldable pub putStores : Geometry → Job → ℕ → Entry → List ℕ → List Store

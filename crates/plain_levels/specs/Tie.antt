@@ -10,7 +10,7 @@ use Rattle.geometry.specs.Tests.{pick}
 use Rattle.model.specs.Bytes.{nodeAt}
 use Rattle.model.specs.Edit.{onPath, putIn, removeIn, Top, collapse}
 use Rattle.model.specs.Plain.{keptOn, noneLeft}
-use Rattle.chip_read.specs.Chip.{chipWith}
+use Rattle.chip_read.specs.Chip.{chipWith, naming}
 use Rattle.chip_store.specs.declared.Budget.{Budget}
 use Rattle.chip_store.specs.Run.{Ran}
 use Rattle.tree_path.specs.Paths.{path-top, path-agree}
@@ -21,7 +21,7 @@ use Rattle.plain_levels.specs.declared.Change.the-variants.{Put, Remove}
 use Rattle.plain_levels.specs.declared.Job.{Job}
 use Rattle.plain_levels.specs.Levels.{nodeStore, leftPlace, rightPlace, levelStores, storesTo, rootStores, renewedAt, listAt, insertStoresAt}
 use Rattle.plain_levels.specs.Levels.{keptStores, lessAt, topAt, deleteStoresAt}
-use Rattle.plain_levels.specs.Steps.{rootAt, pageAt, aloneStore, leafBy, nameBy, storesBy, changed, pathOf, storesUp}
+use Rattle.plain_levels.specs.Steps.{pageAt, aloneStore, leafBy, nameBy, storesBy, changed, pathOf, storesUp}
 use Rattle.plain_levels.specs.Steps.{topStores, putStores, stayStores, removeStores, Given}
 
 -- ---- a level hangs on the pages at its own places alone
@@ -57,39 +57,39 @@ module _ (g : Geometry) (i : List ℕ) (page : ℕ → ℕ) (seq v l p k a : ℕ
   lists : ℕ → List Entry
   lists x = listAt g (chipWith g i l p) k a page v x
 
-  list-is : (x : ℕ) → pathOf g j i l (rootAt p) x ≡ lists x
+  list-is : (x : ℕ) → pathOf g j i l (naming p) x ≡ lists x
   unfolding pathOf lists listAt leafBy
   list-is x =
-      ap (λ (y : ℕ). onPath (nodeAt g i) y (leafBy (j .change) y) (nameBy g (j .change) j) l (rootAt p) x) (gj .key)
-      ∙ ap (λ (w : Change). onPath (nodeAt g i) k (leafBy w k) (nameBy g (j .change) j) l (rootAt p) x) (gj .change)
-      ∙ path-agree (nodeAt g i) k (putIn k a) (nameBy g (j .change) j) (renewedAt g page v k) l (rootAt p) x name-is
+      ap (λ (y : ℕ). onPath (nodeAt g i) y (leafBy (j .change) y) (nameBy g (j .change) j) l (naming p) x) (gj .key)
+      ∙ ap (λ (w : Change). onPath (nodeAt g i) k (leafBy w k) (nameBy g (j .change) j) l (naming p) x) (gj .change)
+      ∙ path-agree (nodeAt g i) k (putIn k a) (nameBy g (j .change) j) (renewedAt g page v k) l (naming p) x name-is
 
-  top-is : changed g j i l (rootAt p) ≡ lists (suc l)
+  top-is : changed g j i l (naming p) ≡ lists (suc l)
   unfolding changed pathOf
-  top-is = sym (path-top (nodeAt g i) (j .key) (leafBy (j .change) (j .key)) (nameBy g (j .change) j) l (rootAt p))
+  top-is = sym (path-top (nodeAt g i) (j .key) (leafBy (j .change) (j .key)) (nameBy g (j .change) j) l (naming p))
       ∙ list-is (suc l)
 
-  stores-is : (x : ℕ) → x ≤ l → storesBy g (j .change) j x (pathOf g j i l (rootAt p) x) ≡ levelStores g page seq v x
+  stores-is : (x : ℕ) → x ≤ l → storesBy g (j .change) j x (pathOf g j i l (naming p) x) ≡ levelStores g page seq v x
       (lists x)
   unfolding storesBy
   stores-is x hi =
-      ap (λ (w : Change). storesBy g w j x (pathOf g j i l (rootAt p) x)) (gj .change)
+      ap (λ (w : Change). storesBy g w j x (pathOf g j i l (naming p) x)) (gj .change)
       ∙ (λ z. levelStores g (pageAt j) (gj .number z) (gj .levels z) x (list-is x z))
       ∙ level-agree g (pageAt j) page seq v x (lists x) (left-is x (omega arith)) (right-is x (omega arith))
 
-  up-is : (x : ℕ) → x ≤ l → storesUp g j (pathOf g j i l (rootAt p)) x ≡ storesTo g page seq v lists x
+  up-is : (x : ℕ) → x ≤ l → storesUp g j (pathOf g j i l (naming p)) x ≡ storesTo g page seq v lists x
   unfolding storesUp storesTo
   up-is zero h = refl
   up-is (suc x) h = λ z. up-is x (omega arith) z ++ stores-is (suc x) h z
 
-  root-is : topStores g j (suc l) (changed g j i l (rootAt p)) ≡ rootStores g page seq v (suc l) (lists (suc l))
+  root-is : topStores g j (suc l) (changed g j i l (naming p)) ≡ rootStores g page seq v (suc l) (lists (suc l))
   unfolding topStores
   root-is =
       (λ z. rootStores g (pageAt j) (gj .number z) (gj .levels z) (suc l) (top-is z))
       ∙ root-agree g (pageAt j) page seq v (suc l) (lists (suc l)) (left-is (suc l) (omega arith))
       (right-is (suc l) (omega arith)) (left-is (suc (suc l)) (omega arith))
 
-  insert-is : putStores g j l (rootAt p) i ≡ insertStoresAt g (chipWith g i l p) k a page seq v
+  insert-is : putStores g j l (naming p) i ≡ insertStoresAt g (chipWith g i l p) k a page seq v
   unfolding putStores insertStoresAt lists
   insert-is = λ z. up-is l (omega arith) z ++ root-is z
 
@@ -110,16 +110,16 @@ module _ (g : Geometry) (i : List ℕ) (page : ℕ → ℕ) (seq v l p k : ℕ) 
   less : ℕ → List Entry
   less x = lessAt (chipWith g i l p) k page v x
 
-  less-is : (x : ℕ) → pathOf g j i l (rootAt p) x ≡ less x
+  less-is : (x : ℕ) → pathOf g j i l (naming p) x ≡ less x
   unfolding pathOf less lessAt leafBy
   less-is x =
-      ap (λ (y : ℕ). onPath (nodeAt g i) y (leafBy (j .change) y) (nameBy g (j .change) j) l (rootAt p) x) (gj .key)
-      ∙ ap (λ (w : Change). onPath (nodeAt g i) k (leafBy w k) (nameBy g (j .change) j) l (rootAt p) x) (gj .change)
-      ∙ path-agree (nodeAt g i) k (removeIn k) (nameBy g (j .change) j) (keptOn (λ m. page (m - 1 - v))) l (rootAt p) x less-name
+      ap (λ (y : ℕ). onPath (nodeAt g i) y (leafBy (j .change) y) (nameBy g (j .change) j) l (naming p) x) (gj .key)
+      ∙ ap (λ (w : Change). onPath (nodeAt g i) k (leafBy w k) (nameBy g (j .change) j) l (naming p) x) (gj .change)
+      ∙ path-agree (nodeAt g i) k (removeIn k) (nameBy g (j .change) j) (keptOn (λ m. page (m - 1 - v))) l (naming p) x less-name
 
-  last-is : changed g j i l (rootAt p) ≡ less (suc l)
+  last-is : changed g j i l (naming p) ≡ less (suc l)
   unfolding changed pathOf
-  last-is = sym (path-top (nodeAt g i) (j .key) (leafBy (j .change) (j .key)) (nameBy g (j .change) j) l (rootAt p))
+  last-is = sym (path-top (nodeAt g i) (j .key) (leafBy (j .change) (j .key)) (nameBy g (j .change) j) l (naming p))
       ∙ less-is (suc l)
 
   -- a node alone, at place x
@@ -128,21 +128,21 @@ module _ (g : Geometry) (i : List ℕ) (page : ℕ → ℕ) (seq v l p k : ℕ) 
   alone-is x h m c e = (λ z. nodeStore g (pageAt j) (gj .number z) x h m c) ∙ rw e
 
   left-stores : (x : ℕ) → x < l
-      → storesBy g (j .change) j (suc x) (pathOf g j i l (rootAt p) (suc x))
+      → storesBy g (j .change) j (suc x) (pathOf g j i l (naming p) (suc x))
       ≡ pick (noneLeft (less (suc x))) [] (nodeStore g page seq (x - v) 0 (suc x) (less (suc x)) ∷ [])
   unfolding storesBy
   left-stores x h =
       let s : suc x - 1 - v ≡ x - v = omega arith in
-      ap (λ (w : Change). storesBy g w j (suc x) (pathOf g j i l (rootAt p) (suc x))) (gj .change)
+      ap (λ (w : Change). storesBy g w j (suc x) (pathOf g j i l (naming p) (suc x))) (gj .change)
       ∙ (λ z. pick (noneLeft (less-is (suc x) z)) [] (aloneStore g j (suc x - 1 - gj .levels z) 0 (suc x) (less-is (suc x) z) ∷ []))
       ∙ rw (s, alone-is (x - v) 0 (suc x) (less (suc x)) (kept-is x (omega arith)))
 
-  kept-up : (x : ℕ) → x ≤ l → storesUp g j (pathOf g j i l (rootAt p)) x ≡ keptStores g page seq v less x
+  kept-up : (x : ℕ) → x ≤ l → storesUp g j (pathOf g j i l (naming p)) x ≡ keptStores g page seq v less x
   unfolding storesUp keptStores
   kept-up zero h = refl
   kept-up (suc x) h = λ z. kept-up x (omega arith) z ++ left-stores x (omega arith) z
 
-  stay-is : stayStores g j l (rootAt p) i ≡ keptStores g page seq v less l ++ (nodeStore g page seq (l - v) (suc l)
+  stay-is : stayStores g j l (naming p) i ≡ keptStores g page seq v less l ++ (nodeStore g page seq (l - v) (suc l)
       (suc l) (less (suc l)) ∷ [])
   unfolding stayStores
   stay-is =
@@ -153,21 +153,21 @@ module _ (g : Geometry) (i : List ℕ) (page : ℕ → ℕ) (seq v l p k : ℕ) 
       (suc (t .level)) (suc (t .level)) (t .list)
   fall-is t = alone-is 0 (suc (t .level)) (suc (t .level)) (t .list) (gj .pages 0 (omega arith))
 
-  delete-is : removeStores g j l (rootAt p) i ≡ deleteStoresAt g (chipWith g i l p) k page seq v
+  delete-is : removeStores g j l (naming p) i ≡ deleteStoresAt g (chipWith g i l p) k page seq v
   unfolding removeStores deleteStoresAt topAt less
   delete-is =
       (λ z. pick (eqb (collapse (nodeAt g i) l (last-is z) .level) l) (stay-is z) (fall-is (collapse (nodeAt g i) l (last-is z)) z ∷ []))
 
 -- ---- by the record
 pub insert-by : (g : Geometry) (n : ℕ) (i : List ℕ) (o : Opened) (l v k a : ℕ) (j : Job) (b r : Budget) (then : List ℕ)
-    → Ran g (putStores g j l (rootAt (o .root)) i) b r i then
+    → Ran g (putStores g j l (naming (o .root)) i) b r i then
     → Given (pageBy g n i o) (o .most) v k (l + v + 2) (Put a) j
     → Ran g (insertStoresAt g (chipWith g i l (o .root)) k a (pageBy g n i o) (o .most) v) b r i then
 insert-by g n i o l v k a j b r then run gj =
     rw (insert-is g i (pageBy g n i o) (o .most) v l (o .root) k a j gj) at run
 
 pub delete-by : (g : Geometry) (n : ℕ) (i : List ℕ) (o : Opened) (l v k : ℕ) (j : Job) (b r : Budget) (then : List ℕ)
-    → Ran g (removeStores g j l (rootAt (o .root)) i) b r i then
+    → Ran g (removeStores g j l (naming (o .root)) i) b r i then
     → Given (pageBy g n i o) (o .most) v k (l + 1) Remove j → Ran g (deleteStoresAt g (chipWith g i l (o .root)) k
     (pageBy g n i o) (o .most) v) b r i then
 delete-by g n i o l v k j b r then run gj = rw (delete-is g i (pageBy g n i o) (o .most) v l (o .root) k j gj) at run

@@ -14,7 +14,7 @@ use Rattle.geometry.specs.Geometry.{half, pageBytes}
 use Rattle.geometry.specs.Bounds.{fourBytes}
 use Rattle.model.specs.Bytes.{erased, nodeAt}
 use Rattle.model.specs.Page.{built, only}
-use Rattle.model.specs.Tree.{next, chosen}
+use Rattle.model.specs.Tree.{following, chosen}
 use Rattle.model.specs.Stores.{program, applyAll}
 use Rattle.model.specs.Edit.{kept, putIn, removeIn, edited, collapse}
 use Rattle.model.specs.Plain.{noneLeft}
@@ -71,7 +71,7 @@ pair-is j l z y x w p q ep ex eq ew = rw (ep, ex, eq, ew)
 pub halved : (g : Geometry) (j : Job) (l z : ℕ) (c a b : Node) (h y : ℕ) (v : Carry) → carried v ≡ pairOf j l z y
     → entries a ≡ take h (entries c)
     → entries b ≡ drop h (entries c)
-    → h ≡ half g l → y ≡ next (entries b) 0 → a .count ≤ c .count → b .count ≤ c .count → c .count ≤ 256
+    → h ≡ half g l → y ≡ following (entries b) 0 → a .count ≤ c .count → b .count ≤ c .count → c .count ≤ 256
     → Halved g j l z (entries c) (record { left = a; right = b; carry = v })
 halved g j l z c a b h y v ev ea eb eh ey ca cb few = record {
   left = ea ∙ rw eh;
@@ -250,7 +250,7 @@ change-on g j (suc l) e b r u t i h o rj tk ch z =
 pub grown : (g : Geometry) (j : Job) (l : ℕ) (c : List Entry) (b r : Budget) (u : Climbed) (n : Node) (i m o : List ℕ)
     (low x : ℕ)
     → Ran g (aloneStore g j x (l + 1) (l + 1) (entries n) ∷ []) (u .budget) r m o → Parted g j l low c b u i m
-    → entries n ≡ carried (u .carry) → low ≡ next c 0
+    → entries n ≡ carried (u .carry) → low ≡ following c 0
     → x ≡ leftPlace (j .levels) (l + 1) → Ran g (grownStores g j l c) b r i o
 unfolding grownStores
 grown g j l c b r u n i m o low x run pt en el ex =

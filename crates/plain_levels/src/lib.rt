@@ -6,13 +6,13 @@ ghost use Prim.Native.Nat.{suc, _+_, _*_, _-_, _≤_, _<_};
 ghost use Rattle.geometry.specs.Geometry.{pageBytes};
 ghost use Rattle.geometry.specs.Bounds.{fourBytes, longestPage};
 ghost use Rattle.model.specs.Bytes.{nodeAt};
-ghost use Rattle.chip_read.specs.Chip.{chipWith};
+ghost use Rattle.chip_read.specs.Chip.{chipWith, naming};
 ghost use Rattle.tree_node.specs.Node.{entries, carried};
 ghost use Rattle.chip_store.specs.Run.{Ran, Countable};
 ghost use Rattle.live_beside.specs.Beside.{pageBy};
 ghost use Rattle.plain_levels.specs.declared.Change.{Change};
 ghost use Rattle.plain_levels.specs.Levels.{leftPlace, rightPlace, insertStoresAt, deleteStoresAt};
-ghost use Rattle.plain_levels.specs.Steps.{rootAt, pageAt, aloneStore, leafBy, pairOf, Halved, Parted, Settled};
+ghost use Rattle.plain_levels.specs.Steps.{pageAt, aloneStore, leafBy, pairOf, Halved, Parted, Settled};
 ghost use Rattle.plain_levels.specs.Steps.{changed, Rejoined, Changes, grownStores, topStores, putStores, stayStores, removeStores, Given};
 use chip_store::Budget;
 use geometry::Entry;
@@ -335,7 +335,7 @@ fn store_root(g: Geometry, img: &mut [u8], b: Budget, job: Job, level: u32, c: N
 // All stores of an insert's job.
 fn insert_with(g: Geometry, img: &mut [u8], b: Budget, job: Job, level: u32, root: u32) -> Budget
     requires { ⌜ (level ≤ 100) × (pageBytes g ≤ longestPage) × (job .seq < fourBytes) × (Countable b) ⌝ }
-    ensures { λ r. ⌜ Ran g (putStores g job level (rootAt root) (now (img .entry))) b r (now (img .entry))
+    ensures { λ r. ⌜ Ran g (putStores g job level (naming root) (now (img .entry))) b r (now (img .entry))
         (now (img .exit)) ⌝ }
 {
     let u = climb(g, &mut *img, b, job, level, Entry { key: 0, addr: root });
@@ -347,7 +347,7 @@ fn insert_with(g: Geometry, img: &mut [u8], b: Budget, job: Job, level: u32, roo
 // The changed root of a delete before anything is stored: no store is allowed.
 fn look(g: Geometry, img: &mut [u8], job: Job, level: u32, root: u32) -> Node
     requires { ⌜ (level ≤ 100) × (pageBytes g ≤ longestPage) × (job .seq < fourBytes) ⌝ }
-    ensures { λ r. ⌜ (entries r ≡ changed g job (now (img .entry)) level (rootAt root)) × (r .count ≤ 256) ×
+    ensures { λ r. ⌜ (entries r ≡ changed g job (now (img .entry)) level (naming root)) × (r .count ≤ 256) ×
         (now (img .exit) ≡ now (img .entry)) ⌝ }
 {
     let none = Budget {
@@ -363,7 +363,7 @@ fn look(g: Geometry, img: &mut [u8], job: Job, level: u32, root: u32) -> Node
 // The stores of a delete's job where the root stays.
 fn store_path(g: Geometry, img: &mut [u8], b: Budget, job: Job, level: u32, root: u32) -> Budget
     requires { ⌜ (level ≤ 100) × (pageBytes g ≤ longestPage) × (job .seq < fourBytes) × (Countable b) ⌝ }
-    ensures { λ r. ⌜ Ran g (stayStores g job level (rootAt root) (now (img .entry))) b r (now (img .entry))
+    ensures { λ r. ⌜ Ran g (stayStores g job level (naming root) (now (img .entry))) b r (now (img .entry))
         (now (img .exit)) ⌝ }
 {
     let u = climb(g, &mut *img, b, job, level, Entry { key: 0, addr: root });
@@ -376,7 +376,7 @@ fn store_path(g: Geometry, img: &mut [u8], b: Budget, job: Job, level: u32, root
 // All stores of a delete's job: the path's, or where the tree shrinks the new root's alone.
 fn delete_with(g: Geometry, img: &mut [u8], b: Budget, job: Job, level: u32, root: u32) -> Budget
     requires { ⌜ (level ≤ 100) × (pageBytes g ≤ longestPage) × (job .seq < fourBytes) × (Countable b) ⌝ }
-    ensures { λ r. ⌜ Ran g (removeStores g job level (rootAt root) (now (img .entry))) b r (now (img .entry))
+    ensures { λ r. ⌜ Ran g (removeStores g job level (naming root) (now (img .entry))) b r (now (img .entry))
         (now (img .exit)) ⌝ }
 {
     let c = look(g, &mut *img, job, level, root);

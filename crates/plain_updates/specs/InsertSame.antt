@@ -14,7 +14,7 @@ use Rattle.geometry.specs.Shape.{Core}
 use Rattle.geometry.specs.Tests.{bit}
 use Rattle.geometry.specs.Bounds.{fourBytes}
 use Rattle.model.specs.Image.{Chip, theRoot}
-use Rattle.model.specs.Tree.{next}
+use Rattle.model.specs.Tree.{following}
 use Rattle.model.specs.Stores.{Store}
 use Rattle.model.specs.Edit.{putIn}
 use Rattle.model.specs.Plain.{both, Plan, laid, plainCuts, plainGrows, plainNeeds, leftPage, rightPage, plainList, plansTo, crownPlans, insertPlans}
@@ -86,7 +86,7 @@ module _ (g : Geometry) (core : Core g) (n k a : ℕ) (k-low : k < fourBytes) (c
   whole = record { level = h; list = lists h }
 
   abbrev crown : Plan
-  crown = record { level = suc h; list = both (leftPage g n c cuts h) (rightPage g n c cuts h) (half g h) (next (lists h) 0) (lists h) }
+  crown = record { level = suc h; list = both (leftPage g n c cuts h) (rightPage g n c cuts h) (half g h) (following (lists h) 0) (lists h) }
 
   abbrev stores : List Store
   stores = storesTo g page seq cuts lists (c .level) ++ rootStores g page seq cuts h (lists h)

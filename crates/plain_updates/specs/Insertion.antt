@@ -17,7 +17,7 @@ use Rattle.geometry.specs.Shape.{Core, plain-core}
 use Rattle.geometry.specs.Bounds.{fourBytes}
 use Rattle.model.specs.Count.{count}
 use Rattle.model.specs.Image.{Chip, chipOf, pagesOf, theRoot, maxSeq}
-use Rattle.model.specs.Tree.{mapOf, next, chosen, sought}
+use Rattle.model.specs.Tree.{mapOf, following, chosen, sought}
 use Rattle.model.specs.Next.{ahead, nth}
 use Rattle.model.specs.Stores.{programs, erases}
 use Rattle.model.specs.Edit.{put, putIn, splits}
@@ -174,10 +174,10 @@ module _ (g : Geometry) (core : Core g) (single : Single g)
         es = lists (suc (c .level))
 
         crown : List Entry
-        crown = both (leftPage g n c cuts l) (rightPage g n c cuts l) (half g l) (next es 0) es
+        crown = both (leftPage g n c cuts l) (rightPage g n c cuts l) (half g l) (following es 0) es
 
         crown-fits : All Fits crown
-        crown-fits = both-fits (leftPage g n c cuts l) (rightPage g n c cuts l) (half g l) (next es 0) es (left-low l) (right-low l)
+        crown-fits = both-fits (leftPage g n c cuts l) (rightPage g n c cuts l) (half g l) (following es 0) es (left-low l) (right-low l)
             (next-fits es (lists-fit l)) (lists-fit l)
 
         go : suc l ≤ g .top → (t : Bool) → All (Buildable g) (pick t [] (record { level = suc l; list = crown } ∷ []))

@@ -12,7 +12,7 @@ use Rattle.geometry.specs.declared.Finding.{Finding}
 use Rattle.geometry.specs.declared.Finding.the-variants.{Good, Bad}
 use Rattle.geometry.specs.Tests.{_&_, and-left, and-right}
 use Rattle.model.specs.Image.{Nodes, Chip}
-use Rattle.model.specs.Tree.{next, gather, Place, places}
+use Rattle.model.specs.Tree.{following, gather, Place, places}
 use Rattle.model.specs.Rules.{first, names, rising, own, ownRoot, judgeEntries, judgeNode, r5}
 use Rattle.theory_counts.specs.Lowest.{bad-good, good-unless}
 use Rattle.theory_lists.specs.All.{All, all-append}
@@ -47,9 +47,9 @@ module _ (g : Geometry) (er : ℕ → Bool) (r : Nodes) (t m : ℕ) (le : t ≤ 
   unfolding gather judgeEntries
   below-entries l [] hi each ok h = tt
   below-entries l (e ∷ es) hi each ok h =
-      let two = good-first (judgeNode g er r t l (e .addr) (e .key) (next es hi)) (judgeEntries (judgeNode g er r t l) es hi) h in
+      let two = good-first (judgeNode g er r t l (e .addr) (e .key) (following es hi)) (judgeEntries (judgeNode g er r t l) es hi) h in
       all-append Below (places r l e) (gather (places r l) es)
-      (each e (e .key) (next es hi) (two .0) (λ k. (let w = names-below er t l (e .addr) (ok .0) k in omega (arith, w, le))))
+      (each e (e .key) (following es hi) (two .0) (λ k. (let w = names-below er t l (e .addr) (ok .0) k in omega (arith, w, le))))
       (below-entries l es hi each (ok .1) (two .1))
 
   below-node : (l : ℕ) (e : Entry) (lo hi : ℕ) → judgeNode g er r t l (e .addr) lo hi ≡ Good → (1 ≤ l → e .addr < m) → All Below (places r l e)

@@ -16,7 +16,7 @@ use Rattle.model.specs.Bytes.{u32At, entriesAt, nodePlace, nodeCount, nodeAt}
 use Rattle.model.specs.Image.{Nodes}
 use Rattle.model.specs.Tree.{gather, Place, places, placesOf, lowLevel}
 use Rattle.model.specs.Rules.{namesPage, loose, lowestPage, r6}
-use Rattle.chip_read.specs.Chip.{named, chipWith}
+use Rattle.chip_read.specs.Chip.{naming, chipWith}
 use Rattle.chip_read.specs.Node.{node-read, entries-start, entries-turn, entries-past, addr-is}
 use Rattle.theory_counts.specs.Lowest.{unless-true, unless-false}
 use Rattle.theory_counts.specs.Least.{by-lt}
@@ -110,16 +110,16 @@ module _ (g : Geometry) (img tbl : List ℕ) (l p low : ℕ) where
   abbrev test : Place → Bool
   test = looseAt (nodeAt g img) tbl
 
-  lowest-one : l ≡ 1 → low ≡ lowestPage test (places (nodeAt g img) l (named p)) low
+  lowest-one : l ≡ 1 → low ≡ lowestPage test (places (nodeAt g img) l (naming p)) low
   lowest-one h =
       sym (ap (λ (xs : List Place). lowestPage test xs low) (rest-leaf g img l p h) ∙ lowest-skip (nodeAt g img) tbl l p [] low (omega arith) ∙ lowest-nil test low)
 
-  pub lowest-none : l ≤ 1 → low ≡ lowestPage test (places (nodeAt g img) l (named p)) low
+  pub lowest-none : l ≤ 1 → low ≡ lowestPage test (places (nodeAt g img) l (naming p)) low
   unfolding lowestPage places
   lowest-none h = by-lt l 1 (λ k. (let e : l ≡ 0 = omega arith in rw e refl)) (λ k. lowest-one (omega arith))
 
   module _ (m : ℕ) (em : m ≡ lowered (nodeAt g img) tbl l p low) where
-    pub lowest-leaves : l ≡ 2 → m ≡ lowestPage test (places (nodeAt g img) l (named p)) low
+    pub lowest-leaves : l ≡ 2 → m ≡ lowestPage test (places (nodeAt g img) l (naming p)) low
     unfolding rest
     lowest-leaves h =
         let f : l - 1 ≡ 1 = omega arith in
@@ -129,7 +129,7 @@ module _ (g : Geometry) (img tbl : List ℕ) (l p low : ℕ) where
 
     pub lowest-end : (at n i v : ℕ) → at ≡ nodePlace g p l → n ≡ nodeCount g img p l
         → lowestPage test (rest g img l at n 0) m ≡ lowestPage test (rest g img l at n i) v → n ≤ i → 1 < l
-        → v ≡ lowestPage test (places (nodeAt g img) l (named p)) low
+        → v ≡ lowestPage test (places (nodeAt g img) l (naming p)) low
     lowest-end at n i v ea en inv h some =
         sym (ap (λ (xs : List Place). lowestPage test xs low) (rest-start g img l p at n ea en (omega arith))
         ∙ lowest-cons (nodeAt g img) tbl l p (rest g img l at n 0) low some
@@ -137,11 +137,11 @@ module _ (g : Geometry) (img tbl : List ℕ) (l p low : ℕ) where
         ∙ ap (λ (xs : List Place). lowestPage test xs v) (rest-end g img l at n i h) ∙ lowest-nil test v)
 
 pub lowest-go : (g : Geometry) (img tbl : List ℕ) (l at n i a w t u : ℕ) → w ≡ lowestPage (looseAt (nodeAt g img) tbl) (rest g img l at n i) t → a ≡ u32At img (at + 8 * i + 4)
-    → u ≡ lowestPage (looseAt (nodeAt g img) tbl) (places (nodeAt g img) (l - 1) (named a)) t → i < n
+    → u ≡ lowestPage (looseAt (nodeAt g img) tbl) (places (nodeAt g img) (l - 1) (naming a)) t → i < n
     → w ≡ lowestPage (looseAt (nodeAt g img) tbl) (rest g img l at n (i + 1)) u
 lowest-go g img tbl l at n i a w t u e ea eu h =
     e ∙ ap (λ (xs : List Place). lowestPage (looseAt (nodeAt g img) tbl) xs t) (rest-turn g img l at n i h)
-    ∙ rw (← ea) (lowest-append (looseAt (nodeAt g img) tbl) (places (nodeAt g img) (l - 1) (named a)) (rest g img l at n (i + 1)) t)
+    ∙ rw (← ea) (lowest-append (looseAt (nodeAt g img) tbl) (places (nodeAt g img) (l - 1) (naming a)) (rest g img l at n (i + 1)) t)
     ∙ ap (λ (v : ℕ). lowestPage (looseAt (nodeAt g img) tbl) (rest g img l at n (i + 1)) v) (sym eu)
 
 -- R6
@@ -151,13 +151,13 @@ lowest-same f h [] low e = refl
 lowest-same f h (x ∷ xs) low e = rw (e .0) (lowest-same f h xs (pick (h x & ltb (x .page) low) (x .page) low) (e .1))
 
 module _ (g : Geometry) (img tbl : List ℕ) (t l p q : ℕ) (m : Marked (chipWith g img l p) tbl) (w : Inside (chipWith g img l p) (length tbl))
-    (e : q ≡ lowestPage (looseAt (nodeAt g img) tbl) (places (nodeAt g img) (l + 1) (named p)) t) where
+    (e : q ≡ lowestPage (looseAt (nodeAt g img) tbl) (places (nodeAt g img) (l + 1) (naming p)) t) where
   all : List Place
   all = placesOf (chipWith g img l p)
 
   some-level : (x : Place) → Mem x all → 1 ≤ lowLevel all (x .page)
   unfolding all
-  some-level x y = all-get Level _ all (place-levels (nodeAt g img) (suc l) (named p)) (low-is all (x .page) (mem-live x all y) .0)
+  some-level x y = all-get Level _ all (place-levels (nodeAt g img) (suc l) (naming p)) (low-is all (x .page) (mem-live x all y) .0)
 
   same-at : (x : Place) → (x .page < length tbl) × Mem x all → looseAt (nodeAt g img) tbl x ≡ loose (nodeAt g img) all x
   unfolding all looseAt looseIn loose

@@ -5,7 +5,7 @@ ghost use lib.ListN.{length};
 ghost use Rattle.model.specs.Bytes.{entriesAt, nodeAt};
 ghost use Rattle.model.specs.Tree.{places};
 ghost use Rattle.model.specs.Rules.{namesPage, lowestPage, r6};
-ghost use Rattle.chip_read.specs.Chip.{named, chipWith};
+ghost use Rattle.chip_read.specs.Chip.{naming, chipWith};
 ghost use Rattle.live_walk.specs.Table.{Marked};
 ghost use Rattle.sound_links.specs.Loose.{looseIn, looseAt, lowered, Inside};
 use geometry::Finding;
@@ -55,7 +55,7 @@ fn lower_loose(g: Geometry, img: &[u8], table: &[u8], level: u32, page: u32, low
 // looked at.
 fn lowest_loose(g: Geometry, img: &[u8], table: &[u8], level: u32, page: u32, lowest: u32) -> u32
     ensures { λ r.
-        ⌜ r ≡ lowestPage (looseAt (nodeAt g (now (img .entry))) (now (table .entry))) (places (nodeAt g (now (img .entry))) level (named page)) lowest ⌝ }
+        ⌜ r ≡ lowestPage (looseAt (nodeAt g (now (img .entry))) (now (table .entry))) (places (nodeAt g (now (img .entry))) level (naming page)) lowest ⌝ }
 {
     if level <= 1 {
         return lowest;

@@ -11,7 +11,7 @@ use Rattle.geometry.specs.declared.Finding.the-variants.{Good, Bad}
 use Rattle.model.specs.Bytes.{u32At, nodePlace, nodeCount, nodeAt}
 use Rattle.model.specs.Image.{Chip}
 use Rattle.model.specs.Tree.{gather, Place, places, placesOf}
-use Rattle.chip_read.specs.Chip.{entryAt, named, chipWith}
+use Rattle.chip_read.specs.Chip.{entryAt, naming, chipWith}
 use Rattle.chip_read.specs.Node.{entries-turn, entries-past, addr-is}
 use Rattle.theory_counts.specs.Lowest.{bad-good}
 use Rattle.live_walk.specs.Table.{noteOne, noteAll, rest, Zeros}
@@ -44,28 +44,28 @@ module _ (g : Geometry) (img : List ℕ) (l at n : ℕ) where
 pub left-leaves : (g : Geometry) (img : List ℕ) (l at n : ℕ) (t u : List ℕ) (v : Finding) → Noted v t u (left g img 1 at n 0) → l ≡ 1 → Noted v t u (left g img l at n 0)
 left-leaves g img l at n t u v x e = rw e x
 
-pub noted-at : (g : Geometry) (img : List ℕ) (l at i a : ℕ) (t u : List ℕ) (v : Finding) → a ≡ u32At img (at + 8 * i + 4) → Noted v t u (places (nodeAt g img) l (named a))
+pub noted-at : (g : Geometry) (img : List ℕ) (l at i a : ℕ) (t u : List ℕ) (v : Finding) → a ≡ u32At img (at + 8 * i + 4) → Noted v t u (places (nodeAt g img) l (naming a))
     → Noted v t u (placesAt g img l at i)
 unfolding placesAt
 noted-at g img l at i a t u v ea x = rw (← ea) x
 
 -- a node
 module _ (g : Geometry) (img : List ℕ) (l p : ℕ) where
-  pub node-none : (t : List ℕ) (v : Finding) → l ≡ 0 → Noted v t t (places (nodeAt g img) l (named p))
+  pub node-none : (t : List ℕ) (v : Finding) → l ≡ 0 → Noted v t t (places (nodeAt g img) l (naming p))
   unfolding places noteAll
   node-none t v e = rw e (record { noted = λ z. refl })
 
-  pub node-leaf : (t u : List ℕ) (v : Finding) → u ≡ noteOne t p l → l ≡ 1 → Noted v t u (places (nodeAt g img) l (named p))
+  pub node-leaf : (t u : List ℕ) (v : Finding) → u ≡ noteOne t p l → l ≡ 1 → Noted v t u (places (nodeAt g img) l (naming p))
   unfolding noteAll
   node-leaf t u v eu e = record { noted = λ z. eu ∙ sym (rw (rest-leaf g img l p e) refl) }
 
   node-under : (at n : ℕ) → at ≡ nodePlace g p l → n ≡ nodeCount g img p l → (l ≡ 0 → ⊥)
-      → places (nodeAt g img) l (named p) ≡ record { page = p; level = l } ∷ left g img (l - 1) at n 0
+      → places (nodeAt g img) l (naming p) ≡ record { page = p; level = l } ∷ left g img (l - 1) at n 0
   unfolding left rest
   node-under at n ea en h = rest-start g img l p at n ea en h
 
   pub node-noted : (at n : ℕ) (t u w : List ℕ) (v : Finding) → Noted v u w (left g img (l - 1) at n 0) → u ≡ noteOne t p l → at ≡ nodePlace g p l → n ≡ nodeCount g img p l → (l ≡ 0 → ⊥)
-      → Noted v t w (places (nodeAt g img) l (named p))
+      → Noted v t w (places (nodeAt g img) l (naming p))
   node-noted at n t u w v x eu ea en h = record {
     noted = λ z. x .noted z ∙ ap (λ (y : List ℕ). noteAll (left g img (l - 1) at n 0) y) eu
         ∙ sym (ap (λ (xs : List Place). noteAll xs t) (node-under at n ea en h) ∙ note-cons (record { page = p; level = l }) (left g img (l - 1) at n 0) t);

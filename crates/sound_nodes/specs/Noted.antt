@@ -7,9 +7,9 @@ use Rattle.geometry.specs.declared.Finding.{Finding}
 use Rattle.geometry.specs.declared.Finding.the-variants.{Good}
 use Rattle.model.specs.Bytes.{u32At, entriesAt, nodeAt}
 use Rattle.model.specs.Image.{Chip}
-use Rattle.model.specs.Tree.{next, gather, Place, places}
+use Rattle.model.specs.Tree.{following, gather, Place, places}
 use Rattle.model.specs.Rules.{judgeEntries}
-use Rattle.chip_read.specs.Chip.{named}
+use Rattle.chip_read.specs.Chip.{naming}
 use Rattle.live_walk.specs.Table.{noteAll, Marked}
 
 -- the live places at level l and below, under the entries that are left after i of the n from byte `at`
@@ -22,11 +22,11 @@ judgedFrom sub img at n hi i = judgeEntries sub (entriesAt img (at + 8 * i) (n -
 
 -- what the node under the i-th of them gives
 unfoldable pub judgedAt : (ℕ → ℕ → ℕ → Finding) → List ℕ → ℕ → ℕ → ℕ → ℕ → Finding
-judgedAt sub img at n hi i = sub (u32At img (at + 8 * i + 4)) (u32At img (at + 8 * i)) (next (entriesAt img (at + 8 * (i + 1)) (n - (i + 1))) hi)
+judgedAt sub img at n hi i = sub (u32At img (at + 8 * i + 4)) (u32At img (at + 8 * i)) (following (entriesAt img (at + 8 * (i + 1)) (n - (i + 1))) hi)
 
 -- the live places at level l and below, under the i-th of them
 unfoldable pub placesAt : Geometry → List ℕ → ℕ → ℕ → ℕ → List Place
-placesAt g img l at i = places (nodeAt g img) l (named (u32At img (at + 8 * i + 4)))
+placesAt g img l at i = places (nodeAt g img) l (naming (u32At img (at + 8 * i + 4)))
 
 -- where all is good the places are noted
 pub record Noted (v : Finding) (before after : List ℕ) (xs : List Place) : Type 0 where

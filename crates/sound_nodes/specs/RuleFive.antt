@@ -19,7 +19,7 @@ use Rattle.geometry.specs.Geometry.{slotsOf, rootMost}
 use Rattle.geometry.specs.Tests.{pick, _&_, and-true, and-false}
 use Rattle.model.specs.Bytes.{u32At, erased, nodePlace, nodeCount, entriesAt, nodeAt}
 use Rattle.model.specs.Image.{Nodes}
-use Rattle.model.specs.Tree.{next}
+use Rattle.model.specs.Tree.{following}
 use Rattle.model.specs.Rules.{first, unless, names, rising, own, ownRoot, judgeEntries, judgeNode, r5}
 use Rattle.sound_leaves.specs.Leaves.{anyPage}
 use Rattle.sound_nodes.specs.Programmed.{Programmed}
@@ -28,11 +28,11 @@ use Rattle.chip_read.specs.Chip.{chipWith}
 use Rattle.chip_read.specs.Node.{node-length, node-read, entries-start, entries-step, entries-none, entries-turn, entries-past, key-is, addr-is}
 use Rattle.theory_counts.specs.Lowest.{unless-true, unless-false}
 
--- the next entry's key
-pub next-none : (img : List ℕ) (at n hi : ℕ) → n ≡ 0 → hi ≡ next (entriesAt img at n) hi
+-- the following entry's key
+pub next-none : (img : List ℕ) (at n hi : ℕ) → n ≡ 0 → hi ≡ following (entriesAt img at n) hi
 next-none img at n hi e = sym (rw (entries-none img at n e) refl)
 
-pub next-some : (img : List ℕ) (at n hi k : ℕ) → k ≡ u32At img at → (n ≡ 0 → ⊥) → k ≡ next (entriesAt img at n) hi
+pub next-some : (img : List ℕ) (at n hi k : ℕ) → k ≡ u32At img at → (n ≡ 0 → ⊥) → k ≡ following (entriesAt img at n) hi
 next-some img at n hi k e h = e ∙ sym (rw (entries-step img at n h) (key-is img at))
 
 -- what an entry may name
@@ -225,7 +225,7 @@ module _ (sub : ℕ → ℕ → ℕ → Finding) (img : List ℕ) (at n hi : ℕ
       judge-good e = judge-turn ∙ rw e refl
 
 pub judge-at : (sub : ℕ → ℕ → ℕ → Finding) (img : List ℕ) (at n hi i k nx a : ℕ) (v : Finding) → k ≡ u32At img (at + 8 * i) → a ≡ u32At img (at + 8 * i + 4)
-    → nx ≡ next (entriesAt img (at + 8 * (i + 1)) (n - (i + 1))) hi → v ≡ sub a k nx → v ≡ judgedAt sub img at n hi i
+    → nx ≡ following (entriesAt img (at + 8 * (i + 1)) (n - (i + 1))) hi → v ≡ sub a k nx → v ≡ judgedAt sub img at n hi i
 unfolding judgedAt
 judge-at sub img at n hi i k nx a v ek ea en ev = ev ∙ rw (ek, ea, en) refl
 

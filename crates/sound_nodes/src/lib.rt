@@ -4,9 +4,9 @@ ghost use Prim.Native.Nat.{_+_, _*_, _-_, _/_, _%_, _≤_, _<_};
 ghost use lib.Dec.{leb};
 ghost use lib.ListN.{length, getD};
 ghost use Rattle.model.specs.Bytes.{erased, entriesAt, nodeAt};
-ghost use Rattle.model.specs.Tree.{next, places, placesOf};
+ghost use Rattle.model.specs.Tree.{following, places, placesOf};
 ghost use Rattle.model.specs.Rules.{names, rising, own, ownRoot, judgeEntries, judgeNode, r5};
-ghost use Rattle.chip_read.specs.Chip.{named, chipWith};
+ghost use Rattle.chip_read.specs.Chip.{naming, chipWith};
 ghost use Rattle.sound_nodes.specs.Programmed.{Programmed};
 ghost use Rattle.sound_nodes.specs.Noted.{left, judgedAt, placesAt, Noted, Marks};
 ghost use Rattle.sound_nodes.specs.RuleFive.{rootLeast};
@@ -15,7 +15,7 @@ use geometry::Geometry;
 
 // The key below which an entry stays: that of the entry at `at`, or the node's bound if none is left.
 fn next_key(img: &[u8], at: usize, left: usize, hi: u64) -> u64
-    ensures { λ r. ⌜ r ≡ next (entriesAt (now (img .entry)) at left) hi ⌝ }
+    ensures { λ r. ⌜ r ≡ following (entriesAt (now (img .entry)) at left) hi ⌝ }
 {
     if left == 0 {
         return hi;
@@ -182,7 +182,7 @@ fn judge_leaf(
     hi: u64,
 ) -> Finding
     ensures { λ r. ⌜ r ≡ judgeNode g (erased g (now (img .entry))) (nodeAt g (now (img .entry))) pages 1 page lo hi ⌝ }
-    ensures { λ r. ⌜ Noted r (now (table .entry)) (now (table .exit)) (places (nodeAt g (now (img .entry))) 1 (named page)) ⌝ }
+    ensures { λ r. ⌜ Noted r (now (table .entry)) (now (table .exit)) (places (nodeAt g (now (img .entry))) 1 (naming page)) ⌝ }
     ensures { λ _. ⌜ length (now (table .exit)) ≡ length (now (table .entry)) ⌝ }
 {
     if !leaf_own(g, img, pages, page, lo, hi) {
@@ -211,7 +211,7 @@ fn leaf_at(
     let key = sound_leaves::key_at(img, at + 8 * i);
     let page = chip_read::read_u32(img, at + 8 * i + 4);
     let next = next_key(img, at + 8 * (i + 1), n - (i + 1), hi);
-    judge_leaf(g, img, &mut *table, pages, page, key, next)
+    judge_leaf(g, img, &mut *table, pages, page, key, following)
 }
 
 // The first bad page of the leaves that n entries from byte `at` name.
@@ -258,7 +258,7 @@ fn judge_node(
 ) -> Finding
     requires { ⌜ (level < 256) × Programmed g (now img) pages (now programmed) ⌝ }
     ensures { λ r. ⌜ r ≡ judgeNode g (erased g (now (img .entry))) (nodeAt g (now (img .entry))) pages level page lo hi ⌝ }
-    ensures { λ r. ⌜ Noted r (now (table .entry)) (now (table .exit)) (places (nodeAt g (now (img .entry))) level (named page)) ⌝ }
+    ensures { λ r. ⌜ Noted r (now (table .entry)) (now (table .exit)) (places (nodeAt g (now (img .entry))) level (naming page)) ⌝ }
     ensures { λ _. ⌜ length (now (table .exit)) ≡ length (now (table .entry)) ⌝ }
 {
     if level == 0 {
@@ -305,7 +305,7 @@ fn node_under(
         below,
         page,
         key,
-        next,
+        following,
         programmed,
     )
 }

@@ -15,7 +15,7 @@ use Rattle.geometry.specs.Shape.{Shape, shape-core}
 use Rattle.geometry.specs.Bounds.{fourBytes}
 use Rattle.model.specs.Count.{count}
 use Rattle.model.specs.Image.{Nodes, Chip, theRoot}
-use Rattle.model.specs.Tree.{under, places, placesOf, live, mapOf, next, chosen, sought}
+use Rattle.model.specs.Tree.{under, places, placesOf, live, mapOf, following, chosen, sought}
 use Rattle.model.specs.Next.{ahead, taken}
 use Rattle.model.specs.Edit.{remove, removeIn, kept, Top, collapse}
 use Rattle.model.specs.Update.{isNone, rootNode, sidePage, deleteList, deleteTop, deletePart}
@@ -183,7 +183,7 @@ module _ (g : Geometry) (shape : Shape g) (n k : ℕ) (k-low : k < fourBytes) (c
         let z = ap length e in
         let made : DeleteMade r s k N (suc l) (chosen k ls) =
         none-made k N fourBytes (half g) (rootMost g) r s fit fit′ fit-N
-        (keep g (shape-core g shape) n c (good .r2) 1 free) stays k-low (suc l) (next (sp .post) fourBytes) (chosen k ls) (sp .under) (sp .here)
+        (keep g (shape-core g shape) n c (good .r2) 1 free) stays k-low (suc l) (following (sp .post) fourBytes) (chosen k ls) (sp .under) (sp .here)
         (none-left (deleted r k N (suc l) (chosen k ls)) (omega (arith, w, z, one, b))) in
         let one′ : length (atRoot (removeIn k) (deleted r k N (suc l)) k (suc l) ls) ≡ 1 = omega (arith, z, one) in
         subst (λ (x : List Entry). s N (suc (collapse r (suc l) x .level)) ≡ collapse r (suc l) x .list → Proper fit′ roomAt (rootMost g) fourBytes s

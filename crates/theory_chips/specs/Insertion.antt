@@ -15,7 +15,7 @@ use Rattle.geometry.specs.Shape.{Shape, halved, shape-core}
 use Rattle.geometry.specs.Bounds.{fourBytes}
 use Rattle.model.specs.Count.{count}
 use Rattle.model.specs.Image.{Nodes, Chip, theRoot}
-use Rattle.model.specs.Tree.{gather, under, places, placesOf, live, mapOf, next, chosen, find, sought}
+use Rattle.model.specs.Tree.{gather, under, places, placesOf, live, mapOf, following, chosen, find, sought}
 use Rattle.model.specs.Next.{ahead, taken}
 use Rattle.model.specs.Edit.{put, putIn, pathHalf, sideHalf, two, named, pathPart, gains, splits}
 use Rattle.model.specs.Update.{isNone, rootNode, rootGains, fills, needs, tooHigh, insertList, crownPart, insertPart, crownHeight, sidePage}
@@ -305,10 +305,10 @@ module _ (g : Geometry) (shape : Shape g) (n k a : ℕ) (k-low : k < fourBytes) 
         (ap (pathHalf k (2 * h)) root-list) in
         let other : s (side (suc l)) (suc l) ≡ sideHalf k (2 * h) rootList = at-side (suc l) (omega arith) lt ∙ rw small
         (ap (sideHalf k (2 * h)) root-list) in
-        let crown : s N (suc (suc l)) ≡ two k N (side (suc l)) (2 * h) (next rootList 0) rootList =
+        let crown : s N (suc (suc l)) ≡ two k N (side (suc l)) (2 * h) (following rootList 0) rootList =
         at-N (suc (suc l)) (omega arith) (omega (arith, u .0))
         ∙ rw (small′, e, ne, eq-eqb (suc (suc l)) (suc (suc l)) refl)
-        (ap (λ x. two k N (side (suc l)) (2 * h) (next x 0) x) root-list) in
+        (ap (λ x. two k N (side (suc l)) (2 * h) (following x 0) x) root-list) in
         let w = insert-grow N fourBytes (half g) (rootMost g) r s fit fit′ (λ l. fit-side g (shape-core g shape) n c (good .r2) m free m (suc l) some-m
         (omega arith)) (keep g (shape-core g shape) n c (good .r2) m free) stays
         (λ l. new-side g (shape-core g shape) n c (good .r2) m free m l some-m (omega arith))
@@ -334,14 +334,14 @@ module _ (g : Geometry) (shape : Shape g) (n k a : ℕ) (k-low : k < fourBytes) 
             nodes-are = (let x = ap (λ (d : List Entry). length (gather (places s (suc l)) d)) crown in
                 let y = two-nodes k a N fourBytes side (half g) (rootMost g) r s fit fit′ Cut
                 (λ l. fit-side g (shape-core g shape) n c (good .r2) m free m (suc l)
-                some-m (omega arith)) tt (keep g (shape-core g shape) n c (good .r2) m free) stays k-low l (2 * h) (next rootList 0) rootList
+                some-m (omega arith)) tt (keep g (shape-core g shape) n c (good .r2) m free) stays k-low l (2 * h) (following rootList 0) rootList
                 (path, other, fit-side g (shape-core g shape) n c (good .r2) m free (suc l) (suc l) (omega arith) (omega (arith, lt))) in
                 omega (arith, x, y, list-nodes, needs-is, ap bit e));
             filled = λ f. subst (λ (d : List Entry). All (Filled (half g) s) (gather (places s (suc l)) d)) (sym crown)
                 (grown-filled k a N fourBytes side (half g) (rootMost g) r s fit fit′ Cut (λ l. fit-side g (shape-core g shape) n c (good .r2) m free m (suc l)
                 some-m (omega arith)) tt (keep g (shape-core g shape) n c (good .r2) m free) stays k-low l rootList
                 (path, other, fit-side g (shape-core g shape) n c (good .r2) m free (suc l) (suc l) (omega arith) (omega (arith, lt)))
-                (sym (ap length root-list) ∙ u .1) (next rootList 0) (list-filled f));
+                (sym (ap length root-list) ∙ u .1) (following rootList 0) (list-filled f));
           },
         )
 

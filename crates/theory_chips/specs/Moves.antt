@@ -15,7 +15,7 @@ use Rattle.geometry.specs.Shape.{Shape, shape-core}
 use Rattle.geometry.specs.Bounds.{fourBytes}
 use Rattle.model.specs.Count.{count, peak}
 use Rattle.model.specs.Image.{Chip, theRoot}
-use Rattle.model.specs.Tree.{mapOf, placesOf, live, lowLevel, next, chosen, find}
+use Rattle.model.specs.Tree.{mapOf, placesOf, live, lowLevel, following, chosen, find}
 use Rattle.model.specs.Next.{firstIn, ahead, nextBlock, nextPage, after}
 use Rattle.model.specs.Edit.{splice, renamed, same}
 use Rattle.model.specs.Collect.{moveKey, movePart}
@@ -103,7 +103,7 @@ module _ (g : Geometry) (shape : Shape g) (n : ℕ) (c : Chip) (good : Whole g n
   fit = fitOf (g .pages * n) (c .er)
 
   pub k-low : k < fourBytes
-  k-low = all-get (λ x. next (c .nodes (x .page) (x .level)) 0 < fourBytes) (record { page = p; level = a }) (placesOf c)
+  k-low = all-get (λ x. following (c .nodes (x .page) (x .level)) 0 < fourBytes) (record { page = p; level = a }) (placesOf c)
       (root-first fit (λ l. 2 * half g l) (rootMost g) (c .nodes) (c .level) (c .root) fourBytes (omega arith) (good .sound .rooted)) (low .0)
 
   some-root : 1 ≤ c .level → 0 < length es

@@ -16,7 +16,7 @@ use Rattle.geometry.specs.Shape.{Core}
 use Rattle.geometry.specs.Bounds.{fourBytes}
 use Rattle.model.specs.Count.{count}
 use Rattle.model.specs.Image.{Nodes, Chip, theRoot}
-use Rattle.model.specs.Tree.{under, mapOf, next, chosen, sought}
+use Rattle.model.specs.Tree.{under, mapOf, following, chosen, sought}
 use Rattle.model.specs.Next.{ahead, nth, taken}
 use Rattle.model.specs.Edit.{remove, removeIn, Top, collapse}
 use Rattle.model.specs.Update.{isNone, rootNode, deleteList}
@@ -121,7 +121,7 @@ module _ (g : Geometry) (core : Core g) (n k : ℕ) (k-low : k < fourBytes) (c :
       ))))
       ∙ count-all (c .level)
 
-  -- the new root then goes to the next page
+  -- the new root then goes to the following page
   first-page : 1 ≤ c .level → length (lists (suc (c .level))) ≡ 1 → P (suc (top .level)) ≡ nth (g .pages) n
       (ahead g n c) 0
   unfolding plainTop keptPage
@@ -218,7 +218,7 @@ module _ (g : Geometry) (core : Core g) (n k : ℕ) (k-low : k < fourBytes) (c :
         let t = collapse r (suc l) (atRoot (removeIn k) (deletedOn r k P (suc l)) k (suc l) ls) in
         let N : ℕ → ℕ → Type 0 = λ l q. (l ≡ suc (t .level)) × Coming 0 q in
         let made : KeptMade r s k P fit′ N (suc l) (chosen k ls) = none-held k P (half g) r fit (KeptHeld P s fit′ N)
-        (λ l e c i j. absurd (omega (arith, i, j))) (suc l) (next (sp .post) fourBytes) (chosen k ls) (sp .under) (sp .here)
+        (λ l e c i j. absurd (omega (arith, i, j))) (suc l) (following (sp .post) fourBytes) (chosen k ls) (sp .under) (sp .here)
         (none-left (deletedOn r k P (suc l) (chosen k ls)) (omega (arith, w, z, one, b))) in
         let one′ : length (atRoot (removeIn k) (deletedOn r k P (suc l)) k (suc l) ls) ≡ 1 = omega (arith, z, one) in
         subst (λ (x : List Entry). Coming 0 (P (suc (collapse r (suc l) x .level)))

@@ -11,7 +11,7 @@ use Rattle.geometry.specs.declared.Entry.{Entry}
 use Rattle.geometry.specs.Tests.{pick, bit}
 use Rattle.model.specs.Count.{count}
 use Rattle.model.specs.Image.{Nodes}
-use Rattle.model.specs.Tree.{next, place, chosen}
+use Rattle.model.specs.Tree.{following, place, chosen}
 use Rattle.model.specs.Edit.{swap, splice, edited, onPath, remove, removeIn, kept}
 use Rattle.model.specs.Plain.{keptOn, noneLeft}
 use Rattle.theory_counts.specs.Tally.{count-most}
@@ -125,7 +125,7 @@ module _ (fit : ℕ → ℕ → Type 0) (room : ℕ → ℕ) (r : Nodes) (k : �
       let o = sp .here in
       let s′ : 1 ≤ length (lists l x j) = subst (λ (m : List Entry). 1 ≤ length m) (below l j e d) s in
       let i : 1 ≤ length (lists l x (suc l)) = by-eq j (suc l) (λ z. subst (λ m. 1 ≤ length (lists l x m)) z s′)
-      (λ z. let w = above-left l (next (sp .post) hi) x (sp .under) (λ _. o .1) (o .4) j b (omega (arith, d, z)) s′ in
+      (λ z. let w = above-left l (following (sp .post) hi) x (sp .under) (λ _. o .1) (o .4) j b (omega (arith, d, z)) s′ in
       omega (arith, w, o .1)) in
       let one = kept-one (n (suc l)) (suc l) x (edited r k (removeIn k) (keptOn n) l x) (subst (λ (m : List Entry). 1 ≤ length m) (top l x) i) in
       let w = splice-length (Ok fit room r (suc l)) (λ x. keptOn n (suc l) x (edited r k (removeIn k) (keptOn n) l x)) k hi es (c (omega arith)) q h in
@@ -146,6 +146,6 @@ module _ (fit : ℕ → ℕ → Type 0) (room : ℕ → ℕ) (r : Nodes) (k : �
       let s′ : 1 ≤ length (lists l x j) = subst (λ (m : List Entry). 1 ≤ length m) (below l j e (omega (arith, d, u))) s in
       subst (λ (m : List Entry). 1 ≤ length m) (sym (below l i e u)) (by-eq i j (λ z. subst (λ m. 1 ≤ length (lists l x m)) (sym z) s′)
       (λ z. by-eq i (suc l)
-      (λ y. let w = above-left l (next (sp .post) hi) x (sp .under) (λ _. o .1) (o .4) j b (omega (arith, d, z, y)) s′ in
+      (λ y. let w = above-left l (following (sp .post) hi) x (sp .under) (λ _. o .1) (o .4) j b (omega (arith, d, z, y)) s′ in
       subst (λ m. 1 ≤ length (lists l x m)) (sym y) (omega (arith, w, o .1)))
-      (λ y. left-above l (next (sp .post) hi) x (sp .under) (λ _. o .1) (o .4) i j b d (omega (arith, u, y)) s′)))
+      (λ y. left-above l (following (sp .post) hi) x (sp .under) (λ _. o .1) (o .4) i j b d (omega (arith, u, y)) s′)))

@@ -16,7 +16,7 @@ use Rattle.geometry.specs.Shape.{Core}
 use Rattle.geometry.specs.Bounds.{fourBytes}
 use Rattle.model.specs.Count.{count}
 use Rattle.model.specs.Image.{Nodes, Chip, theRoot}
-use Rattle.model.specs.Tree.{under, mapOf, next, chosen, find, sought}
+use Rattle.model.specs.Tree.{under, mapOf, following, chosen, find, sought}
 use Rattle.model.specs.Next.{ahead, nth, taken}
 use Rattle.model.specs.Edit.{put, putIn, gains, splits}
 use Rattle.model.specs.Update.{isNone, rootNode}
@@ -157,7 +157,7 @@ module _ (g : Geometry) (core : Core g) (n k a : ℕ) (k-low : k < fourBytes) (c
       (s (R j) j ≡ drop (half g j) (lists j)))
       (crown : grows ≡ true → s (L (suc (suc (c .level)))) (suc (suc (c .level))) ≡ both (L (suc (c .level)))
       (R (suc (c .level)))
-      (half g (suc (c .level))) (next (lists (suc (c .level))) 0) (lists (suc (c .level))))
+      (half g (suc (c .level))) (following (lists (suc (c .level))) 0) (lists (suc (c .level))))
       (stays : (q l : ℕ) → fit (suc l) q → s q (suc l) ≡ r q (suc l)) (numbers : ℕ → ℕ) where
     abbrev er′ : ℕ → Bool
     er′ = taken (g .pages) n (ahead g n c) m .er
@@ -252,8 +252,8 @@ module _ (g : Geometry) (core : Core g) (n k a : ℕ) (k-low : k < fourBytes) (c
         let nx = new-left (suc l) (omega arith) (omega arith) in
         let ny : N (suc l) (R (suc l)) = (omega arith, omega arith, inr (omega (arith, cu), refl)) in
         let nn = new-left (suc (suc l)) (omega arith) (omega (arith, ap bit e)) in
-        let cr : s (L (suc (suc l))) (suc (suc l)) ≡ both (L (suc l)) (R (suc l)) h (next rootList 0) rootList =
-        crown e ∙ ap (λ x. both (L (suc l)) (R (suc l)) h (next x 0) x) root-list in
+        let cr : s (L (suc (suc l))) (suc (suc l)) ≡ both (L (suc l)) (R (suc l)) h (following rootList 0) rootList =
+        crown e ∙ ap (λ x. both (L (suc l)) (R (suc l)) h (following x 0) x) root-list in
         let w = plain-grow k a fourBytes L R (half g) (rootMost g) r s fit fit′ N tt (keep g core n c (good .r2) m free)
         stays k-low alone fresh l (c .root) (L (suc (suc l)))
         (L (suc l)) (R (suc l)) (good .sound) made
@@ -271,7 +271,7 @@ module _ (g : Geometry) (core : Core g) (n k a : ℕ) (k-low : k < fourBytes) (c
   abbrev newRoot : Plan
   newRoot = record {
     level = suc (suc (c .level));
-    list = both (L (suc (c .level))) (R (suc (c .level))) (half g (suc (c .level))) (next (lists (suc (c .level))) 0) (lists (suc (c .level)));
+    list = both (L (suc (c .level))) (R (suc (c .level))) (half g (suc (c .level))) (following (lists (suc (c .level))) 0) (lists (suc (c .level)));
   }
 
   crown-one : grows ≡ true → rootPlans ≡ newRoot ∷ []

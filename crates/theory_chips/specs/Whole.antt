@@ -11,7 +11,7 @@ use Rattle.geometry.specs.Geometry.{half, rootMost}
 use Rattle.geometry.specs.Shape.{Core}
 use Rattle.geometry.specs.Bounds.{fourBytes}
 use Rattle.model.specs.Image.{Nodes, Chip}
-use Rattle.model.specs.Tree.{gather, under, Place, places, mapOf, next, chosen, find, sought}
+use Rattle.model.specs.Tree.{gather, under, Place, places, mapOf, following, chosen, find, sought}
 use Rattle.model.specs.Edit.{gains, splits}
 use Rattle.model.specs.Update.{isNone, rootNode, rootGains, needs, tooHigh}
 use Rattle.theory_counts.specs.Cases.{true-false}
@@ -99,7 +99,7 @@ module _ (g : Geometry) (t : ℕ) (er er′ : ℕ → Bool) (numbers numbers′ 
   root-gains k absent q (suc m) e =
       let b = root .least (omega (arith, e)) in
       let sp = split (Ok (fitOf t er) (λ l. 2 * half g l) r l) k fourBytes (r p (suc l)) (omega (arith, b)) q (root .rises) in
-      gains-like (fitOf t er) (λ l. 2 * half g l) r s k (half g) absent l (next (sp .post) fourBytes) (chosen k (r p (suc l)))
+      gains-like (fitOf t er) (λ l. 2 * half g l) r s k (half g) absent l (following (sp .post) fourBytes) (chosen k (r p (suc l)))
       (chosen k (s p′ (suc l))) (sp .here) (sp .under)
       (likes-chosen (Like r s l) k (r p (suc l)) (s p′ (suc l)) (like-key r s l) (omega (arith, b)) alike)
 
@@ -111,7 +111,7 @@ module _ (g : Geometry) (t : ℕ) (er er′ : ℕ → Bool) (numbers numbers′ 
   root-splits k absent q (suc m) e =
       let b = root .least (omega (arith, e)) in
       let sp = split (Ok (fitOf t er) (λ l. 2 * half g l) r l) k fourBytes (r p (suc l)) (omega (arith, b)) q (root .rises) in
-      splits-like (fitOf t er) (λ l. 2 * half g l) r s k (half g) absent l (next (sp .post) fourBytes) (chosen k (r p (suc l)))
+      splits-like (fitOf t er) (λ l. 2 * half g l) r s k (half g) absent l (following (sp .post) fourBytes) (chosen k (r p (suc l)))
       (chosen k (s p′ (suc l))) (sp .here) (sp .under)
       (likes-chosen (Like r s l) k (r p (suc l)) (s p′ (suc l)) (like-key r s l) (omega (arith, b)) alike)
 

@@ -12,20 +12,20 @@ use lib.Seq.{getD-take, getD-drop, getD-append-add}
 use borrow.Author.Tests.{lt-leb, leb-true, eqb-true}
 use Rattle.geometry.specs.declared.Entry.{Entry}
 use Rattle.geometry.specs.Tests.{pick, _&_}
-use Rattle.model.specs.Tree.{next, entryOf, find}
+use Rattle.model.specs.Tree.{following, entryOf, find}
 use Rattle.model.specs.Listing.{between, asNumbers, writtenOf, filled}
 use Rattle.theory_demands.specs.Words.{Rising}
 
 -- ---- the part of a map
 module _ (low high : ℕ) where
   -- keys rise in it as in the map
-  next-between : (k hi : ℕ) (es : List Entry) → k < next es hi → Rising hi es → k < next (between low high es) hi
+  next-between : (k hi : ℕ) (es : List Entry) → k < following es hi → Rising hi es → k < following (between low high es) hi
   unfolding between
   next-between k hi [] h up = h
   next-between k hi (e ∷ es) h up = go (leb low (e .key) & leb (e .key) high) (next-between k hi es (omega (arith, h, up .0)) (up .1))
     where
-      go : (t : Bool) → k < next (between low high es) hi
-          → k < next (pick t (e ∷ between low high es) (between low high es)) hi
+      go : (t : Bool) → k < following (between low high es) hi
+          → k < following (pick t (e ∷ between low high es) (between low high es)) hi
       go true i = h
       go false i = i
 
@@ -35,7 +35,7 @@ module _ (low high : ℕ) where
   between-rising hi (e ∷ es) up =
       go (leb low (e .key) & leb (e .key) high) (next-between (e .key) hi es (up .0) (up .1)) (between-rising hi es (up .1))
     where
-      go : (t : Bool) → e .key < next (between low high es) hi → Rising hi (between low high es)
+      go : (t : Bool) → e .key < following (between low high es) hi → Rising hi (between low high es)
           → Rising hi (pick t (e ∷ between low high es) (between low high es))
       go true h i = (h, i)
       go false h i = i

@@ -16,7 +16,7 @@ use Rattle.geometry.specs.declared.Verdict.{Verdict}
 use Rattle.geometry.specs.declared.Verdict.the-variants.{Sound, Broken}
 use Rattle.geometry.specs.Tests.{pick, _&_, and-true, and-left, and-right}
 use Rattle.model.specs.Count.{least, any}
-use Rattle.model.specs.Tree.{Place, next}
+use Rattle.model.specs.Tree.{Place, following}
 use Rattle.model.specs.Image.{Nodes}
 use Rattle.model.specs.Rules.{lowest, unless, first, names, rising, own, judgeEntries, judgeNode, lowestPage, orElse, isSound}
 use Rattle.theory_counts.specs.Least.{Least, least-is}
@@ -119,27 +119,27 @@ pub record Led (sub : ℕ → ℕ → ℕ → Finding) (es : List Entry) (hi p :
   pub right : List Entry
   pub whole : es ≡ left ++ (entry ∷ right)
   pub left-good : judgeEntries sub left (entry .key) ≡ Good
-  pub bad : sub (entry .addr) (entry .key) (next right hi) ≡ Bad p
+  pub bad : sub (entry .addr) (entry .key) (following right hi) ≡ Bad p
 
 pub led : (sub : ℕ → ℕ → ℕ → Finding) (es : List Entry) (hi p : ℕ) → judgeEntries sub es hi ≡ Bad p → Led sub es hi p
 unfolding judgeEntries first
 led sub [] hi p e = absurd (bad-good p (sym e))
 led sub (e ∷ es) hi p h = go (bad-first _ _ p h) (led sub es hi p)
   where
-    here : sub (e .addr) (e .key) (next es hi) ≡ Bad p → Led sub (e ∷ es) hi p
+    here : sub (e .addr) (e .key) (following es hi) ≡ Bad p → Led sub (e ∷ es) hi p
     here b = record { left = []; entry = e; right = es; whole = refl; left-good = refl; bad = b }
 
-    further : sub (e .addr) (e .key) (next es hi) ≡ Good → Led sub es hi p → Led sub (e ∷ es) hi p
+    further : sub (e .addr) (e .key) (following es hi) ≡ Good → Led sub es hi p → Led sub (e ∷ es) hi p
     further y w = record {
       left = e ∷ w .left;
       entry = w .entry;
       right = w .right;
       whole = ap (λ xs. e ∷ xs) (w .whole);
-      left-good = rw (ap (sub (e .addr) (e .key)) (sym (ap (λ xs. next xs hi) (w .whole) ∙ next-append (w .left) (w .entry ∷ w .right) hi)) ∙ y) (w .left-good);
+      left-good = rw (ap (sub (e .addr) (e .key)) (sym (ap (λ xs. following xs hi) (w .whole) ∙ next-append (w .left) (w .entry ∷ w .right) hi)) ∙ y) (w .left-good);
       bad = w .bad;
     }
 
-    go : (sub (e .addr) (e .key) (next es hi) ≡ Bad p) ⊎ ((sub (e .addr) (e .key) (next es hi) ≡ Good) ×
+    go : (sub (e .addr) (e .key) (following es hi) ≡ Bad p) ⊎ ((sub (e .addr) (e .key) (following es hi) ≡ Good) ×
         (judgeEntries sub es hi ≡ Bad p))
         → (judgeEntries sub es hi ≡ Bad p → Led sub es hi p) → Led sub (e ∷ es) hi p
     go (inl b) f = here b
@@ -201,7 +201,7 @@ module _ (g : Geometry) (er : ℕ → Bool) (r : Nodes) (t : ℕ) where
       let w = led (judgeNode g er r t (suc l)) es hi p e in
       let fit = all-right (λ e. names er t (suc (suc l)) (e .addr) ≡ true) (w .left) (w .entry ∷ w .right)
       (subst (All (λ e. names er t (suc (suc l)) (e .addr) ≡ true)) (w .whole) a) .0 in
-      f (w .entry .addr) (w .entry .key) (next (w .right) hi) (names-below er t l (w .entry .addr) fit) (w .bad)
+      f (w .entry .addr) (w .entry .key) (following (w .right) hi) (names-below er t l (w .entry .addr) fit) (w .bad)
 
   pub node-below : (l q lo hi p : ℕ) → q < t → judgeNode g er r t l q lo hi ≡ Bad p → p < t
   unfolding judgeNode own

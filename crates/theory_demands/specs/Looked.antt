@@ -12,7 +12,7 @@ use borrow.Author.Tests.{lt-leb, leb-true, leb-false, ltb-true, ltb-false, lt-lt
 use Rattle.geometry.specs.declared.Entry.{Entry}
 use Rattle.geometry.specs.Tests.{pick, bit}
 use Rattle.model.specs.Image.{Nodes, Chip, theRoot}
-use Rattle.model.specs.Tree.{gather, under, next, Place, entryOf, place}
+use Rattle.model.specs.Tree.{gather, under, following, Place, entryOf, place}
 use Rattle.model.specs.Halving.{Placed, place-is}
 use Rattle.model.specs.Listing.{upTo, reached, ranged}
 use Rattle.theory_counts.specs.Least.{by-lt}
@@ -54,14 +54,14 @@ module _ (fit : ℕ → ℕ → Type 0) (room : ℕ → ℕ) (r : Nodes) (low hi
   Few l = (y : ℕ) (e : Entry) → e .key < y → e .key ≤ high → low < y → Ok fit room r l y e
       → length (looked r low high l e) ≤ l * (ends (e .key) y + length (ranged r low high l e))
 
-  upto-none : (y : ℕ) (es : List Entry) → high < next es y → upTo high es ≡ []
+  upto-none : (y : ℕ) (es : List Entry) → high < following es y → upTo high es ≡ []
   unfolding upTo
   upto-none y [] h = refl
   upto-none y (e ∷ es) h = rw (lt-leb (e .key) high h) refl
 
-  -- from an entry on, where the low key lies before the next one: only that entry's range and the last one's have an
+  -- from an entry on, where the low key lies before the following one: only that entry's range and the last one's have an
   -- end inside
-  head-few : (l top : ℕ) (e : Entry) (es : List Entry) → Rises (Ok fit room r l) top (e ∷ es) → low < next es top
+  head-few : (l top : ℕ) (e : Entry) (es : List Entry) → Rises (Ok fit room r l) top (e ∷ es) → low < following es top
       → Few l
       → nodesIn l (upTo high es) ≤ l * (bit (ltb (suc high) top) + pairsIn l (upTo high es))
       → nodesIn l (upTo high (e ∷ es)) ≤ l * (ends (e .key) top + pairsIn l (upTo high (e ∷ es)))
@@ -69,8 +69,8 @@ module _ (fit : ℕ → ℕ → Type 0) (room : ℕ → ℕ) (r : Nodes) (low hi
   head-few l top e es h q step tail = go (leb (e .key) high) refl
     where
       own : e .key ≤ high → length (looked r low high l e) ≤ l * (ends (e .key)
-          (next es top) + length (ranged r low high l e))
-      own c = step (next es top) e (h .0) c q (h .1)
+          (following es top) + length (ranged r low high l e))
+      own c = step (following es top) e (h .0) c q (h .1)
 
       joined : (us : List Entry)
           → (nodesIn l (e ∷ us) ≡ length (looked r low high l e) + nodesIn l us) ×
@@ -82,62 +82,62 @@ module _ (fit : ℕ → ℕ → Type 0) (room : ℕ → ℕ) (r : Nodes) (low hi
       )
 
       -- the range of this entry has the high end: it is the last
-      last : e .key ≤ high → suc high < next es top → nodesIn l (e ∷ upTo high es) ≤ l * (ends (e .key) top + pairsIn l
+      last : e .key ≤ high → suc high < following es top → nodesIn l (e ∷ upTo high es) ≤ l * (ends (e .key) top + pairsIn l
           (e ∷ upTo high es))
       last c z =
           let w = next-le (Ok fit room r l) top es (h .2) in
           let j = joined [] in
-          let x : bit (ltb (suc high) (next es top)) ≡ bit (ltb (suc high) top) =
-          ap bit (lt-ltb (suc high) (next es top) z ∙ sym (lt-ltb (suc high) top (omega (arith, z, w)))) in
+          let x : bit (ltb (suc high) (following es top)) ≡ bit (ltb (suc high) top) =
+          ap bit (lt-ltb (suc high) (following es top) z ∙ sym (lt-ltb (suc high) top (omega (arith, z, w)))) in
           rw (upto-none top es (omega (arith, z))) (same l (length (looked r low high l e)) _ _ _ (own c) (omega (arith, j .0)) (omega (arith, j .1, x)))
 
       -- it has not: the others come after it
-      later : e .key ≤ high → next es top ≤ suc high → nodesIn l (e ∷ upTo high es) ≤ l * (ends (e .key) top + pairsIn l
+      later : e .key ≤ high → following es top ≤ suc high → nodesIn l (e ∷ upTo high es) ≤ l * (ends (e .key) top + pairsIn l
           (e ∷ upTo high es))
       later c z =
           let j = joined (upTo high es) in
-          let x : bit (ltb (suc high) (next es top)) ≡ 0 = ap bit (le-ltb (suc high) (next es top) z) in
-          same l _ _ _ _ (both l (length (looked r low high l e)) (nodesIn l (upTo high es)) (ends (e .key) (next es top) + length (ranged r low high l e))
+          let x : bit (ltb (suc high) (following es top)) ≡ 0 = ap bit (le-ltb (suc high) (following es top) z) in
+          same l _ _ _ _ (both l (length (looked r low high l e)) (nodesIn l (upTo high es)) (ends (e .key) (following es top) + length (ranged r low high l e))
           (bit (ltb (suc high) top) + pairsIn l (upTo high es)) (own c) tail) (omega (arith, j .0)) (omega (arith, j .1, x))
 
-      by-end : e .key ≤ high → (t : Bool) → ltb (suc high) (next es top) ≡ t
+      by-end : e .key ≤ high → (t : Bool) → ltb (suc high) (following es top) ≡ t
           → nodesIn l (e ∷ upTo high es) ≤ l * (ends (e .key) top + pairsIn l (e ∷ upTo high es))
-      by-end c true z = last c (ltb-true (suc high) (next es top) z)
-      by-end c false z = later c (ltb-false (suc high) (next es top) z)
+      by-end c true z = last c (ltb-true (suc high) (following es top) z)
+      by-end c false z = later c (ltb-false (suc high) (following es top) z)
 
       go : (t : Bool) → leb (e .key) high ≡ t
           → nodesIn l (pick t (e ∷ upTo high es) []) ≤ l * (ends (e .key) top + pairsIn l
           (pick t (e ∷ upTo high es) []))
-      go true x = by-end (leb-true (e .key) high x) (ltb (suc high) (next es top)) refl
+      go true x = by-end (leb-true (e .key) high x) (ltb (suc high) (following es top)) refl
       go false x = omega arith
 
   -- the entries after it are all above the low key
-  tail-few : (l top : ℕ) (es : List Entry) → Rises (Ok fit room r l) top es → low < next es top → Few l
+  tail-few : (l top : ℕ) (es : List Entry) → Rises (Ok fit room r l) top es → low < following es top → Few l
       → nodesIn l (upTo high es) ≤ l * (bit (ltb (suc high) top) + pairsIn l (upTo high es))
   unfolding upTo gather
   tail-few l top [] h q step = omega arith
   tail-few l top (e ∷ es) h q step =
       let w : bit (leb (e .key) low) ≡ 0 = ap bit (lt-leb (e .key) low q) in
-      let z : low < next es top = omega (arith, q, h .0) in
+      let z : low < following es top = omega (arith, q, h .0) in
       same l _ _ _ _ (head-few l top e es h z step (tail-few l top es (h .2) z step)) refl (omega (arith, w))
 
-  list-few : (l top : ℕ) (e : Entry) (es : List Entry) → Rises (Ok fit room r l) top (e ∷ es) → low < next es top
+  list-few : (l top : ℕ) (e : Entry) (es : List Entry) → Rises (Ok fit room r l) top (e ∷ es) → low < following es top
       → Few l
       → nodesIn l (upTo high (e ∷ es)) ≤ l * (ends (e .key) top + pairsIn l (upTo high (e ∷ es)))
   list-few l top e es h q step = head-few l top e es h q step (tail-few l top es (h .2) q step)
 
   -- ---- a node
   first-least : (P : ℕ → Entry → Type 0) (y i : ℕ) (es : List Entry) → Rises P y es → i < length es
-      → next es y ≤ entryOf es i .key
+      → following es y ≤ entryOf es i .key
   first-least P y i [] h b = absurd (omega arith)
   first-least P y zero (e ∷ es) h b = omega arith
   first-least P y (suc i) (e ∷ es) h b = let w = first-least P y i es (h .2) (omega arith) in omega (arith, w, h .0)
 
   next-after : (y i : ℕ) (es : List Entry) → low < y → (i < length es → low < entryOf es i .key)
-      → low < next (drop i es) y
+      → low < following (drop i es) y
   next-after y i es q f = by-lt i (length es)
-      (λ b. subst (λ (xs : List Entry). low < next xs y) (sym (drop-cons es i (record { key = 0; addr = 0 }) b)) (f b))
-      (λ b. subst (λ (xs : List Entry). low < next xs y) (sym (drop-of-length-le es {i = i} b)) q)
+      (λ b. subst (λ (xs : List Entry). low < following xs y) (sym (drop-cons es i (record { key = 0; addr = 0 }) b)) (f b))
+      (λ b. subst (λ (xs : List Entry). low < following xs y) (sym (drop-of-length-le es {i = i} b)) q)
 
   less-bit : (k m : ℕ) → k ≤ m → bit (leb m low) ≤ bit (leb k low)
   less-bit k m h = go (leb k low) (leb m low) refl refl
@@ -148,7 +148,7 @@ module _ (fit : ℕ → ℕ → Type 0) (room : ℕ → ℕ) (r : Nodes) (low hi
       go false true x z = absurd (let a = leb-false k low x in let b = leb-true m low z in omega (arith, a, b, h))
       go false false x z = omega arith
 
-  from-few : (l y k i : ℕ) (es : List Entry) → Placed low es i → Rises (Ok fit room r l) y es → k ≤ next es y → low < y
+  from-few : (l y k i : ℕ) (es : List Entry) → Placed low es i → Rises (Ok fit room r l) y es → k ≤ following es y → low < y
       → Few l
       → nodesIn l (upTo high (drop i es)) ≤ l * (ends k y + pairsIn l (upTo high (drop i es)))
   from-few l y k i es at h b q step =
@@ -163,7 +163,7 @@ module _ (fit : ℕ → ℕ → Type 0) (room : ℕ → ℕ) (r : Nodes) (low hi
       (more l (nodesIn l (upTo high (x ∷ post))) (ends (x .key) y + pairsIn l (upTo high (x ∷ post))) (ends k y + pairsIn l (upTo high (x ∷ post)))
       (list-few l y x post up (next-after y (suc i) es q (at .high)) step) (omega (arith, fewer)))
 
-  node-few : (l y k : ℕ) (es : List Entry) → Rises (Ok fit room r l) y es → k ≤ next es y → low < y → Few l
+  node-few : (l y k : ℕ) (es : List Entry) → Rises (Ok fit room r l) y es → k ≤ following es y → low < y → Few l
       → nodesIn l (reached low high es) ≤ l * (ends k y + pairsIn l (reached low high es))
   unfolding gather upTo
   node-few l y k [] h b q step =
@@ -178,7 +178,7 @@ module _ (fit : ℕ → ℕ → Type 0) (room : ℕ → ℕ) (r : Nodes) (low hi
   list-some l y [] n h step = absurd (omega arith)
   list-some l y (e ∷ es) n h step =
       let w = length-append (under r l e) (gather (under r l) es) in
-      let i = step (next es y) e (h .1) in
+      let i = step (following es y) e (h .1) in
       omega (arith, w, i)
 
   under-some : (l y : ℕ) (e : Entry) → Ok fit room r l y e → 1 ≤ length (under r l e)

@@ -11,7 +11,7 @@ use Rattle.geometry.specs.declared.Verdict.the-variants.{Sound}
 use Rattle.geometry.specs.Geometry.{small, large}
 use Rattle.model.specs.Bytes.{byteAt}
 use Rattle.model.specs.Image.{blocksOf, pagesOf, goodLength, chipOf}
-use Rattle.model.specs.Tree.{next, mapOf, erasedPages}
+use Rattle.model.specs.Tree.{following, mapOf, erasedPages}
 use Rattle.model.specs.Rules.{verdict}
 use Rattle.model.specs.Stores.{Store, applyStore, applyAll, programs, erases}
 use Rattle.model.specs.Collect.{collectStores}
@@ -31,7 +31,7 @@ mapAt g img = mapOf (chipOf g (blocksOf g img) img)
 -- keys rise strictly and stay below hi
 abbrev pub Rising : ℕ → List Entry → Type 0
 Rising hi [] = Unit {0}
-Rising hi (e ∷ es) = (e .key < next es hi) × Rising hi es
+Rising hi (e ∷ es) = (e .key < following es hi) × Rising hi es
 
 -- a sound image that holds this map
 pub record Holds (g : Geometry) (map : List Entry) (img : List ℕ) : Type 0 where

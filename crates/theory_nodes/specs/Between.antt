@@ -12,7 +12,7 @@ use borrow.Author.Tests.{lt-leb, le-leb, leb-true, leb-false}
 use Rattle.geometry.specs.declared.Entry.{Entry}
 use Rattle.geometry.specs.Tests.{pick, _&_}
 use Rattle.model.specs.Image.{Nodes}
-use Rattle.model.specs.Tree.{gather, under, next, entryOf, place}
+use Rattle.model.specs.Tree.{gather, under, following, entryOf, place}
 use Rattle.model.specs.Halving.{place-is}
 use Rattle.model.specs.Listing.{between, upTo, reached, ranged}
 use Rattle.theory_lists.specs.All.{All}
@@ -88,7 +88,7 @@ module _ (fit : ℕ → ℕ → Type 0) (room : ℕ → ℕ) (r : Nodes) (low hi
           (gather (under r l) es)
           → gather (ranged r low high l) (pick t (e ∷ upTo high es) []) ≡ between low high
           (under r l e ++ gather (under r l) es)
-      go true x i = rw (i, step (next es top) e (h .0) (leb-true (e .key) high x) (h .1)) (sym (between-append low high (under r l e) (gather (under r l) es)))
+      go true x i = rw (i, step (following es top) e (h .0) (leb-true (e .key) high x) (h .1)) (sym (between-append low high (under r l e) (gather (under r l) es)))
       go false x i = sym (between-above low high (e .key) top (gather (under r l) (e ∷ es)) (leb-false (e .key) high x)
           (rises-in low (Ok fit room r l) (under r l) (keeps l) (e .key) top (e ∷ es) (omega arith) h))
 
@@ -105,12 +105,12 @@ module _ (fit : ℕ → ℕ → Type 0) (room : ℕ → ℕ) (r : Nodes) (low hi
       cut : Rises (Ok fit room r l) top (take i es ++ drop i es)
       cut = subst (Rises (Ok fit room r l) top) (sym (take-append-drop i es)) h
 
-      at : next (drop i es) top ≡ entryOf es i .key
-      at = ap (λ (xs : List Entry). next xs top) (drop-cons es i (record { key = 0; addr = 0 }) inside)
+      at : following (drop i es) top ≡ entryOf es i .key
+      at = ap (λ (xs : List Entry). following xs top) (drop-cons es i (record { key = 0; addr = 0 }) inside)
 
       none : between low high (gather (under r l) (take i es)) ≡ []
       none = between-below low high 0 low (gather (under r l) (take i es)) (omega arith)
-          (pre-in low (Ok fit room r l) (under r l) (keeps l) (next (drop i es) top) (take i es)
+          (pre-in low (Ok fit room r l) (under r l) (keeps l) (following (drop i es) top) (take i es)
           (λ some. let w = before (some-before i es some) in omega (arith, at, w))
           (rises-left (Ok fit room r l) top (take i es) (drop i es) cut))
 

@@ -6,7 +6,7 @@ use native.Mathlib.Omega.{arith}
 use lib.ListN.{length, take, drop}
 use lib.Seq.{split-at}
 use Rattle.geometry.specs.declared.Entry.{Entry}
-use Rattle.model.specs.Tree.{gather, next, entryOf, place, chosen}
+use Rattle.model.specs.Tree.{gather, following, entryOf, place, chosen}
 use Rattle.model.specs.Edit.{splice}
 use Rattle.model.specs.Halving.{place-is, swap-cut}
 use Rattle.theory_lists.specs.All.{All, all-left, all-right, all-append, all-map}
@@ -17,7 +17,7 @@ In lo hi e = (lo ≤ e .key) × (e .key < hi)
 -- the keys rise strictly and stay below hi; P holds of each entry with the key that follows it
 abbrev pub Rises : (ℕ → Entry → Type 0) → ℕ → List Entry → Type 0
 Rises P hi [] = Unit {0}
-Rises P hi (e ∷ es) = (e .key < next es hi) × P (next es hi) e × Rises P hi es
+Rises P hi (e ∷ es) = (e .key < following es hi) × P (following es hi) e × Rises P hi es
 
 -- ---- lists
 
@@ -52,17 +52,17 @@ all-gather W d (e ∷ es) h = (all-left W (d e) (gather d es) h, all-gather W d 
 
 -- ---- rising lists
 
-pub next-append : (xs ys : List Entry) (hi : ℕ) → next (xs ++ ys) hi ≡ next xs (next ys hi)
+pub next-append : (xs ys : List Entry) (hi : ℕ) → following (xs ++ ys) hi ≡ following xs (following ys hi)
 next-append [] ys hi = refl
 next-append (x ∷ xs) ys hi = refl
 
-pub rises-append : (P : ℕ → Entry → Type 0) (hi : ℕ) (xs ys : List Entry) → Rises P (next ys hi) xs → Rises P hi ys
+pub rises-append : (P : ℕ → Entry → Type 0) (hi : ℕ) (xs ys : List Entry) → Rises P (following ys hi) xs → Rises P hi ys
     → Rises P hi (xs ++ ys)
 rises-append P hi [] ys h i = i
 rises-append P hi (x ∷ xs) ys h i = rw (next-append xs ys hi) (h .0, h .1, rises-append P hi xs ys (h .2) i)
 
 pub rises-left : (P : ℕ → Entry → Type 0) (hi : ℕ) (xs ys : List Entry) → Rises P hi (xs ++ ys)
-    → Rises P (next ys hi) xs
+    → Rises P (following ys hi) xs
 rises-left P hi [] ys h = tt
 rises-left P hi (x ∷ xs) ys h = let h′ = rw (next-append xs ys hi) at h in (h′ .0, h′ .1, rises-left P hi xs ys (h .2))
 
@@ -71,7 +71,7 @@ rises-right P hi [] ys h = h
 rises-right P hi (x ∷ xs) ys h = rises-right P hi xs ys (h .2)
 
 -- the entries' own keys lie below hi, and what follows an entry is at most hi
-pub next-le : (P : ℕ → Entry → Type 0) (hi : ℕ) (es : List Entry) → Rises P hi es → next es hi ≤ hi
+pub next-le : (P : ℕ → Entry → Type 0) (hi : ℕ) (es : List Entry) → Rises P hi es → following es hi ≤ hi
 next-le P hi [] h = omega arith
 next-le P hi (e ∷ es) h = let i = next-le P hi es (h .2) in omega arith
 
@@ -79,13 +79,13 @@ pub rises-map : (P Q : ℕ → Entry → Type 0) (hi : ℕ) (es : List Entry) �
     → P y x → Q y x) → Rises P hi es
     → Rises Q hi es
 rises-map P Q hi [] s h = tt
-rises-map P Q hi (e ∷ es) s h = (h .0, s (next es hi) e (h .0) (next-le P hi es (h .2)) (h .1), rises-map P Q hi es s (h .2))
+rises-map P Q hi (e ∷ es) s h = (h .0, s (following es hi) e (h .0) (next-le P hi es (h .2)) (h .1), rises-map P Q hi es s (h .2))
 
 pub rises-all : (P : ℕ → Entry → Type 0) (Z : Entry → Type 0) (hi : ℕ) (es : List Entry)
     → ((y : ℕ) (x : Entry) → x .key < y → y ≤ hi → P y x → Z x)
     → Rises P hi es → All Z es
 rises-all P Z hi [] s h = tt
-rises-all P Z hi (e ∷ es) s h = (s (next es hi) e (h .0) (next-le P hi es (h .2)) (h .1), rises-all P Z hi es s (h .2))
+rises-all P Z hi (e ∷ es) s h = (s (following es hi) e (h .0) (next-le P hi es (h .2)) (h .1), rises-all P Z hi es s (h .2))
 
 pub rises-both : (P : ℕ → Entry → Type 0) (Z : Entry → Type 0) (hi : ℕ) (es : List Entry) → Rises P hi es → All Z es
     → Rises (λ y x. P y x × Z x) hi es
@@ -101,12 +101,12 @@ rises-more P Q hi hi′ (e ∷ g ∷ es) q s h =
     (h .0, s (g .key) (g .key) e (h .0) (omega arith) (h .1), rises-more P Q hi hi′ (g ∷ es) q s (h .2))
 
 -- what starts at lo or later has every key at lo or later
-pub rises-floor : (P : ℕ → Entry → Type 0) (lo hi : ℕ) (es : List Entry) → lo ≤ next es hi → Rises P hi es
+pub rises-floor : (P : ℕ → Entry → Type 0) (lo hi : ℕ) (es : List Entry) → lo ≤ following es hi → Rises P hi es
     → Rises (λ y x. P y x × (lo ≤ x .key)) hi es
 rises-floor P lo hi [] q h = tt
 rises-floor P lo hi (e ∷ es) q h = (h .0, (h .1, q), rises-floor P lo hi es (omega arith) (h .2))
 
-pub gather-in : (d : Entry → List Entry) (lo hi : ℕ) (es : List Entry) → lo ≤ next es hi
+pub gather-in : (d : Entry → List Entry) (lo hi : ℕ) (es : List Entry) → lo ≤ following es hi
     → Rises (λ y x. All (In (x .key) y) (d x)) hi es
     → All (In lo hi) (gather d es)
 unfolding gather
@@ -114,7 +114,7 @@ gather-in d lo hi [] q h = tt
 gather-in d lo hi (e ∷ es) q h =
     let b = next-le (λ y x. All (In (x .key) y) (d x)) hi es (h .2) in
     all-append (In lo hi) (d e) (gather d es)
-    (all-map (In (e .key) (next es hi)) (In lo hi) (d e) (λ x i. omega (arith, i, b)) (h .1))
+    (all-map (In (e .key) (following es hi)) (In lo hi) (d e) (λ x i. omega (arith, i, b)) (h .1))
     (gather-in d lo hi es (omega arith) (h .2))
 
 -- where descent stands: the entries before, the chosen one x, the entries after; S f is the list with f x for x
@@ -126,12 +126,12 @@ pub record Split (P : ℕ → Entry → Type 0) (k hi : ℕ) (es : List Entry) (
   pub spliced : (f : Entry → List Entry) → S f ≡ pre ++ (f x ++ post)
   pub before : Rises P (x .key) pre
   pub upto : (0 < length pre) → x .key ≤ k
-  pub under : k < next post hi
-  pub up : x .key < next post hi
-  pub here : P (next post hi) x
+  pub under : k < following post hi
+  pub up : x .key < following post hi
+  pub here : P (following post hi) x
   pub rest : Rises P hi post
 
-next-drop : (k hi i : ℕ) (es : List Entry) → k < hi → (i < length es → k < entryOf es i .key) → k < next (drop i es) hi
+next-drop : (k hi i : ℕ) (es : List Entry) → k < hi → (i < length es → k < entryOf es i .key) → k < following (drop i es) hi
 next-drop k hi zero [] q f = q
 next-drop k hi zero (e ∷ es) q f = f (omega arith)
 next-drop k hi (suc i) [] q f = q
@@ -172,7 +172,7 @@ splice-cong P f g k hi es n q h e = go (split P k hi es n q h)
     go : Split P k hi es (chosen k es) (λ f. splice f k es) → splice f k es ≡ splice g k es
     go s = s .spliced f ∙ ap (λ m. s .pre ++ (m ++ s .post)) e ∙ sym (s .spliced g)
 
-pub first-below : (P : ℕ → Entry → Type 0) (y : ℕ) (es : List Entry) → 1 ≤ length es → Rises P y es → next es 0 < y
+pub first-below : (P : ℕ → Entry → Type 0) (y : ℕ) (es : List Entry) → 1 ≤ length es → Rises P y es → following es 0 < y
 first-below P y [] n h = absurd (omega arith)
 first-below P y (e ∷ es) n h = omega (arith, next-le P y es (h .2))
 
@@ -180,7 +180,7 @@ first-below P y (e ∷ es) n h = omega (arith, next-le P y es (h .2))
 module _ (k : ℕ) (P : ℕ → Entry → Type 0) (d : Entry → List Entry)
     (range : (y : ℕ) (x : Entry) → x .key < y → P y x → All (In (x .key) y) (d x)) where
   -- from lo on
-  pub rises-in : (lo hi : ℕ) (es : List Entry) → lo ≤ next es hi → Rises P hi es → All (In lo hi) (gather d es)
+  pub rises-in : (lo hi : ℕ) (es : List Entry) → lo ≤ following es hi → Rises P hi es → All (In lo hi) (gather d es)
   rises-in lo hi es q h = gather-in d lo hi es q (rises-map P (λ y x. All (In (x .key) y) (d x)) hi es (λ y x q _ i. range y x q i) h)
 
   -- below k, of the entries before the chosen one

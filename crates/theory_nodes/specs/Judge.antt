@@ -17,7 +17,7 @@ use Rattle.geometry.specs.Geometry.{slotsOf, half, rootMost}
 use Rattle.geometry.specs.Shape.{Core}
 use Rattle.geometry.specs.Bounds.{fourBytes}
 use Rattle.model.specs.Image.{Nodes, Chip}
-use Rattle.model.specs.Tree.{Place, placesOf, lowLevel, next}
+use Rattle.model.specs.Tree.{Place, placesOf, lowLevel, following}
 use Rattle.model.specs.Rules.{unless, first, names, rising, own, ownRoot, judgeEntries, judgeNode, r5, namesPage, loose, lowestPage, r6}
 use Rattle.theory_counts.specs.Lowest.{bad-good, unless-true, good-unless}
 use Rattle.theory_counts.specs.Cases.{true-false, and-pick}
@@ -60,7 +60,7 @@ module _ (ok : ℕ → Bool) where
   May y x = ok (x .addr) ≡ true
 
   rising-up : (es : List Entry) (lo hi : ℕ) → rising ok es lo hi ≡ true → Rises May hi es ×
-      (1 ≤ length es → lo ≤ next es hi)
+      (1 ≤ length es → lo ≤ following es hi)
   unfolding rising
   rising-up [] lo hi h = (tt, λ z. absurd (omega arith))
   rising-up (e ∷ es) lo hi h =
@@ -69,11 +69,11 @@ module _ (ok : ℕ → Bool) where
       let i = rising-up es (e .key + 1) hi (and-right _ _ h) in
       ((below es (ltb-true (e .key) hi (and-right _ _ b)) (i .1), and-right _ _ a, i .0), λ _. leb-true lo (e .key) (and-left _ _ b))
     where
-      below : (es : List Entry) → e .key < hi → (1 ≤ length es → e .key + 1 ≤ next es hi) → e .key < next es hi
+      below : (es : List Entry) → e .key < hi → (1 ≤ length es → e .key + 1 ≤ following es hi) → e .key < following es hi
       below [] q f = q
       below (x ∷ es) q f = omega (arith, f (omega arith))
 
-  up-rising : (es : List Entry) (lo hi : ℕ) → Rises May hi es → (1 ≤ length es → lo ≤ next es hi)
+  up-rising : (es : List Entry) (lo hi : ℕ) → Rises May hi es → (1 ≤ length es → lo ≤ following es hi)
       → rising ok es lo hi ≡ true
   unfolding rising
   up-rising [] lo hi h f = refl

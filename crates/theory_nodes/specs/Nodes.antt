@@ -8,7 +8,7 @@ use native.Mathlib.Omega.{arith}
 use lib.ListN.{length}
 use Rattle.geometry.specs.declared.Entry.{Entry}
 use Rattle.model.specs.Image.{Nodes}
-use Rattle.model.specs.Tree.{under, places, next}
+use Rattle.model.specs.Tree.{under, places, following}
 use Rattle.theory_lists.specs.All.{All}
 use Rattle.theory_nodes.specs.Entries.{In, Rises, gather-eq, gather-all, all-gather, rises-map, rises-all, rises-both, rises-more, gather-in}
 
@@ -16,9 +16,9 @@ use Rattle.theory_nodes.specs.Entries.{In, Rises, gather-eq, gather-all,
 unfoldable pub Ok : (ℕ → ℕ → Type 0) → (ℕ → ℕ) → Nodes → ℕ → ℕ → Entry → Type 0
 Ok fit room r zero hi e = fit 0 (e .addr)
 Ok fit room r (suc l) hi e = fit (suc l) (e .addr) × (1 ≤ length (r (e .addr) (suc l))) × (length (r (e .addr) (suc l)) ≤ room (suc l)) ×
-    (e .key ≤ next (r (e .addr) (suc l)) hi) × Rises (Ok fit room r l) hi (r (e .addr) (suc l))
+    (e .key ≤ following (r (e .addr) (suc l)) hi) × Rises (Ok fit room r l) hi (r (e .addr) (suc l))
 
-pub next-more : (hi hi′ : ℕ) (es : List Entry) → 1 ≤ length es → next es hi ≡ next es hi′
+pub next-more : (hi hi′ : ℕ) (es : List Entry) → 1 ≤ length es → following es hi ≡ following es hi′
 next-more hi hi′ [] n = absurd (omega arith)
 next-more hi hi′ (e ∷ es) n = refl
 

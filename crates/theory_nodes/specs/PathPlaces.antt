@@ -11,7 +11,7 @@ use lib.Dec.{leb}
 use Rattle.geometry.specs.declared.Entry.{Entry}
 use Rattle.geometry.specs.Tests.{pick}
 use Rattle.model.specs.Image.{Nodes}
-use Rattle.model.specs.Tree.{gather, Place, places, next, chosen}
+use Rattle.model.specs.Tree.{gather, Place, places, following, chosen}
 use Rattle.model.specs.Edit.{splice}
 use Rattle.theory_lists.specs.All.{All, Mem, all-map, some-left, some-right}
 use Rattle.theory_nodes.specs.Entries.{Rises, gather-append, gather-all, rises-all, rises-floor, Split, split}
@@ -69,13 +69,13 @@ path-few r k a (suc l) e = go (leb a (suc l)) (path-few r k a l (chosen k (r (e 
 
 -- ---- first keys stay in the range of the entry above
 abbrev pub Within : Nodes → ℕ → ℕ → Place → Type 0
-Within r lo hi x = (lo ≤ next (r (x .page) (x .level)) 0) × (next (r (x .page) (x .level)) 0 < hi)
+Within r lo hi x = (lo ≤ following (r (x .page) (x .level)) 0) × (following (r (x .page) (x .level)) 0 < hi)
 
 module _ (fit : ℕ → ℕ → Type 0) (room : ℕ → ℕ) (r : Nodes) where
   -- what holds of each entry's places by the entry's own range holds of the list's by the list's
   list-range : (l lo hi : ℕ) (es : List Entry) → ((y : ℕ) (x : Entry) → x .key < y → Ok fit room r l y x
       → All (Within r (x .key) y) (places r l x))
-      → lo ≤ next es hi → Rises (Ok fit room r l) hi es → All (Within r lo hi) (gather (places r l) es)
+      → lo ≤ following es hi → Rises (Ok fit room r l) hi es → All (Within r lo hi) (gather (places r l) es)
   list-range l lo hi es each q h = gather-all (Within r lo hi) (places r l) es
       (rises-all (λ y x. Ok fit room r l y x × (lo ≤ x .key)) (λ x. All (Within r lo hi) (places r l x)) hi es
       (λ y x b d i. all-map (Within r (x .key) y) (Within r lo hi) (places r l x) (λ z j. (omega (arith, j, i .1), omega (arith, j, d))) (each y x b (i .0)))
@@ -90,7 +90,7 @@ module _ (fit : ℕ → ℕ → Type 0) (room : ℕ → ℕ) (r : Nodes) where
       let d = first-below (Ok fit room r l) y es (h .1) (h .4) in
       ((omega (arith, c, h .3), omega (arith, c, d)), list-range l (e .key) y es (λ y x. in-range l y x) (h .3) (h .4))
 
-  pub in-list : (l lo hi : ℕ) (es : List Entry) → lo ≤ next es hi → Rises (Ok fit room r l) hi es → All (Within r lo hi)
+  pub in-list : (l lo hi : ℕ) (es : List Entry) → lo ≤ following es hi → Rises (Ok fit room r l) hi es → All (Within r lo hi)
       (gather (places r l) es)
   in-list l lo hi es q h = list-range l lo hi es (λ y x. in-range l y x) q h
 
@@ -122,5 +122,5 @@ module _ (fit : ℕ → ℕ → Type 0) (room : ℕ → ℕ) (r : Nodes) where
               all-map (λ z. Mem z (places r l x)) (λ z. Mem z (here ∷ gather (places r l) es)) (pathPlaces r k a l x)
                   (λ z i. inr (subst (λ m. Mem z m) (sym whole)
                   (mem-middle z (gather (places r l) (sp .pre)) (places r l x) (gather (places r l) (sp .post)) i)))
-                  (ih (next (sp .post) y) (sp .under) (sp .here)),
+                  (ih (following (sp .post) y) (sp .under) (sp .here)),
             )

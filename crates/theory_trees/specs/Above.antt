@@ -12,7 +12,7 @@ use borrow.Author.Tests.{lt-ltb, le-ltb, ne-eqb, ltb-true, ltb-false, leb-true, 
 use Rattle.geometry.specs.declared.Entry.{Entry}
 use Rattle.geometry.specs.Tests.{pick}
 use Rattle.model.specs.Image.{Nodes}
-use Rattle.model.specs.Tree.{gather, under, next, chosen}
+use Rattle.model.specs.Tree.{gather, under, following, chosen}
 use Rattle.model.specs.Edit.{splice, put, putIn}
 use Rattle.model.specs.Plain.{both}
 use Rattle.theory_lists.specs.All.{All}
@@ -55,7 +55,7 @@ put-in k a hi [] q h = refl
 put-in k a hi (e ∷ es) q h = put-splice k a hi (e ∷ es) (omega arith) q h
 
 first-less : (P : ℕ → Entry → Type 0) (y m : ℕ) (c : List Entry) → 1 ≤ m → m < length c → Rises P y c
-    → next c y < next (drop m c) 0
+    → following c y < following (drop m c) 0
 first-less P y zero c q b h = absurd (omega arith)
 first-less P y (suc m) [] q b h = absurd (omega arith)
 first-less P y (suc zero) (e ∷ []) q b h = absurd (omega arith)
@@ -90,19 +90,19 @@ module _ (s : Nodes) (fit′ : ℕ → ℕ → Type 0) where
 
   module _ (room : ℕ → ℕ) where
     pub ok-node : (l y z p : ℕ) (es : List Entry) → s p (suc l) ≡ es → fit′ (suc l) p → 1 ≤ length es
-        → length es ≤ room (suc l) → z ≤ next es y
+        → length es ≤ room (suc l) → z ≤ following es y
         → Rises (Ok fit′ room s l) y es → Ok fit′ room s (suc l) y (record { key = z; addr = p })
     unfolding Ok
     ok-node l y z p es e f g h i j = rw e (f, g, h, i, j)
 
-    pub both-ok : (l y m z u v : ℕ) (c : List Entry) → Both s fit′ (suc l) m c u v → z ≤ next c y → 1 ≤ m → m ≤ room (suc l) → m < length c
+    pub both-ok : (l y m z u v : ℕ) (c : List Entry) → Both s fit′ (suc l) m c u v → z ≤ following c y → 1 ≤ m → m ≤ room (suc l) → m < length c
         → length c ≤ m + room (suc l) → Rises (Ok fit′ room s l) y c → Rises (Ok fit′ room s (suc l)) y (both u v m z c)
     both-ok l y m z u v c h d m1 m2 c1 c2 up = (
       omega (arith, first-less P y m c m1 c1 up),
-      ok-node l (next (drop m c) 0) z u (take m c) (h .0) (h .2) (len .0) (len .1) from left,
+      ok-node l (following (drop m c) 0) z u (take m c) (h .0) (h .2) (len .0) (len .1) from left,
       (
         first-below P y (drop m c) (len .2) right,
-        ok-node l y (next (drop m c) 0) v (drop m c) (h .1) (h .3) (len .2) (len .3) (rw same-next (omega arith)) right,
+        ok-node l y (following (drop m c) 0) v (drop m c) (h .1) (h .3) (len .2) (len .3) (rw same-next (omega arith)) right,
         tt,
       ),
     )
@@ -120,16 +120,16 @@ module _ (s : Nodes) (fit′ : ℕ → ℕ → Type 0) where
         right : Rises P y (drop m c)
         right = rises-right P y (take m c) (drop m c) whole
 
-        same-next : next (drop m c) y ≡ next (drop m c) 0
+        same-next : following (drop m c) y ≡ following (drop m c) 0
         same-next = next-more y 0 (drop m c) (len .2)
 
-        left : Rises P (next (drop m c) 0) (take m c)
+        left : Rises P (following (drop m c) 0) (take m c)
         left = rw same-next at (rises-left P y (take m c) (drop m c) whole)
 
-        from : z ≤ next (take m c) (next (drop m c) 0)
-        from = let i = ap (λ x. next x y) (take-append-drop m c) in let j = next-append (take m c) (drop m c) y in
+        from : z ≤ following (take m c) (following (drop m c) 0)
+        from = let i = ap (λ x. following x y) (take-append-drop m c) in let j = next-append (take m c) (drop m c) y in
             let f =
-            ap (next (take m c)) same-next in omega (arith, i, j, f)
+            ap (following (take m c)) same-next in omega (arith, i, j, f)
 
 module _ (k a : ℕ) (one : ℕ → ℕ) (left right : ℕ → List Entry → ℕ) (half : ℕ → ℕ) (s : Nodes) (fit′ : ℕ → ℕ → Type 0)
   where
@@ -174,7 +174,7 @@ module _ (k a : ℕ) (one : ℕ → ℕ) (left right : ℕ → List Entry → �
           )
 
       pub above-ok : (l y i : ℕ) (e : Entry) (c : List Entry) → Held (suc l) e c → k < y → e .key < y
-          → Rises (Ok fit′ room s l) y c → min (e .key) k ≤ next c y
+          → Rises (Ok fit′ room s l) y c → min (e .key) k ≤ following c y
           → 1 ≤ i → i ≤ room (suc l) → i + 1 ≤ suc (length c) → suc (length c) ≤ i + 2
           → Out (Ok fit′ room s (suc l)) (λ z. min z k) 1 2 y (e .key) (aboves (suc l) e c)
       above-ok l y i e c h q b up from i1 i2 c1 c2 = go (leb (length c) (2 * half (suc l))) refl
@@ -223,7 +223,7 @@ module _ (k a top : ℕ) (one : ℕ → ℕ) (left right : ℕ → List Entry �
 
   pub ins-list-ok : (l hi : ℕ) (es : List Entry) → 0 < length es → k < hi → Rises (Ok fit roomAt r l) hi es
       → Laying l (chosen k es)
-      → Changed (Ok fit′ roomAt s l) (λ z. min z k) 1 2 hi (next es hi) (length es) (splice (lays l) k es)
+      → Changed (Ok fit′ roomAt s l) (λ z. min z k) 1 2 hi (following es hi) (length es) (splice (lays l) k es)
   ins-list-ok = edit-list-ok fit fit′ roomAt r s keep same k (λ e. put k a (e ∷ [])) names (AboveHeld one left right half s fit′)
       (λ z. min z k) 1 2 (λ z. omega arith) (λ z i. omega arith) (λ y z i. omega arith) (put-ok k a one left right half s fit′ fit fit-a keep)
       (λ l y i e c _. above-ok k a one left right half s fit′ fit fit-a keep l y i e c)
@@ -273,10 +273,10 @@ module _ (k a top : ℕ) (one : ℕ → ℕ) (left right : ℕ → List Entry �
   -- the root grows: its halves, cut at m, stand on x and y, the new root on n
   module _ (l p n x y m : ℕ) (h : Rooted fit roomAt most top r l p) (d : Laying l (chosen k (r p (suc l))))
       (halves : Both s fit′ (suc l) m (rootList l p) x y) (crown : s n (suc (suc l)) ≡ both x y m
-      (next (rootList l p) 0) (rootList l p)) where
+      (following (rootList l p) 0) (rootList l p)) where
     pub grow-pairs : under s (suc (suc l)) (the n) ≡ put k a (under r (suc l) (the p))
     unfolding under
-    grow-pairs = rw crown (both-under s fit′ l m (next (rootList l p) 0) x y (rootList l p) halves
+    grow-pairs = rw crown (both-under s fit′ l m (following (rootList l p) 0) x y (rootList l p) halves
         ∙ fresh l (r p (suc l)) (h .least) (h .rises) d .pairs-are)
 
     pub grow-ok : fit′ (suc (suc l)) n → 1 ≤ m → m ≤ 2 * half (suc l) → m < length (rootList l p)
@@ -288,6 +288,6 @@ module _ (k a top : ℕ) (one : ℕ → ℕ) (left right : ℕ → List Entry �
           fits = fn;
           least = λ z. rw crown (omega arith);
           atmost = rw crown w;
-          rises = rw crown (both-ok s fit′ roomAt l top m (next (rootList l p) 0) x y (rootList l p) halves
+          rises = rw crown (both-ok s fit′ roomAt l top m (following (rootList l p) 0) x y (rootList l p) halves
               (rw (next-more 0 top (rootList l p) (f .some)) (omega arith)) m1 m2 c1 c2 (f .rises));
         }

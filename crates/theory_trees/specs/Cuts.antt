@@ -12,7 +12,7 @@ use borrow.Author.Tests.{ne-eqb, ltb-true, ltb-false, leb-true, leb-false, eqb-t
 use Rattle.geometry.specs.declared.Entry.{Entry}
 use Rattle.geometry.specs.Tests.{pick, _&_, bit, and-left, and-right}
 use Rattle.model.specs.Image.{Nodes}
-use Rattle.model.specs.Tree.{gather, under, next, chosen, find}
+use Rattle.model.specs.Tree.{gather, under, following, chosen, find}
 use Rattle.model.specs.Edit.{splice, onPath, put, putIn, gains, splits}
 use Rattle.model.specs.Update.{isNone}
 use Rattle.model.specs.Plain.{both}
@@ -26,7 +26,7 @@ use Rattle.theory_trees.specs.Seek.{find-list}
 use Rattle.theory_trees.specs.Path.{put-as, below-is, onPath-top, onPath-below}
 
 -- K is above nothing of a list that begins above it
-pub above-none : (k hi : ℕ) (es : List Entry) → k < next es hi → Rises (λ y x. Unit {0}) hi es → find k es ≡ none
+pub above-none : (k hi : ℕ) (es : List Entry) → k < following es hi → Rises (λ y x. Unit {0}) hi es → find k es ≡ none
 unfolding find
 above-none k hi [] q h = refl
 above-none k hi (e ∷ es) q h = rw (ne-eqb (e .key) k (λ z. omega arith)) (above-none k hi es (omega (arith, h .0)) (h .2))
@@ -100,7 +100,7 @@ module _ (k a : ℕ) (one : ℕ → ℕ) (left right : ℕ → List Entry → �
       → length (splice (inserts l) k es) ≡ length es + bit (gain l (chosen k es))
   list-size l hi es c q h f step =
       let s = split (Ok fit roomAt r l) k hi es c q h in
-      let i = step (next (s .post) hi) (s .under) (s .up) (s .here) (ap isNone (sym (find-list fit roomAt r k l hi es c q h)) ∙ f) in
+      let i = step (following (s .post) hi) (s .under) (s .up) (s .here) (ap isNone (sym (find-list fit roomAt r k l hi es c q h)) ∙ f) in
       omega (arith, splice-length (Ok fit roomAt r l) (inserts l) k hi es c q h, i)
 
   -- an entry gives way to two exactly if it gains
@@ -171,7 +171,7 @@ module _ (k a : ℕ) (one : ℕ → ℕ) (left right : ℕ → List Entry → �
       (j ≤ splits r k half absent l (chosen k (r (e .addr) (suc l))) → 2 * half j < length (lists l e j))
   unfolding splits under Ok
   splits-are zero hi e q c h f j d b = absurd (omega arith)
-  splits-are (suc l) hi e q c h f j d b = by-eq j (suc l) here (there (splits-are l (next (s .post) hi) x (s .under) (λ _. s .here .1)
+  splits-are (suc l) hi e q c h f j d b = by-eq j (suc l) here (there (splits-are l (following (s .post) hi) x (s .under) (λ _. s .here .1)
       (s .here .4) f′ j d))
     where
       es : List Entry
@@ -205,11 +205,11 @@ module _ (k a : ℕ) (one : ℕ → ℕ) (left right : ℕ → List Entry → �
           ∙ onPath-top fit roomAt r k (putIn k a) (λ e. put k a (e ∷ []))
           (above k one left right half) (put-as k a) l x
           ∙ below-is fit roomAt r k (putIn k a) (λ e. put k a (e ∷ [])) (above k one left right half)
-          (put-as k a) l (next (s .post) hi) x (s .under) (s .here) in
+          (put-as k a) l (following (s .post) hi) x (s .under) (s .here) in
           rw z (
-            (λ i. let u = gain-all (over l (next (s .post) hi) x (s .under) (s .here) f′ (rw w at i)) in
+            (λ i. let u = gain-all (over l (following (s .post) hi) x (s .under) (s .here) f′ (rw w at i)) in
                 omega (arith, u)),
-            (λ i. rw w (long l (next (s .post) hi) x (s .under) (s .here) f′ (gained (gain (suc l) x) refl i))),
+            (λ i. rw w (long l (following (s .post) hi) x (s .under) (s .here) f′ (gained (gain (suc l) x) refl i))),
           )
         where
           gained : (t : Bool) → gain (suc l) x ≡ t → suc l ≤ bit t + splits r k half absent l

@@ -10,7 +10,7 @@ use borrow.Author.Tests.{ne-eqb}
 use Rattle.geometry.specs.declared.Entry.{Entry}
 use Rattle.geometry.specs.Tests.{pick}
 use Rattle.model.specs.Image.{Nodes}
-use Rattle.model.specs.Tree.{gather, under, next, chosen}
+use Rattle.model.specs.Tree.{gather, under, following, chosen}
 use Rattle.model.specs.Edit.{splice, remove, removeIn, kept, Top, collapse}
 use Rattle.model.specs.Plain.{keptOn}
 use Rattle.theory_lists.specs.All.{All}
@@ -96,7 +96,7 @@ none-held k n half r fit H f (suc l) hi e q h d =
     let sp = split (Ok fit (λ l. 2 * half l) r l) k hi es (h .1) q (h .4) in
     let w = splice-length (Ok fit (λ l. 2 * half l) r l) (deletedOn r k n l) k hi es (h .1) q (h .4) in (
       f (suc l) e (splice (deletedOn r k n l) k es) z,
-      none-held k n half r fit H f l (next (sp .post) hi) (chosen k es) (sp .under) (sp .here)
+      none-held k n half r fit H f l (following (sp .post) hi) (chosen k es) (sp .under) (sp .here)
           (none-left (deletedOn r k n l (chosen k es)) (omega (arith, w, z, h .1))),
     )
   where
@@ -124,7 +124,7 @@ module _ (k : ℕ) (n : ℕ → ℕ) (top : ℕ) (half most : ℕ → ℕ) (r s 
 
   pub kept-ok : (l y i : ℕ) (e : Entry) (c : List Entry) → DeleteHeldOn n s fit′ (suc l) e c → k < y → e .key < y
       → Rises (Ok fit′ roomAt s l) y c
-      → e .key ≤ next c y
+      → e .key ≤ following c y
       → 1 ≤ i → i ≤ roomAt (suc l) → i + 0 ≤ suc (length c) → suc (length c) ≤ i + 1
       → Out (Ok fit′ roomAt s (suc l)) (λ z. z) 0 1 y (e .key) (keptOn n (suc l) e c)
   unfolding Ok

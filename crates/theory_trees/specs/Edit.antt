@@ -7,7 +7,7 @@ use native.Mathlib.Omega.{arith}
 use lib.ListN.{length, length-append}
 use Rattle.geometry.specs.declared.Entry.{Entry}
 use Rattle.model.specs.Image.{Nodes}
-use Rattle.model.specs.Tree.{gather, under, Place, places, next, chosen}
+use Rattle.model.specs.Tree.{gather, under, Place, places, following, chosen}
 use Rattle.model.specs.Edit.{splice}
 use Rattle.theory_lists.specs.All.{All, Some, all-append, some-left, some-right}
 use Rattle.theory_nodes.specs.Entries.{In, Rises, gather-append, gather-eq, gather-one, gather-all, all-gather, next-append, rises-append, rises-map, rises-all, rises-more, Split, split, rises-in, pre-in}
@@ -40,7 +40,7 @@ module _ (k : ℕ) (op : List Entry → List Entry) (loc : Local k op) (P : ℕ 
             s .spliced f,
             gather-append d′ (s .pre) (f x ++ s .post),
             gather-append d′ (f x) (s .post),
-            step (next (s .post) hi) (s .under)
+            step (following (s .post) hi) (s .under)
                 (s .up) (s .here),
             sames (x .key) (s .pre) (s .before),
             sames hi (s .post) (s .rest),
@@ -51,8 +51,8 @@ module _ (k : ℕ) (op : List Entry → List Entry) (loc : Local k op) (P : ℕ 
           let r2 : op (gather d (s .pre) ++ (d x ++ gather d (s .post))) ≡ gather d (s .pre) ++ op (d x ++ gather d (s .post)) = loc .after 0
           (gather d (s .pre)) (d x ++ gather d (s .post)) (pre-in k P d range (x .key) (s .pre) (s .upto) (s .before)) in
           let r3 : op (d x ++ gather d (s .post)) ≡ op (d x) ++ gather d (s .post) =
-          loc .before (next (s .post) hi) hi (d x) (gather d (s .post))
-          (s .under) (rises-in k P d range (next (s .post) hi) hi (s .post) (omega arith) (s .rest)) in
+          loc .before (following (s .post) hi) hi (d x) (gather d (s .post))
+          (s .under) (rises-in k P d range (following (s .post) hi) hi (s .post) (omega arith) (s .rest)) in
           l1 ∙ sym (ap op r1 ∙ r2 ∙ ap (λ m. gather d (s .pre) ++ m) r3)
 
 pub splice-length : (P : ℕ → Entry → Type 0) (f : Entry → List Entry) (k hi : ℕ) (es : List Entry) → 0 < length es
@@ -76,32 +76,32 @@ module _ (k : ℕ) (P Q : ℕ → Entry → Type 0) (f : Entry → List Entry) (
   pre-rises z z′ [] u h = tt
   pre-rises z z′ (e ∷ pre) u h = rises-more P Q z z′ (e ∷ pre) (u (omega arith)) more h
 
-  pre-low : (z z′ : ℕ) (pre : List Entry) → low z ≤ z′ → low (next pre z) ≤ next pre z′
+  pre-low : (z z′ : ℕ) (pre : List Entry) → low z ≤ z′ → low (following pre z) ≤ following pre z′
   pre-low z z′ [] q = q
   pre-low z z′ (e ∷ pre) q = low-le (e .key)
 
   pub splice-rises : (hi : ℕ) (es : List Entry) → 0 < length es → k < hi → Rises P hi es
       → ((y : ℕ) → k < y → chosen k es .key < y → P y (chosen k es) → Rises Q y (f (chosen k es)) ×
-      (low (chosen k es .key) ≤ next (f (chosen k es)) y))
-      → Rises Q hi (splice f k es) × (low (next es hi) ≤ next (splice f k es) hi)
+      (low (chosen k es .key) ≤ following (f (chosen k es)) y))
+      → Rises Q hi (splice f k es) × (low (following es hi) ≤ following (splice f k es) hi)
   splice-rises hi es n q h step = go (split P k hi es n q h)
     where
       go : Split P k hi es (chosen k es) (λ f. splice f k es) → Rises Q hi (splice f k es) ×
-          (low (next es hi) ≤ next (splice f k es) hi)
+          (low (following es hi) ≤ following (splice f k es) hi)
       go s =
           let x = chosen k es in
-          let y = next (s .post) hi in
+          let y = following (s .post) hi in
           let st = step y (s .under) (s .up) (s .here) in
           let e1 = next-append (f x) (s .post) hi in
-          let e2 : next es hi ≡ next (s .pre) (x .key) = ap (λ m. next m hi) (s .whole)
+          let e2 : following es hi ≡ following (s .pre) (x .key) = ap (λ m. following m hi) (s .whole)
           ∙ next-append (s .pre) (x ∷ s .post) hi in
-          let e3 : next (splice f k es) hi ≡ next (s .pre) (next (f x) y) = ap (λ m. next m hi) (s .spliced f)
+          let e3 : following (splice f k es) hi ≡ following (s .pre) (following (f x) y) = ap (λ m. following m hi) (s .spliced f)
           ∙ next-append (s .pre)
-          (f x ++ s .post) hi ∙ ap (next (s .pre)) e1 in (
+          (f x ++ s .post) hi ∙ ap (following (s .pre)) e1 in (
             rw (s .spliced f) (rises-append Q hi (s .pre) (f x ++ s .post)
-                (rw e1 (pre-rises (x .key) (next (f x) y) (s .pre) (λ z. omega (arith, low-id (x .key) (s .upto z), st .1)) (s .before)))
+                (rw e1 (pre-rises (x .key) (following (f x) y) (s .pre) (λ z. omega (arith, low-id (x .key) (s .upto z), st .1)) (s .before)))
                 (rises-append Q hi (f x) (s .post) (st .0) (rises-map P Q hi (s .post) (λ y x q _ i. more y y x q (omega arith) i) (s .rest)))),
-            rw (e2, e3) (pre-low (x .key) (next (f x) y) (s .pre) (st .1)),
+            rw (e2, e3) (pre-low (x .key) (following (f x) y) (s .pre) (st .1)),
           )
 
 -- every entry of the spliced list: off the path its range leaves k out
@@ -112,9 +112,9 @@ module _ (k : ℕ) (P : ℕ → Entry → Type 0) (f : Entry → List Entry) (W 
   pre-off z (e ∷ pre) u h = let b = u (omega arith) in
       rises-all P W z (e ∷ pre) (λ y x q c i. off y x q i (inl (omega arith))) h
 
-  post-off : (hi : ℕ) (post : List Entry) → k < next post hi → Rises P hi post → All W post
+  post-off : (hi : ℕ) (post : List Entry) → k < following post hi → Rises P hi post → All W post
   post-off hi [] q h = tt
-  post-off hi (e ∷ es) q h = (off (next es hi) e (h .0) (h .1) (inr q), post-off hi es (omega arith) (h .2))
+  post-off hi (e ∷ es) q h = (off (following es hi) e (h .0) (h .1) (inr q), post-off hi es (omega arith) (h .2))
 
   pub splice-each : (hi : ℕ) (es : List Entry) → 0 < length es → k < hi → Rises P hi es
       → ((y : ℕ) → k < y → chosen k es .key < y → P y (chosen k es) → All W (f (chosen k es)))
@@ -123,7 +123,7 @@ module _ (k : ℕ) (P : ℕ → Entry → Type 0) (f : Entry → List Entry) (W 
     where
       go : Split P k hi es (chosen k es) (λ f. splice f k es) → All W (splice f k es)
       go s = rw (s .spliced f) (all-append W (s .pre) (f (chosen k es) ++ s .post) (pre-off (chosen k es .key) (s .pre) (s .upto) (s .before))
-          (all-append W (f (chosen k es)) (s .post) (step (next (s .post) hi) (s .under) (s .up) (s .here))
+          (all-append W (f (chosen k es)) (s .post) (step (following (s .post) hi) (s .under) (s .up) (s .here))
           (post-off hi (s .post) (s .under) (s .rest))))
 
 pub splice-some : (P : ℕ → Entry → Type 0) (Z : Entry → Type 0) (f : Entry → List Entry) (k hi : ℕ) (es : List Entry)
@@ -167,12 +167,12 @@ made-map r k base name H I f (suc l) e m = (
 
 -- what a replacement is: it rises below y, from low of the old key z on; least to most entries
 abbrev pub Out : (ℕ → Entry → Type 0) → (ℕ → ℕ) → ℕ → ℕ → ℕ → ℕ → List Entry → Type 0
-Out P low least most y z es = Rises P y es × (low z ≤ next es y) × (least ≤ length es) × (length es ≤ most)
+Out P low least most y z es = Rises P y es × (low z ≤ following es y) × (least ≤ length es) × (length es ≤ most)
 
 -- what the changed list of a node of n entries is
 pub record Changed (P : ℕ → Entry → Type 0) (low : ℕ → ℕ) (least most y z n : ℕ) (c : List Entry) : Type 0 where
   pub up : Rises P y c
-  pub from : low z ≤ next c y
+  pub from : low z ≤ following c y
   pub few : n + least ≤ suc (length c)
   pub many : suc (length c) ≤ n + most
 
@@ -223,21 +223,21 @@ module _ (fit fit′ : ℕ → ℕ → Type 0) (room : ℕ → ℕ) (r s : Nodes
       (e .key) (base e))
       (name-ok : (l y n : ℕ) (e : Entry) (c : List Entry) → Ok fit room r (suc l) y e → Held (suc l) e c → k < y
       → e .key < y → Rises
-      (Ok fit′ room s l) y c → low (e .key) ≤ next c y
+      (Ok fit′ room s l) y c → low (e .key) ≤ following c y
       → 1 ≤ n → n ≤ room (suc l) → n + least ≤ suc (length c) → suc (length c) ≤ n + most
       → Out (Ok fit′ room s (suc l)) low least most y (e .key) (name (suc l) e c)) where
     list-ok : (l hi : ℕ) (es : List Entry) → 0 < length es → k < hi → Rises (Ok fit room r l) hi es
         → ((y : ℕ) → k < y → chosen k es .key < y → Ok fit room r l y (chosen k es)
         → Out (Ok fit′ room s l) low least most y (chosen k es .key)
         (edit r k base name l (chosen k es)))
-        → Changed (Ok fit′ room s l) low least most hi (next es hi) (length es) (splice (edit r k base name l) k es)
+        → Changed (Ok fit′ room s l) low least most hi (following es hi) (length es) (splice (edit r k base name l) k es)
     list-ok l hi es n q h step =
         let sr = splice-rises k (Ok fit room r l) (Ok fit′ room s l) (edit r k base name l) low low-le low-id
         (λ y y′ x b z i. ok-same fit room fit′ r s keep same l y′ x (ok-more fit room r l y y′ x z i)) hi es n q h
         (λ y a b i. (step y a b i .0, step y a b i .1)) in
         let sl = splice-length (Ok fit room r l) (edit r k base name l) k hi es n q h in
         let se = split (Ok fit room r l) k hi es n q h in
-        let st = step (next (se .post) hi) (se .under) (se .up) (se .here) in
+        let st = step (following (se .post) hi) (se .under) (se .up) (se .here) in
         record { up = sr .0; from = sr .1; few = omega (arith, sl, st .2); many = omega (arith, sl, st .3) }
 
     pub edit-ok : (l hi : ℕ) (e : Entry) → k < hi → e .key < hi → Ok fit room r l hi e → Made r k base name Held l e
@@ -248,12 +248,12 @@ module _ (fit fit′ : ℕ → ℕ → Type 0) (room : ℕ → ℕ) (r s : Nodes
         let es = r (e .addr) (suc l) in
         let c = splice (edit r k base name l) k es in
         let ch = list-ok l hi es (h .1) q (h .4) (λ y z b i. edit-ok l y (chosen k es) z b i (m .1)) in
-        name-ok l hi (length es) e c h (m .0) q b (ch .up) (omega (arith, low-up (e .key) (next es hi) (h .3), ch .from)) (h .1) (h .2) (ch .few)
+        name-ok l hi (length es) e c h (m .0) q b (ch .up) (omega (arith, low-up (e .key) (following es hi) (h .3), ch .from)) (h .1) (h .2) (ch .few)
         (ch .many)
 
     pub edit-list-ok : (l hi : ℕ) (es : List Entry) → 0 < length es → k < hi → Rises (Ok fit room r l) hi es
         → Made r k base name Held l (chosen k es)
-        → Changed (Ok fit′ room s l) low least most hi (next es hi) (length es) (splice (edit r k base name l) k es)
+        → Changed (Ok fit′ room s l) low least most hi (following es hi) (length es) (splice (edit r k base name l) k es)
     edit-list-ok l hi es n q h m = list-ok l hi es n q h (λ y z b i. edit-ok l y (chosen k es) z b i m)
 
   -- the places of the result: new ones, and old ones off the path

@@ -13,7 +13,7 @@ use borrow.Author.Tests.{leb-true, leb-false}
 use Rattle.geometry.specs.declared.Entry.{Entry}
 use Rattle.geometry.specs.Tests.{pick, bit}
 use Rattle.model.specs.Image.{Nodes}
-use Rattle.model.specs.Tree.{gather, under, Place, places, next, chosen, find}
+use Rattle.model.specs.Tree.{gather, under, Place, places, following, chosen, find}
 use Rattle.model.specs.Edit.{splice, put, putIn, turn, pathHalf, sideHalf, two, named, gains, splits}
 use Rattle.model.specs.Update.{isNone}
 use Rattle.theory_counts.specs.Cases.{by-test}
@@ -262,7 +262,7 @@ module _ (k a n top : ℕ) (side half most : ℕ → ℕ) (r s : Nodes) (fit fit
       go : (t : Bool) → s n (suc l) ≡ pick t (drop m c) (take m c) → s (side (suc l)) (suc l) ≡ pick t (take m c)
           (drop m c)
           → length (gather (places s (suc l)) (record { key = z; addr = pick t (side (suc l)) n } ∷
-          record { key = next (drop m c) 0; addr = pick t n (side (suc l)) } ∷ [])) ≡ 2 + length (gather (places s l) c)
+          record { key = following (drop m c) 0; addr = pick t n (side (suc l)) } ∷ [])) ≡ 2 + length (gather (places s l) c)
       go true i j = let w = join (side (suc l)) n (take m c) (drop m c) j i in omega (arith, w, both)
       go false i j = let w = join n (side (suc l)) (take m c) (drop m c) i j in omega (arith, w, both)
 
@@ -277,7 +277,7 @@ module _ (k a n top : ℕ) (side half most : ℕ → ℕ) (r s : Nodes) (fit fit
         absent l (chosen k es)
     list-nodes l hi es c q h f step =
         let sp = split (Ok fit roomAt r l) k hi es c q h in
-        let i = step (next (sp .post) hi) (sp .under) (sp .up) (sp .here) (ap isNone (sym (find-list fit roomAt r k l hi es c q h)) ∙ f) in
+        let i = step (following (sp .post) hi) (sp .under) (sp .up) (sp .here) (ap isNone (sym (find-list fit roomAt r k l hi es c q h)) ∙ f) in
         let w = splice-nodes (Ok fit roomAt r l) (places r l) (places s l) (inserts l) k hi es c q
         (λ y x j. places-same fit roomAt fit′ r s keep same l y x j) h in
         omega (arith, i, w)

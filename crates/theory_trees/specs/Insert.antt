@@ -10,7 +10,7 @@ use borrow.Author.Tests.{le-leb, lt-leb}
 use Rattle.geometry.specs.declared.Entry.{Entry}
 use Rattle.geometry.specs.Tests.{pick}
 use Rattle.model.specs.Image.{Nodes}
-use Rattle.model.specs.Tree.{under, next, chosen}
+use Rattle.model.specs.Tree.{under, following, chosen}
 use Rattle.model.specs.Edit.{splice, put, putIn, turn, pathHalf, sideHalf, two, named, pathPart}
 use Rattle.model.specs.Plain.{both}
 use Rattle.theory_nodes.specs.Entries.{Rises}
@@ -96,7 +96,7 @@ module _ (k a n top : ℕ) (side half most : ℕ → ℕ) (r s : Nodes) (fit fit
 
   pub ins-list-ok : (l hi : ℕ) (es : List Entry) → 0 < length es → k < hi → Rises (Ok fit roomAt r l) hi es
       → Making l (chosen k es)
-      → Changed (Ok fit′ roomAt s l) (λ z. min z k) 1 2 hi (next es hi) (length es) (splice (inserts l) k es)
+      → Changed (Ok fit′ roomAt s l) (λ z. min z k) 1 2 hi (following es hi) (length es) (splice (inserts l) k es)
   ins-list-ok l hi es c q h m = over.ins-list-ok k a top (λ _. n) (leftOf k n side half) (rightOf k n side half) half most r s fit fit′ fit-a keep same
       k-top l hi es c q h (lay l (chosen k es) m)
 
@@ -126,7 +126,7 @@ module _ (k a n top : ℕ) (side half most : ℕ → ℕ) (r s : Nodes) (fit fit
   -- the root grows
   pub record Grown (l : ℕ) (c : List Entry) : Type 0 where
     pub halves : Halves k n side s fit′ (suc l) (2 * half (suc l)) c
-    pub top-list : s n (suc (suc l)) ≡ two k n (side (suc l)) (2 * half (suc l)) (next c 0) c
+    pub top-list : s n (suc (suc l)) ≡ two k n (side (suc l)) (2 * half (suc l)) (following c 0) c
 
   pub grow-pairs : (l p : ℕ) → Rooted fit roomAt most top r l p → Making l (chosen k (r p (suc l)))
       → Grown l (rootList l p)
@@ -135,7 +135,7 @@ module _ (k a n top : ℕ) (side half most : ℕ → ℕ) (r s : Nodes) (fit fit
       l p n (pick (turn k (2 * half (suc l)) (rootList l p)) (side (suc l)) n) (pick (turn k (2 * half (suc l)) (rootList l p)) n (side (suc l)))
       (2 * half (suc l)) h (lay l (chosen k (r p (suc l))) m)
       (as-both k n side half s fit′ Cut fit-n l (2 * half (suc l)) (rootList l p) (g .halves))
-      (g .top-list ∙ two-is k n (side (suc l)) (2 * half (suc l)) (next (rootList l p) 0) (rootList l p))
+      (g .top-list ∙ two-is k n (side (suc l)) (2 * half (suc l)) (following (rootList l p) 0) (rootList l p))
 
   pub grow-ok : (l p : ℕ) → Rooted fit roomAt most top r l p → Making l (chosen k (r p (suc l)))
       → Grown l (rootList l p)
@@ -147,5 +147,5 @@ module _ (k a n top : ℕ) (side half most : ℕ → ℕ) (r s : Nodes) (fit fit
       l p n (pick (turn k (2 * half (suc l)) (rootList l p)) (side (suc l)) n) (pick (turn k (2 * half (suc l)) (rootList l p)) n (side (suc l)))
       (2 * half (suc l)) h (lay l (chosen k (r p (suc l))) m)
       (as-both k n side half s fit′ Cut fit-n l (2 * half (suc l)) (rootList l p) (g .halves))
-      (g .top-list ∙ two-is k n (side (suc l)) (2 * half (suc l)) (next (rootList l p) 0) (rootList l p))
+      (g .top-list ∙ two-is k n (side (suc l)) (2 * half (suc l)) (following (rootList l p) 0) (rootList l p))
       (fit-n (suc l)) (omega (arith, c, f .some)) (omega arith) (omega (arith, c, f .some)) (omega (arith, c)) w

@@ -11,7 +11,7 @@ use borrow.Author.Tests.{leb-true, leb-false}
 use Rattle.geometry.specs.declared.Entry.{Entry}
 use Rattle.geometry.specs.Tests.{pick}
 use Rattle.model.specs.Image.{Nodes}
-use Rattle.model.specs.Tree.{gather, Place, places, next, chosen}
+use Rattle.model.specs.Tree.{gather, Place, places, following, chosen}
 use Rattle.model.specs.Edit.{splice, put, putIn, turn, pathHalf, two, named, pathPart}
 use Rattle.theory_lists.specs.All.{All, Some, all-left, all-right, all-append, all-map}
 use Rattle.theory_nodes.specs.Entries.{Rises, gather-append, next-append, Split, split}
@@ -23,10 +23,10 @@ use Rattle.theory_trees.specs.Tied.{Where}
 -- Z holds of the last entry whose key is not above k
 abbrev pub Sits : ℕ → (Entry → Type 0) → ℕ → List Entry → Type 0
 Sits k Z y [] = ⊥
-Sits k Z y (x ∷ es) = ((x .key ≤ k) × (k < next es y) × Z x) ⊎ Sits k Z y es
+Sits k Z y (x ∷ es) = ((x .key ≤ k) × (k < following es y) × Z x) ⊎ Sits k Z y es
 
 module _ (k : ℕ) (Z : Entry → Type 0) where
-  pub sits-left : (y : ℕ) (xs ys : List Entry) → Sits k Z (next ys y) xs → Sits k Z y (xs ++ ys)
+  pub sits-left : (y : ℕ) (xs ys : List Entry) → Sits k Z (following ys y) xs → Sits k Z y (xs ++ ys)
   sits-left y [] ys h = absurd h
   sits-left y (x ∷ xs) ys (inl h) = inl (h .0, rw (next-append xs ys y) (h .1), h .2)
   sits-left y (x ∷ xs) ys (inr h) = inr (sits-left y xs ys h)
@@ -47,9 +47,9 @@ module _ (k : ℕ) (Z : Entry → Type 0) where
     where
       go : Split P k hi es (chosen k es) (λ f. splice f k es) → Sits k Z hi (splice f k es)
       go s = rw (s .spliced f) (sits-right hi (s .pre) (f (chosen k es) ++ s .post)
-          (sits-left hi (f (chosen k es)) (s .post) (step (next (s .post) hi) (s .under))))
+          (sits-left hi (f (chosen k es)) (s .post) (step (following (s .post) hi) (s .under))))
 
-  pub sits-first : (P : ℕ → Entry → Type 0) (y : ℕ) (es : List Entry) → Rises P y es → Sits k Z y es → next es 0 ≤ k
+  pub sits-first : (P : ℕ → Entry → Type 0) (y : ℕ) (es : List Entry) → Rises P y es → Sits k Z y es → following es 0 ≤ k
   sits-first P y [] h i = absurd i
   sits-first P y (e ∷ []) h (inl i) = i .0
   sits-first P y (e ∷ []) h (inr i) = absurd i
@@ -57,12 +57,12 @@ module _ (k : ℕ) (Z : Entry → Type 0) where
   sits-first P y (e ∷ g ∷ es) h (inr i) = let j = sits-first P y (g ∷ es) (h .2) i in omega arith
 
   pub next-drop : (P : ℕ → Entry → Type 0) (y m : ℕ) (es : List Entry) → m < length es → Rises P y es
-      → next es y ≤ next (drop m es) 0
+      → following es y ≤ following (drop m es) 0
   next-drop P y m [] b h = absurd (omega arith)
   next-drop P y zero (e ∷ es) b h = omega arith
   next-drop P y (suc m) (e ∷ es) b h = let i = next-drop P y m es (omega arith) (h .2) in omega arith
 
-  pub sits-drop : (P : ℕ → Entry → Type 0) (y m : ℕ) (c : List Entry) → m < length c → next (drop m c) 0 ≤ k
+  pub sits-drop : (P : ℕ → Entry → Type 0) (y m : ℕ) (c : List Entry) → m < length c → following (drop m c) 0 ≤ k
       → Rises P y c → Sits k Z y c
       → Some Z (drop m c)
   sits-drop P y zero c b d h i = sits-some y c i
@@ -70,7 +70,7 @@ module _ (k : ℕ) (Z : Entry → Type 0) where
   sits-drop P y (suc m) (e ∷ c) b d h (inl i) = absurd (omega (arith, next-drop P y m c (omega arith) (h .2), i .1))
   sits-drop P y (suc m) (e ∷ c) b d h (inr i) = sits-drop P y m c (omega arith) d (h .2) i
 
-  pub sits-take : (P : ℕ → Entry → Type 0) (y m : ℕ) (c : List Entry) → k < next (drop m c) 0 → Rises P y c
+  pub sits-take : (P : ℕ → Entry → Type 0) (y m : ℕ) (c : List Entry) → k < following (drop m c) 0 → Rises P y c
       → Sits k Z y c → Some Z (take m c)
   sits-take P y zero c d h i = absurd (omega (arith, sits-first P y c h i))
   sits-take P y (suc m) [] d h i = absurd i
@@ -83,8 +83,8 @@ module _ (k : ℕ) (Z : Entry → Type 0) where
   half-holds P y m c b h i = go (turn k m c) refl
     where
       go : (t : Bool) → turn k m c ≡ t → Some Z (pick t (drop m c) (take m c))
-      go true d = sits-drop P y m c b (leb-true (next (drop m c) 0) k d) h i
-      go false d = sits-take P y m c (leb-false (next (drop m c) 0) k d) h i
+      go true d = sits-drop P y m c b (leb-true (following (drop m c) 0) k d) h i
+      go false d = sits-take P y m c (leb-false (following (drop m c) 0) k d) h i
 
 abbrev pub Names : ℕ → Entry → Type 0
 Names n e = e .addr ≡ n
@@ -94,9 +94,9 @@ module _ (k n : ℕ) where
   two-sits o m z y c b d = go (turn k m c) refl
     where
       go : (t : Bool) → turn k m c ≡ t
-          → Sits k (Names n) y (record { key = z; addr = pick t o n } ∷ record { key = next (drop m c) 0; addr = pick t n o } ∷ [])
-      go true e = inr (inl (leb-true (next (drop m c) 0) k e, d, refl))
-      go false e = inl (b, leb-false (next (drop m c) 0) k e, refl)
+          → Sits k (Names n) y (record { key = z; addr = pick t o n } ∷ record { key = following (drop m c) 0; addr = pick t n o } ∷ [])
+      go true e = inr (inl (leb-true (following (drop m c) 0) k e, d, refl))
+      go false e = inl (b, leb-false (following (drop m c) 0) k e, refl)
 
   named-sits : (side half : ℕ → ℕ) (l y : ℕ) (e : Entry) (c : List Entry) → k < y → Sits k (Names n) y
       (named k n side half l e c)
@@ -157,11 +157,11 @@ module _ (k a n top : ℕ) (side half most : ℕ → ℕ) (r s : Nodes) (fit fit
       go : (t : Bool) → s n (suc l) ≡ pick t (drop m c) (take m c) → s (side (suc l)) (suc l) ≡ pick t (take m c)
           (drop m c)
           → All W (gather (places s (suc l)) (record { key = z; addr = pick t (side (suc l)) n } ∷
-          record { key = next (drop m c) 0; addr = pick t n (side (suc l)) } ∷ []))
-      go true i j = join (record { key = z; addr = side (suc l) }) (record { key = next (drop m c) 0; addr = n })
-          (page-where s W l z (side (suc l)) (take m c) j w′ lh) (page-where s W l (next (drop m c) 0) n (drop m c) i w rh)
-      go false i j = join (record { key = z; addr = n }) (record { key = next (drop m c) 0; addr = side (suc l) })
-          (page-where s W l z n (take m c) i w lh) (page-where s W l (next (drop m c) 0) (side (suc l)) (drop m c) j w′ rh)
+          record { key = following (drop m c) 0; addr = pick t n (side (suc l)) } ∷ []))
+      go true i j = join (record { key = z; addr = side (suc l) }) (record { key = following (drop m c) 0; addr = n })
+          (page-where s W l z (side (suc l)) (take m c) j w′ lh) (page-where s W l (following (drop m c) 0) n (drop m c) i w rh)
+      go false i j = join (record { key = z; addr = n }) (record { key = following (drop m c) 0; addr = side (suc l) })
+          (page-where s W l z n (take m c) i w lh) (page-where s W l (following (drop m c) 0) (side (suc l)) (drop m c) j w′ rh)
 
   -- the node on n at a level above the leaves names n
   part-names : (l y : ℕ) (es : List Entry) → 1 ≤ l → 0 < length es → k < y → Rises (Ok fit roomAt r l) y es
@@ -244,12 +244,12 @@ module _ (k a n top : ℕ) (side half most : ℕ → ℕ) (r s : Nodes) (fit fit
       → Cut (suc l)
       → length (atRoot (putIn k a) (inserts l) k l (r p (suc l))) ≡ 4 * half (suc l)
       → s n (suc (suc l)) ≡ two k n (side (suc l)) (2 * half (suc l))
-      (next (atRoot (putIn k a) (inserts l) k l (r p (suc l))) 0)
+      (following (atRoot (putIn k a) (inserts l) k l (r p (suc l))) 0)
       (atRoot (putIn k a) (inserts l) k l (r p (suc l)))
       → All InsertWhere (places s (suc (suc l)) (record { key = 0; addr = n }))
-  grow-where l p h m hs cut len e = page-where s InsertWhere (suc l) 0 n (two k n (side (suc l)) (2 * half (suc l)) (next c 0) c) e
+  grow-where l p h m hs cut len e = page-where s InsertWhere (suc l) 0 n (two k n (side (suc l)) (2 * half (suc l)) (following c 0) c) e
       (inl (refl, omega arith, λ d. rw e (either (turn k (2 * half (suc l)) c))))
-      (two-where InsertWhere l (2 * half (suc l)) (next c 0) c hs (inl (
+      (two-where InsertWhere l (2 * half (suc l)) (following c 0) c hs (inl (
         refl,
         omega arith,
         λ d. rw (hs .0)
@@ -265,8 +265,8 @@ module _ (k a n top : ℕ) (side half most : ℕ → ℕ) (r s : Nodes) (fit fit
 
       either : (t : Bool)
           → Some (Names n)
-          (record { key = next c 0; addr = pick t (side (suc l)) n } ∷ record {
-            key = next (drop (2 * half (suc l)) c) 0;
+          (record { key = following c 0; addr = pick t (side (suc l)) n } ∷ record {
+            key = following (drop (2 * half (suc l)) c) 0;
             addr = pick t n
                 (side (suc l));
           } ∷ [])

@@ -12,7 +12,7 @@ use borrow.Author.Tests.{eq-eqb, leb-false, eqb-true, eqb-false}
 use Rattle.geometry.specs.declared.Entry.{Entry}
 use Rattle.geometry.specs.Tests.{pick, bit}
 use Rattle.model.specs.Image.{Nodes}
-use Rattle.model.specs.Tree.{gather, Place, places, next, chosen}
+use Rattle.model.specs.Tree.{gather, Place, places, following, chosen}
 use Rattle.model.specs.Edit.{splice, put, putIn, two, named, pathHalf, remove, removeIn, kept, collapse}
 use Rattle.theory_lists.specs.All.{All, Mem, all-left, all-append, all-map}
 use Rattle.theory_nodes.specs.Entries.{Rises, gather-eq, gather-all, all-gather, next-append, next-le, rises-all, Split, split}
@@ -35,7 +35,7 @@ bottom r k (suc l) e = bottom r k l (chosen k (r (e .addr) (suc (suc l))))
 module _ (fit : ℕ → ℕ → Type 0) (room : ℕ → ℕ) (r : Nodes) (k : ℕ) where
   -- its first key is in the range of every entry on the path
   way-in : (l y : ℕ) (e : Entry) → k < y → Ok fit room r (suc l) y e
-      → (e .key ≤ next (r (bottom r k l e) 1) 0) × (next (r (bottom r k l e) 1) 0 < y)
+      → (e .key ≤ following (r (bottom r k l e) 1) 0) × (following (r (bottom r k l e) 1) 0 < y)
   unfolding bottom Ok
   way-in zero y e q h =
       let es = r (e .addr) 1 in
@@ -45,10 +45,10 @@ module _ (fit : ℕ → ℕ → Type 0) (room : ℕ → ℕ) (r : Nodes) (k : �
   way-in (suc l) y e q h =
       let es = r (e .addr) (suc (suc l)) in
       let s = split (Ok fit room r (suc l)) k y es (h .1) q (h .4) in
-      let i = way-in l (next (s .post) y) (chosen k es) (s .under) (s .here) in
+      let i = way-in l (following (s .post) y) (chosen k es) (s .under) (s .here) in
       let a = next-le (Ok fit room r (suc l)) (chosen k es .key) (s .pre) (s .before) in
       let b = next-le (Ok fit room r (suc l)) y (s .post) (s .rest) in
-      let c = ap (λ m. next m y) (s .whole) ∙ next-append (s .pre) (chosen k es ∷ s .post) y in
+      let c = ap (λ m. following m y) (s .whole) ∙ next-append (s .pre) (chosen k es ∷ s .post) y in
       (omega (arith, h .3, c, a, i .0), omega (arith, i .1, b))
 
   -- it fits as a leaf
@@ -58,7 +58,7 @@ module _ (fit : ℕ → ℕ → Type 0) (room : ℕ → ℕ) (r : Nodes) (k : �
   way-fit (suc l) y e q h =
       let es = r (e .addr) (suc (suc l)) in
       let s = split (Ok fit room r (suc l)) k y es (h .1) q (h .4) in
-      way-fit l (next (s .post) y) (chosen k es) (s .under) (s .here)
+      way-fit l (following (s .post) y) (chosen k es) (s .under) (s .here)
 
   pub bottom-fit : (most : ℕ → ℕ) (top l p : ℕ) → k < top → Rooted fit room most top r l p
       → fit 1 (bottom r k l (the p))
@@ -68,14 +68,14 @@ module _ (fit : ℕ → ℕ → Type 0) (room : ℕ → ℕ) (r : Nodes) (k : �
       let es = r p (suc (suc l)) in
       let z = h .least (omega arith) in
       let s = split (Ok fit room r (suc l)) k top es (omega (arith, z)) q (h .rises) in
-      way-fit l (next (s .post) top) (chosen k es) (s .under) (s .here)
+      way-fit l (following (s .post) top) (chosen k es) (s .under) (s .here)
 
 -- every entry of a spliced list, off the path by a key k′ of the chosen entry's range
 module _ (k k′ : ℕ) (P : ℕ → Entry → Type 0) (f : Entry → List Entry) (W : Entry → Type 0)
     (off : (y : ℕ) (x : Entry) → x .key < y → P y x → ((y ≤ k′) ⊎ (k′ < x .key)) → W x) where
-  post-at : (hi : ℕ) (post : List Entry) → k′ < next post hi → Rises P hi post → All W post
+  post-at : (hi : ℕ) (post : List Entry) → k′ < following post hi → Rises P hi post → All W post
   post-at hi [] q h = tt
-  post-at hi (e ∷ es) q h = (off (next es hi) e (h .0) (h .1) (inr q), post-at hi es (omega arith) (h .2))
+  post-at hi (e ∷ es) q h = (off (following es hi) e (h .0) (h .1) (inr q), post-at hi es (omega arith) (h .2))
 
   splice-each-at : (hi : ℕ) (es : List Entry) → 0 < length es → k < hi → Rises P hi es
       → ((y : ℕ) → k < y → chosen k es .key < y → P y (chosen k es) → All W (f (chosen k es)) ×
@@ -84,7 +84,7 @@ module _ (k k′ : ℕ) (P : ℕ → Entry → Type 0) (f : Entry → List Entry
   splice-each-at hi es n q h step = go (split P k hi es n q h)
     where
       go : Split P k hi es (chosen k es) (λ f. splice f k es) → All W (splice f k es)
-      go s = let st = step (next (s .post) hi) (s .under) (s .up) (s .here) in
+      go s = let st = step (following (s .post) hi) (s .under) (s .up) (s .here) in
           rw (s .spliced f) (all-append W (s .pre) (f (chosen k es) ++ s .post)
           (rises-all P W (chosen k es .key) (s .pre) (λ y x q c i. off y x q i (inl (omega (arith, st .1, c)))) (s .before))
           (all-append W (f (chosen k es)) (s .post) (st .0) (post-at hi (s .post) (st .2) (s .rest))))
@@ -108,7 +108,7 @@ module _ (p : ℕ) (half : ℕ → ℕ) (r s : Nodes) (fit fit′ : ℕ → ℕ 
       → Rises (Ok tie roomAt r (suc l)) hi es
       → bottom r k l (chosen k es) ≡ p → f (chosen k es) ≡ [] → All Dead (gather (places r (suc l)) (splice f k es))
   off-list f l hi es c q h b none = gather-all Dead (places r (suc l)) (splice f k es)
-      (splice-each-at k (next (r p 1) 0) (Ok tie roomAt r (suc l)) f (λ e. All Dead (places r (suc l) e))
+      (splice-each-at k (following (r p 1) 0) (Ok tie roomAt r (suc l)) f (λ e. All Dead (places r (suc l) e))
       (λ y x z i o. off-path p 1 half r fit (omega arith) (suc l) y x z i o) hi es c q h
       (λ y u v i. (
         subst (λ m. All (λ e. All Dead (places r (suc l) e)) m) (sym none) tt,
@@ -126,7 +126,7 @@ module _ (p : ℕ) (half : ℕ → ℕ) (r s : Nodes) (fit fit′ : ℕ → ℕ 
         → All Dead (gather (places s (suc l)) (edit r k base name (suc l) (chosen k es))))
         → All Dead (gather (places s (suc l)) (splice (edit r k base name (suc l)) k es))
     list-dead l hi es c q h b step = gather-all Dead (places s (suc l)) (splice (edit r k base name (suc l)) k es)
-        (splice-each-at k (next (r p 1) 0) (Ok tie roomAt r (suc l)) (edit r k base name (suc l)) (λ e. All Dead (places s (suc l) e))
+        (splice-each-at k (following (r p 1) 0) (Ok tie roomAt r (suc l)) (edit r k base name (suc l)) (λ e. All Dead (places s (suc l) e))
         (λ y x z i o. subst (λ m. All Dead m) (sym (places-same tie roomAt fit′ r s keep same (suc l) y x i))
         (off-path p 1 half r fit (omega arith) (suc l) y x z i o)) hi es c q h
         (λ y u v i. (
@@ -279,13 +279,13 @@ module _ (n top : ℕ) (half most : ℕ → ℕ) (r s : Nodes) (fit fit′ : ℕ
 
     pub grow-shifted : Halves k n side s fit′ (suc l) (2 * half (suc l)) rootList → Cut (suc l)
         → length rootList ≡ 4 * half (suc l)
-        → s n (suc (suc l)) ≡ two k n (side (suc l)) (2 * half (suc l)) (next rootList 0) rootList
+        → s n (suc (suc l)) ≡ two k n (side (suc l)) (2 * half (suc l)) (following rootList 0) rootList
         → Shifted (n ∷ sides side S) p spots (places s (suc (suc l)) (the n))
     unfolding Dies
     grow-shifted hs c len e = record {
       was = both .1;
-      dead = page-where s Dies (suc l) 0 n (two k n (side (suc l)) (2 * half (suc l)) (next rootList 0) rootList) e n-p
-          (two-where k a n top side half most r s fit fit′ Cut fit-n fit-a keep same k-top Dies l (2 * half (suc l)) (next rootList 0) rootList
+      dead = page-where s Dies (suc l) 0 n (two k n (side (suc l)) (2 * half (suc l)) (following rootList 0) rootList) e n-p
+          (two-where k a n top side half most r s fit fit′ Cut fit-n fit-a keep same k-top Dies l (2 * half (suc l)) (following rootList 0) rootList
           hs n-p (side-p (suc l) c) list-dies);
       within = all-map (Where s n 1 side Cut (λ x. (1 ≤ x .level) × fitLive (x .level) (x .page)))
           (λ x. (1 ≤ hits (n ∷ sides side S) (x .page)) ⊎ Mem x spots) (places s (suc (suc l)) (the n)) (where-in S side Cut 1 cut)

@@ -10,7 +10,7 @@ use borrow.Author.Tests.{eq-eqb, ne-eqb}
 use Rattle.geometry.specs.declared.Entry.{Entry}
 use Rattle.geometry.specs.Tests.{pick}
 use Rattle.model.specs.Image.{Nodes}
-use Rattle.model.specs.Tree.{next, entryOf, place, chosen}
+use Rattle.model.specs.Tree.{following, entryOf, place, chosen}
 use Rattle.model.specs.Edit.{swap, splice, edited, onPath}
 use Rattle.model.specs.Halving.{place-is}
 use Rattle.theory_counts.specs.Cases.{by-eq}
@@ -54,7 +54,7 @@ all-drop P (suc m) (e ∷ es) h = all-drop P m es (h .1)
 entry-ok : (P : ℕ → Entry → Type 0) (i hi : ℕ) (es : List Entry) → i < length es → Rises P hi es → (y : ℕ) ×
     P y (entryOf es i)
 entry-ok P i hi [] n h = absurd (omega arith)
-entry-ok P zero hi (e ∷ es) n h = (next es hi, h .1)
+entry-ok P zero hi (e ∷ es) n h = (following es hi, h .1)
 entry-ok P (suc i) hi (e ∷ es) n h = entry-ok P i hi es (omega arith) (h .2)
 
 chosen-ok : (P : ℕ → Entry → Type 0) (k hi : ℕ) (es : List Entry) → 1 ≤ length es → Rises P hi es → (y : ℕ) ×

@@ -10,7 +10,7 @@ use borrow.Author.Tests.{leb-true}
 use Rattle.geometry.specs.declared.Entry.{Entry}
 use Rattle.geometry.specs.Tests.{pick}
 use Rattle.model.specs.Image.{Nodes}
-use Rattle.model.specs.Tree.{next, entryOf, place, chosen}
+use Rattle.model.specs.Tree.{following, entryOf, place, chosen}
 use Rattle.model.specs.Edit.{splice, gains, splits}
 use Rattle.model.specs.Halving.{place-is, place-keys}
 use Rattle.theory_nodes.specs.Entries.{Rises, Split, split}
@@ -41,7 +41,7 @@ likes-self : (P : ℕ → Entry → Type 0) (R : Entry → Entry → Type 0) (hi
     → ((y : ℕ) (x : Entry) → P y x → R x x)
     → Likes R es es
 likes-self P R hi [] h f = tt
-likes-self P R hi (e ∷ es) h f = (f (next es hi) e (h .1), likes-self P R hi es (h .2) f)
+likes-self P R hi (e ∷ es) h f = (f (following es hi) e (h .1), likes-self P R hi es (h .2) f)
 
 pub like-key : (r s : Nodes) (l : ℕ) (e e′ : Entry) → Like r s l e e′ → e .key ≡ e′ .key
 unfolding Like
@@ -88,7 +88,7 @@ module _ (fit : ℕ → ℕ → Type 0) (room : ℕ → ℕ) (r s : Nodes) (k : 
       let sp = split (Ok fit room r l) k hi es (o .1) q (o .4) in
       rw (
         likes-length (Like r s l) es (s (e′ .addr) (suc l)) (h .1),
-        gains-like l (next (sp .post) hi) (chosen k es)
+        gains-like l (following (sp .post) hi) (chosen k es)
             (chosen k (s (e′ .addr) (suc l))) (sp .here) (sp .under) (likes-chosen (Like r s l) k es (s (e′ .addr) (suc l)) (like-key r s l) (o .1)
             (h .1)),
       ) refl
@@ -102,7 +102,7 @@ module _ (fit : ℕ → ℕ → Type 0) (room : ℕ → ℕ) (r s : Nodes) (k : 
       let sp = split (Ok fit room r l) k hi es (o .1) q (o .4) in
       rw (
         gains-like (suc l) hi e e′ o q h,
-        splits-like l (next (sp .post) hi) (chosen k es) (chosen k (s (e′ .addr) (suc l))) (sp .here) (sp .under)
+        splits-like l (following (sp .post) hi) (chosen k es) (chosen k (s (e′ .addr) (suc l))) (sp .here) (sp .under)
             (likes-chosen (Like r s l) k es (s (e′ .addr) (suc l)) (like-key r s l) (o .1) (h .1)),
       ) refl
 
@@ -134,7 +134,7 @@ module _ (k a n : ℕ) (room : ℕ → ℕ) (r s : Nodes) (fit : ℕ → ℕ →
           (likes-append (Like r s l) (sp .pre) (sp .pre) (chosen k es ∷ sp .post) (moves l (chosen k es) ++ sp .post)
           (likes-self (Ok fit room r l) (Like r s l) (chosen k es .key) (sp .pre) (sp .before) (λ y x i. like-same l y x i))
           (likes-append (Like r s l) (chosen k es ∷ []) (moves l (chosen k es)) (sp .post) (sp .post)
-          (step (next (sp .post) hi) (sp .under) (sp .up) (sp .here)) (likes-self (Ok fit room r l) (Like r s l) hi (sp .post) (sp .rest)
+          (step (following (sp .post) hi) (sp .under) (sp .up) (sp .here)) (likes-self (Ok fit room r l) (Like r s l) hi (sp .post) (sp .rest)
           (λ y x i. like-same l y x i)))))
 
   pub move-like : (l hi : ℕ) (e : Entry) → k < hi → Ok fit room r l hi e → MoveMade r s k a n l e → Likes (Like r s l)

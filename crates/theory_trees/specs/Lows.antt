@@ -9,7 +9,7 @@ use native.Mathlib.Omega.{arith}
 use lib.ListN.{length}
 use borrow.Author.Tests.{ne-eqb}
 use Rattle.model.specs.Image.{Nodes}
-use Rattle.model.specs.Tree.{Place, places, next, chosen, live, lowLevel}
+use Rattle.model.specs.Tree.{Place, places, following, chosen, live, lowLevel}
 use Rattle.model.specs.Edit.{splice}
 use Rattle.theory_lists.specs.All.{All, Mem, all-map, all-get}
 use Rattle.theory_nodes.specs.Nodes.{the, rooted-with}
@@ -93,9 +93,9 @@ module _ (p a n top : ℕ) (half most : ℕ → ℕ) (r s : Nodes) (fit fit′ :
     (new-n : (l : ℕ) → fit (suc l) n → ⊥)
     (l p₀ : ℕ) (h : Proper fit (λ l. 2 * half l) most top r l p₀) (m : Mem (spot p a) (places r (suc l) (the p₀)))
     (low : All (λ x. x .page ≡ p → a ≤ x .level) (places r (suc l) (the p₀)))
-    (made : MoveMade r s (next (r p a) 0) a n l (chosen (next (r p a) 0) (r p₀ (suc l))))
-    (e : s n (suc l) ≡ splice (moved r (next (r p a) 0) a n l) (next (r p a) 0) (r p₀ (suc l)))
-    (k-top : 0 < length (r p₀ (suc l)) → next (r p a) 0 < top) where
+    (made : MoveMade r s (following (r p a) 0) a n l (chosen (following (r p a) 0) (r p₀ (suc l))))
+    (e : s n (suc l) ≡ splice (moved r (following (r p a) 0) a n l) (following (r p a) 0) (r p₀ (suc l)))
+    (k-top : 0 < length (r p₀ (suc l)) → following (r p a) 0 < top) where
   abbrev old : List Place
   old = places r (suc l) (the p₀)
 
@@ -103,13 +103,13 @@ module _ (p a n top : ℕ) (half most : ℕ → ℕ) (r s : Nodes) (fit fit′ :
   new = places s (suc l) (the n)
 
   abbrev path : List Place
-  path = pathPlaces r (next (r p a) 0) a (suc l) (the p₀)
+  path = pathPlaces r (following (r p a) 0) a (suc l) (the p₀)
 
   level-in : (q j : ℕ) → Mem (spot q j) old → (1 ≤ j) × (j ≤ suc l)
   level-in q j i = all-get (λ x. (1 ≤ x .level) × (x .level ≤ suc l)) (spot q j) old (places-level r (suc l) (the p₀)) i
 
   swapped : Swapped n a old path new
-  swapped = root-swap (next (r p a) 0) a n (λ l. 2 * half l) r s fit fit′ keep same most top l p₀ (h .rooted) k-top (level-in p a m .1) made e
+  swapped = root-swap (following (r p a) 0) a n (λ l. 2 * half l) r s fit fit′ keep same most top l p₀ (h .rooted) k-top (level-in p a m .1) made e
 
   the-moved : Moved p a n top half most r s fit fit′ fit-n keep same new-n l p₀ h m low
   the-moved = move-sound p a n top half most r s fit fit′ fit-n keep same new-n l p₀ h m low made e
@@ -140,13 +140,13 @@ module _ (p a n top : ℕ) (half most : ℕ → ℕ) (r s : Nodes) (fit fit′ :
       go false e =
           let z = low-none old q (live-none q old e) in
           let b = all-get (λ x. (1 ≤ x .level) × (x .level ≤ suc l)) (spot q (lowLevel old q)) path
-          (path-levels r (next (r p a) 0) a (suc l) (the p₀)) i in
+          (path-levels r (following (r p a) 0) a (suc l) (the p₀)) i in
           absurd (omega (arith, z, b .0))
 
   all-on : (q : ℕ) → Mem (spot q (lowLevel old q)) path → All (OnIt q path) old
   all-on q i =
       let z = low-is old q (alive-on q i) in
-      root-on (next (r p a) 0) a q (lowLevel old q) half r fit (level-in q (lowLevel old q) (z .0) .0) most top l p₀
+      root-on (following (r p a) 0) a q (lowLevel old q) half r fit (level-in q (lowLevel old q) (z .0) .0) most top l p₀
       (rooted-with fit (λ l. 2 * half l) most top r (Tie r q (lowLevel old q)) l p₀ (λ _. tt) (tie-all r q (lowLevel old q) old (h .tied) (z .0) (z .1))
       (h .rooted)) k-top (level-in p a m .1) i
 

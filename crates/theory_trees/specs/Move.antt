@@ -11,7 +11,7 @@ use borrow.Author.Tests.{le-leb, leb-true, leb-false}
 use Rattle.geometry.specs.declared.Entry.{Entry}
 use Rattle.geometry.specs.Tests.{pick}
 use Rattle.model.specs.Image.{Nodes}
-use Rattle.model.specs.Tree.{gather, under, Place, places, next, chosen}
+use Rattle.model.specs.Tree.{gather, under, Place, places, following, chosen}
 use Rattle.model.specs.Edit.{splice, renamed}
 use Rattle.theory_counts.specs.Cases.{by-le}
 use Rattle.theory_lists.specs.All.{All, Some, all-append, all-map, all-both}
@@ -58,7 +58,7 @@ module _ (k a n top : ℕ) (half most : ℕ → ℕ) (r s : Nodes) (fit fit′ :
 
   pub renamed-ok : (l y i : ℕ) (e : Entry) (c : List Entry) → Ok fit roomAt r (suc l) y e → MoveHeld a n s (suc l) e c
       → k < y → e .key < y
-      → Rises (Ok fit′ roomAt s l) y c → e .key ≤ next c y
+      → Rises (Ok fit′ roomAt s l) y c → e .key ≤ following c y
       → 1 ≤ i → i ≤ roomAt (suc l) → i + 1 ≤ suc (length c) → suc (length c) ≤ i + 1
       → Out (Ok fit′ roomAt s (suc l)) (λ z. z) 1 1 y (e .key) (renamed a n (suc l) e c)
   unfolding Ok
@@ -141,14 +141,14 @@ module _ (p a : ℕ) (half : ℕ → ℕ) (r : Nodes) (fit : ℕ → ℕ → Typ
   roomAt′ l = 2 * half l
 
   abbrev key : ℕ
-  key = next (r p a) 0
+  key = following (r p a) 0
 
   -- an entry that names p, below p's lowest live level's parent: the first key of p's lowest node is in its range
-  named-range : (P : ℕ → Entry → Type 0) (k lo hi : ℕ) (es : List Entry) → lo ≤ next es hi → Rises P hi es
+  named-range : (P : ℕ → Entry → Type 0) (k lo hi : ℕ) (es : List Entry) → lo ≤ following es hi → Rises P hi es
       → Some (λ e. e .addr ≡ p) es
       → ((y : ℕ) (x : Entry) → P y x → x .addr ≡ p → (x .key ≤ k) × (k < y)) → (lo ≤ k) × (k < hi)
   named-range P k lo hi [] q h z step = absurd z
-  named-range P k lo hi (e ∷ es) q h (inl z) step = omega (arith, step (next es hi) e (h .1) z, next-le P hi es (h .2))
+  named-range P k lo hi (e ∷ es) q h (inl z) step = omega (arith, step (following es hi) e (h .1) z, next-le P hi es (h .2))
   named-range P k lo hi (e ∷ es) q h (inr z) step = named-range P k lo hi es (omega arith) (h .2) z step
 
   at-lowest : (l y : ℕ) (e : Entry) → Ok tied roomAt′ r (suc l) y e → e .addr ≡ p → a ≡ suc l → (e .key ≤ key) ×
@@ -156,7 +156,7 @@ module _ (p a : ℕ) (half : ℕ → ℕ) (r : Nodes) (fit : ℕ → ℕ → Typ
   unfolding Ok
   at-lowest l y e h i j =
       let es = r (e .addr) (suc l) in
-      let w : next (r p a) 0 ≡ next es 0 = rw (i, j) in
+      let w : following (r p a) 0 ≡ following es 0 = rw (i, j) in
       let b = first-below (Ok tied roomAt′ r l) y es (h .1) (h .4) in
       let c = next-more y 0 es (h .1) in
       omega (arith, w, b, c, h .3)
@@ -203,7 +203,7 @@ module _ (p a n top : ℕ) (half most : ℕ → ℕ) (r s : Nodes) (fit fit′ :
   tie l q = fit l q × Tie r p a l q
 
   abbrev first : ℕ
-  first = next (r p a) 0
+  first = following (r p a) 0
 
   abbrev pub OnNew : Place → Type 0
   OnNew x = (x .page ≡ n) × (a ≤ x .level) × (a < x .level → Some (λ e. e .addr ≡ n) (s n (x .level)))

@@ -11,7 +11,7 @@ use borrow.Author.Tests.{le-leb}
 use Rattle.geometry.specs.declared.Entry.{Entry}
 use Rattle.geometry.specs.Tests.{pick}
 use Rattle.model.specs.Image.{Nodes}
-use Rattle.model.specs.Tree.{gather, Place, places, next, chosen}
+use Rattle.model.specs.Tree.{gather, Place, places, following, chosen}
 use Rattle.model.specs.Edit.{splice}
 use Rattle.theory_lists.specs.All.{All, Mem, all-append, all-map, all-get}
 use Rattle.theory_nodes.specs.Entries.{Rises, gather-append, gather-all, rises-all, rises-floor, Split, split}
@@ -63,7 +63,7 @@ module _ (k a q m : ℕ) (half : ℕ → ℕ) (r : Nodes) (fit : ℕ → ℕ →
 
       go : Split (Tied l) k hi es x (λ f. splice f k es) → All (OnIt q P) (gather (places r l) es)
       go sp =
-          let y = next (sp .post) hi in
+          let y = following (sp .post) hi in
           let at = all-get (Within r (x .key) y) (spot q m) (places r l x) (in-range tied roomAt r l y x (sp .up) (sp .here))
           (all-get (λ z. Mem z (places r l x)) (spot q m) (pathPlaces r k a l x) (path-in tied roomAt r k a l y x (sp .under) (sp .here)) i) in
           let whole = ap (gather (places r l)) (sp .whole) ∙ gather-append (places r l) (sp .pre) (x ∷ sp .post) in

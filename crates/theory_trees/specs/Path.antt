@@ -7,7 +7,7 @@ use lib.ListN.{length}
 use borrow.Author.Tests.{eq-eqb, ne-eqb}
 use Rattle.geometry.specs.declared.Entry.{Entry}
 use Rattle.model.specs.Image.{Nodes}
-use Rattle.model.specs.Tree.{next, place, chosen}
+use Rattle.model.specs.Tree.{following, place, chosen}
 use Rattle.model.specs.Edit.{swap, splice, edited, onPath, put, putIn, remove, removeIn, same}
 use Rattle.theory_nodes.specs.Entries.{Rises, rises-map, split, splice-cong}
 use Rattle.theory_nodes.specs.Nodes.{Ok, the}
@@ -56,7 +56,7 @@ module _ (fit : ℕ → ℕ → Type 0) (room : ℕ → ℕ) (r : Nodes) (k : �
   mutual-step l hi es n q h step =
       let s = split (Ok fit room r (suc l)) k hi es n q h in
       splice-cong (Ok fit room r (suc l)) (λ x. name (suc l) x (edited r k leaf name l x)) (edit r k base name (suc l)) k hi es n q h
-      (ap (name (suc l) (chosen k es)) (step (next (s .post) hi) (chosen k es) (s .under) (s .here)))
+      (ap (name (suc l) (chosen k es)) (step (following (s .post) hi) (chosen k es) (s .under) (s .here)))
 
   -- below the root
   pub below-is : (l hi : ℕ) (e : Entry) → k < hi → Ok fit room r (suc l) hi e
@@ -95,8 +95,8 @@ module _ (fit : ℕ → ℕ → Type 0) (room : ℕ → ℕ) (r : Nodes) (k : �
       let s = split (Ok fit room r (suc l)) k hi es (n (omega arith)) q h in
       let o = s .here in (
         subst (H (suc l)) (onPath-below l (suc l) e (omega arith) ∙ onPath-top l (chosen k es)
-            ∙ below-is l (next (s .post) hi) (chosen k es)
+            ∙ below-is l (following (s .post) hi) (chosen k es)
             (s .under) o) (f (suc l) (omega arith) (omega arith)),
-        made-from H l (next (s .post) hi) (chosen k es) (s .under) (λ _. o .1) (o .4)
+        made-from H l (following (s .post) hi) (chosen k es) (s .under) (λ _. o .1) (o .4)
             (λ j b d. subst (H j) (onPath-below l j e (omega arith)) (f j b (omega arith))),
       )

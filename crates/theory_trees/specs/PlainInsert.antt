@@ -12,7 +12,7 @@ use borrow.Author.Tests.{leb-true, leb-false}
 use Rattle.geometry.specs.declared.Entry.{Entry}
 use Rattle.geometry.specs.Tests.{pick}
 use Rattle.model.specs.Image.{Nodes}
-use Rattle.model.specs.Tree.{gather, under, Place, places, next, chosen}
+use Rattle.model.specs.Tree.{gather, under, Place, places, following, chosen}
 use Rattle.model.specs.Edit.{splice, put, putIn}
 use Rattle.model.specs.Plain.{both, renewed}
 use Rattle.theory_lists.specs.All.{All, all-left, all-right, all-append, all-map}
@@ -47,10 +47,10 @@ module _ (k a top : ℕ) (left right half most : ℕ → ℕ) (r s : Nodes) (fit
   both-where l m z x y c h n n′ g =
       let b : All W (gather (places s l) (take m c) ++ gather (places s l) (drop m c)) =
       rw (← gather-append (places s l) (take m c) (drop m c), take-append-drop m c) g in
-      all-append W (places s (suc l) (record { key = z; addr = x })) (places s (suc l) (record { key = next (drop m c) 0; addr = y }) ++ [])
+      all-append W (places s (suc l) (record { key = z; addr = x })) (places s (suc l) (record { key = following (drop m c) 0; addr = y }) ++ [])
       (page-where s W l z x (take m c) (h .0) (new (suc l) x n) (all-left W (gather (places s l) (take m c)) (gather (places s l) (drop m c)) b))
-      (all-append W (places s (suc l) (record { key = next (drop m c) 0; addr = y })) []
-      (page-where s W l (next (drop m c) 0) y (drop m c) (h .1) (new (suc l) y n′)
+      (all-append W (places s (suc l) (record { key = following (drop m c) 0; addr = y })) []
+      (page-where s W l (following (drop m c) 0) y (drop m c) (h .1) (new (suc l) y n′)
       (all-right W (gather (places s l) (take m c)) (gather (places s l) (drop m c)) b)) tt)
 
   name-where : (l y : ℕ) (e : Entry) → k < y → e .key < y → Ok fit roomAt r (suc l) y e → Making (suc l) e
@@ -137,7 +137,7 @@ module _ (k a top : ℕ) (left right half most : ℕ → ℕ) (r s : Nodes) (fit
   -- the root grows: its halves stand on x and y, the new root on n
   pub plain-grow : (l p n x y : ℕ) → Proper fit roomOf most top r l p → Renewing l p
       → Both s fit′ (suc l) (half (suc l)) (rootList l p) x y → N (suc l) x → N (suc l) y
-      → s n (suc (suc l)) ≡ both x y (half (suc l)) (next (rootList l p) 0) (rootList l p) → fit′ (suc (suc l)) n
+      → s n (suc (suc l)) ≡ both x y (half (suc l)) (following (rootList l p) 0) (rootList l p) → fit′ (suc (suc l)) n
       → N (suc (suc l)) n
       → 1 ≤ half (suc l) → 2 * half (suc l) < length (rootList l p) → length (rootList l p) ≤ 3 * half (suc l)
       → 2 ≤ most (suc (suc l))
@@ -148,9 +148,9 @@ module _ (k a top : ℕ) (left right half most : ℕ → ℕ) (r s : Nodes) (fit
           rooted = grow-ok k a top left (λ l _. left l) (λ l _. right l) half most r s fit fit′ fit-a keep same k-top l p n x y (half (suc l))
               (h .rooted) m′ hs e fn h1 (omega arith) (omega arith) (omega arith) w;
           tied = retied l p (suc (suc l)) n h
-              (page-where s (W l p) (suc l) 0 n (both x y (half (suc l)) (next (rootList l p) 0) (rootList l p)) e (inl nn)
+              (page-where s (W l p) (suc l) 0 n (both x y (half (suc l)) (following (rootList l p) 0) (rootList l p)) e (inl nn)
               (both-where k a top left right half most r s (LiveFit fit (places r (suc l) (the p))) fit′ N (λ l b i. keep l b (i .0))
-              (λ q l i. same q l (i .0)) k-top (W l p) (λ l q n. inl n) (λ x i. inr i) l (half (suc l)) (next (rootList l p) 0) x y (rootList l p)
+              (λ q l i. same q l (i .0)) k-top (W l p) (λ l q n. inl n) (λ x i. inr i) l (half (suc l)) (following (rootList l p) 0) x y (rootList l p)
               hs nx ny (below l p h m)));
         },
         grow-pairs k a top left (λ l _. left l) (λ l _. right l) half most r s fit fit′ fit-a keep same k-top l p n x y (half (suc l)) (h .rooted)

@@ -7,7 +7,7 @@ use native.Mathlib.Omega.{arith}
 use lib.ListN.{length}
 use Rattle.geometry.specs.declared.Entry.{Entry}
 use Rattle.model.specs.Image.{Nodes}
-use Rattle.model.specs.Tree.{under, Place, places, next, chosen}
+use Rattle.model.specs.Tree.{under, Place, places, following, chosen}
 use Rattle.model.specs.Edit.{splice, put, putIn, two, remove, removeIn, collapse}
 use Rattle.model.specs.Calls.{made}
 use Rattle.theory_lists.specs.All.{All, Mem, all-map, all-get, all-mem}
@@ -100,7 +100,7 @@ module _ (n top : ℕ) (half most : ℕ → ℕ) (r s : Nodes) (fit fit′ : ℕ
     pub insert-grow : (l p : ℕ) → Proper fit roomAt most top r l p → InsertMade r s k a n side half fit′ Cut l
         (chosen k (r p (suc l)))
         → Halves k n side s fit′ (suc l) (2 * half (suc l)) (rootList l p) → Cut (suc l)
-        → s n (suc (suc l)) ≡ two k n (side (suc l)) (2 * half (suc l)) (next (rootList l p) 0) (rootList l p)
+        → s n (suc (suc l)) ≡ two k n (side (suc l)) (2 * half (suc l)) (following (rootList l p) 0) (rootList l p)
         → length (rootList l p) ≡ 4 * half (suc l) → 2 ≤ most (suc (suc l))
         → Proper fit′ roomAt most top s (suc l) n × (under s (suc (suc l)) (the n) ≡ put k a (under r (suc l) (the p)))
     insert-grow l p h m hs cut e len w =
@@ -183,28 +183,28 @@ places-level r (suc l) e = (
 
 places-first : (fit : ℕ → ℕ → Type 0) (room : ℕ → ℕ) (r : Nodes) (l y top : ℕ) (e : Entry) → y ≤ top
     → Ok fit room r l y e
-    → All (λ x. next (r (x .page) (x .level)) 0 < top) (places r l e)
+    → All (λ x. following (r (x .page) (x .level)) 0 < top) (places r l e)
 unfolding places Ok
 places-first fit room r zero y top e q h = tt
 places-first fit room r (suc l) y top e q h = (
   omega (arith, first-below (Ok fit room r l) y (r (e .addr) (suc l)) (h .1) (h .4), q),
-  gather-all (λ x. next (r (x .page) (x .level)) 0 < top) (places r l) (r (e .addr) (suc l))
-      (rises-all (Ok fit room r l) (λ x. All (λ x. next (r (x .page) (x .level)) 0 < top) (places r l x)) y (r (e .addr) (suc l))
+  gather-all (λ x. following (r (x .page) (x .level)) 0 < top) (places r l) (r (e .addr) (suc l))
+      (rises-all (Ok fit room r l) (λ x. All (λ x. following (r (x .page) (x .level)) 0 < top) (places r l x)) y (r (e .addr) (suc l))
       (λ y′ x _ b i. places-first fit room r l y′ top x (omega arith) i) (h .4)),
 )
 
-first-any : (P : ℕ → Entry → Type 0) (y : ℕ) (es : List Entry) → 0 < y → Rises P y es → next es 0 < y
+first-any : (P : ℕ → Entry → Type 0) (y : ℕ) (es : List Entry) → 0 < y → Rises P y es → following es 0 < y
 first-any P y [] q h = q
 first-any P y (e ∷ es) q h = first-below P y (e ∷ es) (omega arith) h
 
 pub root-first : (fit : ℕ → ℕ → Type 0) (room most : ℕ → ℕ) (r : Nodes) (l p top : ℕ) → 0 < top
     → Rooted fit room most top r l p
-    → All (λ x. next (r (x .page) (x .level)) 0 < top) (places r (suc l) (the p))
+    → All (λ x. following (r (x .page) (x .level)) 0 < top) (places r (suc l) (the p))
 unfolding places
 root-first fit room most r l p top q h = (
   first-any (Ok fit room r l) top (r p (suc l)) q (h .rises),
-  gather-all (λ x. next (r (x .page) (x .level)) 0 < top) (places r l) (r p (suc l))
-      (rises-all (Ok fit room r l) (λ x. All (λ x. next (r (x .page) (x .level)) 0 < top) (places r l x)) top (r p (suc l))
+  gather-all (λ x. following (r (x .page) (x .level)) 0 < top) (places r l) (r p (suc l))
+      (rises-all (Ok fit room r l) (λ x. All (λ x. following (r (x .page) (x .level)) 0 < top) (places r l x)) top (r p (suc l))
       (λ y′ x _ b i. places-first fit room r l y′ top x b i) (h .rises)),
 )
 
@@ -232,13 +232,13 @@ module _ (p a n top : ℕ) (half most : ℕ → ℕ) (r s : Nodes) (fit fit′ :
   spots = places r (suc l) (the p₀)
 
   abbrev k₁ : ℕ
-  k₁ = next (r p a) 0
+  k₁ = following (r p a) 0
 
   a-in : (1 ≤ a) × (a ≤ suc l)
   a-in = all-get (λ x. (1 ≤ x .level) × (x .level ≤ suc l)) (record { page = p; level = a }) spots (places-level r (suc l) (the p₀)) m
 
   k-top : 0 < length (r p₀ (suc l)) → k₁ < top
-  k-top c = all-get (λ x. next (r (x .page) (x .level)) 0 < top) (record { page = p; level = a }) spots
+  k-top c = all-get (λ x. following (r (x .page) (x .level)) 0 < top) (record { page = p; level = a }) spots
       (root-first fit roomAt′ most r l p₀ top (let z = first-below (Ok fit roomAt′ r l) top (r p₀ (suc l)) c (h .rooted .rises) in omega (arith, z))
       (h .rooted)) m
 

@@ -11,7 +11,7 @@ use borrow.Author.Tests.{ne-eqb}
 use Rattle.geometry.specs.declared.Entry.{Entry}
 use Rattle.geometry.specs.Tests.{pick}
 use Rattle.model.specs.Image.{Nodes}
-use Rattle.model.specs.Tree.{gather, under, next, chosen, leaf, find, findIn}
+use Rattle.model.specs.Tree.{gather, under, following, chosen, leaf, find, findIn}
 use Rattle.model.specs.Edit.{splice}
 use Rattle.theory_lists.specs.All.{All}
 use Rattle.theory_nodes.specs.Entries.{In, Rises, gather-append, gather-one, rises-append, next-le, rises-more, Split, split}
@@ -55,8 +55,8 @@ module _ (fit : ℕ → ℕ → Type 0) (room : ℕ → ℕ) (r : Nodes) (k : �
           ∙ ap (find k) (gather-append (under r l) (s .pre) (x ∷ s .post))
           ∙ find-after k 0 (gather (under r l) (s .pre)) (under r l x ++ gather (under r l) (s .post))
           (pre-in k (Ok fit room r l) (under r l) (keeps l) (x .key) (s .pre) (s .upto) (s .before))
-          ∙ find-before k (next (s .post) hi) hi (under r l x) (gather (under r l) (s .post)) (s .under)
-          (rises-in k (Ok fit room r l) (under r l) (keeps l) (next (s .post) hi) hi (s .post) (omega arith) (s .rest))
+          ∙ find-before k (following (s .post) hi) hi (under r l x) (gather (under r l) (s .post)) (s .under)
+          (rises-in k (Ok fit room r l) (under r l) (keeps l) (following (s .post) hi) hi (s .post) (omega arith) (s .rest))
 
   -- joined lists that rise each in its range
   gather-rises : (l hi : ℕ) (es : List Entry) → Rises (Ok fit room r l) hi es
@@ -65,18 +65,18 @@ module _ (fit : ℕ → ℕ → Type 0) (room : ℕ → ℕ) (r : Nodes) (k : �
   unfolding gather
   gather-rises l hi [] h step = tt
   gather-rises l hi (e ∷ es) h step =
-      let a = rises-in k (Ok fit room r l) (under r l) (keeps l) (next es hi) hi es (omega arith) (h .2) in
+      let a = rises-in k (Ok fit room r l) (under r l) (keeps l) (following es hi) hi es (omega arith) (h .2) in
       rises-append (λ y x. Unit {0}) hi (under r l e) (gather (under r l) es)
-      (raise (next es hi) (under r l e) (gather (under r l) es) (next-le (Ok fit room r l) hi es (h .2)) a (step (next es hi) e (h .0) (h .1)))
+      (raise (following es hi) (under r l e) (gather (under r l) es) (next-le (Ok fit room r l) hi es (h .2)) a (step (following es hi) e (h .0) (h .1)))
       (gather-rises l hi es (h .2) step)
     where
-      first : (y : ℕ) (zs : List Entry) → y ≤ hi → All (In y hi) zs → y ≤ next zs hi
+      first : (y : ℕ) (zs : List Entry) → y ≤ hi → All (In y hi) zs → y ≤ following zs hi
       first y [] b i = b
       first y (z ∷ zs) b i = i .0 .0
 
       raise : (y : ℕ) (xs zs : List Entry) → y ≤ hi → All (In y hi) zs → Rises (λ y x. Unit {0}) y xs
-          → Rises (λ y x. Unit {0}) (next zs hi) xs
-      raise y xs zs b i j = rises-more (λ y x. Unit {0}) (λ y x. Unit {0}) y (next zs hi) xs (first y zs b i) (λ y y′ x _ _ _. tt) j
+          → Rises (λ y x. Unit {0}) (following zs hi) xs
+      raise y xs zs b i j = rises-more (λ y x. Unit {0}) (λ y x. Unit {0}) y (following zs hi) xs (first y zs b i) (λ y y′ x _ _ _. tt) j
 
   -- a leaf has under k what its list has
   pub find-in : (hi : ℕ) (es : List Entry) → k < hi → Rises (Ok fit room r 0) hi es → findIn k es ≡ find k es
@@ -92,7 +92,7 @@ module _ (fit : ℕ → ℕ → Type 0) (room : ℕ → ℕ) (r : Nodes) (k : �
   find-leaf (suc l) hi e q h =
       let es = r (e .addr) (suc (suc l)) in
       let s = split (Ok fit room r (suc l)) k hi es (h .1) q (h .4) in
-      find-list (suc l) hi es (h .1) q (h .4) ∙ find-leaf l (next (s .post) hi) (chosen k es) (s .under) (s .here)
+      find-list (suc l) hi es (h .1) q (h .4) ∙ find-leaf l (following (s .post) hi) (chosen k es) (s .under) (s .here)
 
   -- lookup answers as the map does
   pub find-root : (most : ℕ → ℕ) (top l p : ℕ) → k < top → Rooted fit room most top r l p
@@ -104,7 +104,7 @@ module _ (fit : ℕ → ℕ → Type 0) (room : ℕ → ℕ) (r : Nodes) (k : �
       let g = h .least (omega arith) in
       let s = split (Ok fit room r (suc l)) k top es (omega arith) q (h .rises) in
       sym (find-list (suc l) top es (omega arith) q (h .rises)
-      ∙ find-leaf l (next (s .post) top) (chosen k es) (s .under) (s .here))
+      ∙ find-leaf l (following (s .post) top) (chosen k es) (s .under) (s .here))
 
   -- the keys of the map rise strictly
   pub under-rises : (l hi : ℕ) (e : Entry) → e .key < hi → Ok fit room r l hi e → Rises (λ y x. Unit {0}) hi

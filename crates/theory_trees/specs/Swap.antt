@@ -12,7 +12,7 @@ use borrow.Author.Tests.{le-leb, leb-true}
 use Rattle.geometry.specs.declared.Entry.{Entry}
 use Rattle.geometry.specs.Tests.{pick}
 use Rattle.model.specs.Image.{Nodes}
-use Rattle.model.specs.Tree.{gather, Place, places, next, chosen}
+use Rattle.model.specs.Tree.{gather, Place, places, following, chosen}
 use Rattle.model.specs.Edit.{splice}
 use Rattle.theory_lists.specs.All.{All, Mem, all-append, all-map, all-both, all-get, all-mem}
 use Rattle.theory_nodes.specs.Entries.{Rises}
@@ -126,7 +126,7 @@ module _ (k a n : ℕ) (room : ℕ → ℕ) (r s : Nodes) (fit fit′ : ℕ → 
   apart : (l lo hi lo′ hi′ : ℕ) (x : Entry) (es : List Entry) → (hi ≤ lo′) ⊎ (hi′ ≤ lo) → All (Within r lo hi) (G l es)
       → All (Within r lo′ hi′) (pathPlaces r k a l x) → All (λ z. Mem z (pathPlaces r k a l x) → ⊥) (G l es)
   apart l lo hi lo′ hi′ x es side h mine = all-map (Within r lo hi) (λ z. Mem z (pathPlaces r k a l x) → ⊥) (G l es)
-      (λ z i j. clash side (next (r (z .page) (z .level)) 0) i (all-get (Within r lo′ hi′) z (pathPlaces r k a l x) mine j)) h
+      (λ z i j. clash side (following (r (z .page) (z .level)) 0) i (all-get (Within r lo′ hi′) z (pathPlaces r k a l x) mine j)) h
     where
       clash : (hi ≤ lo′) ⊎ (hi′ ≤ lo) → (first : ℕ) → (lo ≤ first) × (first < hi) → (lo′ ≤ first) × (first < hi′) → ⊥
       clash (inl b) first i j = omega (arith, i, j)
@@ -151,7 +151,7 @@ module _ (k a n : ℕ) (room : ℕ → ℕ) (r s : Nodes) (fit fit′ : ℕ → 
       go : Split (Ok fit room r l) k hi es x (λ f. splice f k es)
           → Swapped n a (spot q (suc l) ∷ G l es) (spot q (suc l) ∷ P) (spot n (suc l) ∷ H l (splice f k es))
       go sp =
-          let y = next (sp .post) hi in
+          let y = following (sp .post) hi in
           let whole : G l es ≡ G l (sp .pre) ++ (places r l x ++ G l (sp .post)) =
           ap (G l) (sp .whole) ∙ gather-append (places r l) (sp .pre) (x ∷ sp .post) in
           let new : H l (splice f k es) ≡ G l (sp .pre) ++ (H l (f x) ++ G l (sp .post)) =

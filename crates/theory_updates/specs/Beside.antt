@@ -16,7 +16,7 @@ use Rattle.geometry.specs.Bounds.{fourBytes}
 use Rattle.model.specs.Bytes.{erased, nodeAt}
 use Rattle.model.specs.Count.{count, least, peak, arg}
 use Rattle.model.specs.Image.{pagesOf, seqOf, maxSeq, Chip, chipOf}
-use Rattle.model.specs.Tree.{placesOf, live, lowLevel, next}
+use Rattle.model.specs.Tree.{placesOf, live, lowLevel, following}
 use Rattle.model.specs.Next.{mixed, firstIn, Ahead, ahead, round, nextBlock, nextPage, after, onward}
 use Rattle.model.specs.Page.{built}
 use Rattle.model.specs.Stores.{program, applyStore}
@@ -31,7 +31,7 @@ use Rattle.theory_chips.specs.Whole.{some-page}
 use Rattle.theory_chips.specs.Moves.{moveTo}
 use Rattle.theory_images.specs.Views.{peak-le, arg-new}
 use Rattle.theory_images.specs.Held.{Held, root-height}
-use Rattle.chip_read.specs.Chip.{named}
+use Rattle.chip_read.specs.Chip.{naming}
 use Rattle.live_words.specs.Words.{wordsOf}
 use Rattle.open_record.specs.declared.Opened.{Opened}
 use Rattle.open_record.specs.Opened.{openedIn, levelBy}
@@ -57,7 +57,7 @@ round-none n b f h = go (ltb (least n (λ i. ltb b i & f i)) n)
     go true = higher
     go false = least-none f n h
 
--- then the next page lies past the image
+-- then the following page lies past the image
 pub next-past : (p n : ℕ) (w : Ahead) → 1 ≤ p → count (p * n) (w .er) ≡ 0 → p * n ≤ nextPage p n w
 unfolding nextBlock
 next-past p n w pos h =
@@ -73,7 +73,7 @@ next-past p n w pos h =
     last true u e = refl
     last false u e = e
 
--- the page after the next one, once that is programmed and while one is left. p is a block's pages
+-- the page after the following one, once that is programmed and while one is left. p is a block's pages
 pub next-after : (p n : ℕ) (w : Ahead) → 1 ≤ p → R2 p n (w .er) → 1 ≤ count (p * n) (w .er)
     → 1 ≤ count (p * n) (after (nextPage p n w) (w .er))
     → nextAfter p n (after (nextPage p n w) (w .er)) (nextPage p n w) ≡ nextPage p n (onward (nextPage p n w) w)
@@ -147,7 +147,7 @@ pub record Tracks (g : Geometry) (n : ℕ) (o : Opened) (img : List ℕ) (h : Be
   -- nothing has moved, or the root's page has the largest number
   pub crest : ((h .most ≡ o .most) × (seqOf g img (h .root) ≡ o .number)) ⊎ (seqOf g img (h .root) ≡ h .most)
 
--- the next page while one is left
+-- the following page while one is left
 pub next-of : (g : Geometry) → Shape g → (n : ℕ) (o : Opened) (img : List ℕ) (h : Beside) → Held g n img
     → Tracks g n o img h
     → 1 ≤ count (pagesOf g n) (chipOf g n img .er) → h .next ≡ nextPage (g .pages) n (ahead g n (chipOf g n img))
@@ -186,7 +186,7 @@ store-same g shape n o img h q held q-in free t =
     let a = low-in g n img (h .table) q q-in (t .right) in
     let x = next-of g shape n o img h held t free in
     λ i. program (x i) (built g (suc (t .most-is i)) (suc (t .level-is i)) (λ j. pick (leb (a i) j)
-    (onPath (nodeAt g img) (next (nodeAt g img q (a i)) 0) same (renamed (a i) (x i)) (t .level-is i) (named (t .root-is i)) j) []))
+    (onPath (nodeAt g img) (following (nodeAt g img q (a i)) 0) same (renamed (a i) (x i)) (t .level-is i) (naming (t .root-is i)) j) []))
 
 module _ (g : Geometry) (shape : Shape g) (n : ℕ) (few : pagesOf g n + g .pages < fourBytes) (img : List ℕ)
     (held : Held g n img) (q : ℕ)
@@ -248,8 +248,8 @@ module _ (g : Geometry) (shape : Shape g) (n : ℕ) (few : pagesOf g n + g .page
         most-is = ap suc (t .most-is) ∙ sym (move-max g shape n few img held q free alive low);
         level-is = t .level-is ∙ sym (ap (λ (d : Chip). d .level) chip-is);
         next-is = ap (nextAfter (g .pages) n (erased g then)) x ∙ next-moved;
-        right = subst (Right g n then) (sym (λ i. tableMoved (wordsOf g n) (nodeAt g img) (next (nodeAt g img q (a i)) 0) (a i) (t .level-is i)
-            (named (t .root-is i)) (x i) (h .table)))
+        right = subst (Right g n then) (sym (λ i. tableMoved (wordsOf g n) (nodeAt g img) (following (nodeAt g img q (a i)) 0) (a i) (t .level-is i)
+            (naming (t .root-is i)) (x i) (h .table)))
             (table-moved g shape n few img held q alive free (let z : maxSeq g n img + 1 < 4294967295 =
             omega (arith, low) in z) (h .table) (t .right));
         sum-is = let z = t .sum-is in omega (arith, z, frees);

@@ -14,7 +14,7 @@ use Rattle.geometry.specs.Geometry.{slotsOf, half}
 use Rattle.geometry.specs.Shape.{Shape}
 use Rattle.geometry.specs.Bounds.{fourBytes}
 use Rattle.model.specs.Image.{pagesOf, Chip, theRoot}
-use Rattle.model.specs.Tree.{next, chosen, sought}
+use Rattle.model.specs.Tree.{following, chosen, sought}
 use Rattle.model.specs.Page.{only}
 use Rattle.model.specs.Edit.{put, putIn, turn, pathHalf, sideHalf, two, named, pathPart, splits}
 use Rattle.model.specs.Update.{isNone, rootNode, fills, needs, tooHigh, insertList, crownPart, insertPart, crownHeight, sidePage}
@@ -31,7 +31,7 @@ use Rattle.theory_images.specs.Page.{Parts}
 use Rattle.theory_updates.specs.Table.{parts-most}
 
 -- ---- numbers of 32 bits
-pub next-fits : (es : List Entry) → All Fits es → next es 0 < fourBytes
+pub next-fits : (es : List Entry) → All Fits es → following es 0 < fourBytes
 next-fits [] h = omega arith
 next-fits (e ∷ es) h = h .0 .0
 
@@ -90,11 +90,11 @@ module _ (k a : ℕ) (k-fits : k < fourBytes) (a-fits : a < fourBytes) where
     pub two-fits : (l m z : ℕ) (c : List Entry) → z < fourBytes → All Fits c → All Fits (two k n (side l) m z c)
     two-fits l m z c f h = go (turn k m c)
       where
-        next-low : next (drop m c) 0 < fourBytes
+        next-low : following (drop m c) 0 < fourBytes
         next-low = next-fits (drop m c) (all-drop Fits m c h)
 
         go : (t : Bool) → All Fits (record { key = z; addr = pick t (side l) n } ∷ record {
-          key = next (drop m c) 0;
+          key = following (drop m c) 0;
           addr = pick t n (side l);
         } ∷ [])
         go true = ((f, side-fits l), ((next-low, n-fits), tt))
@@ -230,18 +230,18 @@ module _ (g : Geometry) (shape : Shape g) (n : ℕ) (few : pagesOf g n + g .page
       X : List Entry
       X = lists (suc (c .level))
 
-      first-low : next (lists (suc (c .level))) 0 < fourBytes
+      first-low : following (lists (suc (c .level))) 0 < fourBytes
       first-low = next-fits (lists (suc (c .level))) (lists-fit (suc (c .level)))
 
       crown-fits : (j : ℕ) (t u v w : Bool)
           → All Fits
           (pick t (pathPart k (half g) j (lists j)) (pick u (pick v (pathHalf k (2 * half g (suc (c .level))) (lists (suc (c .level))))
-          (pick w (two k N (side (suc (c .level))) (2 * half g (suc (c .level))) (next (lists (suc (c .level))) 0) (lists (suc (c .level))))
+          (pick w (two k N (side (suc (c .level))) (2 * half g (suc (c .level))) (following (lists (suc (c .level))) 0) (lists (suc (c .level))))
           [])) (pick v (lists (suc (c .level))) [])))
       crown-fits j true u v w = path-part-fits j
       crown-fits j false true true w = half-fits k (2 * half g (suc (c .level))) (lists (suc (c .level))) (lists-fit (suc (c .level))) .0
       crown-fits j false true false true = two-fits k a k-low a-low N side (half g) (side-low m) side-low (suc (c .level))
-          (2 * half g (suc (c .level))) (next (lists (suc (c .level))) 0) (lists (suc (c .level))) first-low (lists-fit (suc (c .level)))
+          (2 * half g (suc (c .level))) (following (lists (suc (c .level))) 0) (lists (suc (c .level))) first-low (lists-fit (suc (c .level)))
       crown-fits j false true false false = tt
       crown-fits j false false true w = lists-fit (suc (c .level))
       crown-fits j false false false w = tt

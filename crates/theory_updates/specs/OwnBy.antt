@@ -13,7 +13,7 @@ use Rattle.geometry.specs.Geometry.{half}
 use Rattle.geometry.specs.Shape.{Shape, shape-core}
 use Rattle.model.specs.Count.{count}
 use Rattle.model.specs.Image.{pagesOf, maxSeq, Nodes, Chip, chipOf, theRoot}
-use Rattle.model.specs.Tree.{next, chosen}
+use Rattle.model.specs.Tree.{following, chosen}
 use Rattle.model.specs.Page.{built, only}
 use Rattle.model.specs.Stores.{program}
 use Rattle.model.specs.Edit.{splice, edited, onPath, putIn, pathHalf, sideHalf, two, named, pathPart}
@@ -95,7 +95,7 @@ module _ (g : Geometry) (seq : ℕ) (c : Chip) (side side′ : ℕ → ℕ) (m k
       let b = lists-alike l in
       let d = same l (omega arith) (omega arith) in
       λ i. pick (leb j (c .level)) (pathPart k (half g) j (a i)) (pick (fills g l (length (b i)))
-      (pick (eqb j l) (pathHalf k (2 * half g l) (b i)) (pick (eqb j (suc l)) (two k (last i) (d i) (2 * half g l) (next (b i) 0) (b i)) []))
+      (pick (eqb j l) (pathHalf k (2 * half g l) (b i)) (pick (eqb j (suc l)) (two k (last i) (d i) (2 * half g l) (following (b i) 0) (b i)) []))
       (pick (eqb j l) (b i) []))
 
   own-alike : ownStoresAt g seq c side m k a ≡ ownStoresAt g seq c side′ m k a

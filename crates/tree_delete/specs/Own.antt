@@ -18,10 +18,6 @@ use Rattle.tree_path.specs.Edit.{changed, partsOf}
 use Rattle.tree_root.specs.Crown.{pathStore}
 use Rattle.live_beside.specs.Update.{Crest}
 
--- the entry that names the root
-abbrev pub rootAt : ℕ → Entry
-rootAt p = record { key = 0; addr = p }
-
 -- page N where the new root stands alone
 unfoldable pub topStore : Geometry → ℕ → ℕ → ℕ → List Entry → Store
 topStore g at seq l c = program at (built g seq (suc l) (only (suc l) c))

@@ -26,7 +26,7 @@ use Rattle.tree_split.specs.declared.Job.{Job}
 use Rattle.tree_split.specs.Step.{leafOf, nameOf, partOf}
 use Rattle.tree_path.specs.Edit.{changed, pathOf, partsOf}
 use Rattle.tree_path.specs.Paths.{path-top}
-use Rattle.chip_read.specs.Chip.{chipWith}
+use Rattle.chip_read.specs.Chip.{chipWith, naming}
 use Rattle.tree_root.specs.declared.Own.{Own}
 use Rattle.tree_root.specs.Crown.{pathStore}
 use Rattle.tree_root.specs.Owns.{Owns}
@@ -34,7 +34,7 @@ use Rattle.open_record.specs.declared.Opened.{Opened}
 use Rattle.open_record.specs.Opened.{levelBy, chipBy}
 use Rattle.live_beside.specs.Beside.{pageFrom, nextBy, pageBy}
 use Rattle.live_beside.specs.Update.{deleteStoreAt, deleteCrest}
-use Rattle.tree_delete.specs.Own.{rootAt, topStore, rootStore, storeBy, topBy, Removes}
+use Rattle.tree_delete.specs.Own.{topStore, rootStore, storeBy, topBy, Removes}
 
 -- a root that does not fall keeps its entries
 keeps : (r : Nodes) (l : ℕ) (c : List Entry) → (collapse r l c .level ≤ l) ×
@@ -96,35 +96,35 @@ module _ (g : Geometry) (c : Chip) (k n : ℕ) where
   part-only h x = rw (ne-eqb (deleteTop c k n .level) (c .level) h, and-false)
 
 module _ (g : Geometry) (i : List ℕ) (at seq l p k : ℕ) (j : Job) (pj : Removes at seq k j) where
-  list-of : (x : ℕ) → pathOf g j i l (rootAt p) x ≡ deleteList (chipWith g i l p) k (j .page) x
+  list-of : (x : ℕ) → pathOf g j i l (naming p) x ≡ deleteList (chipWith g i l p) k (j .page) x
   unfolding pathOf deleteList leafOf nameOf
   list-of x =
-      ap (λ (y : ℕ). onPath (nodeAt g i) y (leafOf (j .change) y) (nameOf g (j .change) j) l (rootAt p) x) (pj .key)
-      ∙ ap (λ (v : Change). onPath (nodeAt g i) k (leafOf v k) (nameOf g v j) l (rootAt p) x) (pj .change)
+      ap (λ (y : ℕ). onPath (nodeAt g i) y (leafOf (j .change) y) (nameOf g (j .change) j) l (naming p) x) (pj .key)
+      ∙ ap (λ (v : Change). onPath (nodeAt g i) k (leafOf v k) (nameOf g v j) l (naming p) x) (pj .change)
 
-  top-of : changed g j i l (rootAt p) ≡ deleteList (chipWith g i l p) k (j .page) (suc l)
+  top-of : changed g j i l (naming p) ≡ deleteList (chipWith g i l p) k (j .page) (suc l)
   unfolding changed pathOf
-  top-of = sym (path-top (nodeAt g i) (j .key) (leafOf (j .change) (j .key)) (nameOf g (j .change) j) l (rootAt p))
+  top-of = sym (path-top (nodeAt g i) (j .key) (leafOf (j .change) (j .key)) (nameOf g (j .change) j) l (naming p))
       ∙ list-of (suc l)
 
-  part-of : (x : ℕ) → partsOf g j i l (rootAt p) x ≡ deleteList (chipWith g i l p) k (j .page) x
+  part-of : (x : ℕ) → partsOf g j i l (naming p) x ≡ deleteList (chipWith g i l p) k (j .page) x
   unfolding partsOf partOf
-  part-of x = ap (λ (v : Change). partOf g v (j .key) x (pathOf g j i l (rootAt p) x)) (pj .change) ∙ list-of x
+  part-of x = ap (λ (v : Change). partOf g v (j .key) x (pathOf g j i l (naming p) x)) (pj .change) ∙ list-of x
 
   c : Chip
   c = chipWith g i l p
 
   stays : pageBytes g ≤ longestPage → deleteTop c k (j .page) .level ≡ l
       → take (pageBytes g) (sealed g (bare g (suc l) (g .top - suc l)
-      (laidLevel g (laid g (partsOf g j i l (rootAt p)) l (blanks longestPage)) (suc l) (changed g j i l (rootAt p)))) (suc (j .seq)) (suc l))
+      (laidLevel g (laid g (partsOf g j i l (naming p)) l (blanks longestPage)) (suc l) (changed g j i l (naming p)))) (suc (j .seq)) (suc l))
       ≡ built g (suc seq) (suc (deleteTop c k (j .page) .level)) (deletePart c k (j .page))
   unfolding c
   stays le e =
-      let low : laid g (partsOf g j i l (rootAt p)) l (blanks longestPage) ≡ laid g (deletePart (chipWith g i l p) k (j .page)) l (blanks longestPage) =
-      laid-agree g (partsOf g j i l (rootAt p)) (deletePart (chipWith g i l p) k (j .page)) l (blanks longestPage)
+      let low : laid g (partsOf g j i l (naming p)) l (blanks longestPage) ≡ laid g (deletePart (chipWith g i l p) k (j .page)) l (blanks longestPage) =
+      laid-agree g (partsOf g j i l (naming p)) (deletePart (chipWith g i l p) k (j .page)) l (blanks longestPage)
       (λ x a h. part-of x ∙ sym (part-low g (chipWith g i l p) k (j .page) e x h)) in
-      let up : laidLevel g (laid g (partsOf g j i l (rootAt p)) l (blanks longestPage)) (suc l)
-      (changed g j i l (rootAt p)) ≡ laid g (deletePart (chipWith g i l p) k (j .page)) (suc l) (blanks longestPage) =
+      let up : laidLevel g (laid g (partsOf g j i l (naming p)) l (blanks longestPage)) (suc l)
+      (changed g j i l (naming p)) ≡ laid g (deletePart (chipWith g i l p) k (j .page)) (suc l) (blanks longestPage) =
       (λ z. laidLevel g (low z) (suc l) ((top-of ∙ sym (part-top g (chipWith g i l p) k (j .page) e)) z)) ∙ laid-more g
       (deletePart (chipWith g i l p) k (j .page)) l (blanks longestPage) in
       (λ z. take (pageBytes g) (sealed g (bare g (suc l) (g .top - suc l) (up z)) (suc (pj .number z)) (suc l)))
@@ -132,22 +132,22 @@ module _ (g : Geometry) (i : List ℕ) (at seq l p k : ℕ) (j : Job) (pj : Remo
       le (part-above g (chipWith g i l p) k (j .page) e)
       ∙ sym (λ z. built g (suc seq) (suc (e z)) (deletePart (chipWith g i l p) k (j .page)))
 
-  falls : collapse (nodeAt g i) l (changed g j i l (rootAt p)) ≡ deleteTop c k (j .page)
+  falls : collapse (nodeAt g i) l (changed g j i l (naming p)) ≡ deleteTop c k (j .page)
   unfolding c deleteTop
   falls = ap (λ (es : List Entry). collapse (nodeAt g i) l es) top-of
 
-  store-is : pageBytes g ≤ longestPage → storeBy g j l (rootAt p) i ≡ program (j .page)
+  store-is : pageBytes g ≤ longestPage → storeBy g j l (naming p) i ≡ program (j .page)
       (built g (suc seq) (suc (deleteTop c k (j .page) .level)) (deletePart c k (j .page)))
   unfolding storeBy rootStore pathStore topStore c
-  store-is le = go (eqb (collapse (nodeAt g i) l (changed g j i l (rootAt p)) .level) l) refl
+  store-is le = go (eqb (collapse (nodeAt g i) l (changed g j i l (naming p)) .level) l) refl
     where
-      go : (t : Bool) → eqb (collapse (nodeAt g i) l (changed g j i l (rootAt p)) .level) l ≡ t
+      go : (t : Bool) → eqb (collapse (nodeAt g i) l (changed g j i l (naming p)) .level) l ≡ t
           → pick t
           (program (j .page) (take (pageBytes g) (sealed g
-          (bare g (suc l) (g .top - suc l) (laidLevel g (laid g (partsOf g j i l (rootAt p)) l (blanks longestPage))
-          (suc l) (changed g j i l (rootAt p)))) (suc (j .seq)) (suc l))))
-          (program (j .page) (built g (suc (j .seq)) (suc (collapse (nodeAt g i) l (changed g j i l (rootAt p)) .level))
-          (only (suc (collapse (nodeAt g i) l (changed g j i l (rootAt p)) .level)) (collapse (nodeAt g i) l (changed g j i l (rootAt p)) .list))))
+          (bare g (suc l) (g .top - suc l) (laidLevel g (laid g (partsOf g j i l (naming p)) l (blanks longestPage))
+          (suc l) (changed g j i l (naming p)))) (suc (j .seq)) (suc l))))
+          (program (j .page) (built g (suc (j .seq)) (suc (collapse (nodeAt g i) l (changed g j i l (naming p)) .level))
+          (only (suc (collapse (nodeAt g i) l (changed g j i l (naming p)) .level)) (collapse (nodeAt g i) l (changed g j i l (naming p)) .list))))
           ≡ program (j .page) (built g (suc seq) (suc (deleteTop c k (j .page) .level)) (deletePart c k (j .page)))
       go true q = ap (λ (bs : List ℕ). program (j .page) bs) (stays le (sym (λ z. falls z .level) ∙ eqb-true _ _ q))
       go false q =
@@ -155,11 +155,11 @@ module _ (g : Geometry) (i : List ℕ) (at seq l p k : ℕ) (j : Job) (pj : Remo
           ∙ sym (λ z. program (j .page) (built g (suc seq) (suc (deleteTop c k (j .page) .level))
           (λ x. part-only g c k (j .page) (λ r. eqb-false _ _ q ((λ z. falls z .level) ∙ r)) x z)))
 
-  own-is : pageBytes g ≤ longestPage → storeBy g j l (rootAt p) i ≡ deleteStoreAt g seq (chipWith g i l p) at k
+  own-is : pageBytes g ≤ longestPage → storeBy g j l (naming p) i ≡ deleteStoreAt g seq (chipWith g i l p) at k
   unfolding deleteStoreAt c
   own-is le = store-is le ∙ (λ z. program (pj .page z) (built g (suc seq) (suc (deleteTop c k (pj .page z) .level)) (deletePart c k (pj .page z))))
 
-  crest-is : topBy g j l (rootAt p) i ≡ deleteCrest (chipWith g i l p) at k
+  crest-is : topBy g j l (naming p) i ≡ deleteCrest (chipWith g i l p) at k
   unfolding c
   crest-is = (λ z. record { page = j .page; level = falls z .level })
       ∙ (λ z. record { page = pj .page z; level = deleteTop c k (pj .page z) .level })
@@ -167,15 +167,15 @@ module _ (g : Geometry) (i : List ℕ) (at seq l p k : ℕ) (j : Job) (pj : Remo
 -- by the record
 pub deleted : (g : Geometry) (n : ℕ) (i : List ℕ) (o : Opened) (k : ℕ) (j : Job) (b : Budget) (r : Own) (then : List ℕ)
     (l : ℕ)
-    → Owns g (storeBy g j l (rootAt (o .root)) i ∷ []) (topBy g j l (rootAt (o .root)) i) b r i then
+    → Owns g (storeBy g j l (naming (o .root)) i ∷ []) (topBy g j l (naming (o .root)) i) b r i then
     → l ≡ levelBy g o → Removes (nextBy g n o) (o .most) k j → pageBytes g ≤ longestPage
     → Owns g (deleteStoreAt g (o .most) (chipBy g i o) (pageBy g n i o 0) k ∷ []) (deleteCrest (chipBy g i o)
     (pageBy g n i o 0) k) b r i then
 unfolding pageFrom
 deleted g n i o k j b r then l run eh pj le =
-    let e : storeBy g j l (rootAt (o .root)) i ≡ deleteStoreAt g (o .most) (chipWith g i l (o .root)) (nextBy g n o) k =
+    let e : storeBy g j l (naming (o .root)) i ≡ deleteStoreAt g (o .most) (chipWith g i l (o .root)) (nextBy g n o) k =
     own-is g i (nextBy g n o) (o .most) l (o .root) k j pj le in
-    let t : topBy g j l (rootAt (o .root)) i ≡ deleteCrest (chipWith g i l (o .root)) (nextBy g n o) k =
+    let t : topBy g j l (naming (o .root)) i ≡ deleteCrest (chipWith g i l (o .root)) (nextBy g n o) k =
     crest-is g i (nextBy g n o) (o .most) l (o .root) k j pj in
     rw (e, t, eh) at run
 

@@ -4,13 +4,14 @@ ghost use mathlib.Core.List.{[], _∷_};
 ghost use Prim.Native.Nat.{_+_, _≤_, _<_};
 ghost use Rattle.geometry.specs.Geometry.{pageBytes};
 ghost use Rattle.geometry.specs.Bounds.{fourBytes, longestPage};
+ghost use Rattle.chip_read.specs.Chip.{naming};
 ghost use Rattle.tree_node.specs.Node.{entries};
 ghost use Rattle.chip_store.specs.Run.{Ran, Countable};
 ghost use Rattle.tree_root.specs.Owns.{Owns};
 ghost use Rattle.open_record.specs.Opened.{chipBy};
 ghost use Rattle.live_beside.specs.Beside.{nextBy, pageBy};
 ghost use Rattle.live_beside.specs.Update.{deleteStoreAt, deleteCrest};
-ghost use Rattle.tree_delete.specs.Own.{Removes, topStore, rootStore, leftAt, storeBy, topBy, rootAt};
+ghost use Rattle.tree_delete.specs.Own.{Removes, topStore, rootStore, leftAt, storeBy, topBy};
 ghost use Rattle.tree_split.specs.declared.Change.{Change};
 use chip_store::Budget;
 use geometry::Entry;
@@ -76,7 +77,7 @@ fn delete_with(g: Geometry, img: &mut [u8], b: Budget, job: Job, level: u32, roo
     requires { ⌜ (level < 255) × (pageBytes g ≤ longestPage) × (job .seq < fourBytes) × (Countable b) ×
         (job .change ≡ Change.Remove) ⌝ }
     ensures { λ r.
-        ⌜ Owns g (storeBy g job level (rootAt root) (now (img .entry)) ∷ []) (topBy g job level (rootAt root)
+        ⌜ Owns g (storeBy g job level (naming root) (now (img .entry)) ∷ []) (topBy g job level (naming root)
         (now (img .entry))) b r (now (img .entry)) (now (img .exit)) ⌝ }
 {
     let mut page = chip_page::blank();

@@ -3,7 +3,7 @@ ghost use mathlib.Core.Path.{_≡_};
 ghost use Prim.Native.Nat.{_+_, _-_, _<_};
 ghost use Rattle.model.specs.Bytes.{nodeAt};
 ghost use Rattle.model.specs.Tree.{leaf, sought};
-ghost use Rattle.chip_read.specs.Chip.{named, chipWith};
+ghost use Rattle.chip_read.specs.Chip.{naming, chipWith};
 ghost use Rattle.tree_search.specs.Search.{found};
 use geometry::Geometry;
 use tree_search::Found;
@@ -12,7 +12,7 @@ use tree_search::Found;
 pub fn leaf_page(g: Geometry, img: &[u8], level: u32, root: u32, key: u32) -> u32
     requires { ⌜ level < 255 ⌝ }
     ensures { λ r.
-        ⌜ nodeAt g (now (img .entry)) r 1 ≡ leaf (nodeAt g (now (img .entry))) key level (named root) ⌝ }
+        ⌜ nodeAt g (now (img .entry)) r 1 ≡ leaf (nodeAt g (now (img .entry))) key level (naming root) ⌝ }
 {
     let mut page = root;
     let mut below = level;

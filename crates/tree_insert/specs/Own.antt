@@ -22,10 +22,6 @@ use Rattle.tree_root.specs.Crown.{topPart}
 use Rattle.open_record.specs.declared.Opened.{Opened}
 use Rattle.live_beside.specs.Update.{Crest, sidesBy}
 
--- the entry that names the root
-abbrev pub rootAt : ℕ → Entry
-rootAt p = record { key = 0; addr = p }
-
 -- what page N takes at level m
 unfoldable pub crownParts : Geometry → Job → List ℕ → ℕ → Entry → ℕ → List Entry
 crownParts g j i l e m = pick (leb m l) (partsOf g j i l e m) (topPart g j (suc l) (changed g j i l e) m)

@@ -3,10 +3,11 @@ ghost use mathlib.Core.Path.{_≡_};
 ghost use Prim.Native.Nat.{_+_, _≤_, _<_, max};
 ghost use Rattle.geometry.specs.Geometry.{pageBytes};
 ghost use Rattle.geometry.specs.Bounds.{fourBytes, longestPage};
+ghost use Rattle.chip_read.specs.Chip.{naming};
 ghost use Rattle.chip_store.specs.Run.{Countable};
 ghost use Rattle.tree_root.specs.Owns.{Owns};
 ghost use Rattle.live_beside.specs.Update.{ownBy, crestBy};
-ghost use Rattle.tree_insert.specs.Own.{Climbs, storesBy, topBy, rootAt, sidesOn, Puts};
+ghost use Rattle.tree_insert.specs.Own.{Climbs, storesBy, topBy, sidesOn, Puts};
 use chip_store::Budget;
 use geometry::Entry;
 use geometry::Geometry;
@@ -27,7 +28,7 @@ fn climb(
     root: u32,
 ) -> Summit
     requires { ⌜ (level < 255) × (pageBytes g ≤ longestPage) × (job .seq < fourBytes) × (Countable b) ⌝ }
-    ensures { λ r. ⌜ Climbs g job level (rootAt root) b r (now (img .entry)) (now (img .exit)) (now (page .entry))
+    ensures { λ r. ⌜ Climbs g job level (naming root) b r (now (img .entry)) (now (img .exit)) (now (page .entry))
         (now (page .exit)) ⌝ }
 {
     let u = tree_path::change(
@@ -56,8 +57,8 @@ fn insert_with(
 ) -> Own
     requires { ⌜ (level < 255) × (pageBytes g ≤ longestPage) × (job .seq < fourBytes) × (Countable b) ⌝ }
     ensures { λ r.
-        ⌜ Owns g (storesBy g job (now (img .entry)) last level (rootAt root)) (topBy g job (now (img .entry)) level
-        (rootAt root)) b r (now (img .entry)) (now (img .exit)) ⌝ }
+        ⌜ Owns g (storesBy g job (now (img .entry)) last level (naming root)) (topBy g job (now (img .entry)) level
+        (naming root)) b r (now (img .entry)) (now (img .exit)) ⌝ }
 {
     let mut page = chip_page::blank();
     let w = climb(g, &mut *img, &mut page, b, job, level, root);

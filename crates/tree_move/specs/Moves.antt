@@ -10,7 +10,7 @@ use Rattle.geometry.specs.declared.Entry.{Entry}
 use Rattle.geometry.specs.Tests.{pick}
 use Rattle.geometry.specs.Bounds.{longestPage}
 use Rattle.model.specs.Bytes.{nodeAt}
-use Rattle.model.specs.Tree.{next}
+use Rattle.model.specs.Tree.{following}
 use Rattle.tree_node.specs.declared.Node.{Node}
 use Rattle.tree_node.specs.Node.{entries}
 use Rattle.chip_page.specs.Page.{blanks}
@@ -27,8 +27,8 @@ use Rattle.tree_path.specs.WayUp.{still}
 use Rattle.tree_root.specs.Crown.{pathStore}
 use Rattle.tree_move.specs.Own.{storeBy, Moves}
 
-pub key-is : (g : Geometry) (i : List ℕ) (p l k : ℕ) (c : Node) → k ≡ next (entries c) 0 → entries c ≡ nodeAt g i p l
-    → k ≡ next (nodeAt g i p l) 0
+pub key-is : (g : Geometry) (i : List ℕ) (p l k : ℕ) (c : Node) → k ≡ following (entries c) 0 → entries c ≡ nodeAt g i p l
+    → k ≡ following (nodeAt g i p l) 0
 key-is g i p l k c ek ec = ek ∙ rw ec
 
 pub from-none : (low l : ℕ) (c n : Node) → entries n ≡ [] → l < low → entries n ≡ pick (leb low l) (entries c) []

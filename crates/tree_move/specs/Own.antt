@@ -9,7 +9,7 @@ use Rattle.geometry.specs.Tests.{pick}
 use Rattle.geometry.specs.Bounds.{longestPage}
 use Rattle.model.specs.Bytes.{nodeAt}
 use Rattle.model.specs.Stores.{Store}
-use Rattle.model.specs.Tree.{next}
+use Rattle.model.specs.Tree.{following}
 use Rattle.live_beside.specs.Table.{Table, lowIn}
 use Rattle.live_beside.specs.Beside.{moveStoreBy}
 use Rattle.chip_page.specs.Page.{blanks, laid}
@@ -34,5 +34,5 @@ pub record Moves (most m low k : ℕ) (j : Job) : Type 0 where
 
 -- a run of the store that moves page q, whatever the page and the table that give this level and this key
 pub record Moved (g : Geometry) (root most l m low k : ℕ) (b r : Budget) (i o : List ℕ) : Type 0 where
-  pub ran : (t : Table) (q : ℕ) → low ≡ lowIn t q → k ≡ next (nodeAt g i q low) 0
+  pub ran : (t : Table) (q : ℕ) → low ≡ lowIn t q → k ≡ following (nodeAt g i q low) 0
       → Ran g (moveStoreBy g (record { root = root; most = most; level = l; next = m; table = t }) q i ∷ []) b r i o

@@ -1,4 +1,4 @@
-// The store that moves a live page: the nodes from the root to its lowest live node, on the next page.
+// The store that moves a live page: the nodes from the root to its lowest live node, on the following page.
 ghost use mathlib.Core.Path.{_≡_};
 ghost use mathlib.Core.List.{[], _∷_};
 ghost use Prim.Native.Nat.{_+_, _≤_, _<_};
@@ -7,8 +7,8 @@ ghost use Rattle.geometry.specs.Geometry.{pageBytes};
 ghost use Rattle.geometry.specs.Tests.{pick};
 ghost use Rattle.geometry.specs.Bounds.{longestPage};
 ghost use Rattle.model.specs.Bytes.{nodeAt};
-ghost use Rattle.model.specs.Tree.{next};
-ghost use Rattle.chip_read.specs.Chip.{named};
+ghost use Rattle.model.specs.Tree.{following};
+ghost use Rattle.chip_read.specs.Chip.{naming};
 ghost use Rattle.tree_node.specs.Node.{entries};
 ghost use Rattle.chip_store.specs.Run.{Ran, Countable};
 ghost use Rattle.tree_move.specs.Own.{Moves, Moved, storeBy};
@@ -22,7 +22,7 @@ use tree_split::Job;
 
 // The key by which descent comes to the node at a level of a page: its first.
 pub fn first_key(g: Geometry, img: &[u8], page: u32, level: u32) -> u32
-    ensures { λ r. ⌜ r ≡ next (nodeAt g (now (img .entry)) page level) 0 ⌝ }
+    ensures { λ r. ⌜ r ≡ following (nodeAt g (now (img .entry)) page level) 0 ⌝ }
 {
     let c = tree_load::load_node(g, img, page, level);
     tree_node::first_key(c)
@@ -65,7 +65,7 @@ fn move_with(
 ) -> Budget
     requires { ⌜ (level < 255) × (pageBytes g ≤ longestPage) × (job .seq < 8589934592) × (Countable b) ×
         (job .change ≡ Change.Rename low) ⌝ }
-    ensures { λ r. ⌜ Ran g (storeBy g job low level (named root) (now (img .entry)) ∷ []) b r (now (img .entry))
+    ensures { λ r. ⌜ Ran g (storeBy g job low level (naming root) (now (img .entry)) ∷ []) b r (now (img .entry))
         (now (img .exit)) ⌝ }
 {
     let mut page = chip_page::blank();

@@ -8,7 +8,7 @@ use native.Mathlib.Omega.{arith}
 use native.Mathlib.Numerals.{add-one}
 use Rattle.geometry.specs.declared.Entry.{Entry}
 use Rattle.model.specs.Stores.{written}
-use Rattle.model.specs.Tree.{next}
+use Rattle.model.specs.Tree.{following}
 use Rattle.theory_lists.specs.Written.{written-none, written-more, filled-more}
 use Rattle.theory_lists.specs.Places.{insertAt, removeAt, inserted, removed, right, take-set, length-mapped}
 use Rattle.tree_node.specs.declared.Node.{Node}
@@ -31,15 +31,15 @@ pub empty-is : (n : Node) → n .count ≡ 0 → entries n ≡ []
 unfolding entries
 empty-is n e = rw e
 
-first : (e : List Entry) (c : ℕ) → 0 < length e → 0 < c → getD e 0 no-entry .key ≡ next (take c e) 0
+first : (e : List Entry) (c : ℕ) → 0 < length e → 0 < c → getD e 0 no-entry .key ≡ following (take c e) 0
 first [] c h g = absurd (omega arith)
 first (x ∷ e) zero h g = absurd (omega arith)
 first (x ∷ e) (suc c) h g = refl
 
-pub first-none : (n : Node) → n .count ≡ 0 → 0 ≡ next (entries n) 0
+pub first-none : (n : Node) → n .count ≡ 0 → 0 ≡ following (entries n) 0
 first-none n e = rw (empty-is n e)
 
-pub first-some : (n : Node) → length (n .e) ≡ 256 → (n .count ≡ 0 → ⊥) → getD (n .e) 0 no-entry .key ≡ next (entries n)
+pub first-some : (n : Node) → length (n .e) ≡ 256 → (n .count ≡ 0 → ⊥) → getD (n .e) 0 no-entry .key ≡ following (entries n)
     0
 unfolding entries
 first-some n len h = first (n .e) (n .count) (omega arith) (omega arith)

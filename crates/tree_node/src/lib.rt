@@ -3,7 +3,7 @@ ghost use mathlib.Core.Path.{_≡_};
 ghost use mathlib.Core.List.{[], _∷_};
 ghost use Prim.Native.Nat.{_+_, _-_, _≤_, _<_};
 ghost use lib.ListN.{length, take, drop, set};
-ghost use Rattle.model.specs.Tree.{next};
+ghost use Rattle.model.specs.Tree.{following};
 ghost use Rattle.theory_lists.specs.Places.{insertAt, removeAt};
 ghost use Rattle.tree_node.specs.Node.{entries, carried, replaceBy};
 use geometry::Entry;
@@ -47,7 +47,7 @@ pub fn size(n: Node) -> usize
 // The first key, 0 if there is none.
 pub fn first_key(n: Node) -> u32
     requires { ⌜ n .count ≤ 256 ⌝ }
-    ensures { λ r. ⌜ r ≡ next (entries n) 0 ⌝ }
+    ensures { λ r. ⌜ r ≡ following (entries n) 0 ⌝ }
 {
     if n.count == 0 {
         return 0;

@@ -9,7 +9,7 @@ use Rattle.geometry.specs.declared.Entry.{Entry}
 use Rattle.geometry.specs.Geometry.{half, pageBytes}
 use Rattle.model.specs.Page.{sealed}
 use Rattle.model.specs.Stores.{Store, program}
-use Rattle.model.specs.Tree.{next}
+use Rattle.model.specs.Tree.{following}
 use Rattle.model.specs.Edit.{pathHalf, sideHalf, two}
 use Rattle.model.specs.Update.{fills, crownPart, crownStore, crownHeight}
 use Rattle.tree_node.specs.Node.{entries}
@@ -24,7 +24,7 @@ use Rattle.tree_root.specs.declared.Summit.{Summit}
 -- a root c at level l that is halved
 pub record Grows (g : Geometry) (j : Job) (l : ℕ) (c : List Entry) (r : Crown) : Type 0 where
   pub path : entries (r .path) ≡ pathHalf (j .key) (2 * half g l) c
-  pub above : entries (r .above) ≡ two (j .key) (j .page) (sideOf j l) (2 * half g l) (next c 0) c
+  pub above : entries (r .above) ≡ two (j .key) (j .page) (sideOf j l) (2 * half g l) (following c 0) c
   pub side : entries (r .side) ≡ sideHalf (j .key) (2 * half g l) c
   pub both : r .grows ≡ true
   pub few : r .path .count ≤ 256

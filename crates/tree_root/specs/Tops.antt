@@ -14,7 +14,7 @@ use Rattle.geometry.specs.Geometry.{half, pageBytes}
 use Rattle.geometry.specs.Tests.{pick}
 use Rattle.model.specs.Page.{sealed}
 use Rattle.model.specs.Stores.{program}
-use Rattle.model.specs.Tree.{next}
+use Rattle.model.specs.Tree.{following}
 use Rattle.model.specs.Update.{fills, crownPart, crownStore, crownHeight}
 use Rattle.theory_lists.specs.Places.{length-mapped}
 use Rattle.tree_node.specs.declared.Node.{Node}
@@ -64,7 +64,7 @@ node-two n c x y e q = e ∙ rw q
 
 -- ---- the root
 pub grown : (g : Geometry) (j : Job) (l : ℕ) (c : List Entry) (s : Cut) (n : Node) (h low o : ℕ) → Halved (j .key)
-    (j .page) o (2 * h) low c s → h ≡ half g l → low ≡ next c 0 → o ≡ sideOf j l
+    (j .page) o (2 * h) low c s → h ≡ half g l → low ≡ following c 0 → o ≡ sideOf j l
     → entries n ≡ carried (s .carry) → n .count ≤ 2
     → Grows g j l c (record { path = s .path; above = n; side = s .side; grows = true })
 grown g j l c s n h low o hv eh el eo en cn = record {

@@ -13,7 +13,7 @@ use Rattle.geometry.specs.Geometry.{half, pageBytes}
 use Rattle.model.specs.Edit.{turn, kept}
 use Rattle.model.specs.Page.{built, only}
 use Rattle.model.specs.Stores.{program}
-use Rattle.model.specs.Tree.{next}
+use Rattle.model.specs.Tree.{following}
 use Rattle.model.specs.Update.{sideStore, splitStore}
 use Rattle.tree_node.specs.declared.Node.{Node}
 use Rattle.tree_node.specs.declared.Carry.{Carry}
@@ -50,12 +50,12 @@ least-b a b h = omega arith
 -- ---- halves
 module _ (k n o m z : ℕ) (c a b : Node) (y : ℕ) (ea : entries a ≡ take m (entries c))
     (eb : entries b ≡ drop m (entries c)) (ca : a .count ≤ c .count) (cb : b .count ≤ c .count)
-    (ey : y ≡ next (entries b) 0) (most : c .count ≤ 256) where
+    (ey : y ≡ following (entries b) 0) (most : c .count ≤ 256) where
   turns : y ≤ k → turn k m (entries c) ≡ true
-  turns q = le-leb (next (drop m (entries c)) 0) k (rw (← eb, ← ey) q)
+  turns q = le-leb (following (drop m (entries c)) 0) k (rw (← eb, ← ey) q)
 
   stays : k < y → turn k m (entries c) ≡ false
-  stays q = lt-leb (next (drop m (entries c)) 0) k (rw (← eb, ← ey) q)
+  stays q = lt-leb (following (drop m (entries c)) 0) k (rw (← eb, ← ey) q)
 
   pub half-right : y ≤ k
       → Halved k n o m z (entries c) (record {

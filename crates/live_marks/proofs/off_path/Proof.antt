@@ -6,7 +6,7 @@ use lib.ListN.{length}
 use Rattle.model.specs.Bytes.{nodeAt}
 use Rattle.live_words.specs.Words.{Past}
 use Rattle.live_beside.specs.Table.{tableIn, offPath}
-use Rattle.chip_read.specs.Chip.{named}
+use Rattle.chip_read.specs.Chip.{naming}
 use Rattle.live_marks.proofs.off_path.Statement.{statement}
 use Rattle.live_marks.proofs.off_path.Tie as tie
 use Rattle.live_marks.proofs.off_path.Reads as reads
@@ -19,8 +19,8 @@ ruleset all = (needs, marks-laws)
 abbrev Inv-loop : tie.InvT-loop
 Inv-loop g img table₀ words₀ m key low level root page₀ below₀ table words page below =
     (below ≤ level) × (length table ≡ length table₀) × Past m words₀ words
-    × (offPath m (nodeAt g img) key low level (named root) (tableIn table₀ words₀)
-    ≡ offPath m (nodeAt g img) key low below (named page) (tableIn table words))
+    × (offPath m (nodeAt g img) key low level (naming root) (tableIn table₀ words₀)
+    ≡ offPath m (nodeAt g img) key low below (naming page) (tableIn table words))
 
 abbrev μ-loop : tie.MeasureT-loop
 μ-loop g img table₀ words₀ m key low level root page₀ below₀ table words page below = below

@@ -4,7 +4,7 @@ use native.Mathlib.Omega.{arith}
 use lib.ListN.{length, length-take}
 use borrow.Author.Tests.{not-true}
 use Rattle.log_feed.specs.Left.{left}
-use Rattle.log_day.specs.Emptied.{Ready, left-some, part-counted, day-laws}
+use Rattle.log_day.specs.Emptied.{Drained, left-some, part-counted, day-laws}
 use Rattle.log_day.proofs.play_input.Statement.{statement}
 use Rattle.log_day.proofs.play_input.Tie as tie
 
@@ -12,7 +12,7 @@ ruleset all = (needs, day-laws)
 
 abbrev Inv-loop : tie.InvT-loop
 Inv-loop img₀ line₀ out₀ part₀ run img line out part state =
-    Ready state line × (length out ≡ 65536) × (length part ≡ 65536) × (length img ≡ length img₀)
+    Drained state line × (length out ≡ 65536) × (length part ≡ 65536) × (length img ≡ length img₀)
 
 abbrev μ-loop : tie.MeasureT-loop
 μ-loop img₀ line₀ out₀ part₀ run img line out part state = left state

@@ -4,7 +4,7 @@ use mathlib.Core.Path.{_≡_, refl, sym, _∙_}
 use native.Mathlib.Omega.{arith}
 use lib.ListN.{length}
 use Rattle.log_feed.specs.Left.{left}
-use Rattle.log_day.specs.Emptied.{Ready, ready-emptied, left-emptied}
+use Rattle.log_day.specs.Emptied.{Drained, drained-emptied, left-emptied}
 use Rattle.log_day.proofs.play_read.Statement.{statement}
 use Rattle.log_day.proofs.play_read.Tie as tie
 
@@ -12,7 +12,7 @@ ruleset all = (needs)
 
 abbrev Inv-loop : tie.InvT-loop
 Inv-loop img₀ line₀ out₀ part at₀ run img line out at state =
-    (at ≤ length part) × Ready state line × (length out ≡ 65536) × (length part ≤ 65536) × (left state ≤ left run - at) × (length img ≡ length img₀)
+    (at ≤ length part) × Drained state line × (length out ≡ 65536) × (length part ≤ 65536) × (left state ≤ left run - at) × (length img ≡ length img₀)
 
 abbrev μ-loop : tie.MeasureT-loop
 μ-loop img₀ line₀ out₀ part at₀ run img line out at state = length part - at
@@ -57,7 +57,7 @@ loop-again c =
     let image : length (played .last .0) ≡ length (loop .img) = search needs in
     let less = left-emptied (played .result .run) (c .write-out .result) (played .last .1 .0) (c .write-out .ensures) in (
       f .1 .1 .0,
-      ready-emptied (played .result .run) (c .write-out .result) (played .last .1 .0) (c .write-out .ensures) (f .0),
+      drained-emptied (played .result .run) (c .write-out .result) (played .last .1 .0) (c .write-out .ensures) (f .0),
       same ∙ inv .2,
       inv .3,
       omega (arith, less, goes, f .1 .1 .1 .1 .0, inv .4),

@@ -2,7 +2,7 @@ use borrow.Author.Needs.{needs}
 use mathlib.Core.Path.{_≡_}
 use native.Mathlib.Omega.{arith}
 use lib.ListN.{length}
-use Rattle.log_day.specs.Emptied.{ready-start, part-counted, day-laws}
+use Rattle.log_day.specs.Emptied.{drained-start, part-counted, day-laws}
 use Rattle.log_day.proofs.replay.Statement.{statement}
 use Rattle.log_day.proofs.replay.Tie as tie
 
@@ -30,7 +30,7 @@ start-requires : tie.Need-start-requires
 start-requires c κs = search all
 
 play-input-requires : tie.Need-play-input-requires
-play-input-requires c κs = (ready-start _ _ (c .start .ensures) (search all), search all, search all)
+play-input-requires c κs = (drained-start _ _ (c .start .ensures) (search all), search all, search all)
 
 slice-aggregate-finish : tie.Need-slice-aggregate-finish
 slice-aggregate-finish c = search all

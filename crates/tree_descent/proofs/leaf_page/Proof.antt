@@ -2,7 +2,7 @@ use Prim.Native.Nat.{_≤_, _-_}
 use mathlib.Core.Path.{_≡_}
 use Rattle.model.specs.Bytes.{nodeAt}
 use Rattle.model.specs.Tree.{leaf}
-use Rattle.chip_read.specs.Chip.{named}
+use Rattle.chip_read.specs.Chip.{naming}
 use borrow.Author.Needs.{needs}
 use Rattle.tree_descent.specs.Descents.{descent-laws}
 use Rattle.tree_descent.proofs.leaf_page.Statement.{statement}
@@ -15,7 +15,7 @@ ruleset all = (needs, descent-laws)
 
 abbrev Inv-loop : tie.InvT-loop
 Inv-loop g img level root key page₀ below₀ page below =
-    (below ≤ level) × (leaf (nodeAt g img) key level (named root) ≡ leaf (nodeAt g img) key below (named page))
+    (below ≤ level) × (leaf (nodeAt g img) key level (naming root) ≡ leaf (nodeAt g img) key below (naming page))
 
 abbrev μ-loop : tie.MeasureT-loop
 μ-loop g img level root key page₀ below₀ page below = below
