@@ -18,7 +18,7 @@ import replay
 from antt import deep, force
 from compare import outcome, same
 
-FILES = [("model", "Plain"), ("scores", "Ratio"), ("scores", "Scores"), ("scores", "Compare")]
+FILES = [("model", "Plain"), ("compare_scores", "Ratio"), ("compare_scores", "Scores"), ("compare_scores", "Compare")]
 
 
 def definitions():

@@ -8,6 +8,7 @@ use Rattle.model.specs.Image.{Nodes}
 use Rattle.model.specs.Tree.{Place}
 use Rattle.theory_lists.specs.All.{All, Some, Mem, all-map, all-both, all-get}
 use Rattle.theory_nodes.specs.Nodes.{node-same}
+use Rattle.theory_nodes.specs.Tied.{TiedTo, Tied}
 use Rattle.theory_trees.specs.Move.{Tie}
 
 tie-at : (r : Nodes) (p a j q : ℕ) → (q ≡ p → a ≤ j) → (q ≡ p → a < j → Some (λ e. e .addr ≡ p) (r p j)) → Tie r p a j q
