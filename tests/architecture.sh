@@ -40,7 +40,7 @@ fault() {
 
 page=docs/ARCHITECTURE.md
 fault "crates/model/specs/Rules.antt has no r9" $page 's/`r6`, `loose`/`r9`, `loose`/'
-fault "crates/theory_trees/specs/Judge.antt has no r6-ties" $page 's/`r6-tied`/`r6-ties`/'
+fault "crates/theory_nodes/specs/Judge.antt has no r6-ties" $page 's/`r6-tied`/`r6-ties`/'
 fault "crates/sound_links/src/lib.rt has no function rule_9" $page 's/`sound_links::rule_6`/`sound_links::rule_9`/'
 fault "crates/chip_store/src/lib.rt has no program_pages" $page 's/`program_page`, `copy`/`program_pages`, `copy`/'
 fault "there is no crate nothing with code" $page 's/`tree_path::change`/`nothing::change`/'
@@ -50,14 +50,16 @@ fault "r6 has no file before it" $page 's,`model/specs/Rules.antt` `r6`,`r6`,'
 fault "an empty cell" $page 's/| `sound_links::rule_6`, `sound_links::is_loose` |/| |/'
 fault "a row of 4 cells in a table of 5" $page 's/| `sound_links::rule_6`, `sound_links::is_loose` |/|/'
 fault "only 0 rows" $page '/^|/d'
-fault "the crate loose has no line" $page '/^- `loose`/d'
-fault "loose has no purpose" $page 's/^- `loose`:.*/- `loose`/'
-fault "loose has two lines" $page 's/^- `judge`:/- `loose`:/'
-fault "nothing is no crate of crates.txt" $page 's/^- `judge`:/- `nothing`:/'
-fault "survey stands under 'Library'" $page 's/^### Judging$/### Library/'
-fault "geometry depends on verdict, which is in a later group" crates.txt 's/^geometry:/geometry: verdict/'
+ends="docs/ARCHITECTURE.md does not end with what"
+fault "$ends" $page '/^- `sound_links`/d'
+fault "$ends" $page 's/^- `sound_links`:.*/- `sound_links`/'
+fault "$ends" $page 's/^- `sound_nodes`:/- `nothing`:/'
+fault "$ends" $page 's/^### Judging$/### Library/'
+fault "crates.txt: sound_links has no purpose before it" crates.txt '/^# R6 by the table/d'
+fault "$ends" crates.txt 's/^# R6 by the table/# R7 by the table/'
+fault "geometry depends on sound_verdict, which is in a later group" crates.txt 's/^geometry:/geometry: sound_verdict/'
 fault "geometry is in no group" crates.txt '/^## /d'
-fault "docs/architecture.svg is not what" docs/architecture.svg 's/service/servant/'
+fault "docs/architecture.svg is not what" docs/architecture.svg 's/theory_service/theory_servant/'
 
 [ "$bad" -eq 0 ] && echo "architecture: the map fits the repository"
 exit $bad
