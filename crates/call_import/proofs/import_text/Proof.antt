@@ -1,4 +1,4 @@
--- `importer::import_text` meets its contract: a walk of its MIR, by hand. The local array of 4,096 pairs is lent as a `&mut [Entry]` to `read_pairs`, comes back at the list that
+-- `call_import::import_text` meets its contract: a walk of its MIR, by hand. The local array of 4,096 pairs is lent as a `&mut [Entry]` to `read_pairs`, comes back at the list that
 -- it says, and is lent as a `&[Entry]` to `store_pairs`; the image is lent again to `begin` and to `store_pairs`. Each of the four calls is a step of the walk, in a lemma of its
 -- own, that leaves the context in its order. Once the array is filled with zeros its list is bound (`array-row`): the walk knows its length alone. Assumes nothing.
 use mathlib.Core.Path.{_≡_, refl, sym, _∙_, ap, subst}

@@ -1,4 +1,4 @@
--- `importer::store_pairs` meets its contract: a walk of its MIR, by hand, with a loop. The slice of pairs is looked into once, before the loop. The image stays a
+-- `call_import::store_pairs` meets its contract: a walk of its MIR, by hand, with a loop. The slice of pairs is looked into once, before the loop. The image stays a
 -- `&mut` that is owned: each turn lends it again to `store_one` for a lifetime of that call, and it comes back at the list that `store_one` leaves. `calls-one` is all of
 -- that as one step of the walk. A state of the loop is the place i, the turns k that are left, the row t, the image zs, and the facts on them. Assumes nothing.
 use mathlib.Core.Path.{_≡_, refl, sym, _∙_, ap, subst}

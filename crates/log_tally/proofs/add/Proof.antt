@@ -1,4 +1,4 @@
--- `tally::add` meets its contract: a walk of its MIR, by hand. The borrow is opened once, each field is read, passed to `plus` and written, and the borrow is closed at the record with the three new numbers.
+-- `log_tally::add` meets its contract: a walk of its MIR, by hand. The borrow is opened once, each field is read, passed to `plus` and written, and the borrow is closed at the record with the three new numbers.
 -- `calls-plus` is `plus`'s contract as one step of the walk.
 -- Assumes nothing.
 use mathlib.Core.Path.{_≡_, refl, ap}

@@ -1,4 +1,4 @@
--- `tally::after_line` meets its contract: a walk of its MIR, by hand. The local that holds the record is lent for a lifetime that the walk makes; `add` is called with the reference; the lifetime is ended, and the local is back at the last value that `add` says.
+-- `log_tally::after_line` meets its contract: a walk of its MIR, by hand. The local that holds the record is lent for a lifetime that the walk makes; `add` is called with the reference; the lifetime is ended, and the local is back at the last value that `add` says.
 -- Assumes nothing.
 use mathlib.Core.Path.{_≡_, refl}
 use Prim.Native.Nat.{ℕ, _<_, _^_}

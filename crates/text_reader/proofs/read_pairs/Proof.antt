@@ -1,4 +1,4 @@
--- `reader::read_pairs` meets its contract: a walk of its MIR, by hand, with a loop. The slice of pairs is opened once, before the loop, and closed once,
+-- `text_reader::read_pairs` meets its contract: a walk of its MIR, by hand, with a loop. The slice of pairs is opened once, before the loop, and closed once,
 -- after it; each turn takes one pair out, stores to it and puts it back. `calls-turn` is `read_turn`'s contract as one step of the walk. A state of the loop is
 -- the place i, the turns k that are left, how far the reader has come, the pairs zs, and the facts on them. Assumes nothing.
 use mathlib.Core.Path.{_≡_, refl, sym, _∙_, ap, subst}
