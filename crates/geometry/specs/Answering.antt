@@ -1,4 +1,4 @@
--- What the code of this crate answers, law by law. Assumes nothing.
+-- What each function here answers, law by law. Assumes nothing.
 use Prim.Native.Nat.{ℕ, zero, suc, _-_, _*_, _/_, _<_, _≤_}
 use mathlib.Core.Bool.{Bool, false}
 use mathlib.Core.Path.{_≡_, refl, sym, _∙_}

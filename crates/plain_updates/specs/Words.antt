@@ -1,4 +1,4 @@
--- The plain tree's calls (request 12) in the demands' words: Ready, mapAt, Holds, Kept, Began (crate demands). The
+-- The plain tree's calls (request 12) in the demands' words: Ready, mapAt, Holds, Kept, Began (crate theory_demands). The
 -- definitions `plainInsert`, `plainDelete`, `lookup` and `format` with the geometry `plain`; k, the key, and a, the
 -- address, are below 2^32; al is the store allowance. Assumes nothing.
 use mathlib.Core.Path.{_≡_, refl, ap, sym, subst, _∙_}

@@ -1,5 +1,5 @@
 // R3: the sequence numbers of programmed pages differ. They do where the numbers of each block rise and the blocks'
-// ranges lie apart; where not, the crate repeats looks at all of them.
+// ranges lie apart; where not, the crate sound_repeats looks at all of them.
 ghost use mathlib.Core.Path.{_≡_};
 ghost use Prim.Native.Nat.{_+_, _*_, _-_, _≤_, _<_};
 ghost use mathlib.Core.Bool.{false};

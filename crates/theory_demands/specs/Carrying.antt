@@ -1,4 +1,4 @@
--- Request 13, "Carry an index across", about the definitions `importing` and `exporting` of crate carrying: what they
+-- Request 13, "Carry an index across", about the definitions `importing` and `exporting` of crate text_carrying: what they
 -- give for every image and text, and on images of bytes. `textOf`, `readText`, `exports` are of that crate; Ready,
 -- mapAt, Holds are the words of the demands, `Stored` and `sumOf` stand in Stored and Sums. `Known g`: the small chip
 -- or the large one. Assumes nothing.

@@ -1,4 +1,4 @@
--- Request 8, "Open once, call often", about the definitions of crate opened: what opening gives, when a record is
+-- Request 8, "Open once, call often", about the definitions of crate open_record: what opening gives, when a record is
 -- STALE, and that lookup and listing with the record that opening gives are the old calls. g is one of the two chips
 -- where `Known g` is asked. Assumes nothing.
 use mathlib.Core.Path.{_≡_, refl, ap, _∙_}

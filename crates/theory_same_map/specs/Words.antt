@@ -1,6 +1,6 @@
 -- The words of request 12's "while both accept, both hold the same map". `obeyed` is an order on the μ-Tree's image
--- (crate logs), `plainObeyed` on the plain tree's (crate scores); `Holds g map img` says that the image is sound and
--- that its map is this one (crate demands). Definitions alone; assumes nothing.
+-- (crate log_lines), `plainObeyed` on the plain tree's (crate compare_scores); `Holds g map img` says that the image is sound and
+-- that its map is this one (crate theory_demands). Definitions alone; assumes nothing.
 use mathlib.Core.Path.{_≡_}
 use mathlib.Core.List.{List, [], _∷_}
 use mathlib.Core.Bool.{false}

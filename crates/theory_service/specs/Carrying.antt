@@ -1,6 +1,6 @@
 -- Request 13 of the C calls mutree_export and mutree_import, for every image of bytes, every text and buffers: what
 -- they refuse, what an import leaves, and that export of what a finished import made is the same text, byte for byte.
--- `textOf`, `readText` and `exports` are of crate carrying. Assumes nothing.
+-- `textOf`, `readText` and `exports` are of crate text_carrying. Assumes nothing.
 use mathlib.Core.Path.{_≡_, ap, sym, subst, _∙_}
 use mathlib.Core.List.{List, _++_}
 use mathlib.Core.Bool.{true, false}

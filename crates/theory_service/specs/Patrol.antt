@@ -1,5 +1,5 @@
 -- Request 4 of the C call mutree_patrol, on both geometries, for every half that has a fitting code (on a sound image
--- every half has: `sound-fits` in crate demands), with a result buffer of 24 bytes or more. Assumes nothing.
+-- every half has: `sound-fits` in crate theory_demands), with a result buffer of 24 bytes or more. Assumes nothing.
 use mathlib.Core.Path.{_≡_, ap, _∙_}
 use mathlib.Core.List.{List}
 use mathlib.Core.Bool.{true, false}

@@ -1,5 +1,5 @@
 -- Request 7 of the C calls mutree_insert and mutree_delete, for every image, number of a chip, lent words and result
--- buffer: what they leave of the words. `Told`, `Past`, `blockOnes` are of crate live. Assumes nothing.
+-- buffer: what they leave of the words. `Told`, `Past`, `blockOnes` are of crate live_words. Assumes nothing.
 use mathlib.Core.Path.{_≡_, refl, ap, sym, subst, _∙_}
 use mathlib.Core.List.{List}
 use mathlib.Core.Logic.{_⊎_}
