@@ -26,7 +26,8 @@ use Rattle.theory_chips.specs.Whole.{some-page, Whole}
 use Rattle.theory_chips.specs.Pages.{side-inj, new-side}
 use Rattle.theory_chips.specs.PlainPlans.{planAt}
 use Rattle.theory_images.specs.Views.{rooted, beside}
-use Rattle.theory_images.specs.Page.{in-table, Parts, builtView}
+use Rattle.theory_images.specs.Page.{in-table}
+use Rattle.theory_images.specs.Built.{Parts, builtView}
 use Rattle.theory_images.specs.Held.{Held}
 use Rattle.theory_images.specs.Writes.{nextStore, ahead-beside, put-legal, put-max, root-chip, root-held, side-chip, side-held, side-map}
 use Rattle.theory_updates.specs.Along.{Along}

@@ -18,7 +18,7 @@ use Rattle.theory_chips.specs.Next.{block-in}
 use Rattle.theory_chips.specs.Whole.{some-page}
 use Rattle.theory_chips.specs.PlainPlans.{planAt}
 use Rattle.theory_images.specs.Bytes.{Fits}
-use Rattle.theory_images.specs.Page.{Parts, parts-only}
+use Rattle.theory_images.specs.Built.{Parts, parts-only}
 
 pub record Single (g : Geometry) : Type 0 where
   pub narrow : (l : ℕ) → 1 ≤ l → l ≤ g .top → rootMost g l ≡ 2 * half g l

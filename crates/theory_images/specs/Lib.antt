@@ -3,6 +3,7 @@ pub mod Bytes
 pub mod Codes
 pub mod Views
 pub mod Page
+pub mod Built
 pub mod Stores
 pub mod Small
 pub mod Held

@@ -24,7 +24,8 @@ use Rattle.theory_chips.specs.Next.{block-in}
 use Rattle.theory_chips.specs.Erase.{inB, range, eraseBlock}
 use Rattle.theory_images.specs.Bytes.{Off, written-off}
 use Rattle.theory_images.specs.Views.{noView, topOf, rootAt, chip, laid, wipe, rooted, beside, chip-root, chip-beside, chip-wipe, R3, AllR1, r1-put, r1-wipe, r3-put, r3-wipe, R4, r4-root, r4-beside, r4-wipe, max-put, max-wipe}
-use Rattle.theory_images.specs.Page.{viewFrom, views, view-chip, copy-view, view-erased, view-none, Parts, builtView, view-built}
+use Rattle.theory_images.specs.Page.{viewFrom, views, view-chip, copy-view, view-erased, view-none}
+use Rattle.theory_images.specs.Built.{Parts, builtView, view-built}
 
 -- n blocks of bytes
 abbrev pub Image : Geometry → ℕ → List ℕ → Type 0

@@ -29,7 +29,8 @@ use Rattle.theory_chips.specs.Whole.{some-page, Whole}
 use Rattle.theory_chips.specs.Pages.{fit-after}
 use Rattle.theory_chips.specs.Erase.{inB, range, eraseBlock}
 use Rattle.theory_images.specs.Views.{View, peak-le, arg-new, Views, topOf, rootAt, laid, rooted, beside, R3, AllR1, max-put}
-use Rattle.theory_images.specs.Page.{views, view-chip, view-max, Parts, builtView, length-built, built-seq}
+use Rattle.theory_images.specs.Page.{views, view-chip, view-max}
+use Rattle.theory_images.specs.Built.{Parts, builtView, length-built, built-seq}
 use Rattle.theory_images.specs.Stores.{Image, length-store, views-built, program-root, program-beside, program-r1, program-r3, program-r4, beside-r4, erase-chip, erase-r1, erase-r3, erase-r4, erase-max}
 use Rattle.theory_images.specs.Small.{Small, built-small, store-small}
 use Rattle.theory_images.specs.Held.{Held, er-at}

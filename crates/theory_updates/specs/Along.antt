@@ -16,7 +16,7 @@ use Rattle.model.specs.Stores.{Store, applyStore, applyAll, programs, erases}
 use Rattle.chip_store.specs.Runs.{all-append, programs-append, erases-append}
 use Rattle.theory_chips.specs.Collect.{R7, R8}
 use Rattle.theory_images.specs.Views.{beside}
-use Rattle.theory_images.specs.Page.{Parts, builtView}
+use Rattle.theory_images.specs.Built.{Parts, builtView}
 use Rattle.theory_images.specs.Held.{Held}
 use Rattle.model.specs.Legal.{Legal}
 use Rattle.theory_images.specs.Writes.{nextStore, put-legal, put-max, side-chip, side-held, side-map, side-lives, side-frees}

@@ -27,7 +27,7 @@ use Rattle.theory_chips.specs.Whole.{Whole}
 use Rattle.theory_chips.specs.Pages.{side-most}
 use Rattle.theory_chips.specs.Insertion.{sideList, mainList, needs-is, cuts-le, grow-all, stay-most, two-root}
 use Rattle.theory_images.specs.Bytes.{Fits}
-use Rattle.theory_images.specs.Page.{Parts}
+use Rattle.theory_images.specs.Built.{Parts}
 use Rattle.theory_updates.specs.Table.{parts-most}
 
 -- ---- numbers of 32 bits

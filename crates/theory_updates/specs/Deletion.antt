@@ -31,7 +31,8 @@ use Rattle.theory_chips.specs.Deletion.{leftList, top-low, delete-done, top-mos
 use Rattle.live_beside.specs.Update.{deleteCrest}
 use Rattle.theory_images.specs.Bytes.{Fits}
 use Rattle.theory_images.specs.Views.{rooted}
-use Rattle.theory_images.specs.Page.{in-table, Parts, builtView}
+use Rattle.theory_images.specs.Page.{in-table}
+use Rattle.theory_images.specs.Built.{Parts, builtView}
 use Rattle.theory_images.specs.Small.{node-fits}
 use Rattle.theory_images.specs.Held.{height-most}
 use Rattle.theory_images.specs.Writes.{nextStore}

@@ -33,7 +33,8 @@ use Rattle.theory_chips.specs.Next.{block-in, page-inj, in-range, R2}
 use Rattle.theory_chips.specs.Whole.{some-page, Whole}
 use Rattle.theory_chips.specs.Erase.{inB}
 use Rattle.theory_images.specs.Views.{View, noView, Views, topOf, rooted, peak-least}
-use Rattle.theory_images.specs.Page.{views, view-max, Parts, builtView}
+use Rattle.theory_images.specs.Page.{views, view-max}
+use Rattle.theory_images.specs.Built.{Parts, builtView}
 use Rattle.theory_images.specs.Stores.{Image, length-store, within, views-erase, block-room, program-root, program-r1, program-r3, program-r4, program-max}
 use Rattle.theory_images.specs.Small.{Small, built-small, store-small}
 use Rattle.theory_images.specs.Held.{Held, er-at}

@@ -34,7 +34,8 @@ use Rattle.theory_chips.specs.Insertion.{sideList, mainList, cut-levels, needs-
 use Rattle.live_beside.specs.Update.{insertCrest}
 use Rattle.theory_images.specs.Bytes.{Fits}
 use Rattle.theory_images.specs.Views.{rooted, beside}
-use Rattle.theory_images.specs.Page.{in-table, builtView}
+use Rattle.theory_images.specs.Page.{in-table}
+use Rattle.theory_images.specs.Built.{builtView}
 use Rattle.theory_images.specs.Small.{node-fits}
 use Rattle.theory_images.specs.Held.{height-most}
 use Rattle.theory_images.specs.Writes.{nextStore, ahead-beside, put-max}

@@ -27,7 +27,7 @@ use Rattle.theory_chips.specs.Whole.{some-page, Whole}
 use Rattle.theory_chips.specs.Moves.{moveTo, MoveStep, move-step}
 use Rattle.theory_images.specs.Bytes.{Fits}
 use Rattle.theory_images.specs.Views.{rooted}
-use Rattle.theory_images.specs.Page.{Parts, builtView}
+use Rattle.theory_images.specs.Built.{Parts, builtView}
 use Rattle.theory_images.specs.Small.{node-fits}
 use Rattle.theory_images.specs.Held.{Held, height-most}
 use Rattle.model.specs.Legal.{Legal}

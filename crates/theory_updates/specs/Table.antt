@@ -12,7 +12,8 @@ use Rattle.geometry.specs.Shape.{Shape, most-slots}
 use Rattle.theory_counts.specs.Cases.{by-eq, by-le, true-false}
 use Rattle.theory_lists.specs.All.{All}
 use Rattle.theory_images.specs.Bytes.{Fits}
-use Rattle.theory_images.specs.Page.{in-table, Parts, parts-table}
+use Rattle.theory_images.specs.Page.{in-table}
+use Rattle.theory_images.specs.Built.{Parts, parts-table}
 
 module _ (g : Geometry) (shape : Shape g) where
   pub slots-byte : (l : ℕ) → 1 ≤ l → l ≤ g .top → slotsOf g l < 256

@@ -17,7 +17,7 @@ use Rattle.chip_store.specs.Runs.{all-append, programs-append, erases-append}
 use Rattle.theory_chips.specs.Whole.{Whole}
 use Rattle.theory_chips.specs.Collect.{R8}
 use Rattle.theory_images.specs.Views.{rooted}
-use Rattle.theory_images.specs.Page.{Parts, builtView}
+use Rattle.theory_images.specs.Built.{Parts, builtView}
 use Rattle.model.specs.Legal.{Legal}
 use Rattle.live_beside.specs.Update.{Crest}
 use Rattle.theory_images.specs.Writes.{nextStore, put-legal, root-chip, root-held, root-frees}
