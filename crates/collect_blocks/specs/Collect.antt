@@ -70,7 +70,7 @@ pub record Remarks (g : Geometry) (n l q low key : ℕ) (h : Kept) (img tbl tbl�
 pub record Onward (g : Geometry) (n : ℕ) (then : List ℕ) (h k : Kept) : Type 0 where
   pub root : k .root ≡ h .next
   pub most : k .most ≡ suc (h .most)
-  pub following : k .next ≡ nextAfter (g .pages) n (erased g then) (h .next)
+  pub next : k .next ≡ nextAfter (g .pages) n (erased g then) (h .next)
 
 -- a collection from the record h
 abbrev pub Collects : Geometry → ℕ → ℕ → ℕ → Budget → Swept → Opened → List ℕ → List ℕ → List ℕ → List ℕ → List ℕ

@@ -52,7 +52,7 @@ pub record Beside : Type 0 where
   pub root : ℕ
   pub most : ℕ
   pub level : ℕ
-  pub following : ℕ
+  pub next : ℕ
   pub table : Table
 
 -- at its start
