@@ -1,6 +1,6 @@
 // R1 and R2: what each page and each block must look like.
 ghost use mathlib.Core.Path.{_≡_};
-ghost use Prim.Native.Nat.{ℕ, _+_, _*_, _-_, _≤_, _<_};
+ghost use Prim.Native.Nat.{_+_, _*_, _-_, _≤_, _<_};
 ghost use mathlib.Core.Bool.{false};
 ghost use Rattle.geometry.specs.Geometry.{halves};
 ghost use Rattle.model.specs.Bytes.{erased, seqAt, heightAt};
@@ -74,7 +74,7 @@ pub fn rule_1(g: Geometry, img: &[u8], n: u16) -> Finding
 }
 
 // The place in a block of its first erased page, or the block's pages.
-fn first_in(g: Geometry, img: &[u8], block: u16) -> u16
+pub fn first_in(g: Geometry, img: &[u8], block: u16) -> u16
     ensures { λ r. ⌜ (r ≡ firstIn (g .pages) (erased g (now (img .entry))) block) × (r ≤ g .pages) ⌝ }
 {
     let mut j: u16 = 0;
@@ -131,7 +131,7 @@ fn is_mixed(g: Geometry, img: &[u8], block: u16) -> bool
 }
 
 // The lowest mixed block, or n.
-fn first_mixed(g: Geometry, img: &[u8], n: u16) -> u16
+pub fn first_mixed(g: Geometry, img: &[u8], n: u16) -> u16
     ensures { λ r. ⌜ r ≡ least n (mixed (g .pages) (erased g (now (img .entry)))) ⌝ }
 {
     let mut block: u16 = 0;

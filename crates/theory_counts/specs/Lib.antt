@@ -3,4 +3,5 @@ pub mod Least
 pub mod Tally
 pub mod Peak
 pub mod Lowest
+pub mod Scan
 pub mod Blocks
