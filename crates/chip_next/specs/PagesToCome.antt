@@ -18,7 +18,8 @@ use Rattle.model.specs.Count.{least}
 use Rattle.model.specs.Next.{mixed, firstIn, round, nextBlock, nextPage, after}
 use Rattle.live_beside.specs.Beside.{nextAfter, pageFrom}
 use Rattle.live_beside.specs.Collect.{nextErased}
-use Rattle.theory_counts.specs.Least.{by-lt, least-zero, least-go, least-hit, least-end}
+use Rattle.theory_counts.specs.Least.{by-lt}
+use Rattle.theory_counts.specs.Scan.{scan-laws}
 use Rattle.chip_next.specs.Coming.{free, whole, wholeAfter, seen, Coming, erasedFrom}
 
 -- ---- is_free
@@ -61,20 +62,6 @@ module _ (p : ℕ) (er : ℕ → Bool) where
   pub whole-is : (a b v q : ℕ) (r : Bool) → v ≡ b → a ≤ v → q ≡ p * b + 0 → r ≡ er q → r ≡ whole p er a b
   unfolding whole
   whole-is a b v q r e h eq er′ = er′ ∙ sym (rw (le-leb a b (omega arith), ← eq) (and-true (er q)))
-
-  pub whole-start : (a : ℕ) → least 0 (whole p er a) ≡ 0
-  whole-start a = sym (least-zero (whole p er a))
-
-  pub whole-go : (a b : ℕ) (r : Bool) → least b (whole p er a) ≡ b → r ≡ whole p er a b → r ≡ false
-      → least (b + 1) (whole p er a) ≡ b + 1
-  whole-go a b r e er′ q = least-go (whole p er a) b e (sym er′ ∙ q)
-
-  pub whole-hit : (n a b : ℕ) (r : Bool) → least b (whole p er a) ≡ b → r ≡ whole p er a b → r ≡ true → b < n
-      → b ≡ least n (whole p er a)
-  whole-hit n a b r e er′ q h = sym (least-hit (whole p er a) n b e (sym er′ ∙ q) h)
-
-  pub whole-end : (n a b : ℕ) → least b (whole p er a) ≡ b → b ≤ n → n ≤ b → b ≡ least n (whole p er a)
-  whole-end n a b e h k = sym (least-end (whole p er a) n b e h k)
 
   -- from block 0 on is all of them
   whole-each : (b : ℕ) → whole p er 0 b ≡ er (p * b + 0)
@@ -219,4 +206,35 @@ module _ (p n : ℕ) where
 pub set-length : (ps : List ℕ) (k x m : ℕ) → length ps ≡ m → length (set ps k x) ≡ m
 set-length ps k x m e = length-set ps k x ∙ e
 
-pub ruleset next-laws = (quotient, quotient-low, quotient-none, free-start, free-stop, free-go, free-end, whole-no, whole-is, whole-start, whole-go, whole-hit, whole-end, next-mixed, round-later, round-start, next-round, after-is, page-low, ends-none, ends-is, goes-on, goes-round, after-none, starts-none, starts-is, erased-stays, erased-round, coming-one, page-one, page-more, coming-more, coming-done)
+pub ruleset next-laws = (
+  scan-laws,
+  quotient,
+  quotient-low,
+  quotient-none,
+  free-start,
+  free-stop,
+  free-go,
+  free-end,
+  whole-no,
+  whole-is,
+  next-mixed,
+  round-later,
+  round-start,
+  next-round,
+  after-is,
+  page-low,
+  ends-none,
+  ends-is,
+  goes-on,
+  goes-round,
+  after-none,
+  starts-none,
+  starts-is,
+  erased-stays,
+  erased-round,
+  coming-one,
+  page-one,
+  page-more,
+  coming-more,
+  coming-done,
+)

@@ -8,7 +8,7 @@ ghost use Rattle.geometry.specs.Bounds.{fourBytes};
 ghost use Rattle.model.specs.Bytes.{erased};
 ghost use Rattle.model.specs.Count.{least};
 ghost use Rattle.model.specs.Image.{pagesOf};
-ghost use Rattle.model.specs.Next.{mixed, firstIn, nextBlock, nextPage};
+ghost use Rattle.model.specs.Next.{nextBlock, nextPage};
 ghost use Rattle.live_beside.specs.Beside.{nextAfter};
 ghost use Rattle.live_beside.specs.Collect.{nextErased};
 ghost use Rattle.chip_next.specs.Coming.{free, whole, wholeAfter, seen, Coming};
@@ -27,44 +27,6 @@ fn is_free(g: Geometry, img: &[u8], taken: &[u32; 256], i: usize, page: u32) -> 
         }
     }
     chip_read::page_erased(g, img, page)
-}
-
-// The place in a block of its first erased page, or the block's pages.
-fn first_in(g: Geometry, img: &[u8], block: u16) -> u16
-    ensures { λ r. ⌜ (r ≡ firstIn (g .pages) (erased g (now (img .entry))) block) × (r ≤ g .pages) ⌝ }
-{
-    let mut j: u16 = 0;
-    while j < g.pages {
-        if chip_read::page_erased(g, img, chip_read::page_of(g, block, j)) {
-            return j;
-        }
-        j += 1;
-    }
-    j
-}
-
-// Whether the first page of a block is programmed and the last one erased.
-fn is_mixed(g: Geometry, img: &[u8], block: u16) -> bool
-    ensures { λ r. ⌜ r ≡ mixed (g .pages) (erased g (now (img .entry))) block ⌝ }
-{
-    if chip_read::page_erased(g, img, chip_read::page_of(g, block, 0)) {
-        return false;
-    }
-    chip_read::page_erased(g, img, chip_read::last_page(g, block))
-}
-
-// The lowest mixed block, or n.
-fn first_mixed(g: Geometry, img: &[u8], n: u16) -> u16
-    ensures { λ r. ⌜ r ≡ least n (mixed (g .pages) (erased g (now (img .entry)))) ⌝ }
-{
-    let mut block: u16 = 0;
-    while block < n {
-        if is_mixed(g, img, block) {
-            return block;
-        }
-        block += 1;
-    }
-    block
 }
 
 // The block that holds a page.
@@ -127,7 +89,7 @@ pub fn no_pages() -> [u32; 256]
 fn next_block(g: Geometry, img: &[u8], n: u16, last: u32) -> u16
     ensures { λ r. ⌜ r ≡ nextBlock (g .pages) n (seen (erased g (now (img .entry))) last) ⌝ }
 {
-    let mixed = first_mixed(g, img, n);
+    let mixed = sound_pages::first_mixed(g, img, n);
     if mixed < n {
         return mixed;
     }
@@ -141,7 +103,7 @@ pub fn next_page(g: Geometry, img: &[u8], n: u16, last: u32) -> u32
     ensures { λ r. ⌜ r ≤ 4294901760 ⌝ }
 {
     let block = next_block(g, img, n, last);
-    chip_read::page_of(g, block, first_in(g, img, block))
+    chip_read::page_of(g, block, sound_pages::first_in(g, img, block))
 }
 
 // Whether a page is the last of its block.

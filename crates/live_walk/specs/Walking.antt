@@ -14,15 +14,13 @@ use Rattle.geometry.specs.declared.Geometry.{Geometry}
 use Rattle.geometry.specs.declared.Entry.{Entry}
 use Rattle.geometry.specs.Tests.{bit}
 use Rattle.model.specs.Bytes.{u32At, nodePlace, nodeCount, nodeAt}
-use Rattle.model.specs.Count.{count}
 use Rattle.model.specs.Image.{Nodes}
-use Rattle.model.specs.Next.{inBlock}
 use Rattle.model.specs.Tree.{gather, Place, places}
 use Rattle.chip_read.specs.Chip.{entryAt, naming}
 use Rattle.chip_read.specs.Node.{node-read, entries-start, entries-turn, entries-past, addr-is}
 use Rattle.theory_counts.specs.Least.{by-lt}
-use Rattle.theory_counts.specs.Tally.{count-zero, count-more}
-use Rattle.theory_counts.specs.Blocks.{within, within-is, within-count}
+use Rattle.theory_counts.specs.Tally.{tally-laws}
+use Rattle.theory_counts.specs.Blocks.{within-laws}
 use Rattle.live_walk.specs.Table.{lower, noteOne, noteAll, rest, Zeros, liveIn}
 use Rattle.live_walk.specs.Lows.{note-length}
 
@@ -142,28 +140,22 @@ bit-live tbl p b e q = simp (← e, q)
 pub bit-dead : (tbl : List ℕ) (p : ℕ) (b : Bool) → b ≡ liveIn tbl p → b ≡ false → 0 ≡ bit (liveIn tbl p)
 bit-dead tbl p b e q = simp (← e, q)
 
-pub pages-start : (f : ℕ → Bool) → 0 ≡ count 0 f
-pages-start f = count-zero f
-
-pub pages-go : (tbl : List ℕ) (i n b : ℕ) → n ≡ count i (liveIn tbl) → b ≡ bit (liveIn tbl i)
-    → b + n ≡ count (i + 1) (liveIn tbl)
-pages-go tbl i n b e f = sym (count-more (liveIn tbl) i ∙ rw (← f, ← e))
-
-pub pages-end : (tbl : List ℕ) (i t n : ℕ) → n ≡ count i (liveIn tbl) → i ≤ t → t ≤ i → n ≡ count t (liveIn tbl)
-pages-end tbl i t n e h k =
-    let w : i ≡ t = omega arith in
-    rw (← w) e
-
-pub block-go : (p b i n q v : ℕ) (tbl : List ℕ) → n ≡ count i (within p (liveIn tbl) b) → q ≡ p * b + i
-    → v ≡ bit (liveIn tbl q)
-    → v + n ≡ count (i + 1) (within p (liveIn tbl) b)
-block-go p b i n q v tbl e eq f = sym (count-more (within p (liveIn tbl) b) i
-    ∙ rw (within-is p (liveIn tbl) b i, ← eq, ← f, ← e))
-
-pub block-end : (p b i n : ℕ) (tbl : List ℕ) → n ≡ count i (within p (liveIn tbl) b) → i ≤ p → p ≤ i
-    → n ≡ inBlock p (liveIn tbl) b
-block-end p b i n tbl e h k =
-    let w : i ≡ p = omega arith in
-    e ∙ rw w (within-count p (liveIn tbl) b)
-
-pub ruleset walk-laws = (noted-past, noted-at, lower-first, lower-new, lower-old, note-past, note-at, walk-same, note-same, zeros-start, zeros-go, zeros-end, live-is, bit-live, bit-dead, pages-start, pages-go, pages-end, block-go, block-end)
+pub ruleset walk-laws = (
+  noted-past,
+  noted-at,
+  lower-first,
+  lower-new,
+  lower-old,
+  note-past,
+  note-at,
+  walk-same,
+  note-same,
+  zeros-start,
+  zeros-go,
+  zeros-end,
+  live-is,
+  bit-live,
+  bit-dead,
+  tally-laws,
+  within-laws,
+)

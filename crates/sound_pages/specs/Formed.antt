@@ -1,20 +1,18 @@
 -- R1. Assumes nothing.
-use Prim.Native.Nat.{ℕ, _+_, _-_, _*_, _<_, _≤_}
+use Prim.Native.Nat.{ℕ, _-_, _*_, _<_, _≤_}
 use mathlib.Core.Bool.{Bool, true, false, not}
-use mathlib.Core.Path.{_≡_, sym, _∙_}
+use mathlib.Core.Path.{_≡_, refl, sym, _∙_}
 use mathlib.Core.List.{List}
 use native.Mathlib.Omega.{arith}
 use borrow.Author.Tests.{not-true, not-false, le-leb, lt-leb}
 use Rattle.geometry.specs.declared.Geometry.{Geometry}
-use Rattle.geometry.specs.declared.Finding.the-variants.{Good, Bad}
+use Rattle.geometry.specs.declared.Finding.{Finding}
 use Rattle.geometry.specs.Geometry.{halves, pageBase}
 use Rattle.geometry.specs.Tests.{and-true, and-false}
 use Rattle.model.specs.Bytes.{erased, seqAt, heightAt, tailAt}
 use Rattle.model.specs.Codes.{codesFit}
-use Rattle.model.specs.Count.{least}
-use Rattle.model.specs.Rules.{wellFormed, r1}
-use Rattle.theory_counts.specs.Least.{least-zero, least-go}
-use Rattle.theory_counts.specs.Lowest.{lowest-bad, lowest-good}
+use Rattle.model.specs.Rules.{lowest, wellFormed, r1}
+use Rattle.theory_counts.specs.Scan.{fails}
 
 module _ (g : Geometry) (img : List ℕ) (p : ℕ) where
   pub formed-erased : (e : Bool) → e ≡ erased g img p → e ≡ true → true ≡ wellFormed g img p
@@ -44,28 +42,12 @@ module _ (g : Geometry) (img : List ℕ) (p h s : ℕ) (q : erased g img p ≡ f
   formed-codes o b r eb eo er k n z = simp (q, ← et, ← eh, le-leb h t (rw (← ew) k), ← eb, not-false b n, ← es, le-leb 1 s (omega arith), ← eo, ← er, and-true)
 
 -- R1's test, as a name
-unfoldable pub malformed : Geometry → List ℕ → ℕ → Bool
-malformed g img p = not (wellFormed g img p)
+abbrev pub malformed : Geometry → List ℕ → ℕ → Bool
+malformed g img = fails (wellFormed g img)
 
--- the loop over the pages
-module _ (g : Geometry) (img : List ℕ) where
-  pub form-start : least 0 (malformed g img) ≡ 0
-  form-start = sym (least-zero (malformed g img))
+pub rule-is : (g : Geometry) (n t : ℕ) (img : List ℕ) (v : Finding) → t ≡ g .pages * n → v ≡ lowest t (malformed g img)
+    → v ≡ r1 g n img
+unfolding r1 fails
+rule-is g n t img v et e = e ∙ rw et refl
 
-  pub form-go : (i : ℕ) (r : Bool) → least i (malformed g img) ≡ i → r ≡ wellFormed g img i → not r ≡ false
-      → least (i + 1) (malformed g img) ≡ i + 1
-  unfolding malformed
-  form-go i r e er q = least-go (malformed g img) i e (rw (← er) q)
-
-  pub form-bad : (n t i : ℕ) (r : Bool) → t ≡ g .pages * n → least i (malformed g img) ≡ i → r ≡ wellFormed g img i → not r ≡ true
-      → i < t → Bad i ≡ r1 g n img
-  unfolding r1 malformed
-  form-bad n t i r et e er q h = lowest-bad (malformed g img) (g .pages * n) i e (rw (← er) q) (rw (← et) h)
-
-  pub form-good : (n t i : ℕ) → t ≡ g .pages * n → least i (malformed g img) ≡ i → i ≤ t → t ≤ i → Good ≡ r1 g n img
-  unfolding r1 malformed
-  form-good n t i et e h k =
-      let w : i ≡ g .pages * n = omega (arith, et) in
-      lowest-good (malformed g img) (g .pages * n) (rw (← w) e)
-
-pub ruleset formed-laws = (formed-erased, page-there, formed-high, formed-tail, formed-number, formed-codes, form-start, form-go, form-bad, form-good)
+pub ruleset formed-laws = (formed-erased, page-there, formed-high, formed-tail, formed-number, formed-codes, rule-is)

@@ -74,7 +74,7 @@ pub fn rule_1(g: Geometry, img: &[u8], n: u16) -> Finding
 }
 
 // The place in a block of its first erased page, or the block's pages.
-fn first_in(g: Geometry, img: &[u8], block: u16) -> u16
+pub fn first_in(g: Geometry, img: &[u8], block: u16) -> u16
     ensures { λ r. ⌜ (r ≡ firstIn (g .pages) (erased g (now (img .entry))) block) × (r ≤ g .pages) ⌝ }
 {
     let mut j: u16 = 0;
@@ -131,7 +131,7 @@ fn is_mixed(g: Geometry, img: &[u8], block: u16) -> bool
 }
 
 // The lowest mixed block, or n.
-fn first_mixed(g: Geometry, img: &[u8], n: u16) -> u16
+pub fn first_mixed(g: Geometry, img: &[u8], n: u16) -> u16
     ensures { λ r. ⌜ r ≡ least n (mixed (g .pages) (erased g (now (img .entry)))) ⌝ }
 {
     let mut block: u16 = 0;

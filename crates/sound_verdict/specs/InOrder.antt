@@ -1,29 +1,26 @@
--- R7 and the verdict, in the form in which the code has the premises. Assumes nothing.
-use Prim.Native.Nat.{ℕ, zero, suc, _+_, _-_, _*_, _/_, _%_, _<_, _≤_}
+-- The verdict: R1 to R8 in their order, in the form in which the code has the premises. Assumes nothing.
+use Prim.Native.Nat.{ℕ, zero, suc, _-_, _*_, _/_, _%_, _<_, _≤_}
 use mathlib.Core.Bool.{Bool, true, false, not}
 use mathlib.Core.Path.{_≡_, refl, sym, ap, subst, _∙_}
 use mathlib.Core.List.{List}
-use lib.Dec.{eqb, leb}
 use lib.ListN.{length}
 use native.Mathlib.Omega.{arith}
-use native.Mathlib.Nat.{mul-suc, mul-le-mul, mul-le-mul-left, mod-lt, div-add-mod, zero-mul}
-use borrow.Author.Tests.{eq-eqb, ne-eqb, le-leb, lt-leb, not-true, not-false}
+use native.Mathlib.Nat.{mul-le-mul, mul-le-mul-left, mod-lt, div-add-mod, zero-mul}
+use borrow.Author.Tests.{eq-eqb, ne-eqb, not-true, not-false}
 use Rattle.geometry.specs.declared.Geometry.{Geometry}
 use Rattle.geometry.specs.declared.Finding.{Finding}
 use Rattle.geometry.specs.declared.Finding.the-variants.{Good, Bad}
 use Rattle.geometry.specs.declared.Verdict.{Verdict}
 use Rattle.geometry.specs.declared.Verdict.the-variants.{Sound, Broken}
-use Rattle.geometry.specs.Tests.{pick, _&_, and-true, and-false}
 use Rattle.model.specs.Bytes.{erased, seqAt}
-use Rattle.model.specs.Count.{count, least, any, arg}
+use Rattle.model.specs.Count.{arg}
 use Rattle.model.specs.Image.{Chip, chipOf, pagesOf, rootOf, rootScore}
-use Rattle.model.specs.Next.{full, inBlock}
-use Rattle.model.specs.Tree.{placesOf, live}
-use Rattle.model.specs.Rules.{r1, r2, r3, r4, r5, r6, r7, spareRoom, ample, r8, asked, orElse, verdict}
+use Rattle.model.specs.Rules.{r1, r2, r5, r6, asked, orElse, verdict}
 use Rattle.chip_read.specs.Chip.{chipWith}
-use Rattle.theory_counts.specs.Least.{by-lt, least-zero, least-go, any-none, any-hit, any-same}
-use Rattle.theory_counts.specs.Lowest.{unless-true, unless-false, broken-sound}
+use Rattle.theory_counts.specs.Least.{by-lt}
+use Rattle.theory_counts.specs.Lowest.{broken-sound}
 use Rattle.theory_counts.specs.Peak.{arg-most, arg-less}
+use Rattle.theory_counts.specs.Scan.{scan-laws}
 use Rattle.chip_survey.specs.declared.Survey.{Survey}
 use Rattle.chip_survey.specs.Survey.{surveyOf}
 use Rattle.chip_survey.specs.Pass.{chip-is}
@@ -31,178 +28,50 @@ use Rattle.sound_numbers.specs.Ranges.{Shows, Ranges}
 use Rattle.sound_sight.specs.Sight.{Told, Counted, Clear, Flaw}
 use Rattle.sound_nodes.specs.Programmed.{Programmed}
 use Rattle.sound_nodes.specs.Noted.{Marks}
-use Rattle.live_walk.specs.Table.{liveIn, Marked}
-use Rattle.live_walk.specs.Lows.{marked-block, marked-pages}
+use Rattle.live_walk.specs.Table.{Marked}
 use Rattle.sound_links.specs.Loose.{Inside}
 use Rattle.sound_links.specs.Judged.{r5-inside}
+use Rattle.sound_verdict.specs.SpareRoom.{room-laws}
 use Rattle.sound_verdict.specs.declared.Judgement.{Judgement}
-use Rattle.sound_verdict.specs.Verdict.{clearable, from2, from3, from4, from5, from6, from7, from8, Ready, Tells, Never, Judged}
+use Rattle.sound_verdict.specs.Verdict.{from2, from3, Ready, Tells, Never, Judged}
 
--- R7
-module _ (p : ℕ) (er : ℕ → Bool) (tbl : List ℕ) (free b : ℕ) where
-  pub clear-no : (r : Bool) → r ≡ er (p * b + (p - 1)) → r ≡ true → false ≡ clearable p er tbl free b
-  unfolding clearable
-  clear-no r e q = simp (← e, q, and-false)
+-- rule k and those after it: v is its finding
+module _ (k : ℕ) (f v : Finding) (w : Verdict) where
+  pub or-bad : (q : ℕ) → v ≡ f → v ≡ Bad q → Broken k q ≡ orElse k f w
+  unfolding orElse
+  or-bad q e b = sym (rw (← e, b) refl)
 
-  pub clear-is : (r : Bool) (l : ℕ) → r ≡ er (p * b + (p - 1)) → r ≡ false → l ≡ inBlock p (liveIn tbl) b → leb l free ≡ clearable p er tbl free b
-  unfolding clearable
-  clear-is r l e q el = sym (rw (← e, q, ← el) (and-true (leb l free)))
+  pub or-good : (u : Verdict) → v ≡ f → v ≡ Good → u ≡ w → u ≡ orElse k f w
+  unfolding orElse
+  or-good u e q eu = eu ∙ sym (rw (← e, q) refl)
 
-module _ (p : ℕ) (er : ℕ → Bool) (tbl : List ℕ) (free : ℕ) where
-  pub clear-start : least 0 (clearable p er tbl free) ≡ 0
-  clear-start = sym (least-zero (clearable p er tbl free))
+pub verdict-is : (g : Geometry) (n : ℕ) (img : List ℕ) (u : Verdict) → u ≡ orElse 1 (r1 g n img) (from2 g n img)
+    → u ≡ verdict g n img
+unfolding verdict
+verdict-is g n img u e = e
 
-  pub clear-go : (i : ℕ) (r : Bool) → least i (clearable p er tbl free) ≡ i → r ≡ clearable p er tbl free i → r ≡ false
-      → least (i + 1) (clearable p er tbl free) ≡ i + 1
-  clear-go i r x e q = least-go (clearable p er tbl free) i x (sym e ∙ q)
+-- R5 and R6 by the survey
+module _ (g : Geometry) (n : ℕ) (img : List ℕ) (v : Finding) (s : Survey) (es : s ≡ surveyOf g n img)
+    (t : ℕ) (et : t ≡ g .pages * n) where
+  pub nodes-by : v ≡ r5 g t (chipWith g img (s .level) (s .root)) → v ≡ r5 g (pagesOf g n) (chipOf g n img)
+  nodes-by e = rw (← et, ← (chip-is g n img s es)) e
 
-  pub clear-hit : (n i : ℕ) (r : Bool) → least i (clearable p er tbl free) ≡ i → r ≡ clearable p er tbl free i → r ≡ true → i < n
-      → true ≡ any n (clearable p er tbl free)
-  clear-hit n i r x e q h = sym (any-hit (clearable p er tbl free) n i x (sym e ∙ q) h)
+  pub links-by : v ≡ r6 t (chipWith g img (s .level) (s .root)) → v ≡ r6 (pagesOf g n) (chipOf g n img)
+  links-by e = rw (← et, ← (chip-is g n img s es)) e
 
-  pub clear-end : (n i : ℕ) → least i (clearable p er tbl free) ≡ i → i ≤ n → n ≤ i → false ≡ any n (clearable p er tbl free)
-  clear-end n i x h k =
-      let w : i ≡ n = omega arith in
-      sym (any-none (clearable p er tbl free) n (rw (← w) x))
+-- R7 and R8 are asked, or not
+module _ (g : Geometry) (j k : ℕ) (f h : Finding) where
+  pub not-asked : g .table ≡ 2 → Sound ≡ orElse j (asked g f) (orElse k (asked g h) Sound)
+  unfolding asked orElse
+  not-asked e = sym (rw (eq-eqb (g .table) 2 e) refl)
 
-module _ (g : Geometry) (n : ℕ) (img : List ℕ) (s : Survey) (tbl : List ℕ) (x : Ready g n img s (length tbl)) (m : Marked (chipOf g n img) tbl) where
-  free-is : s .erased ≡ count (g .pages * n) (erased g img)
-  unfolding surveyOf
-  free-is = ap (λ (v : Survey). v .erased) (x .survey)
+module _ (g : Geometry) (f : Finding) (d : g .table ≡ 2 → ⊥) where
+  pub asked-is : (v : Finding) → v ≡ f → v ≡ asked g f
+  unfolding asked
+  asked-is v e = e ∙ sym (rw (ne-eqb (g .table) 2 d) refl)
 
-  room-is : any n (clearable (g .pages) (erased g img) tbl (s .erased))
-      ≡ any n (λ b. full (g .pages) (erased g img) b & leb (inBlock (g .pages) (live (placesOf (chipOf g n img))) b) (s .erased))
-  unfolding clearable
-  room-is = any-same (clearable (g .pages) (erased g img) tbl (s .erased))
-      (λ b. full (g .pages) (erased g img) b & leb (inBlock (g .pages) (live (placesOf (chipOf g n img))) b) (s .erased)) n
-      (λ b h. (let w : g .pages * b + g .pages ≤ length tbl = omega (arith, x .room, mul-suc (g .pages) b, mul-le-mul-left (g .pages) h) in
-      rw (marked-block (chipOf g n img) tbl m (g .pages) b w) refl))
-
-  pub room-many : (a b : ℕ) → a ≡ g .pages → b ≡ s .erased → a ≤ b → Good ≡ r7 (g .pages) n (chipOf g n img)
-  unfolding r7 spareRoom
-  room-many a b ea eb h = sym (rw (← free-is, le-leb (g .pages) (s .erased) (rw (← ea, ← eb) h)) (unless-true 0 Good))
-
-  pub room-some : (a b : ℕ) (r : Bool) → a ≡ g .pages → b ≡ s .erased → b < a → r ≡ any n (clearable (g .pages) (erased g img) tbl (s .erased)) → r ≡ true
-      → Good ≡ r7 (g .pages) n (chipOf g n img)
-  unfolding r7 spareRoom
-  room-some a b r ea eb h er q =
-      sym (rw (← free-is, lt-leb (g .pages) (s .erased) (rw (← ea, ← eb) h), ← room-is, ← er, q) (unless-true 0 Good))
-
-  pub room-none : (a b : ℕ) (r : Bool) → a ≡ g .pages → b ≡ s .erased → b < a → r ≡ any n (clearable (g .pages) (erased g img) tbl (s .erased)) → r ≡ false
-      → Bad 0 ≡ r7 (g .pages) n (chipOf g n img)
-  unfolding r7 spareRoom
-  room-none a b r ea eb h er q =
-      sym (rw (← free-is, lt-leb (g .pages) (s .erased) (rw (← ea, ← eb) h), ← room-is, ← er, q) (unless-false 0 Good))
-
-  -- R8: t pages, v of them live, f not; w is a block's pages
-  module _ (t v f w : ℕ) (et : t ≡ g .pages * n) (ev : v ≡ count t (liveIn tbl)) (ef : f ≡ t - v) (ew : w ≡ g .pages) where
-    dead-is : f ≡ g .pages * n - count (g .pages * n) (live (placesOf (chipOf g n img)))
-    dead-is =
-        let a : v ≡ count (g .pages * n) (liveIn tbl) = ev ∙ ap (λ m. count m (liveIn tbl)) et in
-        let b = marked-pages (chipOf g n img) tbl m (g .pages * n) (x .room) in
-        omega (arith, a, b, ef, et)
-
-    pub ample-yes : 2 * w ≤ f → Good ≡ r8 (g .pages) n (chipOf g n img)
-    unfolding r8 ample
-    ample-yes h = sym (rw (le-leb (2 * g .pages) (g .pages * n - count (g .pages * n) (live (placesOf (chipOf g n img))))
-        (omega (arith, h, dead-is, ew))) (unless-true 0 Good))
-
-    pub ample-no : f < 2 * w → Bad 0 ≡ r8 (g .pages) n (chipOf g n img)
-    unfolding r8 ample
-    ample-no h = sym (rw (lt-leb (2 * g .pages) (g .pages * n - count (g .pages * n) (live (placesOf (chipOf g n img))))
-        (omega (arith, h, dead-is, ew))) (unless-false 0 Good))
-
--- a rule and those after it
-or-bad : (k q : ℕ) (v : Finding) (w : Verdict) → v ≡ Bad q → Broken k q ≡ orElse k v w
-unfolding orElse
-or-bad k q v w e = sym (rw e refl)
-
-or-good : (k : ℕ) (v : Finding) (w : Verdict) → v ≡ Good → w ≡ orElse k v w
-unfolding orElse
-or-good k v w e = sym (rw e refl)
-
--- two rules that are asked, or not, by one test
-both-asked : (g : Geometry) (j k : ℕ) (v w : Finding)
-    → pick (eqb (g .table) 2) Sound (orElse j v (orElse k w Sound)) ≡ orElse j (asked g v) (orElse k (asked g w) Sound)
-unfolding asked orElse
-both-asked g j k v w = go (eqb (g .table) 2)
-  where
-    go : (t : Bool) → pick t Sound (orElse j v (orElse k w Sound)) ≡ orElse j (pick t Good v) (orElse k (pick t Good w) Sound)
-    go true = refl
-    go false = refl
-
-pub plain-7 : (g : Geometry) (n : ℕ) (img : List ℕ) → g .table ≡ 2 → Sound ≡ from7 g n img
-unfolding from7
-plain-7 g n img e = sym (rw (eq-eqb (g .table) 2 e) refl)
-
-module _ (g : Geometry) (n : ℕ) (img : List ℕ) (v : Finding) where
-  pub bad-8 : (q : ℕ) → v ≡ r8 (g .pages) n (chipOf g n img) → v ≡ Bad q → Broken 8 q ≡ from8 g n img
-  unfolding from8
-  bad-8 q e f = or-bad 8 q _ _ (sym e ∙ f)
-
-  pub good-8 : v ≡ r8 (g .pages) n (chipOf g n img) → v ≡ Good → Sound ≡ from8 g n img
-  unfolding from8
-  good-8 e f = or-good 8 _ _ (sym e ∙ f)
-
-  pub bad-7 : (q : ℕ) → (g .table ≡ 2 → ⊥) → v ≡ r7 (g .pages) n (chipOf g n img) → v ≡ Bad q → Broken 7 q ≡ from7 g n img
-  unfolding from7
-  bad-7 q d e f = or-bad 7 q _ (from8 g n img) (sym e ∙ f) ∙ sym (rw (ne-eqb (g .table) 2 d) refl)
-
-  pub good-7 : (w : Verdict) → (g .table ≡ 2 → ⊥) → v ≡ r7 (g .pages) n (chipOf g n img) → v ≡ Good → w ≡ from8 g n img → w ≡ from7 g n img
-  unfolding from7
-  good-7 w d e f ew = ew ∙ (or-good 7 _ (from8 g n img) (sym e ∙ f) ∙ sym (rw (ne-eqb (g .table) 2 d) refl))
-
-  module _ (s : Survey) (es : s ≡ surveyOf g n img) (t : ℕ) (et : t ≡ g .pages * n) where
-    pub bad-6 : (q : ℕ) → v ≡ r6 t (chipWith g img (s .level) (s .root)) → v ≡ Bad q → Broken 6 q ≡ from6 g n img
-    unfolding from6
-    bad-6 q e f = or-bad 6 q _ _ (rw (← et, ← (chip-is g n img s es)) (sym e ∙ f))
-
-    pub good-6 : (w : Verdict) → v ≡ r6 t (chipWith g img (s .level) (s .root)) → v ≡ Good → w ≡ from7 g n img → w ≡ from6 g n img
-    unfolding from6
-    good-6 w e f ew = ew ∙ or-good 6 _ _ (rw (← et, ← (chip-is g n img s es)) (sym e ∙ f))
-
-    pub bad-5 : (q : ℕ) → v ≡ r5 g t (chipWith g img (s .level) (s .root)) → v ≡ Bad q → Broken 5 q ≡ from5 g n img
-    unfolding from5
-    bad-5 q e f = or-bad 5 q _ _ (rw (← et, ← (chip-is g n img s es)) (sym e ∙ f))
-
-    pub good-5 : (w : Verdict) → v ≡ r5 g t (chipWith g img (s .level) (s .root)) → v ≡ Good → w ≡ from6 g n img → w ≡ from5 g n img
-    unfolding from5
-    good-5 w e f ew = ew ∙ or-good 5 _ _ (rw (← et, ← (chip-is g n img s es)) (sym e ∙ f))
-
-  pub bad-4 : (q : ℕ) → v ≡ r4 g n img → v ≡ Bad q → Broken 4 q ≡ from4 g n img
-  unfolding from4
-  bad-4 q e f = or-bad 4 q _ _ (sym e ∙ f)
-
-  pub good-4 : (w : Verdict) → v ≡ r4 g n img → v ≡ Good → w ≡ from5 g n img → w ≡ from4 g n img
-  unfolding from4
-  good-4 w e f ew = ew ∙ or-good 4 _ _ (sym e ∙ f)
-
-  pub bad-3 : (q : ℕ) → v ≡ r3 g n img → v ≡ Bad q → Broken 3 q ≡ from3 g n img
-  unfolding from3
-  bad-3 q e f = or-bad 3 q _ _ (sym e ∙ f)
-
-  pub good-3 : (w : Verdict) → v ≡ r3 g n img → v ≡ Good → w ≡ from4 g n img → w ≡ from3 g n img
-  unfolding from3
-  good-3 w e f ew = ew ∙ or-good 3 _ _ (sym e ∙ f)
-
-  pub bad-2 : (q : ℕ) → v ≡ r2 (g .pages) n (erased g img) → v ≡ Bad q → Broken 2 q ≡ from2 g n img
-  unfolding from2
-  bad-2 q e f = or-bad 2 q _ _ (sym e ∙ f)
-
-  pub good-2 : (w : Verdict) → v ≡ r2 (g .pages) n (erased g img) → v ≡ Good → w ≡ from3 g n img → w ≡ from2 g n img
-  unfolding from2
-  good-2 w e f ew = ew ∙ or-good 2 _ _ (sym e ∙ f)
-
-  pub bad-1 : (q : ℕ) → v ≡ r1 g n img → v ≡ Bad q → Broken 1 q ≡ verdict g n img
-  unfolding verdict
-  bad-1 q e f = or-bad 1 q _ _ (sym e ∙ f)
-
-  pub good-1 : (w : Verdict) → v ≡ r1 g n img → v ≡ Good → w ≡ from2 g n img → w ≡ verdict g n img
-  unfolding verdict from2 from3 from4 from5 from6 from7 from8
-  good-1 w e f ew =
-      ew ∙ ap (λ y. orElse 2 (r2 (g .pages) n (erased g img)) (orElse 3 (r3 g n img) (orElse 4 (r4 g n img)
-      (orElse 5 (r5 g (pagesOf g n) (chipOf g n img)) (orElse 6 (r6 (pagesOf g n) (chipOf g n img)) y)))))
-      (both-asked g 7 8 (r7 (g .pages) n (chipOf g n img)) (r8 (g .pages) n (chipOf g n img))) ∙ or-good 1 _ _ (sym e ∙ f)
+  pub asked-or : (k : ℕ) (u w : Verdict) → u ≡ orElse k f w → u ≡ orElse k (asked g f) w
+  asked-or k u w e = e ∙ ap (λ (y : Finding). orElse k y w) (asked-is f refl)
 
 -- the table
 pub tells-broken : (c : Chip) (tbl : List ℕ) (k q : ℕ) → Tells c tbl (Broken k q)
@@ -306,6 +175,36 @@ module _ (g : Geometry) (n : ℕ) (img : List ℕ) (t f : Bool) (s : Survey) (pr
     pub sight-judged : (w u : List ℕ) (v : Verdict) → v ≡ from3 g n img → Tells (chipOf g n img) u v → length u ≡ length w
         → Judged g n img (record { verdict = v; survey = s }) w u
     sight-judged w u v ev y e =
-        judged-is g n img w u v s (good-1 g n img Good v (sym (c .formed)) refl (good-2 g n img Good v (sym (c .ordered)) refl ev)) (c .survey) (c .level) y e
+        judged-is g n img w u v s (verdict-is g n img v (or-good 1 _ Good _ v (sym (c .formed)) refl
+        (or-good 2 _ Good _ v (sym (c .ordered)) refl ev))) (c .survey) (c .level) y e
 
-pub ruleset verdict-laws = (clear-no, clear-is, clear-start, clear-go, clear-hit, clear-end, room-many, room-some, room-none, ample-yes, ample-no, bad-8, good-8, plain-7, bad-7, good-7, bad-6, good-6, bad-5, good-5, bad-4, good-4, bad-3, good-3, bad-2, good-2, bad-1, good-1, tells-broken, ready-is, ready-same, marked-rule, marked-with, inside-with, inside-good, tells-rule, never-broken, order-breaks, passed-1, judged-never, sight-broken, sight-ready, sight-counted, sight-ranges, sight-judged, programmed-is)
+pub ruleset verdict-laws = (
+  scan-laws,
+  room-laws,
+  or-bad,
+  or-good,
+  verdict-is,
+  nodes-by,
+  links-by,
+  not-asked,
+  asked-is,
+  asked-or,
+  tells-broken,
+  ready-is,
+  ready-same,
+  marked-rule,
+  marked-with,
+  inside-with,
+  inside-good,
+  tells-rule,
+  never-broken,
+  order-breaks,
+  passed-1,
+  judged-never,
+  sight-broken,
+  sight-ready,
+  sight-counted,
+  sight-ranges,
+  sight-judged,
+  programmed-is,
+)

@@ -3,16 +3,16 @@ use Prim.Native.Nat.{ℕ, _*_, _<_, _≤_}
 use mathlib.Core.Bool.{Bool}
 use mathlib.Core.Path.{_≡_}
 use mathlib.Core.List.{List}
-use lib.Dec.{eqb, leb}
+use lib.Dec.{leb}
 use lib.ListN.{length}
 use Rattle.geometry.specs.declared.Geometry.{Geometry}
 use Rattle.geometry.specs.declared.Verdict.{Verdict}
 use Rattle.geometry.specs.declared.Verdict.the-variants.{Sound}
-use Rattle.geometry.specs.Tests.{pick, _&_}
+use Rattle.geometry.specs.Tests.{_&_}
 use Rattle.model.specs.Bytes.{erased}
 use Rattle.model.specs.Image.{Chip, chipOf, pagesOf}
 use Rattle.model.specs.Next.{full, inBlock}
-use Rattle.model.specs.Rules.{r2, r3, r4, r5, r6, r7, r8, orElse, verdict}
+use Rattle.model.specs.Rules.{r2, r3, r4, r5, r6, r7, r8, asked, orElse, verdict}
 use Rattle.chip_survey.specs.declared.Survey.{Survey}
 use Rattle.chip_survey.specs.Survey.{surveyOf}
 use Rattle.live_walk.specs.Table.{liveIn, Marked}
@@ -22,25 +22,27 @@ use Rattle.sound_verdict.specs.declared.Judgement.{Judgement}
 unfoldable pub clearable : ℕ → (ℕ → Bool) → List ℕ → ℕ → ℕ → Bool
 clearable p er tbl free b = full p er b & leb (inBlock p (liveIn tbl) b) free
 
-unfoldable pub from8 : Geometry → ℕ → List ℕ → Verdict
+-- the verdict from a rule on
+abbrev pub from8 : Geometry → ℕ → List ℕ → Verdict
 from8 g n img = orElse 8 (r8 (g .pages) n (chipOf g n img)) Sound
 
-unfoldable pub from7 : Geometry → ℕ → List ℕ → Verdict
-from7 g n img = pick (eqb (g .table) 2) Sound (orElse 7 (r7 (g .pages) n (chipOf g n img)) (from8 g n img))
+abbrev pub from7 : Geometry → ℕ → List ℕ → Verdict
+from7 g n img =
+    orElse 7 (asked g (r7 (g .pages) n (chipOf g n img))) (orElse 8 (asked g (r8 (g .pages) n (chipOf g n img))) Sound)
 
-unfoldable pub from6 : Geometry → ℕ → List ℕ → Verdict
+abbrev pub from6 : Geometry → ℕ → List ℕ → Verdict
 from6 g n img = orElse 6 (r6 (pagesOf g n) (chipOf g n img)) (from7 g n img)
 
-unfoldable pub from5 : Geometry → ℕ → List ℕ → Verdict
+abbrev pub from5 : Geometry → ℕ → List ℕ → Verdict
 from5 g n img = orElse 5 (r5 g (pagesOf g n) (chipOf g n img)) (from6 g n img)
 
-unfoldable pub from4 : Geometry → ℕ → List ℕ → Verdict
+abbrev pub from4 : Geometry → ℕ → List ℕ → Verdict
 from4 g n img = orElse 4 (r4 g n img) (from5 g n img)
 
-unfoldable pub from3 : Geometry → ℕ → List ℕ → Verdict
+abbrev pub from3 : Geometry → ℕ → List ℕ → Verdict
 from3 g n img = orElse 3 (r3 g n img) (from4 g n img)
 
-unfoldable pub from2 : Geometry → ℕ → List ℕ → Verdict
+abbrev pub from2 : Geometry → ℕ → List ℕ → Verdict
 from2 g n img = orElse 2 (r2 (g .pages) n (erased g img)) (from3 g n img)
 
 -- a survey of the image, and a table of m places that has room for its pages

@@ -4,4 +4,5 @@ pub mod Cases
 pub mod Tally
 pub mod Peak
 pub mod Lowest
+pub mod Scan
 pub mod Blocks

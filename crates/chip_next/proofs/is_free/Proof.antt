@@ -1,4 +1,3 @@
-use Rattle.sound_pages.specs.Blocks.{block-laws}
 use borrow.Author.Needs.{needs}
 use Rattle.chip_next.specs.PagesToCome.{next-laws}
 use mathlib.Core.Path.{_≡_}
@@ -11,7 +10,7 @@ use Rattle.chip_next.proofs.is_free.Reads as reads
 use Rattle.chip_next.proofs.is_free.Lts as lts
 use Rattle.chip_read.proofs.page_erased.Reads as page-erased-reads
 
-ruleset all = (needs, next-laws, block-laws)
+ruleset all = (needs, next-laws)
 
 abbrev Inv-loop : tie.InvT-loop
 Inv-loop g img taken i page k₀ k = (k ≤ i) × (free (erased g img) taken i page ≡ free (erased g img) taken k page)

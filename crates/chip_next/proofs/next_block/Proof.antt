@@ -5,7 +5,7 @@ use Rattle.chip_next.proofs.next_block.Tie as tie
 use Rattle.chip_next.proofs.next_block.Reads as reads
 use Rattle.chip_next.proofs.next_block.Lts as lts
 use Rattle.chip_next.proofs.block_of.Reads as block-of-reads
-use Rattle.chip_next.proofs.first_mixed.Reads as first-mixed-reads
+use Rattle.sound_pages.proofs.first_mixed.Reads as first-mixed-reads
 use Rattle.chip_next.proofs.no_pages.Reads as no-pages-reads
 use Rattle.chip_next.proofs.round_block.Reads as round-block-reads
 

@@ -5,7 +5,7 @@ use Rattle.chip_next.proofs.next_page.Tie as tie
 use Rattle.chip_next.proofs.next_page.Reads as reads
 use Rattle.chip_next.proofs.next_page.Lts as lts
 use Rattle.chip_read.proofs.page_of.Reads as page-of-reads
-use Rattle.chip_next.proofs.first_in.Reads as first-in-reads
+use Rattle.sound_pages.proofs.first_in.Reads as first-in-reads
 use Rattle.chip_next.proofs.next_block.Reads as next-block-reads
 
 ruleset all = (needs, next-laws)
