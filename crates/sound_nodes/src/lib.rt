@@ -211,7 +211,7 @@ fn leaf_at(
     let key = sound_leaves::key_at(img, at + 8 * i);
     let page = chip_read::read_u32(img, at + 8 * i + 4);
     let next = next_key(img, at + 8 * (i + 1), n - (i + 1), hi);
-    judge_leaf(g, img, &mut *table, pages, page, key, following)
+    judge_leaf(g, img, &mut *table, pages, page, key, next)
 }
 
 // The first bad page of the leaves that n entries from byte `at` name.
@@ -305,7 +305,7 @@ fn node_under(
         below,
         page,
         key,
-        following,
+        next,
         programmed,
     )
 }

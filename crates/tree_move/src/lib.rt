@@ -1,4 +1,4 @@
-// The store that moves a live page: the nodes from the root to its lowest live node, on the following page.
+// The store that moves a live page: the nodes from the root to its lowest live node, on the next page.
 ghost use mathlib.Core.Path.{_≡_};
 ghost use mathlib.Core.List.{[], _∷_};
 ghost use Prim.Native.Nat.{_+_, _≤_, _<_};
