@@ -206,35 +206,16 @@ module _ (p n : ℕ) where
 pub set-length : (ps : List ℕ) (k x m : ℕ) → length ps ≡ m → length (set ps k x) ≡ m
 set-length ps k x m e = length-set ps k x ∙ e
 
-pub ruleset next-laws = (
-  scan-laws,
-  quotient,
-  quotient-low,
-  quotient-none,
-  free-start,
-  free-stop,
-  free-go,
-  free-end,
-  whole-no,
-  whole-is,
-  next-mixed,
-  round-later,
-  round-start,
-  next-round,
-  after-is,
-  page-low,
-  ends-none,
-  ends-is,
-  goes-on,
-  goes-round,
-  after-none,
-  starts-none,
-  starts-is,
-  erased-stays,
-  erased-round,
-  coming-one,
-  page-one,
-  page-more,
-  coming-more,
-  coming-done,
-)
+pub ruleset free-laws = (free-start, free-stop, free-go, free-end)
+
+pub ruleset whole-laws = (whole-no, whole-is, next-mixed, round-later, round-start, next-round)
+
+pub ruleset block-laws = (quotient, quotient-low, quotient-none)
+
+pub ruleset page-laws = (after-is, page-low, ends-none, ends-is, goes-on, goes-round, after-none)
+
+pub ruleset erased-laws = (starts-none, starts-is, erased-stays, erased-round)
+
+pub ruleset coming-laws = (coming-one, page-one, page-more, coming-more, coming-done)
+
+pub ruleset next-laws = (scan-laws, free-laws, block-laws, whole-laws, page-laws, erased-laws, coming-laws)

@@ -2,7 +2,7 @@
 use Prim.Native.Nat.{ℕ, zero, suc, _+_, _-_, _/_, _<_, _≤_}
 use mathlib.Core.Path.{_≡_, refl, sym, _∙_}
 use mathlib.Core.List.{List}
-use lib.ListN.{length, getD, set, length-set}
+use lib.ListN.{length, getD, set}
 use lib.Seq.{set-out}
 use borrow.Author.Tests.{lt-ltb, le-ltb, eq-eqb, ne-eqb, le-leb, lt-leb}
 use native.Mathlib.Omega.{arith}
@@ -16,6 +16,7 @@ use Rattle.model.specs.Tree.{chosen}
 use Rattle.chip_read.specs.Chip.{naming}
 use Rattle.live_walk.specs.Table.{liveIn}
 use Rattle.live_words.specs.Words.{word, Past}
+use Rattle.live_fill.specs.LentWords.{set-long}
 use Rattle.live_words.specs.Filled.{past-none, past-then, past-set}
 use Rattle.live_beside.specs.Table.{Table, tableIn, mark, unmark, offPath, tableMoved}
 
@@ -25,9 +26,6 @@ put-out x p w a e h = sym (set-out x p a (rw (← e) h))
 
 pub put-at : (x : List ℕ) (p w a : ℕ) → w ≡ p → set x w a ≡ set x p a
 put-at x p w a e = rw e
-
-pub put-long : (x y : List ℕ) (p a : ℕ) → y ≡ set x p a → length y ≡ length x
-put-long x y p a e = rw e (length-set x p a)
 
 -- the page's word is one of the image's, or it is not
 pub mark-in : (m p a i q : ℕ) (x y u v : List ℕ) → y ≡ set x p a → v ≡ set u i (word (liveIn y) i) → i ≡ q / 32 → q ≡ p
@@ -104,4 +102,4 @@ pub moved : (m : ℕ) (r : Nodes) (k a l q new : ℕ) (t o z : Table) → o ≡ 
 unfolding tableMoved
 moved m r k a l q new t o z eo ez = ez ∙ rw eo
 
-pub ruleset marks-laws = (put-out, put-at, put-long, mark-in, mark-out, mark-past, word-low, unmark-in, unmark-out, off-stop, off-last, off-none, moved, past-none, past-then)
+pub ruleset marks-laws = (put-out, put-at, set-long, mark-in, mark-out, mark-past, word-low, unmark-in, unmark-out, off-stop, off-last, off-none, moved, past-none, past-then)

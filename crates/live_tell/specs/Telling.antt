@@ -14,6 +14,7 @@ use Rattle.geometry.specs.Tests.{pick, bit}
 use Rattle.model.specs.Tree.{Place, live}
 use Rattle.theory_counts.specs.Least.{by-lt}
 use Rattle.live_words.specs.Words.{wordOf, word, filled}
+use Rattle.live_words.specs.Ones.{low-bit, rest-bits}
 use Rattle.live_words.specs.Filled.{words-alike, word-same, filled-alike, length-filled, filled-in, filled-past}
 
 -- the bit of page p set in the first m words; a page past them is passed over
@@ -33,17 +34,9 @@ nowhere p = false
 abbrev pub also : (ℕ → Bool) → ℕ → ℕ → Bool
 also f p q = pick (eqb p q) true (f q)
 
-odd : (b : Bool) (w : ℕ) → (bit b + 2 * w) % 2 ≡ bit b
-odd true w = omega arith
-odd false w = omega arith
-
-half : (b : Bool) (w : ℕ) → (bit b + 2 * w) / 2 ≡ w
-half true w = omega arith
-half false w = omega arith
-
 -- the lowest bit set
 or-low : (b : Bool) (w : ℕ) → bitOr (bit b + 2 * w) 1 ≡ 1 + 2 * w
-or-low b w = or-step (bit b + 2 * w) 1 ∙ rw (odd b w, half b w, or-zero-r w) (go b)
+or-low b w = or-step (bit b + 2 * w) 1 ∙ rw (low-bit b w, rest-bits b w, or-zero-r w) (go b)
   where
     go : (b : Bool) → w * 2 + max (bit b) 1 ≡ 1 + 2 * w
     go true = omega arith
@@ -54,7 +47,7 @@ or-high : (b : Bool) (w j : ℕ) → bitOr (bit b + 2 * w) (2 ^ suc j) ≡ bit b
 or-high b w j =
     let e : 2 ^ suc j / 2 ≡ 2 ^ j = (let z = pow-suc 2 j in omega (arith, z)) in
     let o : 2 ^ suc j % 2 ≡ 0 = (let z = pow-suc 2 j in omega (arith, z)) in
-    or-step (bit b + 2 * w) (2 ^ suc j) ∙ rw (odd b w, half b w, e, o) (go b)
+    or-step (bit b + 2 * w) (2 ^ suc j) ∙ rw (low-bit b w, rest-bits b w, e, o) (go b)
   where
     go : (b : Bool) → bitOr w (2 ^ j) * 2 + max (bit b) 0 ≡ bit b + 2 * bitOr w (2 ^ j)
     go true = omega arith

@@ -140,22 +140,8 @@ bit-live tbl p b e q = simp (← e, q)
 pub bit-dead : (tbl : List ℕ) (p : ℕ) (b : Bool) → b ≡ liveIn tbl p → b ≡ false → 0 ≡ bit (liveIn tbl p)
 bit-dead tbl p b e q = simp (← e, q)
 
-pub ruleset walk-laws = (
-  noted-past,
-  noted-at,
-  lower-first,
-  lower-new,
-  lower-old,
-  note-past,
-  note-at,
-  walk-same,
-  note-same,
-  zeros-start,
-  zeros-go,
-  zeros-end,
-  live-is,
-  bit-live,
-  bit-dead,
-  tally-laws,
-  within-laws,
-)
+pub ruleset noted-laws = (noted-past, noted-at, lower-first, lower-new, lower-old, note-past, note-at)
+
+pub ruleset live-laws = (live-is, bit-live, bit-dead, tally-laws, within-laws)
+
+pub ruleset walk-laws = (noted-laws, walk-same, note-same, zeros-start, zeros-go, zeros-end, live-laws)

@@ -21,11 +21,11 @@ whole-words _ is-small = refl
 whole-words _ is-large = refl
 
 -- ---- one word
-low-bit : (b : Bool) (w : ℕ) → (bit b + 2 * w) % 2 ≡ bit b
+pub low-bit : (b : Bool) (w : ℕ) → (bit b + 2 * w) % 2 ≡ bit b
 low-bit true w = omega arith
 low-bit false w = omega arith
 
-rest-bits : (b : Bool) (w : ℕ) → (bit b + 2 * w) / 2 ≡ w
+pub rest-bits : (b : Bool) (w : ℕ) → (bit b + 2 * w) / 2 ≡ w
 rest-bits true w = omega arith
 rest-bits false w = omega arith
 

@@ -1,15 +1,15 @@
 -- Numbers that rise in each block, in ranges that lie apart, differ. Assumes nothing.
-use Prim.Native.Nat.{ℕ, zero, suc, _+_, _-_, _*_, _/_, _%_, _<_, _≤_}
+use Prim.Native.Nat.{ℕ, zero, suc, _+_, _-_, _*_, _<_, _≤_}
 use mathlib.Core.Bool.{Bool, true, false, false≢true}
 use mathlib.Core.Path.{_≡_, refl, sym, ap, _∙_}
 use mathlib.Core.List.{List}
 use lib.Dec.{eqb, leb, ltb}
 use lib.ListN.{getD}
 use native.Mathlib.Omega.{arith}
-use native.Mathlib.Nat.{mod-lt, div-add-mod, zero-mul, mul-le-mul-left}
 use borrow.Author.Tests.{eqb-true, leb-false, ltb-true}
 use Rattle.geometry.specs.Tests.{pick}
 use Rattle.theory_counts.specs.Least.{by-lt}
+use Rattle.theory_counts.specs.Blocks.{Split, split}
 use Rattle.sound_repeats.specs.Repeats.{Differ}
 use Rattle.sound_numbers.specs.declared.Range.{Range}
 use Rattle.sound_numbers.specs.Ranges.{fallen, grown, extended, rangeTo, apartOf, Ranges, AllClear}
@@ -102,27 +102,6 @@ apart-differ a b c d x y t x1 ax xb y1 cy yd e = by-b (eqb b 0) refl t
     by-b : (t : Bool) → eqb b 0 ≡ t → pick t true (pick (eqb d 0) true (pick (ltb b c) true (ltb d a))) ≡ true → ⊥
     by-b true q t = omega (arith, eqb-true b 0 q)
     by-b false q t = by-d (eqb d 0) refl t
-
--- a page by its block and its place there
-record Split (p n x : ℕ) : Type 0 where
-  pub block : ℕ
-  pub place : ℕ
-  pub is : p * block + place ≡ x
-  pub inside : place < p
-  pub below : block < n
-
-split : (p n x : ℕ) → x < p * n → Split p n x
-split p n x h = record {
-  block = x / p;
-  place = x % p;
-  is = div-add-mod x p;
-  inside = mod-lt x {m = p} (pos p h);
-  below = by-lt (x / p) n (λ k. k) (λ k. absurd (omega (arith, h, div-add-mod x p, mul-le-mul-left p k)));
-}
-  where
-    pos : (p : ℕ) → x < p * n → 0 < p
-    pos zero h = absurd (omega (arith, h, zero-mul n))
-    pos (suc p) h = omega arith
 
 pub differ : (er : ℕ → Bool) (seq : ℕ → ℕ) (p n : ℕ) (lows highs : List ℕ) → Ranges er seq p n lows highs → AllClear lows highs n → Differ er seq (p * n)
 differ er seq p n lows highs x y = record { differ = λ v w lt h ev ew e. apart v w lt (split p n v h) (split p n w (omega arith)) ev ew e }

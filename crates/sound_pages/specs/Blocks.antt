@@ -87,19 +87,8 @@ module _ (p n : ℕ) (er : ℕ → Bool) (b : ℕ) (eb : b ≡ least n (disorder
   unfolding r2 fails
   rule-good s es k h = sym (rw (← eb, le-leb n b k, ← es, le-leb n s h) (unless-true _ (unless true (p * s) Good) ∙ unless-true (p * s) Good))
 
-pub ruleset block-laws = (
-  within-laws,
-  order-start,
-  late-is,
-  order-bad,
-  order-good,
-  order-none,
-  mixed-no,
-  mixed-yes,
-  other-no,
-  other-yes,
-  second-is,
-  rule-order,
-  rule-second,
-  rule-good,
-)
+pub ruleset order-laws = (within-laws, order-start, late-is, order-bad, order-good, order-none)
+
+pub ruleset mixed-laws = (mixed-no, mixed-yes, other-no, other-yes, second-is)
+
+pub ruleset block-laws = (order-laws, mixed-laws, rule-order, rule-second, rule-good)

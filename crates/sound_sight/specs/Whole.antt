@@ -1,5 +1,5 @@
 -- All blocks: R1 and R2 of the image. Assumes nothing.
-use Prim.Native.Nat.{ℕ, zero, suc, _+_, _-_, _*_, _/_, _%_, _<_, _≤_}
+use Prim.Native.Nat.{ℕ, _+_, _-_, _*_, _<_, _≤_}
 use mathlib.Core.Bool.{Bool, true, false, not, false≢true}
 use mathlib.Core.Path.{_≡_, refl, sym, ap, _∙_}
 use mathlib.Core.List.{List}
@@ -8,7 +8,7 @@ use lib.ListN.{length, getD, set}
 use lib.Seq.{getD-set-same, getD-set-other}
 use native.Mathlib.Omega.{arith}
 use native.Mathlib.Numerals.{add-one}
-use native.Mathlib.Nat.{mul-zero, mod-lt, div-add-mod, mul-suc, zero-mul, mul-le-mul-left}
+use native.Mathlib.Nat.{mul-zero, mul-suc, mul-le-mul-left}
 use borrow.Author.Tests.{not-true, not-false, le-leb, lt-leb, lt-ltb, le-ltb, leb-true, leb-false, ltb-true, eq-eqb, eqb-true}
 use Rattle.geometry.specs.declared.Geometry.{Geometry}
 use Rattle.geometry.specs.declared.Finding.the-variants.{Good}
@@ -18,6 +18,7 @@ use Rattle.model.specs.Count.{least}
 use Rattle.model.specs.Next.{mixed, firstIn}
 use Rattle.model.specs.Rules.{wellFormed, inOrder, secondMixed, r1, r2}
 use Rattle.theory_counts.specs.Least.{by-lt, least-is, least-none, any-clear}
+use Rattle.theory_counts.specs.Blocks.{Split, split}
 use Rattle.theory_counts.specs.Lowest.{lowest-good, good-lowest, good-unless, unless-true}
 use Rattle.chip_survey.specs.declared.Seen.{Seen}
 use Rattle.chip_survey.specs.declared.Survey.{Survey}
@@ -28,27 +29,6 @@ use Rattle.sound_numbers.specs.declared.Range.{Range}
 use Rattle.sound_numbers.specs.Ranges.{Ranges}
 use Rattle.sound_sight.specs.Sight.{Told, Spoilt, Strip, Strips, Flaw, parted, Bare, Parts, Single, Double, Clear}
 use Rattle.sound_sight.specs.Pages.{told-yes, told-no}
-
--- a page by its block and its place there
-record Split (p n x : ℕ) : Type 0 where
-  pub block : ℕ
-  pub place : ℕ
-  pub is : p * block + place ≡ x
-  pub inside : place < p
-  pub below : block < n
-
-split : (p n x : ℕ) → x < p * n → Split p n x
-split p n x h = record {
-  block = x / p;
-  place = x % p;
-  is = div-add-mod x p;
-  inside = mod-lt x {m = p} (pos p h);
-  below = by-lt (x / p) n (λ k. k) (λ k. absurd (omega (arith, h, div-add-mod x p, mul-le-mul-left p k)));
-}
-  where
-    pos : (p : ℕ) → x < p * n → 0 < p
-    pos zero h = absurd (omega (arith, h, zero-mul n))
-    pos (suc p) h = omega arith
 
 -- a page of a block below n
 in-image : (p n b i : ℕ) → b < n → i < p → p * b + i < p * n

@@ -5,7 +5,7 @@ use mathlib.Core.Path.{_≡_, refl, sym, ap, subst, _∙_}
 use mathlib.Core.List.{List}
 use lib.ListN.{length}
 use native.Mathlib.Omega.{arith}
-use native.Mathlib.Nat.{mul-le-mul, mul-le-mul-left, mod-lt, div-add-mod, zero-mul}
+use native.Mathlib.Nat.{mul-le-mul, mod-lt, div-add-mod}
 use borrow.Author.Tests.{eq-eqb, ne-eqb, not-true, not-false}
 use Rattle.geometry.specs.declared.Geometry.{Geometry}
 use Rattle.geometry.specs.declared.Finding.{Finding}
@@ -17,7 +17,7 @@ use Rattle.model.specs.Count.{arg}
 use Rattle.model.specs.Image.{Chip, chipOf, pagesOf, rootOf, rootScore}
 use Rattle.model.specs.Rules.{r1, r2, r5, r6, asked, orElse, verdict}
 use Rattle.chip_read.specs.Chip.{chipWith}
-use Rattle.theory_counts.specs.Least.{by-lt}
+use Rattle.theory_counts.specs.Blocks.{some-pages, block-below}
 use Rattle.theory_counts.specs.Lowest.{broken-sound}
 use Rattle.theory_counts.specs.Peak.{arg-most, arg-less}
 use Rattle.theory_counts.specs.Scan.{scan-laws}
@@ -125,19 +125,15 @@ pub judged-is : (g : Geometry) (n : ℕ) (img t u : List ℕ) (v : Verdict) (s :
 judged-is g n img t u v s ev es h x e = record { verdict = ev; survey = es; level = h; table = x; same = e }
 
 -- the programmed pages, page by page
-pub programmed-is : (g : Geometry) (n t : ℕ) (img programmed : List ℕ) → Counted g n img programmed → n ≤ length programmed → t ≡ g .pages * n → Programmed g img t programmed
+pub programmed-is : (g : Geometry) (n t : ℕ) (img programmed : List ℕ) → Counted g n img programmed
+    → n ≤ length programmed → t ≡ g .pages * n → Programmed g img t programmed
 programmed-is g n t img programmed x l e = record {
-  some = λ a h. some a (g .pages) (rw (← e) h);
-  inside = λ a h. omega (arith, l, block a (rw (← e) h));
-  kinds = λ a h. ap (erased g img) (sym (div-add-mod a (g .pages))) ∙ x .kinds (a / g .pages) (block a (rw (← e) h)) (a % g .pages) (mod-lt a {m = g .pages} (some a (g .pages) (rw (← e) h)));
+  some = λ a h. some-pages (g .pages) n a (rw (← e) h);
+  inside = λ a h. omega (arith, l, block-below (g .pages) n a (rw (← e) h));
+  kinds = λ a h. ap (erased g img) (sym (div-add-mod a (g .pages)))
+      ∙ x .kinds (a / g .pages) (block-below (g .pages) n a (rw (← e) h)) (a % g .pages)
+      (mod-lt a {m = g .pages} (some-pages (g .pages) n a (rw (← e) h)));
 }
-  where
-    some : (a p : ℕ) → a < p * n → 0 < p
-    some a zero h = absurd (omega (arith, h, zero-mul n))
-    some a (suc p) h = omega arith
-
-    block : (a : ℕ) → a < g .pages * n → a / g .pages < n
-    block a h = by-lt (a / g .pages) n (λ k. k) (λ k. absurd (omega (arith, h, div-add-mod a (g .pages), mul-le-mul-left (g .pages) k)))
 
 -- an image that R1 or R2 breaks
 pub never-broken : (k q : ℕ) → Never (Broken k q)
@@ -178,33 +174,14 @@ module _ (g : Geometry) (n : ℕ) (img : List ℕ) (t f : Bool) (s : Survey) (pr
         judged-is g n img w u v s (verdict-is g n img v (or-good 1 _ Good _ v (sym (c .formed)) refl
         (or-good 2 _ Good _ v (sym (c .ordered)) refl ev))) (c .survey) (c .level) y e
 
-pub ruleset verdict-laws = (
-  scan-laws,
-  room-laws,
-  or-bad,
-  or-good,
-  verdict-is,
-  nodes-by,
-  links-by,
-  not-asked,
-  asked-is,
-  asked-or,
-  tells-broken,
-  ready-is,
-  ready-same,
-  marked-rule,
-  marked-with,
-  inside-with,
-  inside-good,
-  tells-rule,
-  never-broken,
-  order-breaks,
-  passed-1,
-  judged-never,
-  sight-broken,
-  sight-ready,
-  sight-counted,
-  sight-ranges,
-  sight-judged,
-  programmed-is,
-)
+pub ruleset rule-laws = (or-bad, or-good, verdict-is, nodes-by, links-by, not-asked, asked-is, asked-or)
+
+pub ruleset table-laws = (tells-broken, tells-rule, ready-is, ready-same, marked-rule, marked-with)
+
+pub ruleset inside-laws = (inside-with, inside-good)
+
+pub ruleset broken-laws = (never-broken, order-breaks, passed-1, judged-never)
+
+pub ruleset sight-laws = (sight-broken, sight-ready, sight-counted, sight-ranges, sight-judged, programmed-is)
+
+pub ruleset verdict-laws = (scan-laws, room-laws, rule-laws, table-laws, inside-laws, broken-laws, sight-laws)

@@ -31,42 +31,54 @@ module _ (p : ℕ) (er : ℕ → Bool) (tbl : List ℕ) (free b : ℕ) where
   unfolding clearable
   clear-no r e q = simp (← e, q, and-false)
 
-  pub clear-is : (r : Bool) (l : ℕ) → r ≡ er (p * b + (p - 1)) → r ≡ false → l ≡ inBlock p (liveIn tbl) b → leb l free ≡ clearable p er tbl free b
+  pub clear-is : (r : Bool) (l : ℕ) → r ≡ er (p * b + (p - 1)) → r ≡ false → l ≡ inBlock p (liveIn tbl) b
+      → leb l free ≡ clearable p er tbl free b
   unfolding clearable
   clear-is r l e q el = sym (rw (← e, q, ← el) (and-true (leb l free)))
 
-module _ (g : Geometry) (n : ℕ) (img : List ℕ) (s : Survey) (tbl : List ℕ) (x : Ready g n img s (length tbl)) (m : Marked (chipOf g n img) tbl) where
+module _ (g : Geometry) (n : ℕ) (img : List ℕ) (s : Survey) (tbl : List ℕ) (x : Ready g n img s (length tbl))
+    (m : Marked (chipOf g n img) tbl) where
+  abbrev lives : ℕ → Bool
+  lives = live (placesOf (chipOf g n img))
+
+  abbrev canClear : ℕ → Bool
+  canClear = clearable (g .pages) (erased g img) tbl (s .erased)
+
   free-is : s .erased ≡ count (g .pages * n) (erased g img)
   unfolding surveyOf
   free-is = ap (λ (v : Survey). v .erased) (x .survey)
 
-  room-is : any n (clearable (g .pages) (erased g img) tbl (s .erased))
-      ≡ any n (λ b. full (g .pages) (erased g img) b & leb (inBlock (g .pages) (live (placesOf (chipOf g n img))) b) (s .erased))
+  room-is : any n canClear
+      ≡ any n (λ b. full (g .pages) (erased g img) b & leb (inBlock (g .pages) lives b) (s .erased))
   unfolding clearable
-  room-is = any-same (clearable (g .pages) (erased g img) tbl (s .erased))
-      (λ b. full (g .pages) (erased g img) b & leb (inBlock (g .pages) (live (placesOf (chipOf g n img))) b) (s .erased)) n
-      (λ b h. (let w : g .pages * b + g .pages ≤ length tbl = omega (arith, x .room, mul-suc (g .pages) b, mul-le-mul-left (g .pages) h) in
-      rw (marked-block (chipOf g n img) tbl m (g .pages) b w) refl))
+  room-is = any-same canClear (λ b. full (g .pages) (erased g img) b & leb (inBlock (g .pages) lives b) (s .erased)) n
+      (λ b h. rw (marked-block (chipOf g n img) tbl m (g .pages) b (room b h)) refl)
+    where
+      room : (b : ℕ) → b < n → g .pages * b + g .pages ≤ length tbl
+      room b h = omega (arith, x .room, mul-suc (g .pages) b, mul-le-mul-left (g .pages) h)
 
-  pub room-many : (a b : ℕ) → a ≡ g .pages → b ≡ s .erased → a ≤ b → Good ≡ r7 (g .pages) n (chipOf g n img)
-  unfolding r7 spareRoom
-  room-many a b ea eb h = sym (rw (← free-is, le-leb (g .pages) (s .erased) (rw (← ea, ← eb) h)) (unless-true 0 Good))
+  -- a is a block's pages, b the erased ones
+  module _ (a b : ℕ) (ea : a ≡ g .pages) (eb : b ≡ s .erased) where
+    pub room-many : a ≤ b → Good ≡ r7 (g .pages) n (chipOf g n img)
+    unfolding r7 spareRoom
+    room-many h = sym (rw (← free-is, le-leb (g .pages) (s .erased) (rw (← ea, ← eb) h)) (unless-true 0 Good))
 
-  pub room-some : (a b : ℕ) (r : Bool) → a ≡ g .pages → b ≡ s .erased → b < a → r ≡ any n (clearable (g .pages) (erased g img) tbl (s .erased)) → r ≡ true
-      → Good ≡ r7 (g .pages) n (chipOf g n img)
-  unfolding r7 spareRoom
-  room-some a b r ea eb h er q =
-      sym (rw (← free-is, lt-leb (g .pages) (s .erased) (rw (← ea, ← eb) h), ← room-is, ← er, q) (unless-true 0 Good))
+    pub room-some : (r : Bool) → b < a → r ≡ any n canClear → r ≡ true → Good ≡ r7 (g .pages) n (chipOf g n img)
+    unfolding r7 spareRoom
+    room-some r h er q =
+        sym (rw (← free-is, lt-leb (g .pages) (s .erased) (rw (← ea, ← eb) h), ← room-is, ← er, q)
+        (unless-true 0 Good))
 
-  pub room-none : (a b : ℕ) (r : Bool) → a ≡ g .pages → b ≡ s .erased → b < a → r ≡ any n (clearable (g .pages) (erased g img) tbl (s .erased)) → r ≡ false
-      → Bad 0 ≡ r7 (g .pages) n (chipOf g n img)
-  unfolding r7 spareRoom
-  room-none a b r ea eb h er q =
-      sym (rw (← free-is, lt-leb (g .pages) (s .erased) (rw (← ea, ← eb) h), ← room-is, ← er, q) (unless-false 0 Good))
+    pub room-none : (r : Bool) → b < a → r ≡ any n canClear → r ≡ false → Bad 0 ≡ r7 (g .pages) n (chipOf g n img)
+    unfolding r7 spareRoom
+    room-none r h er q =
+        sym (rw (← free-is, lt-leb (g .pages) (s .erased) (rw (← ea, ← eb) h), ← room-is, ← er, q)
+        (unless-false 0 Good))
 
   -- R8: t pages, v of them live, f not; w is a block's pages
-  module _ (t v f w : ℕ) (et : t ≡ g .pages * n) (ev : v ≡ count t (liveIn tbl)) (ef : f ≡ t - v) (ew : w ≡ g .pages) where
-    dead-is : f ≡ g .pages * n - count (g .pages * n) (live (placesOf (chipOf g n img)))
+  module _ (t v f w : ℕ) (et : t ≡ g .pages * n) (ev : v ≡ count t (liveIn tbl)) (ef : f ≡ t - v)
+      (ew : w ≡ g .pages) where
+    dead-is : f ≡ g .pages * n - count (g .pages * n) lives
     dead-is =
         let a : v ≡ count (g .pages * n) (liveIn tbl) = ev ∙ ap (λ m. count m (liveIn tbl)) et in
         let b = marked-pages (chipOf g n img) tbl m (g .pages * n) (x .room) in
@@ -74,12 +86,12 @@ module _ (g : Geometry) (n : ℕ) (img : List ℕ) (s : Survey) (tbl : List ℕ)
 
     pub ample-yes : 2 * w ≤ f → Good ≡ r8 (g .pages) n (chipOf g n img)
     unfolding r8 ample
-    ample-yes h = sym (rw (le-leb (2 * g .pages) (g .pages * n - count (g .pages * n) (live (placesOf (chipOf g n img))))
+    ample-yes h = sym (rw (le-leb (2 * g .pages) (g .pages * n - count (g .pages * n) lives)
         (omega (arith, h, dead-is, ew))) (unless-true 0 Good))
 
     pub ample-no : f < 2 * w → Bad 0 ≡ r8 (g .pages) n (chipOf g n img)
     unfolding r8 ample
-    ample-no h = sym (rw (lt-leb (2 * g .pages) (g .pages * n - count (g .pages * n) (live (placesOf (chipOf g n img))))
+    ample-no h = sym (rw (lt-leb (2 * g .pages) (g .pages * n - count (g .pages * n) lives)
         (omega (arith, h, dead-is, ew))) (unless-false 0 Good))
 
 pub ruleset room-laws = (clear-no, clear-is, room-many, room-some, room-none, ample-yes, ample-no)

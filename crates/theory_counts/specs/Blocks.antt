@@ -1,10 +1,13 @@
 -- The pages of a block. Assumes nothing.
-use Prim.Native.Nat.{ℕ, _+_, _*_}
+use Prim.Native.Nat.{ℕ, zero, suc, _+_, _*_, _/_, _%_, _<_}
 use mathlib.Core.Bool.{Bool}
 use mathlib.Core.Path.{_≡_, _∙_}
+use native.Mathlib.Omega.{arith}
+use native.Mathlib.Nat.{mul-le-mul-left, mod-lt, div-add-mod, zero-mul}
 use Rattle.geometry.specs.Tests.{bit}
 use Rattle.model.specs.Count.{count, least}
 use Rattle.model.specs.Next.{firstIn, inBlock}
+use Rattle.theory_counts.specs.Least.{by-lt}
 
 -- a test of pages, by the place in block b of p pages
 unfoldable pub within : ℕ → (ℕ → Bool) → ℕ → ℕ → Bool
@@ -29,3 +32,27 @@ module _ (p : ℕ) (f : ℕ → Bool) (b : ℕ) where
   within-count n e = e
 
 pub ruleset within-laws = (within-test, within-bit, within-first, within-count)
+
+-- page x of n blocks, by its block and its place there
+pub record Split (p n x : ℕ) : Type 0 where
+  pub block : ℕ
+  pub place : ℕ
+  pub is : p * block + place ≡ x
+  pub inside : place < p
+  pub below : block < n
+
+pub some-pages : (p n x : ℕ) → x < p * n → 0 < p
+some-pages zero n x h = absurd (omega (arith, h, zero-mul n))
+some-pages (suc p) n x h = omega arith
+
+pub block-below : (p n x : ℕ) → x < p * n → x / p < n
+block-below p n x h = by-lt (x / p) n (λ k. k) (λ k. absurd (omega (arith, h, div-add-mod x p, mul-le-mul-left p k)))
+
+pub split : (p n x : ℕ) → x < p * n → Split p n x
+split p n x h = record {
+  block = x / p;
+  place = x % p;
+  is = div-add-mod x p;
+  inside = mod-lt x {m = p} (some-pages p n x h);
+  below = block-below p n x h;
+}

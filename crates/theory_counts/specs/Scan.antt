@@ -59,16 +59,6 @@ module _ (t : ℕ → Bool) where
   unfolding fails
   fail-bad n i r x e q h = lowest-bad (fails t) n i x (rw (← e) q) h
 
-pub ruleset scan-laws = (
-  scan-start,
-  scan-go,
-  scan-hit,
-  scan-end,
-  scan-some,
-  scan-none,
-  scan-bad,
-  scan-good,
-  pass-go,
-  fail-hit,
-  fail-bad,
-)
+pub ruleset fail-laws = (pass-go, fail-hit, fail-bad)
+
+pub ruleset scan-laws = (scan-start, scan-go, scan-hit, scan-end, scan-some, scan-none, scan-bad, scan-good, fail-laws)

@@ -36,6 +36,7 @@ use Rattle.chip_next.specs.Coming.{Coming}
 use Rattle.open_record.specs.declared.Opened.{Opened}
 use Rattle.live_beside.specs.Beside.{pageBy}
 use Rattle.live_beside.specs.Update.{sideBy}
+use Rattle.chip_survey.specs.Pass.{larger-right, larger-left}
 use Rattle.tree_insert.specs.Own.{crownParts, storesBy, topBy, Climbs, sidesOn, Puts}
 
 append-two : (xs ys zs : List Store) → (xs ++ ys) ++ zs ≡ xs ++ (ys ++ zs)
@@ -113,12 +114,6 @@ inserts g j l e b r w last i h o p q run c ep le =
       ran = rw (← append-two) (ran-then g _ _ _ _ _ _ _ _ (c .ran) (rw bytes at run));
       crest = rw (c .height);
     }
-
-pub larger-right : (a b : ℕ) → a < b → b ≡ max a b
-larger-right a b h = omega arith
-
-pub larger-left : (a b : ℕ) → b ≤ a → a ≡ max a b
-larger-left a b h = omega arith
 
 -- the page of a level, by the pages to come
 side-is : (page : ℕ → ℕ) (x : ℕ) → 1 ≤ x → page (x - 1) ≡ sideBy page x
