@@ -97,7 +97,7 @@ fn entries_rise(
     programmed: &[u16],
 ) -> bool
     requires { ⌜ Programmed g (now img) pages (now programmed) ⌝ }
-    requires { ⌜ at + 8 * n < 1152921504606846976 ⌝ }
+    requires { ⌜ (n < 256) × (at + 8 * n < 1152921504606846976) ⌝ }
     ensures { λ r. ⌜ r ≡ rising (names (erased g (now (img .entry))) pages level) (entriesAt (now (img .entry)) at n) lo hi ⌝ }
 {
     if level == 1 {

@@ -36,7 +36,7 @@ use Rattle.live_walk.specs.Lows.{marked-block, marked-pages}
 use Rattle.sound_links.specs.Loose.{Inside}
 use Rattle.sound_links.specs.Judged.{r5-inside}
 use Rattle.sound_verdict.specs.declared.Judgement.{Judgement}
-use Rattle.sound_verdict.specs.Verdict.{clearable, from2, from3, from4, from5, from6, from7, from8, Ready, Tells, Never, Judged}
+use Rattle.sound_verdict.specs.Verdict.{clearable, from2, from3, from4, from5, from6, from7, from8, Roomy, Ready, Tells, Never, Judged}
 
 -- R7
 module _ (p : ℕ) (er : ℕ → Bool) (tbl : List ℕ) (free b : ℕ) where
@@ -208,15 +208,16 @@ module _ (g : Geometry) (n : ℕ) (img : List ℕ) (v : Finding) where
 pub tells-broken : (c : Chip) (tbl : List ℕ) (k q : ℕ) → Tells c tbl (Broken k q)
 tells-broken c tbl k q = record { marked = λ e. absurd (broken-sound k q e) }
 
+-- 65536 places have room for 1024 blocks of at most 64 pages, 4096 for 64 blocks
+pub roomy-many : (g : Geometry) (n m : ℕ) → g .pages ≤ 64 → n ≤ 1024 → 65536 ≤ m → Roomy g n m
+roomy-many g n m p k r = record { some = omega arith; room = omega (arith, r, mul-le-mul {n₁ = g .pages} {m₁ = n} {n₂ = 64} {m₂ = 1024} p k) }
+
+pub roomy-few : (g : Geometry) (n m : ℕ) → g .pages ≤ 64 → n ≤ 64 → 4096 ≤ m → Roomy g n m
+roomy-few g n m p k r = record { some = omega arith; room = omega (arith, r, mul-le-mul {n₁ = g .pages} {m₁ = n} {n₂ = 64} {m₂ = 64} p k) }
+
 module _ (g : Geometry) (n : ℕ) (img : List ℕ) (s : Survey) where
-  -- 65536 places have room for 1024 blocks of at most 64 pages
-  pub ready-is : (m : ℕ) → s ≡ surveyOf g n img → s .level < 255 → g .pages ≤ 64 → n ≤ 1024 → 65536 ≤ m → Ready g n img s m
-  ready-is m e h p k r = record {
-    survey = e;
-    level = h;
-    some = omega arith;
-    room = omega (arith, r, mul-le-mul {n₁ = g .pages} {m₁ = n} {n₂ = 64} {m₂ = 1024} p k);
-  }
+  pub ready-is : (m : ℕ) → s ≡ surveyOf g n img → s .level < 255 → Roomy g n m → Ready g n img s m
+  ready-is m e h r = record { survey = e; level = h; some = r .some; room = r .room }
 
   module _ (m : ℕ) (x : Ready g n img s m) where
     pub ready-same : (k : ℕ) → k ≡ m → Ready g n img s k
@@ -294,8 +295,8 @@ module _ (g : Geometry) (n : ℕ) (img : List ℕ) (t f : Bool) (s : Survey) (pr
     c : Clear g n img t s programmed lows highs
     c = x .yes (not-false f m)
 
-    pub sight-ready : (k : ℕ) → g .pages ≤ 64 → n ≤ 1024 → 65536 ≤ k → Ready g n img s k
-    sight-ready k p o r = ready-is g n img s k (c .survey) (c .level) p o r
+    pub sight-ready : (k : ℕ) → Roomy g n k → Ready g n img s k
+    sight-ready k r = ready-is g n img s k (c .survey) (c .level) r
 
     pub sight-counted : Counted g n img programmed
     sight-counted = c .counted
@@ -308,4 +309,4 @@ module _ (g : Geometry) (n : ℕ) (img : List ℕ) (t f : Bool) (s : Survey) (pr
     sight-judged w u v ev y e =
         judged-is g n img w u v s (good-1 g n img Good v (sym (c .formed)) refl (good-2 g n img Good v (sym (c .ordered)) refl ev)) (c .survey) (c .level) y e
 
-pub ruleset verdict-laws = (clear-no, clear-is, clear-start, clear-go, clear-hit, clear-end, room-many, room-some, room-none, ample-yes, ample-no, bad-8, good-8, plain-7, bad-7, good-7, bad-6, good-6, bad-5, good-5, bad-4, good-4, bad-3, good-3, bad-2, good-2, bad-1, good-1, tells-broken, ready-is, ready-same, marked-rule, marked-with, inside-with, inside-good, tells-rule, never-broken, order-breaks, passed-1, judged-never, sight-broken, sight-ready, sight-counted, sight-ranges, sight-judged, programmed-is)
+pub ruleset verdict-laws = (clear-no, clear-is, clear-start, clear-go, clear-hit, clear-end, room-many, room-some, room-none, ample-yes, ample-no, bad-8, good-8, plain-7, bad-7, good-7, bad-6, good-6, bad-5, good-5, bad-4, good-4, bad-3, good-3, bad-2, good-2, bad-1, good-1, tells-broken, roomy-many, roomy-few, ready-is, ready-same, marked-rule, marked-with, inside-with, inside-good, tells-rule, never-broken, order-breaks, passed-1, judged-never, sight-broken, sight-ready, sight-counted, sight-ranges, sight-judged, programmed-is)
