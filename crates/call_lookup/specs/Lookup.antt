@@ -4,7 +4,7 @@ use mathlib.Core.Path.{_≡_, refl, sym, ap, _∙_}
 use mathlib.Core.List.{List}
 use mathlib.Core.Option.{Option}
 use Rattle.geometry.specs.declared.Geometry.{Geometry}
-use Rattle.geometry.specs.declared.Verdict.the-variants.{Sound}
+use Rattle.geometry.specs.declared.Verdict.the-variants.{Sound, Broken}
 use Rattle.model.specs.Image.{Chip, chipOf}
 use Rattle.model.specs.Tree.{sought}
 use Rattle.model.specs.Rules.{verdict}
@@ -39,15 +39,29 @@ unfolding answerOf answered found
 answer-tells (At a) img = refl
 answer-tells Nothing img = refl
 
-module _ (g : Geometry) (n : ℕ) (img : List ℕ) (k : ℕ) (j : Judgement) (t u : List ℕ) (x : Judged g n img j t u) where
+-- a judgement of n blocks, whatever table came with it
+pub record Weighed (g : Geometry) (n : ℕ) (img : List ℕ) (j : Judgement) : Type 0 where
+  pub before : List ℕ
+  pub after : List ℕ
+  pub judged : Judged g n img j before after
+
+pub weighed-is : (g : Geometry) (n : ℕ) (img : List ℕ) (j : Judgement) (t u : List ℕ) → Judged g n img j t u
+    → Weighed g n img j
+weighed-is g n img j t u x = record { before = t; after = u; judged = x }
+
+module _ (g : Geometry) (n : ℕ) (img : List ℕ) (k : ℕ) (j : Judgement) (x : Weighed g n img j) where
+  pub lookup-broken : (a : Answer) (r p : ℕ) → j .verdict ≡ Broken r p → told a img ≡ damaged img r p
+      → told a img ≡ byVerdict (verdict g n img) (damaged img) (answered (sought (chipOf g n img) k) img)
+  lookup-broken a r p e h = judged-broken g n img (damaged img) _ j (x .before) (x .after) (x .judged) (told a img) r p e h
+
   pub lookup-done : (f : Found) (a : Answer) → j .verdict ≡ Sound → found f ≡ sought (chipWith g img (j .survey .level)
       (j .survey .root)) k
       → a ≡ answerOf f → told a img ≡ byVerdict (verdict g n img) (damaged img)
       (answered (sought (chipOf g n img) k) img)
   lookup-done f a e ef ea =
       let c : found f ≡ sought (chipOf g n img) k =
-      ef ∙ ap (λ (y : Chip). sought y k) (chip-is g n img (j .survey) (x .survey)) in
-      judged-rest g n img (damaged img) _ j t u x (told a img)
+      ef ∙ ap (λ (y : Chip). sought y k) (chip-is g n img (j .survey) (x .judged .survey)) in
+      judged-rest g n img (damaged img) _ j (x .before) (x .after) (x .judged) (told a img)
       (ap (λ (y : Answer). told y img) ea ∙ answer-tells f img ∙ ap (λ (y : Option ℕ). answered y img) c) e
 
 module _ (g : Geometry) (img : List ℕ) (k n : ℕ) (en : n ≡ goodBlocks g img) where
@@ -62,4 +76,4 @@ module _ (g : Geometry) (img : List ℕ) (k n : ℕ) (en : n ≡ goodBlocks g im
       judged-blocks g img (refused 1 img) (damaged img) _ n en (told a img) h
       (e ∙ ap (λ (m : ℕ). byVerdict (verdict g n img) (damaged img) (answered (sought (chipOf g m img) k) img)) (some-blocks g img n en h))
 
-pub ruleset lookup-laws = (answer-at, answer-none, judged-broken, lookup-length, lookup-done, lookup-blocks)
+pub ruleset lookup-laws = (answer-at, answer-none, weighed-is, lookup-length, lookup-broken, lookup-done, lookup-blocks)

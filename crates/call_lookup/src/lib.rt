@@ -1,16 +1,16 @@
 // Lookup on an image: judged first, then sought.
 ghost use mathlib.Core.Path.{_≡_};
-ghost use Prim.Native.Nat.{_≤_};
-ghost use lib.ListN.{length};
+ghost use Prim.Native.Nat.{ℕ, _≤_};
 ghost use Rattle.model.specs.Image.{chipOf};
 ghost use Rattle.model.specs.Tree.{sought};
 ghost use Rattle.model.specs.Rules.{verdict};
 ghost use Rattle.model.specs.Calls.{damaged, byVerdict, answered, lookup};
 ghost use Rattle.call_answers.specs.Answers.{told};
-ghost use Rattle.call_lookup.specs.Lookup.{answerOf};
+ghost use Rattle.call_lookup.specs.Lookup.{answerOf, Weighed};
 use call_answers::Answer;
 use geometry::Geometry;
 use geometry::Verdict;
+use sound_verdict::Judgement;
 use tree_search::Found;
 
 // The answer to what stands under a key.
@@ -23,13 +23,42 @@ pub fn answer(found: Found) -> Answer
     }
 }
 
-// Lookup on n blocks, with a lent table for the judge.
-fn lookup_blocks(g: Geometry, img: &[u8], table: &mut [u8], n: u16, key: u32) -> Answer
-    requires { ⌜ (g .pages ≤ 64) × (n ≤ 1024) × (65536 ≤ length (now table)) ⌝ }
+// The judgement of at most 64 blocks, its table of 4,096 places.
+fn judge_few(g: Geometry, img: &[u8], n: u16) -> Judgement
+    requires { ⌜ (g .pages ≤ 64) × (n ≤ 64) ⌝ }
+    ensures { λ r. ⌜ Weighed g n (now (img .entry)) r ⌝ }
+{
+    let mut table: [u8; 4096] = [0; 4096];
+    sound_verdict::judge_few(g, img, &mut table, n)
+}
+
+// The judgement of at most 1,024 blocks, its table of 65,536 places.
+fn judge_many(g: Geometry, img: &[u8], n: u16) -> Judgement
+    requires { ⌜ (g .pages ≤ 64) × (n ≤ 1024) ⌝ }
+    ensures { λ r. ⌜ Weighed g n (now (img .entry)) r ⌝ }
+{
+    let mut table: [u8; 65536] = [0; 65536];
+    sound_verdict::judge_image(g, img, &mut table, n)
+}
+
+// The judgement of n blocks.
+fn judge_blocks(g: Geometry, img: &[u8], n: u16) -> Judgement
+    requires { ⌜ (g .pages ≤ 64) × (n ≤ 1024) ⌝ }
+    ensures { λ r. ⌜ Weighed g n (now (img .entry)) r ⌝ }
+{
+    if n <= 64 {
+        return judge_few(g, img, n);
+    }
+    judge_many(g, img, n)
+}
+
+// Lookup on n blocks.
+fn lookup_blocks(g: Geometry, img: &[u8], n: u16, key: u32) -> Answer
+    requires { ⌜ (g .pages ≤ 64) × (n ≤ 1024) ⌝ }
     ensures { λ r. ⌜ told r (now (img .entry)) ≡ byVerdict (verdict g n (now (img .entry))) (damaged (now (img .entry)))
         (answered (sought (chipOf g n (now (img .entry))) key) (now (img .entry))) ⌝ }
 {
-    let judgement = sound_verdict::judge_image(g, img, &mut *table, n);
+    let judgement = judge_blocks(g, img, n);
     let verdict = judgement.verdict;
     let survey = judgement.survey;
     match verdict {
@@ -47,6 +76,5 @@ pub fn lookup_on(g: Geometry, img: &[u8], key: u32) -> Answer
     if n == 0 {
         return Answer::Length;
     }
-    let mut table: [u8; 65536] = [0; 65536];
-    lookup_blocks(g, img, &mut table, n, key)
+    lookup_blocks(g, img, n, key)
 }

@@ -42,7 +42,7 @@ fn each_rises(img: &[u8], at: usize, n: usize, lo: u64, hi: u64) -> bool
 }
 
 // 0 if a key is above the one before it, else 1.
-fn fall(before: u32, key: u32) -> usize
+fn fall(before: u32, key: u32) -> u32
     ensures { λ r. ⌜ (r ≤ 1) × (eqb r 0 ≡ leb (before + 1) key) ⌝ }
 {
     if before < key {
@@ -51,13 +51,14 @@ fn fall(before: u32, key: u32) -> usize
     1
 }
 
-// How many of the n keys are not above the one before them, counted without an early end.
-fn falls(img: &[u8], at: usize, n: usize) -> usize
-    requires { ⌜ (1 ≤ n) × (at + 8 * n ≤ length (now img)) × (at + 8 * n < 1152921504606846976) ⌝ }
+// How many of the n keys are not above the one before them, counted without an early end. The count is as wide as a
+// key: so the compiler takes four keys at once.
+fn falls(img: &[u8], at: usize, n: usize) -> u32
+    requires { ⌜ (1 ≤ n) × (n < 256) × (at + 8 * n ≤ length (now img)) × (at + 8 * n < 1152921504606846976) ⌝ }
     ensures { λ r. ⌜ eqb r 0 ≡ after (now (img .entry)) at n 1 (u32At (now (img .entry)) at) ⌝ }
 {
     let mut before = chip_read::raw_u32(img, at);
-    let mut count: usize = 0;
+    let mut count: u32 = 0;
     let mut i: usize = 1;
     while i < n {
         let key = chip_read::raw_u32(img, at + 8 * i);
@@ -70,7 +71,7 @@ fn falls(img: &[u8], at: usize, n: usize) -> usize
 
 // The keys of the n entries from byte `at` rise from lo, below hi.
 pub fn keys_rise(img: &[u8], at: usize, n: usize, lo: u64, hi: u64) -> bool
-    requires { ⌜ at + 8 * n < 1152921504606846976 ⌝ }
+    requires { ⌜ (n < 256) × (at + 8 * n < 1152921504606846976) ⌝ }
     ensures { λ r. ⌜ r ≡ rising anyPage (entriesAt (now (img .entry)) at n) lo hi ⌝ }
 {
     if n == 0 {

@@ -1,4 +1,5 @@
--- The numbers of the programmed pages in parts. `er` tells the erased pages, `seq` the numbers. Definitions alone; assumes nothing.
+-- The numbers of the programmed pages in parts. `er` tells the erased pages, `seq` the numbers. Definitions alone;
+-- assumes nothing.
 use Prim.Native.Nat.{ℕ, _<_, _≤_}
 use mathlib.Core.Bool.{Bool, true, false, not}
 use mathlib.Core.Path.{_≡_}

@@ -1,5 +1,5 @@
-// R3 on any image: the lowest page whose number a lower one has. The numbers are looked at in parts, from the lowest up,
-// each as large as a table of keys holds; a part is one pass over the pages.
+// R3 on any image: the lowest page whose number a lower one has. The numbers are looked at in parts, from the lowest
+// up, each as large as a table of keys holds; a part is one pass over the pages.
 ghost use mathlib.Core.Path.{_≡_};
 ghost use Prim.Native.Nat.{_+_, _*_, _-_, _≤_, _<_};
 ghost use lib.ListN.{length};
@@ -112,9 +112,11 @@ struct Part {
 fn gather(g: Geometry, img: &[u8], keys: &mut [u64], low: u64, best: u32) -> Part
     requires { ⌜ (low < 4294967296) × (1 ≤ length (now keys)) ⌝ }
     ensures { λ r.
-        ⌜ Held (erased g (now (img .entry))) (seqAt g (now (img .entry))) low (r .high) (r .end) (r .count) (now (keys .exit)) ⌝ }
+        ⌜ Held (erased g (now (img .entry))) (seqAt g (now (img .entry))) low (r .high) (r .end) (r .count)
+        (now (keys .exit)) ⌝ }
     ensures { λ r. ⌜ Stops (erased g (now (img .entry))) (seqAt g (now (img .entry))) best (r .end) ⌝ }
-    ensures { λ r. ⌜ (r .count ≤ length (now (keys .exit))) × (length (now (keys .exit)) ≡ length (now (keys .entry))) × (low < r .high) ⌝ }
+    ensures { λ r. ⌜ (r .count ≤ length (now (keys .exit))) × (length (now (keys .exit)) ≡ length (now (keys .entry))) ×
+        (low < r .high) ⌝ }
 {
     let room = keys.len();
     let mut count: usize = 0;

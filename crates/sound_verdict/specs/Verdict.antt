@@ -45,6 +45,11 @@ from3 g n img = orElse 3 (r3 g n img) (from4 g n img)
 abbrev pub from2 : Geometry → ℕ → List ℕ → Verdict
 from2 g n img = orElse 2 (r2 (g .pages) n (erased g img)) (from3 g n img)
 
+-- a table of m places has room for the pages of n blocks
+pub record Roomy (g : Geometry) (n m : ℕ) : Type 0 where
+  pub some : 1 ≤ m
+  pub room : g .pages * n ≤ m
+
 -- a survey of the image, and a table of m places that has room for its pages
 pub record Ready (g : Geometry) (n : ℕ) (img : List ℕ) (s : Survey) (m : ℕ) : Type 0 where
   pub survey : s ≡ surveyOf g n img

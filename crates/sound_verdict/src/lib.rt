@@ -12,7 +12,7 @@ ghost use Rattle.sound_numbers.specs.Ranges.{Shows, Ranges};
 ghost use Rattle.sound_sight.specs.Sight.{Told, Counted, Clear, Flaw};
 ghost use Rattle.live_walk.specs.Table.{Marked};
 ghost use Rattle.sound_links.specs.Loose.{Inside};
-ghost use Rattle.sound_verdict.specs.Verdict.{clearable, from2, from3, from4, from5, from6, from7, from8, Ready, Tells, Never, Judged};
+ghost use Rattle.sound_verdict.specs.Verdict.{clearable, from2, from3, from4, from5, from6, from7, from8, Roomy, Ready, Tells, Never, Judged};
 use chip_survey::Survey;
 use geometry::Finding;
 use geometry::Geometry;
@@ -135,7 +135,8 @@ fn from_rule_5(
     requires { ⌜ Ready g n (now img) survey (length (now table)) ⌝ }
     requires { ⌜ Counted g n (now img) (now programmed) ⌝ }
     requires { ⌜ n ≤ length (now programmed) ⌝ }
-    ensures { λ r. ⌜ (r ≡ from5 g n (now (img .entry))) × Tells (chipOf g n (now (img .entry))) (now (table .exit)) r ⌝ }
+    ensures { λ r. ⌜ (r ≡ from5 g n (now (img .entry))) × Tells (chipOf g n (now (img .entry)))
+        (now (table .exit)) r ⌝ }
     ensures { λ _. ⌜ length (now (table .exit)) ≡ length (now (table .entry)) ⌝ }
 {
     match sound_nodes::rule_5(
@@ -163,7 +164,8 @@ fn from_rule_4(
     requires { ⌜ Ready g n (now img) survey (length (now table)) ⌝ }
     requires { ⌜ Counted g n (now img) (now programmed) ⌝ }
     requires { ⌜ n ≤ length (now programmed) ⌝ }
-    ensures { λ r. ⌜ (r ≡ from4 g n (now (img .entry))) × Tells (chipOf g n (now (img .entry))) (now (table .exit)) r ⌝ }
+    ensures { λ r. ⌜ (r ≡ from4 g n (now (img .entry))) × Tells (chipOf g n (now (img .entry)))
+        (now (table .exit)) r ⌝ }
     ensures { λ _. ⌜ length (now (table .exit)) ≡ length (now (table .entry)) ⌝ }
 {
     match chip_survey::rule_4(g, img, n, survey) {
@@ -189,7 +191,8 @@ fn from_rule_3(
     requires { ⌜ Shows rising (Ranges (erased g (now img)) (seqAt g (now img)) (g .pages) n (now lows) (now highs)) ⌝ }
     requires { ⌜ Counted g n (now img) (now programmed) ⌝ }
     requires { ⌜ n ≤ length (now programmed) ⌝ }
-    ensures { λ r. ⌜ (r ≡ from3 g n (now (img .entry))) × Tells (chipOf g n (now (img .entry))) (now (table .exit)) r ⌝ }
+    ensures { λ r. ⌜ (r ≡ from3 g n (now (img .entry))) × Tells (chipOf g n (now (img .entry)))
+        (now (table .exit)) r ⌝ }
     ensures { λ _. ⌜ length (now (table .exit)) ≡ length (now (table .entry)) ⌝ }
 {
     match sound_numbers::rule_3(g, img, n, rising, lows, highs) {
@@ -224,7 +227,8 @@ fn broken_pages(g: Geometry, img: &[u8], n: u16) -> Verdict
 // Judges n blocks that R1 or R2 breaks.
 fn judge_broken(g: Geometry, img: &[u8], n: u16) -> Judgement
     requires { ⌜ Flaw g n (now img) ⌝ }
-    ensures { λ r. ⌜ (r .verdict ≡ verdict g n (now (img .entry))) × Never (r .verdict) × (r .survey ≡ surveyOf g n (now (img .entry))) × (r .survey .level < 255) ⌝ }
+    ensures { λ r. ⌜ (r .verdict ≡ verdict g n (now (img .entry))) × Never (r .verdict) ×
+        (r .survey ≡ surveyOf g n (now (img .entry))) × (r .survey .level < 255) ⌝ }
 {
     let survey = chip_survey::take_survey(g, img, n);
     let verdict = broken_pages(g, img, n);
@@ -245,9 +249,10 @@ fn judge_by(
     lows: &[u32],
     highs: &[u32],
 ) -> Judgement
-    requires { ⌜ (g .pages ≤ 64) × (n ≤ 1024) × (65536 ≤ length (now table)) ⌝ }
+    requires { ⌜ Roomy g n (length (now table)) ⌝ }
     requires { ⌜ (n ≤ length (now programmed)) × (n ≤ length (now lows)) × (n ≤ length (now highs)) ⌝ }
-    requires { ⌜ Told (sight .fine) (Clear g n (now img) (sight .rising) (sight .survey) (now programmed) (now lows) (now highs)) (Flaw g n (now img)) ⌝ }
+    requires { ⌜ Told (sight .fine) (Clear g n (now img) (sight .rising) (sight .survey) (now programmed) (now lows)
+        (now highs)) (Flaw g n (now img)) ⌝ }
     ensures { λ r. ⌜ Judged g n (now (img .entry)) r (now (table .entry)) (now (table .exit)) ⌝ }
 {
     if !sight.fine {
@@ -280,6 +285,18 @@ pub fn judge_image(g: Geometry, img: &[u8], table: &mut [u8], n: u16) -> Judgeme
     let mut programmed: [u16; 1024] = [0; 1024];
     let mut lows: [u32; 1024] = [0; 1024];
     let mut highs: [u32; 1024] = [0; 1024];
+    let sight = sound_sight::take_sight(g, img, n, &mut programmed, &mut lows, &mut highs);
+    judge_by(g, img, &mut *table, n, sight, &programmed, &lows, &highs)
+}
+
+// The same of at most 64 blocks, with a shorter table and shorter lists: these are cleared at every call.
+pub fn judge_few(g: Geometry, img: &[u8], table: &mut [u8], n: u16) -> Judgement
+    requires { ⌜ (g .pages ≤ 64) × (n ≤ 64) × (4096 ≤ length (now table)) ⌝ }
+    ensures { λ r. ⌜ Judged g n (now (img .entry)) r (now (table .entry)) (now (table .exit)) ⌝ }
+{
+    let mut programmed: [u16; 64] = [0; 64];
+    let mut lows: [u32; 64] = [0; 64];
+    let mut highs: [u32; 64] = [0; 64];
     let sight = sound_sight::take_sight(g, img, n, &mut programmed, &mut lows, &mut highs);
     judge_by(g, img, &mut *table, n, sight, &programmed, &lows, &highs)
 }

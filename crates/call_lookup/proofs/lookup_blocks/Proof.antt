@@ -6,7 +6,7 @@ use Rattle.call_lookup.proofs.lookup_blocks.Reads as reads
 use Rattle.call_lookup.proofs.lookup_blocks.Lts as lts
 use Rattle.tree_descent.proofs.find_key.Reads as find-key-reads
 use Rattle.call_lookup.proofs.answer.Reads as answer-reads
-use Rattle.sound_verdict.proofs.judge_image.Reads as judge-image-reads
+use Rattle.call_lookup.proofs.judge_blocks.Reads as judge-blocks-reads
 
 ruleset all = (needs, lookup-laws)
 
@@ -19,7 +19,5 @@ lookup-blocks-spec =
     (λ c. search all)
     (λ c κs. search all)
     (λ c κs. search all)
-    (λ c. search all)
-    (λ c. search all)
     (λ c. search all)
     (λ c. search all))

@@ -10,11 +10,4 @@ use Rattle.call_lookup.proofs.lookup_blocks.Reads as lookup-blocks-read
 ruleset all = (needs, lookup-laws)
 
 pub lookup-on-spec : {M : Type 1} → statement M
-lookup-on-spec =
-    tie.close
-    (tie.spec
-    (λ c κs. search all)
-    (λ c. search all)
-    (λ c. search all)
-    (λ c κs. search all)
-    (λ c. search all))
+lookup-on-spec = tie.close (tie.spec (λ c κs. search all) (λ c. search all) (λ c κs. search all) (λ c. search all))

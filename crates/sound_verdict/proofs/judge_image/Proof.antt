@@ -20,6 +20,6 @@ judge-image-spec =
     (λ c. search all)
     (λ c. search all)
     (λ c. search all)
-    (λ c κs. (search needs, (search needs, search needs)))
+    (λ c κs. (search all, (search needs, search needs)))
     (λ c. search all)
     (λ c. search all))
