@@ -3,6 +3,7 @@ use Prim.Native.Nat.{ℕ, _<_}
 use mathlib.Core.Path.{_≡_}
 use mathlib.Core.List.{List}
 use Rattle.geometry.specs.declared.Geometry.{Geometry}
+use Rattle.geometry.specs.Bounds.{fourBytes}
 use Rattle.live_words.specs.Live.{Reply, deleteLive}
 use Rattle.open_record.specs.declared.Opened.{Opened}
 use Rattle.live_beside.specs.Update.{Returned}
@@ -10,7 +11,7 @@ use Rattle.live_beside.specs.Calls.{deleteWith}
 use Rattle.call_update.specs.declared.Update.the-variants.{Delete}
 use Rattle.call_update.specs.Update.{updateLive, updateOpened, Small}
 
-pub delete-small : (k : ℕ) → k < 4294967296 → Small (Delete k)
+pub delete-small : (k : ℕ) → k < fourBytes → Small (Delete k)
 unfolding Small
 delete-small k kb = kb
 

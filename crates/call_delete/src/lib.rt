@@ -16,7 +16,8 @@ use open_record::Opened;
 pub fn delete_on(g: Geometry, img: &mut [u8], lent: &mut [u32], key: u32, allowance: u32) -> Answer
     requires { ⌜ Known g ⌝ }
     ensures { λ r.
-        ⌜ reply (told r (now (img .exit))) (now (lent .exit)) ≡ deleteLive g (now (img .entry)) (now (lent .entry)) key allowance ⌝ }
+        ⌜ reply (told r (now (img .exit))) (now (lent .exit)) ≡ deleteLive g (now (img .entry)) (now (lent .entry)) key
+        allowance ⌝ }
 {
     call_update::update_on(g, &mut *img, &mut *lent, Update::Delete(key), allowance)
 }

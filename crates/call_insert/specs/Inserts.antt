@@ -3,6 +3,7 @@ use Prim.Native.Nat.{ℕ, _<_}
 use mathlib.Core.Path.{_≡_}
 use mathlib.Core.List.{List}
 use Rattle.geometry.specs.declared.Geometry.{Geometry}
+use Rattle.geometry.specs.Bounds.{fourBytes}
 use Rattle.live_words.specs.Live.{Reply, insertLive}
 use Rattle.open_record.specs.declared.Opened.{Opened}
 use Rattle.live_beside.specs.Update.{Returned}
@@ -10,7 +11,7 @@ use Rattle.live_beside.specs.Calls.{insertWith}
 use Rattle.call_update.specs.declared.Update.the-variants.{Insert}
 use Rattle.call_update.specs.Update.{updateLive, updateOpened, Small}
 
-pub insert-small : (k a : ℕ) → k < 4294967296 → a < 4294967296 → Small (Insert k a)
+pub insert-small : (k a : ℕ) → k < fourBytes → a < fourBytes → Small (Insert k a)
 unfolding Small
 insert-small k a kb ab = (kb, ab)
 

@@ -1,5 +1,5 @@
-// Insert on an image, with lent words of live pages: the update that puts an address under a key. Judged first, or by the
-// record of request 8.
+// Insert on an image, with lent words of live pages: the update that puts an address under a key. Judged first, or by
+// the record of request 8.
 ghost use mathlib.Core.Path.{_≡_};
 ghost use Rattle.geometry.specs.Shape.{Known};
 ghost use Rattle.call_answers.specs.Answers.{told};
@@ -23,7 +23,8 @@ pub fn insert_on(
 ) -> Answer
     requires { ⌜ Known g ⌝ }
     ensures { λ r.
-        ⌜ reply (told r (now (img .exit))) (now (lent .exit)) ≡ insertLive g (now (img .entry)) (now (lent .entry)) key addr allowance ⌝ }
+        ⌜ reply (told r (now (img .exit))) (now (lent .exit)) ≡ insertLive g (now (img .entry)) (now (lent .entry)) key
+        addr allowance ⌝ }
 {
     call_update::update_on(
         g,

@@ -8,6 +8,7 @@ use borrow.Author.Tests.{ltb-true}
 use Rattle.geometry.specs.declared.Geometry.{Geometry}
 use Rattle.geometry.specs.Geometry.{pageBytes}
 use Rattle.geometry.specs.Tests.{pick, and-left}
+use Rattle.geometry.specs.Bounds.{longestPage}
 use Rattle.model.specs.Image.{Chip}
 use Rattle.model.specs.Stores.{Store}
 use Rattle.model.specs.Tree.{sought}
@@ -169,7 +170,7 @@ module _ (g : Geometry) (n : ℕ) (ss : List Store) (h : Opened) (t : Crest) (x 
   pub makes-page : s .own .page < 4294967295
   makes-page = w .page
 
-pub sized-page : (g : Geometry) (n : ℕ) → Sized g n → pageBytes g ≤ 2112
+pub sized-page : (g : Geometry) (n : ℕ) → Sized g n → pageBytes g ≤ longestPage
 sized-page g n sized = sized .page
 
 pub ruleset store-laws = (

@@ -5,6 +5,7 @@ use mathlib.Core.List.{List, [], _∷_, _++_}
 use lib.Dec.{ltb}
 use Rattle.geometry.specs.declared.Geometry.{Geometry}
 use Rattle.geometry.specs.Tests.{pick}
+use Rattle.geometry.specs.Bounds.{fourBytes}
 use Rattle.model.specs.Tree.{sought}
 use Rattle.model.specs.Update.{isNone, needs, tooHigh}
 use Rattle.model.specs.Stores.{Store}
@@ -28,8 +29,8 @@ use Rattle.call_update.specs.declared.Update.the-variants.{Insert, Delet
 -- ---- what an insert and a delete differ in
 -- key and address are of 32 bits
 unfoldable pub Small : Update → Type 0
-Small (Insert k a) = (k < 4294967296) × (a < 4294967296)
-Small (Delete k) = k < 4294967296
+Small (Insert k a) = (k < fourBytes) × (a < fourBytes)
+Small (Delete k) = k < fourBytes
 
 -- HEIGHT and k pages, or ABSENT and one page
 unfoldable pub asksOf : Update → Geometry → List ℕ → Opened → Asks

@@ -3,6 +3,7 @@ ghost use mathlib.Core.Path.{_≡_};
 ghost use Prim.Native.Nat.{_+_, _≤_, _<_};
 ghost use lib.ListN.{length};
 ghost use Rattle.geometry.specs.Shape.{Known};
+ghost use Rattle.chip_store.specs.Run.{Countable};
 ghost use Rattle.model.specs.Tree.{sought};
 ghost use Rattle.model.specs.Update.{isNone};
 ghost use Rattle.call_answers.specs.Answers.{told};
@@ -101,7 +102,7 @@ pub fn own_stores(
     u: Update,
 ) -> Own
     requires { ⌜ (o .height < 256) × (1 ≤ m) × (m ≤ 256) × (Sized g n)
-        × (b .left + b .programmed + b .erased < 4294967296) ⌝ }
+        × (Countable b) ⌝ }
     ensures { λ r.
         ⌜ Owns g (ownFor u g n m o (now (img .entry))) (crestFor u g n m o (now (img .entry))) b r
         (now (img .entry)) (now (img .exit)) ⌝ }

@@ -19,9 +19,11 @@ module _ (img : List ℕ) (at n lo hi : ℕ) where
   pub each-start : rising anyPage (entriesAt img at n) lo hi ≡ rising anyPage (entriesAt img (at + 8 * 0) (n - 0)) lo hi
   each-start = rw (← (entries-start img at n)) refl
 
-  module _ (i low : ℕ) (inv : rising anyPage (entriesAt img at n) lo hi ≡ rising anyPage (entriesAt img (at + 8 * i) (n - i)) low hi) where
+  module _ (i low : ℕ) (inv : rising anyPage (entriesAt img at n) lo hi ≡ rising anyPage
+      (entriesAt img (at + 8 * i) (n - i)) low hi) where
     module _ (k : ℕ) (ek : k ≡ u32At img (at + 8 * i)) (h : i < n) where
-      turn : rising anyPage (entriesAt img at n) lo hi ≡ (leb low k & ltb k hi & true & rising anyPage (entriesAt img (at + 8 * (i + 1)) (n - (i + 1))) (k + 1) hi)
+      turn : rising anyPage (entriesAt img at n) lo hi ≡ (leb low k & ltb k hi & true & rising anyPage
+          (entriesAt img (at + 8 * (i + 1)) (n - (i + 1))) (k + 1) hi)
       unfolding rising
       turn = inv ∙ rw (entries-turn img at n i h, key-is img (at + 8 * i), ← ek) refl
 
@@ -31,7 +33,8 @@ module _ (img : List ℕ) (at n lo hi : ℕ) where
       pub each-high : low ≤ k → hi ≤ k → false ≡ rising anyPage (entriesAt img at n) lo hi
       each-high p q = sym (turn ∙ simp (le-leb low k p, le-ltb k hi q, and-true, and-false))
 
-      pub each-go : low ≤ k → k < hi → rising anyPage (entriesAt img at n) lo hi ≡ rising anyPage (entriesAt img (at + 8 * (i + 1)) (n - (i + 1))) (k + 1) hi
+      pub each-go : low ≤ k → k < hi → rising anyPage (entriesAt img at n) lo hi ≡ rising anyPage
+          (entriesAt img (at + 8 * (i + 1)) (n - (i + 1))) (k + 1) hi
       each-go p q = turn ∙ simp (le-leb low k p, lt-ltb k hi q, and-true)
 
     pub each-end : n ≤ i → true ≡ rising anyPage (entriesAt img at n) lo hi
@@ -48,21 +51,24 @@ fall-is b k h = sym (lt-leb (b + 1) k (omega arith))
 -- the count
 none-more : (c d : ℕ) → eqb (c + d) 0 ≡ (eqb c 0 & eqb d 0)
 none-more zero d = (let e : 0 + d ≡ d = omega arith in rw e (sym (and-true (eqb d 0))))
-none-more (suc c) d = ne-eqb (suc c + d) 0 (omega arith) ∙ sym (rw (ne-eqb (suc c) 0 (omega arith)) (and-false (eqb d 0)))
+none-more (suc c) d = ne-eqb (suc c + d) 0 (omega arith)
+    ∙ sym (rw (ne-eqb (suc c) 0 (omega arith)) (and-false (eqb d 0)))
 
 and-part : (a b c : Bool) → (a & (b & c)) ≡ (a & b & c)
 and-part true b c = and-true (b & c) ∙ rw (and-true b) refl
 and-part false b c = and-false (b & c) ∙ sym (rw (and-false b) (and-false c))
 
 module _ (img : List ℕ) (at n : ℕ) where
-  after-turn : (i b k : ℕ) → k ≡ u32At img (at + 8 * i) → i < n → after img at n i b ≡ (leb (b + 1) k & after img at n (i + 1) k)
+  after-turn : (i b k : ℕ) → k ≡ u32At img (at + 8 * i) → i < n → after img at n i b ≡ (leb (b + 1) k & after img at n
+      (i + 1) k)
   unfolding after climbs
   after-turn i b k ek h = rw (entries-turn img at n i h, key-is img (at + 8 * i), ← ek) refl
 
   pub falls-start : (b : ℕ) → b ≡ u32At img at → after img at n 1 (u32At img at) ≡ (eqb 0 0 & after img at n 1 b)
   falls-start b e = sym (and-true (after img at n 1 b) ∙ rw e refl)
 
-  pub falls-go : (t : Bool) (i b c d k : ℕ) → t ≡ (eqb c 0 & after img at n i b) → k ≡ u32At img (at + 8 * i) → eqb d 0 ≡ leb (b + 1) k → i < n
+  pub falls-go : (t : Bool) (i b c d k : ℕ) → t ≡ (eqb c 0 & after img at n i b) → k ≡ u32At img (at + 8 * i)
+      → eqb d 0 ≡ leb (b + 1) k → i < n
       → t ≡ (eqb (c + d) 0 & after img at n (i + 1) k)
   falls-go t i b c d k e ek ed h =
       e ∙ rw (after-turn i b k ek h, ← ed, none-more c d) (and-part (eqb c 0) (eqb d 0) (after img at n (i + 1) k))
@@ -89,7 +95,8 @@ climbs-last (e ∷ es) k h =
     omega arith
 
 -- below hi are all keys where the last one is
-rising-climbs : (e : Entry) (es : List Entry) (lo hi : ℕ) → rising anyPage (e ∷ es) lo hi ≡ (leb lo (e .key) & climbs es (e .key) & ltb (lastKey es (e .key)) hi)
+rising-climbs : (e : Entry) (es : List Entry) (lo hi : ℕ) → rising anyPage (e ∷ es) lo hi ≡ (leb lo (e .key) & climbs es
+    (e .key) & ltb (lastKey es (e .key)) hi)
 unfolding rising climbs
 rising-climbs e [] lo hi = by (leb lo (e .key)) (ltb (e .key) hi)
   where
@@ -101,7 +108,8 @@ rising-climbs e (f ∷ es) lo hi =
     ap (λ (x : Bool). leb lo (e .key) & ltb (e .key) hi & true & x) (rising-climbs f es (e .key + 1) hi)
     ∙ by (leb lo (e .key)) (climbs (f ∷ es) (e .key)) refl (ltb (lastKey es (f .key)) hi) refl
   where
-    by : (a c : Bool) → climbs (f ∷ es) (e .key) ≡ c → (l : Bool) → ltb (lastKey es (f .key)) hi ≡ l → (a & ltb (e .key) hi & true & (c & l)) ≡ (a & c & l)
+    by : (a c : Bool) → climbs (f ∷ es) (e .key) ≡ c → (l : Bool) → ltb (lastKey es (f .key)) hi ≡ l
+        → (a & ltb (e .key) hi & true & (c & l)) ≡ (a & c & l)
     by false c ec l el = simp and-false
     by true false ec l el = simp (and-true, and-false, and-none)
     by true true ec false el = simp (and-true, and-none)
@@ -113,7 +121,8 @@ rising-climbs e (f ∷ es) lo hi =
 last-is : (img : List ℕ) (n at : ℕ) → lastKey (entriesAt img (at + 8) n) (u32At img at) ≡ u32At img (at + 8 * n)
 unfolding entriesAt
 last-is img zero at = ap (u32At img) (let e : at ≡ at + 8 * 0 = omega arith in e)
-last-is img (suc n) at = last-is img n (at + 8) ∙ ap (u32At img) (let e : at + 8 + 8 * n ≡ at + 8 * suc n = omega arith in e)
+last-is img (suc n) at = last-is img n (at + 8) ∙ ap (u32At img) (let e : at + 8 + 8 * n ≡ at + 8 * suc n =
+    omega arith in e)
 
 -- a leaf inside the image
 module _ (img : List ℕ) (at n lo hi : ℕ) where
@@ -140,8 +149,10 @@ module _ (img : List ℕ) (at n lo hi : ℕ) where
         shut true = simp and-true
         shut false = simp (and-true, and-false)
 
-  pub keys-low : (f m : ℕ) → (n ≡ 0 → ⊥) → f ≡ u32At img at → m ≡ f → m < lo → false ≡ rising anyPage (entriesAt img at n) lo hi
+  pub keys-low : (f m : ℕ) → (n ≡ 0 → ⊥) → f ≡ u32At img at → m ≡ f → m < lo → false ≡ rising anyPage
+      (entriesAt img at n) lo hi
   keys-low f m some ef em h =
-      sym (keys-are some f (u32At img (at + 8 * (n - 1))) ef refl ∙ rw (lt-leb lo f (rw (← em) h)) (rw (and-false (after img at n 1 (u32At img at))) (and-false _)))
+      sym (keys-are some f (u32At img (at + 8 * (n - 1))) ef refl ∙ rw (lt-leb lo f (rw (← em) h))
+      (rw (and-false (after img at n 1 (u32At img at))) (and-false _)))
 
 pub ruleset leaf-laws = (each-start, each-low, each-high, each-go, each-end, fall-not, fall-is, falls-start, falls-go, falls-end, keys-none, keys-high, keys-on, keys-low)

@@ -11,6 +11,7 @@ use Rattle.geometry.specs.declared.Entry.{Entry}
 use Rattle.geometry.specs.declared.Finding.{Finding}
 use Rattle.geometry.specs.declared.Finding.the-variants.{Good, Bad}
 use Rattle.geometry.specs.Tests.{_&_, and-left, and-right}
+use Rattle.geometry.specs.Bounds.{fourBytes}
 use Rattle.model.specs.Image.{Nodes, Chip}
 use Rattle.model.specs.Tree.{following, gather, Place, places}
 use Rattle.model.specs.Rules.{first, names, rising, own, ownRoot, judgeEntries, judgeNode, r5}
@@ -23,7 +24,8 @@ unfolding first
 good-first Good w e = (refl, e)
 good-first (Bad p) w e = absurd (bad-good p e)
 
-rising-names : (ok : ℕ → Bool) (es : List Entry) (lo hi : ℕ) → rising ok es lo hi ≡ true → All (λ e. ok (e .addr) ≡ true) es
+rising-names : (ok : ℕ → Bool) (es : List Entry) (lo hi : ℕ) → rising ok es lo hi ≡ true
+    → All (λ e. ok (e .addr) ≡ true) es
 unfolding rising
 rising-names ok [] lo hi h = tt
 rising-names ok (e ∷ es) lo hi h = (
@@ -42,17 +44,21 @@ module _ (g : Geometry) (er : ℕ → Bool) (r : Nodes) (t m : ℕ) (le : t ≤ 
   Below x = x .page < m
 
   below-entries : (l : ℕ) (es : List Entry) (hi : ℕ)
-      → ((e : Entry) (lo hi : ℕ) → judgeNode g er r t l (e .addr) lo hi ≡ Good → (1 ≤ l → e .addr < m) → All Below (places r l e))
-      → All (λ e. names er t (suc l) (e .addr) ≡ true) es → judgeEntries (judgeNode g er r t l) es hi ≡ Good → All Below (gather (places r l) es)
+      → ((e : Entry) (lo hi : ℕ) → judgeNode g er r t l (e .addr) lo hi ≡ Good → (1 ≤ l → e .addr < m)
+      → All Below (places r l e))
+      → All (λ e. names er t (suc l) (e .addr) ≡ true) es → judgeEntries (judgeNode g er r t l) es hi ≡ Good
+      → All Below (gather (places r l) es)
   unfolding gather judgeEntries
   below-entries l [] hi each ok h = tt
   below-entries l (e ∷ es) hi each ok h =
       let two = good-first (judgeNode g er r t l (e .addr) (e .key) (following es hi)) (judgeEntries (judgeNode g er r t l) es hi) h in
       all-append Below (places r l e) (gather (places r l) es)
-      (each e (e .key) (following es hi) (two .0) (λ k. (let w = names-below er t l (e .addr) (ok .0) k in omega (arith, w, le))))
+      (each e (e .key) (following es hi) (two .0) (λ k. (let w = names-below er t l (e .addr) (ok .0) k in
+      omega (arith, w, le))))
       (below-entries l es hi each (ok .1) (two .1))
 
-  below-node : (l : ℕ) (e : Entry) (lo hi : ℕ) → judgeNode g er r t l (e .addr) lo hi ≡ Good → (1 ≤ l → e .addr < m) → All Below (places r l e)
+  below-node : (l : ℕ) (e : Entry) (lo hi : ℕ) → judgeNode g er r t l (e .addr) lo hi ≡ Good → (1 ≤ l → e .addr < m)
+      → All Below (places r l e)
   unfolding places judgeNode own Below
   below-node zero e lo hi h k = tt
   below-node (suc l) e lo hi h k =
@@ -67,12 +73,12 @@ unfolding places r5 ownRoot Below
 r5-inside g t m c le k h =
     let own = ownRoot g (c .er) (c .nodes) t (suc (c .level)) (c .root) in
     let node = c .nodes (c .root) (suc (c .level)) in
-    let two = good-unless own (c .root) (judgeEntries (judgeNode g (c .er) (c .nodes) t (c .level)) node 4294967296) h in
+    let two = good-unless own (c .root) (judgeEntries (judgeNode g (c .er) (c .nodes) t (c .level)) node fourBytes) h in
     record {
       inside = (
         k,
-        below-entries g (c .er) (c .nodes) t m le (c .level) node 4294967296
+        below-entries g (c .er) (c .nodes) t m le (c .level) node fourBytes
             (λ x a b. below-node g (c .er) (c .nodes) t m le (c .level) x a b)
-            (rising-names (names (c .er) t (suc (c .level))) node 0 4294967296 (and-right _ _ (two .0))) (two .1),
+            (rising-names (names (c .er) t (suc (c .level))) node 0 fourBytes (and-right _ _ (two .0))) (two .1),
       );
     }

@@ -55,7 +55,8 @@ module _ (g : Geometry) (img tbl : List ℕ) (l p : ℕ) where
   unfolding looseIn
   loose-low o e h = simp (← e, le-ltb _ _ h, and-false)
 
-  pub loose-is : (o at n : ℕ) (b : Bool) → o ≡ getD tbl p 0 → at ≡ nodePlace g p l → n ≡ nodeCount g img p l → b ≡ namesPage p (entriesAt img at n) → o < l
+  pub loose-is : (o at n : ℕ) (b : Bool) → o ≡ getD tbl p 0 → at ≡ nodePlace g p l → n ≡ nodeCount g img p l
+      → b ≡ namesPage p (entriesAt img at n) → o < l
       → not b ≡ looseIn (nodeAt g img) tbl l p
   unfolding looseIn
   loose-is o at n b e ea en eb h = sym (rw (← e, lt-ltb _ _ h, ← (node-read g img p l at n ea en), ← eb) (and-true (not b)))
@@ -79,7 +80,8 @@ unfolding lowestPage
 lowest-nil f low = refl
 
 lowest-cons : (r : Nodes) (tbl : List ℕ) (l p : ℕ) (xs : List Place) (low : ℕ) → 1 < l
-    → lowestPage (looseAt r tbl) (record { page = p; level = l } ∷ xs) low ≡ lowestPage (looseAt r tbl) xs (lowered r tbl l p low)
+    → lowestPage (looseAt r tbl) (record { page = p; level = l } ∷ xs) low ≡ lowestPage (looseAt r tbl) xs
+    (lowered r tbl l p low)
 unfolding lowestPage looseAt lowered
 lowest-cons r tbl l p xs low h = rw (lt-ltb 1 l h, and-true (looseIn r tbl l p)) refl
 
@@ -88,13 +90,15 @@ lowest-skip : (r : Nodes) (tbl : List ℕ) (l p : ℕ) (xs : List Place) (low : 
 unfolding lowestPage looseAt
 lowest-skip r tbl l p xs low h = rw (le-ltb 1 l h, and-false (looseIn r tbl l p), and-false (ltb p low)) refl
 
-lowest-append : (f : Place → Bool) (xs ys : List Place) (low : ℕ) → lowestPage f (xs ++ ys) low ≡ lowestPage f ys (lowestPage f xs low)
+lowest-append : (f : Place → Bool) (xs ys : List Place) (low : ℕ) → lowestPage f (xs ++ ys) low ≡ lowestPage f ys
+    (lowestPage f xs low)
 unfolding lowestPage
 lowest-append f [] ys low = refl
 lowest-append f (x ∷ xs) ys low = lowest-append f xs ys (pick (f x & ltb (x .page) low) (x .page) low)
 
 -- the leaves under some entries
-leaves-none : (g : Geometry) (img tbl : List ℕ) (es : List Entry) (low : ℕ) → lowestPage (looseAt (nodeAt g img) tbl) (gather (places (nodeAt g img) 1) es) low ≡ low
+leaves-none : (g : Geometry) (img tbl : List ℕ) (es : List Entry) (low : ℕ) → lowestPage (looseAt (nodeAt g img) tbl)
+    (gather (places (nodeAt g img) 1) es) low ≡ low
 unfolding gather
 leaves-none g img tbl [] low = lowest-nil (looseAt (nodeAt g img) tbl) low
 leaves-none g img tbl (e ∷ es) low =
@@ -103,7 +107,8 @@ leaves-none g img tbl (e ∷ es) low =
   where
     one : low ≡ lowestPage (looseAt (nodeAt g img) tbl) (places (nodeAt g img) 1 e) low
     one =
-        sym (ap (λ (xs : List Place). lowestPage (looseAt (nodeAt g img) tbl) xs low) (places-named (nodeAt g img) 1 e ∙ rest-leaf g img 1 (e .addr) refl)
+        sym (ap (λ (xs : List Place). lowestPage (looseAt (nodeAt g img) tbl) xs low) (places-named (nodeAt g img) 1 e
+        ∙ rest-leaf g img 1 (e .addr) refl)
         ∙ lowest-skip (nodeAt g img) tbl 1 (e .addr) [] low (omega arith) ∙ lowest-nil (looseAt (nodeAt g img) tbl) low)
 
 module _ (g : Geometry) (img tbl : List ℕ) (l p low : ℕ) where
@@ -112,7 +117,8 @@ module _ (g : Geometry) (img tbl : List ℕ) (l p low : ℕ) where
 
   lowest-one : l ≡ 1 → low ≡ lowestPage test (places (nodeAt g img) l (naming p)) low
   lowest-one h =
-      sym (ap (λ (xs : List Place). lowestPage test xs low) (rest-leaf g img l p h) ∙ lowest-skip (nodeAt g img) tbl l p [] low (omega arith) ∙ lowest-nil test low)
+      sym (ap (λ (xs : List Place). lowestPage test xs low) (rest-leaf g img l p h) ∙ lowest-skip (nodeAt g img) tbl l p
+      [] low (omega arith) ∙ lowest-nil test low)
 
   pub lowest-none : l ≤ 1 → low ≡ lowestPage test (places (nodeAt g img) l (naming p)) low
   unfolding lowestPage places
@@ -136,7 +142,8 @@ module _ (g : Geometry) (img tbl : List ℕ) (l p low : ℕ) where
         ∙ ap (λ (v : ℕ). lowestPage test (rest g img l at n 0) v) (sym em) ∙ inv
         ∙ ap (λ (xs : List Place). lowestPage test xs v) (rest-end g img l at n i h) ∙ lowest-nil test v)
 
-pub lowest-go : (g : Geometry) (img tbl : List ℕ) (l at n i a w t u : ℕ) → w ≡ lowestPage (looseAt (nodeAt g img) tbl) (rest g img l at n i) t → a ≡ u32At img (at + 8 * i + 4)
+pub lowest-go : (g : Geometry) (img tbl : List ℕ) (l at n i a w t u : ℕ) → w ≡ lowestPage (looseAt (nodeAt g img) tbl)
+    (rest g img l at n i) t → a ≡ u32At img (at + 8 * i + 4)
     → u ≡ lowestPage (looseAt (nodeAt g img) tbl) (places (nodeAt g img) (l - 1) (naming a)) t → i < n
     → w ≡ lowestPage (looseAt (nodeAt g img) tbl) (rest g img l at n (i + 1)) u
 lowest-go g img tbl l at n i a w t u e ea eu h =
@@ -145,12 +152,14 @@ lowest-go g img tbl l at n i a w t u e ea eu h =
     ∙ ap (λ (v : ℕ). lowestPage (looseAt (nodeAt g img) tbl) (rest g img l at n (i + 1)) v) (sym eu)
 
 -- R6
-lowest-same : (f h : Place → Bool) (xs : List Place) (low : ℕ) → All (λ x. f x ≡ h x) xs → lowestPage f xs low ≡ lowestPage h xs low
+lowest-same : (f h : Place → Bool) (xs : List Place) (low : ℕ) → All (λ x. f x ≡ h x) xs
+    → lowestPage f xs low ≡ lowestPage h xs low
 unfolding lowestPage
 lowest-same f h [] low e = refl
 lowest-same f h (x ∷ xs) low e = rw (e .0) (lowest-same f h xs (pick (h x & ltb (x .page) low) (x .page) low) (e .1))
 
-module _ (g : Geometry) (img tbl : List ℕ) (t l p q : ℕ) (m : Marked (chipWith g img l p) tbl) (w : Inside (chipWith g img l p) (length tbl))
+module _ (g : Geometry) (img tbl : List ℕ) (t l p q : ℕ) (m : Marked (chipWith g img l p) tbl)
+    (w : Inside (chipWith g img l p) (length tbl))
     (e : q ≡ lowestPage (looseAt (nodeAt g img) tbl) (places (nodeAt g img) (l + 1) (naming p)) t) where
   all : List Place
   all = placesOf (chipWith g img l p)

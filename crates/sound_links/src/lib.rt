@@ -51,11 +51,12 @@ fn lower_loose(g: Geometry, img: &[u8], table: &[u8], level: u32, page: u32, low
     page
 }
 
-// The lowest page with a loose node, of the node at a level of a page and all that it reaches, or `lowest`. Leaves are not
-// looked at.
+// The lowest page with a loose node, of the node at a level of a page and all that it reaches, or `lowest`. Leaves are
+// not looked at.
 fn lowest_loose(g: Geometry, img: &[u8], table: &[u8], level: u32, page: u32, lowest: u32) -> u32
     ensures { λ r.
-        ⌜ r ≡ lowestPage (looseAt (nodeAt g (now (img .entry))) (now (table .entry))) (places (nodeAt g (now (img .entry))) level (naming page)) lowest ⌝ }
+        ⌜ r ≡ lowestPage (looseAt (nodeAt g (now (img .entry))) (now (table .entry)))
+        (places (nodeAt g (now (img .entry))) level (naming page)) lowest ⌝ }
 {
     if level <= 1 {
         return lowest;

@@ -1,4 +1,5 @@
--- The entries that R5 has still to judge, and the live levels that it notes on its way. Definitions alone; assumes nothing.
+-- The entries that R5 has still to judge, and the live levels that it notes on its way. Definitions alone; assumes
+-- nothing.
 use Prim.Native.Nat.{ℕ, _+_, _-_, _*_}
 use mathlib.Core.Path.{_≡_}
 use mathlib.Core.List.{List}

@@ -17,6 +17,7 @@ use Rattle.geometry.specs.declared.Finding.{Finding}
 use Rattle.geometry.specs.declared.Finding.the-variants.{Good, Bad}
 use Rattle.geometry.specs.Geometry.{slotsOf, rootMost}
 use Rattle.geometry.specs.Tests.{pick, _&_, and-true, and-false}
+use Rattle.geometry.specs.Bounds.{fourBytes}
 use Rattle.model.specs.Bytes.{u32At, erased, nodePlace, nodeCount, entriesAt, nodeAt}
 use Rattle.model.specs.Image.{Nodes}
 use Rattle.model.specs.Tree.{following}
@@ -50,13 +51,14 @@ module _ (er : ℕ → Bool) (t l a : ℕ) where
   names-on b f e h = simp (ne-eqb _ _ e, lt-ltb _ _ h, and-true, ← f)
 
 -- by the count of programmed pages
-pub blank-fits : (r s : ℕ) → r < 4294967296 → Fits w64 (r / s * 2)
+pub blank-fits : (r s : ℕ) → r < fourBytes → Fits w64 (r / s * 2)
 blank-fits r s h = record { fits = omega (arith, h, div-le-self r s) }
 
 pub blank-read : (r s p q : ℕ) (xs : List ℕ) → r ≡ p → s ≡ q → p / q < length xs → r / s < length xs
 blank-read r s p q xs er es h = rw (er, es) h
 
-pub blank-is : (r s p q w : ℕ) (xs : List ℕ) → r ≡ p → s ≡ q → w ≡ getD xs (r / s) 0 → leb w (r % s) ≡ leb (getD xs (p / q) 0) (p % q)
+pub blank-is : (r s p q w : ℕ) (xs : List ℕ) → r ≡ p → s ≡ q → w ≡ getD xs (r / s) 0
+    → leb w (r % s) ≡ leb (getD xs (p / q) 0) (p % q)
 blank-is r s p q w xs er es ew = rw (ew, er, es) refl
 
 module _ (g : Geometry) (img : List ℕ) (t a : ℕ) (programmed : List ℕ) (x : Programmed g img t programmed) where
@@ -66,7 +68,8 @@ module _ (g : Geometry) (img : List ℕ) (t a : ℕ) (programmed : List ℕ) (x 
   pub blank-inside : a < t → a / g .pages < length programmed
   blank-inside h = x .inside a h
 
-  pub names-by : (l : ℕ) (b : Bool) → b ≡ leb (getD programmed (a / g .pages) 0) (a % g .pages) → (l ≡ 1 → ⊥) → a < t → not b ≡ names (erased g img) t l a
+  pub names-by : (l : ℕ) (b : Bool) → b ≡ leb (getD programmed (a / g .pages) 0) (a % g .pages) → (l ≡ 1 → ⊥) → a < t
+      → not b ≡ names (erased g img) t l a
   names-by l b e z h = names-on (erased g img) t l a b (e ∙ sym (x .kinds a h)) z h
 
 -- the entries' own check, as a loop
@@ -74,39 +77,48 @@ module _ (ok : ℕ → Bool) (img : List ℕ) (at n lo hi : ℕ) where
   pub rising-start : rising ok (entriesAt img at n) lo hi ≡ rising ok (entriesAt img (at + 8 * 0) (n - 0)) lo hi
   rising-start = rw (← (entries-start img at n))
 
-  module _ (i low : ℕ) (inv : rising ok (entriesAt img at n) lo hi ≡ rising ok (entriesAt img (at + 8 * i) (n - i)) low hi) where
+  module _ (i low : ℕ) (inv : rising ok (entriesAt img at n) lo hi ≡ rising ok (entriesAt img (at + 8 * i) (n - i)) low
+      hi) where
     rising-turn : i < n → rising ok (entriesAt img at n) lo hi
         ≡ (leb low (u32At img (at + 8 * i)) & ltb (u32At img (at + 8 * i)) hi & ok (u32At img (at + 8 * i + 4))
         & rising ok (entriesAt img (at + 8 * (i + 1)) (n - (i + 1))) (u32At img (at + 8 * i) + 1) hi)
     unfolding rising
     rising-turn h = inv ∙ rw (entries-turn img at n i h, key-is, addr-is)
 
-    pub rising-low : (k : ℕ) → k ≡ u32At img (at + 8 * i) → i < n → k < low → false ≡ rising ok (entriesAt img at n) lo hi
+    pub rising-low : (k : ℕ) → k ≡ u32At img (at + 8 * i) → i < n → k < low → false ≡ rising ok (entriesAt img at n) lo
+        hi
     rising-low k ek h g = sym (rising-turn h ∙ simp (← ek, lt-leb _ _ g, and-false))
 
-    pub rising-high : (k : ℕ) → k ≡ u32At img (at + 8 * i) → i < n → low ≤ k → hi ≤ k → false ≡ rising ok (entriesAt img at n) lo hi
+    pub rising-high : (k : ℕ) → k ≡ u32At img (at + 8 * i) → i < n → low ≤ k → hi ≤ k → false ≡ rising ok
+        (entriesAt img at n) lo hi
     rising-high k ek h g f = sym (rising-turn h ∙ simp (← ek, le-leb _ _ g, le-ltb _ _ f, and-true, and-false))
 
-    pub rising-refused : (k a : ℕ) (b : Bool) → k ≡ u32At img (at + 8 * i) → a ≡ u32At img (at + 8 * i + 4) → b ≡ ok a → not b ≡ true
+    pub rising-refused : (k a : ℕ) (b : Bool) → k ≡ u32At img (at + 8 * i) → a ≡ u32At img (at + 8 * i + 4) → b ≡ ok a
+        → not b ≡ true
         → i < n → low ≤ k → k < hi → false ≡ rising ok (entriesAt img at n) lo hi
-    rising-refused k a b ek ea eb q h g f = sym (rising-turn h ∙ simp (← ek, ← ea, ← eb, not-true b q, le-leb _ _ g, lt-ltb _ _ f, and-true, and-false))
+    rising-refused k a b ek ea eb q h g f = sym (rising-turn h
+        ∙ simp (← ek, ← ea, ← eb, not-true b q, le-leb _ _ g, lt-ltb _ _ f, and-true, and-false))
 
-    pub rising-go : (k a : ℕ) (b : Bool) → k ≡ u32At img (at + 8 * i) → a ≡ u32At img (at + 8 * i + 4) → b ≡ ok a → not b ≡ false
+    pub rising-go : (k a : ℕ) (b : Bool) → k ≡ u32At img (at + 8 * i) → a ≡ u32At img (at + 8 * i + 4) → b ≡ ok a
+        → not b ≡ false
         → i < n → low ≤ k → k < hi
         → rising ok (entriesAt img at n) lo hi ≡ rising ok (entriesAt img (at + 8 * (i + 1)) (n - (i + 1))) (k + 1) hi
-    rising-go k a b ek ea eb q h g f = rising-turn h ∙ simp (← ek, ← ea, ← eb, not-false b q, le-leb _ _ g, lt-ltb _ _ f, and-true)
+    rising-go k a b ek ea eb q h g f = rising-turn h
+        ∙ simp (← ek, ← ea, ← eb, not-false b q, le-leb _ _ g, lt-ltb _ _ f, and-true)
 
     pub rising-end : n ≤ i → true ≡ rising ok (entriesAt img at n) lo hi
     unfolding rising
     rising-end h = sym (inv ∙ rw (entries-past img at n i h))
 
 -- a leaf
-leaf-any : (er : ℕ → Bool) (t l : ℕ) → l ≡ 1 → (es : List Entry) (lo hi : ℕ) → rising anyPage es lo hi ≡ rising (names er t l) es lo hi
+leaf-any : (er : ℕ → Bool) (t l : ℕ) → l ≡ 1 → (es : List Entry) (lo hi : ℕ)
+    → rising anyPage es lo hi ≡ rising (names er t l) es lo hi
 unfolding rising
 leaf-any er t l e [] lo hi = refl
 leaf-any er t l e (x ∷ es) lo hi = rw (← (names-leaf er t l (x .addr) e), leaf-any er t l e es (x .key + 1) hi) refl
 
-pub leaf-rises : (er : ℕ → Bool) (t l : ℕ) (es : List Entry) (lo hi : ℕ) (b : Bool) → l ≡ 1 → b ≡ rising anyPage es lo hi → b ≡ rising (names er t l) es lo hi
+pub leaf-rises : (er : ℕ → Bool) (t l : ℕ) (es : List Entry) (lo hi : ℕ) (b : Bool) → l ≡ 1
+    → b ≡ rising anyPage es lo hi → b ≡ rising (names er t l) es lo hi
 leaf-rises er t l es lo hi b e f = f ∙ leaf-any er t l e es lo hi
 
 -- a node's own check
@@ -123,7 +135,8 @@ module _ (g : Geometry) (er : ℕ → Bool) (img : List ℕ) (t l p n : ℕ) (en
     unfolding own
     own-over s es f h = simp (size, ← es, le-leb _ _ f, lt-leb _ _ h, and-true, and-false)
 
-    pub own-on : (s at : ℕ) (b : Bool) → s ≡ slotsOf g l → at ≡ nodePlace g p l → b ≡ rising (names er t l) (entriesAt img at n) lo hi
+    pub own-on : (s at : ℕ) (b : Bool) → s ≡ slotsOf g l → at ≡ nodePlace g p l → b ≡ rising (names er t l)
+        (entriesAt img at n) lo hi
         → 1 ≤ n → n ≤ s → b ≡ own g er (nodeAt g img) t l p lo hi
     unfolding own
     own-on s at b es ea eb f h =
@@ -141,7 +154,8 @@ pub least-above : (l : ℕ) → (l ≡ 1 → ⊥) → 2 ≡ rootLeast l
 unfolding rootLeast
 least-above l e = simp (ne-eqb _ _ e)
 
-module _ (g : Geometry) (er : ℕ → Bool) (img : List ℕ) (t l p n m : ℕ) (en : n ≡ nodeCount g img p l) (em : m ≡ rootLeast l) where
+module _ (g : Geometry) (er : ℕ → Bool) (img : List ℕ) (t l p n m : ℕ) (en : n ≡ nodeCount g img p l)
+    (em : m ≡ rootLeast l) where
   root-size : length (nodeAt g img p l) ≡ n
   root-size = node-length g img p l ∙ sym en
 
@@ -153,7 +167,8 @@ module _ (g : Geometry) (er : ℕ → Bool) (img : List ℕ) (t l p n m : ℕ) (
   unfolding ownRoot rootLeast
   root-over s es f h = simp (root-size, ← em, ← es, le-leb _ _ f, lt-leb _ _ h, and-true, and-false)
 
-  pub root-on : (s at : ℕ) (b : Bool) → s ≡ rootMost g l → at ≡ nodePlace g p l → b ≡ rising (names er t l) (entriesAt img at n) 0 4294967296
+  pub root-on : (s at : ℕ) (b : Bool) → s ≡ rootMost g l → at ≡ nodePlace g p l → b ≡ rising (names er t l)
+      (entriesAt img at n) 0 fourBytes
       → m ≤ n → n ≤ s → b ≡ ownRoot g er (nodeAt g img) t l p
   unfolding ownRoot rootLeast
   root-on s at b es ea eb f h =
@@ -161,13 +176,15 @@ module _ (g : Geometry) (er : ℕ → Bool) (img : List ℕ) (t l p n m : ℕ) (
 
 -- a node and all below it
 judge-step : (g : Geometry) (er : ℕ → Bool) (r : Nodes) (t l p lo hi : ℕ) → (l ≡ 0 → ⊥)
-    → judgeNode g er r t l p lo hi ≡ unless (own g er r t l p lo hi) p (judgeEntries (judgeNode g er r t (l - 1)) (r p l) hi)
+    → judgeNode g er r t l p lo hi ≡ unless (own g er r t l p lo hi) p
+    (judgeEntries (judgeNode g er r t (l - 1)) (r p l) hi)
 unfolding judgeNode
 judge-step g er r t zero p lo hi h = absurd (h refl)
 judge-step g er r t (suc l) p lo hi h = rw sub-one
 
 -- what a leaf's entries name is the caller's
-leaves : (g : Geometry) (er : ℕ → Bool) (r : Nodes) (t : ℕ) (es : List Entry) (hi : ℕ) → judgeEntries (judgeNode g er r t 0) es hi ≡ Good
+leaves : (g : Geometry) (er : ℕ → Bool) (r : Nodes) (t : ℕ) (es : List Entry) (hi : ℕ)
+    → judgeEntries (judgeNode g er r t 0) es hi ≡ Good
 unfolding judgeEntries judgeNode first
 leaves g er r t [] hi = refl
 leaves g er r t (e ∷ es) hi = leaves g er r t es hi
@@ -185,15 +202,18 @@ module _ (g : Geometry) (er : ℕ → Bool) (img : List ℕ) (t l p lo hi : ℕ)
         → v ≡ judgeEntries (judgeNode g er (nodeAt g img) t (l - 1)) (entriesAt img at n) hi → (l ≡ 0 → ⊥)
         → v ≡ judgeNode g er (nodeAt g img) t l p lo hi
     judge-on at n v q ea en ev h =
-        ev ∙ rw (node-read g img p l at n ea en) (sym (judge-step g er (nodeAt g img) t l p lo hi h ∙ rw (← eb, not-false b q) (unless-true p _)))
+        ev ∙ rw (node-read g img p l at n ea en) (sym (judge-step g er (nodeAt g img) t l p lo hi h
+        ∙ rw (← eb, not-false b q) (unless-true p _)))
 
     pub judge-leaf : not b ≡ false → l ≡ 1 → Good ≡ judgeNode g er (nodeAt g img) t l p lo hi
     judge-leaf q h =
         let f : l - 1 ≡ 0 = omega arith in
-        sym (judge-step g er (nodeAt g img) t l p lo hi (omega arith) ∙ rw (← eb, not-false b q, f) (unless-true p _ ∙ leaves g er (nodeAt g img) t (nodeAt g img p l) hi))
+        sym (judge-step g er (nodeAt g img) t l p lo hi (omega arith) ∙ rw (← eb, not-false b q, f)
+        (unless-true p _ ∙ leaves g er (nodeAt g img) t (nodeAt g img p l) hi))
 
 -- a leaf
-module _ (g : Geometry) (er : ℕ → Bool) (img : List ℕ) (t p lo hi : ℕ) (b : Bool) (eb : b ≡ own g er (nodeAt g img) t 1 p lo hi) where
+module _ (g : Geometry) (er : ℕ → Bool) (img : List ℕ) (t p lo hi : ℕ) (b : Bool) (eb : b ≡ own g er
+    (nodeAt g img) t 1 p lo hi) where
   pub leaf-bad : not b ≡ true → Bad p ≡ judgeNode g er (nodeAt g img) t 1 p lo hi
   leaf-bad q = judge-own g er img t 1 p lo hi b eb q (omega arith)
 
@@ -224,24 +244,29 @@ module _ (sub : ℕ → ℕ → ℕ → Finding) (img : List ℕ) (at n hi : ℕ
       unfolding first
       judge-good e = judge-turn ∙ rw e refl
 
-pub judge-at : (sub : ℕ → ℕ → ℕ → Finding) (img : List ℕ) (at n hi i k nx a : ℕ) (v : Finding) → k ≡ u32At img (at + 8 * i) → a ≡ u32At img (at + 8 * i + 4)
-    → nx ≡ following (entriesAt img (at + 8 * (i + 1)) (n - (i + 1))) hi → v ≡ sub a k nx → v ≡ judgedAt sub img at n hi i
+pub judge-at : (sub : ℕ → ℕ → ℕ → Finding) (img : List ℕ) (at n hi i k nx a : ℕ) (v : Finding)
+    → k ≡ u32At img (at + 8 * i) → a ≡ u32At img (at + 8 * i + 4)
+    → nx ≡ following (entriesAt img (at + 8 * (i + 1)) (n - (i + 1))) hi → v ≡ sub a k nx
+    → v ≡ judgedAt sub img at n hi i
 unfolding judgedAt
 judge-at sub img at n hi i k nx a v ek ea en ev = ev ∙ rw (ek, ea, en) refl
 
 -- leaves are the nodes below level 2
-pub judge-leaves : (g : Geometry) (er : ℕ → Bool) (r : Nodes) (t l : ℕ) (es : List Entry) (hi : ℕ) (v : Finding) → v ≡ judgeEntries (judgeNode g er r t 1) es hi → l ≡ 1
+pub judge-leaves : (g : Geometry) (er : ℕ → Bool) (r : Nodes) (t l : ℕ) (es : List Entry) (hi : ℕ) (v : Finding)
+    → v ≡ judgeEntries (judgeNode g er r t 1) es hi → l ≡ 1
     → v ≡ judgeEntries (judgeNode g er r t l) es hi
 judge-leaves g er r t l es hi v e h = e ∙ rw h refl
 
 -- R5
-module _ (g : Geometry) (img : List ℕ) (t l p : ℕ) (b : Bool) (eb : b ≡ ownRoot g (erased g img) (nodeAt g img) t (l + 1) p) where
+module _ (g : Geometry) (img : List ℕ) (t l p : ℕ) (b : Bool) (eb : b ≡ ownRoot g (erased g img) (nodeAt g img) t
+    (l + 1) p) where
   pub rule-root : not b ≡ true → Bad p ≡ r5 g t (chipWith g img l p)
   unfolding r5
   rule-root q = sym (rw (← (add-one l), ← eb, not-true b q) (unless-false p _))
 
   pub rule-below : (at n : ℕ) (v : Finding) → not b ≡ false → at ≡ nodePlace g p (l + 1) → n ≡ nodeCount g img p (l + 1)
-      → v ≡ judgeEntries (judgeNode g (erased g img) (nodeAt g img) t l) (entriesAt img at n) 4294967296 → v ≡ r5 g t (chipWith g img l p)
+      → v ≡ judgeEntries (judgeNode g (erased g img) (nodeAt g img) t l) (entriesAt img at n) fourBytes
+      → v ≡ r5 g t (chipWith g img l p)
   unfolding r5
   rule-below at n v q ea en ev =
       ev ∙ rw (node-read g img p (l + 1) at n ea en) (sym (rw (← (add-one l), ← eb, not-false b q) (unless-true p _)))

@@ -62,7 +62,8 @@ fn all_rising(
 ) -> bool
     requires { ⌜ Programmed g (now img) pages (now programmed) ⌝ }
     requires { ⌜ at + 8 * n < 1152921504606846976 ⌝ }
-    ensures { λ r. ⌜ r ≡ rising (names (erased g (now (img .entry))) pages level) (entriesAt (now (img .entry)) at n) lo hi ⌝ }
+    ensures { λ r. ⌜ r ≡ rising (names (erased g (now (img .entry))) pages level) (entriesAt (now (img .entry)) at n) lo
+        hi ⌝ }
 {
     let mut low = lo;
     let mut i: usize = 0;
@@ -98,7 +99,8 @@ fn entries_rise(
 ) -> bool
     requires { ⌜ Programmed g (now img) pages (now programmed) ⌝ }
     requires { ⌜ at + 8 * n < 1152921504606846976 ⌝ }
-    ensures { λ r. ⌜ r ≡ rising (names (erased g (now (img .entry))) pages level) (entriesAt (now (img .entry)) at n) lo hi ⌝ }
+    ensures { λ r. ⌜ r ≡ rising (names (erased g (now (img .entry))) pages level) (entriesAt (now (img .entry)) at n) lo
+        hi ⌝ }
 {
     if level == 1 {
         return sound_leaves::keys_rise(img, at, n, lo, hi);
@@ -182,7 +184,8 @@ fn judge_leaf(
     hi: u64,
 ) -> Finding
     ensures { λ r. ⌜ r ≡ judgeNode g (erased g (now (img .entry))) (nodeAt g (now (img .entry))) pages 1 page lo hi ⌝ }
-    ensures { λ r. ⌜ Noted r (now (table .entry)) (now (table .exit)) (places (nodeAt g (now (img .entry))) 1 (naming page)) ⌝ }
+    ensures { λ r. ⌜ Noted r (now (table .entry)) (now (table .exit)) (places (nodeAt g (now (img .entry))) 1
+        (naming page)) ⌝ }
     ensures { λ _. ⌜ length (now (table .exit)) ≡ length (now (table .entry)) ⌝ }
 {
     if !leaf_own(g, img, pages, page, lo, hi) {
@@ -204,7 +207,8 @@ fn leaf_at(
     i: usize,
 ) -> Finding
     requires { ⌜ (i < n) × (at + 8 * n < 1152921504606846976) ⌝ }
-    ensures { λ r. ⌜ r ≡ judgedAt (judgeNode g (erased g (now (img .entry))) (nodeAt g (now (img .entry))) pages 1) (now (img .entry)) at n hi i ⌝ }
+    ensures { λ r. ⌜ r ≡ judgedAt (judgeNode g (erased g (now (img .entry))) (nodeAt g (now (img .entry))) pages 1)
+        (now (img .entry)) at n hi i ⌝ }
     ensures { λ r. ⌜ Noted r (now (table .entry)) (now (table .exit)) (placesAt g (now (img .entry)) 1 at i) ⌝ }
     ensures { λ _. ⌜ length (now (table .exit)) ≡ length (now (table .entry)) ⌝ }
 {
@@ -225,7 +229,8 @@ fn judge_leaves(
     hi: u64,
 ) -> Finding
     requires { ⌜ at + 8 * n < 1152921504606846976 ⌝ }
-    ensures { λ r. ⌜ r ≡ judgeEntries (judgeNode g (erased g (now (img .entry))) (nodeAt g (now (img .entry))) pages 1) (entriesAt (now (img .entry)) at n) hi ⌝ }
+    ensures { λ r. ⌜ r ≡ judgeEntries (judgeNode g (erased g (now (img .entry))) (nodeAt g (now (img .entry))) pages 1)
+        (entriesAt (now (img .entry)) at n) hi ⌝ }
     ensures { λ r. ⌜ Noted r (now (table .entry)) (now (table .exit)) (left g (now (img .entry)) 1 at n 0) ⌝ }
     ensures { λ _. ⌜ length (now (table .exit)) ≡ length (now (table .entry)) ⌝ }
 {
@@ -257,8 +262,10 @@ fn judge_node(
     programmed: &[u16],
 ) -> Finding
     requires { ⌜ (level < 256) × Programmed g (now img) pages (now programmed) ⌝ }
-    ensures { λ r. ⌜ r ≡ judgeNode g (erased g (now (img .entry))) (nodeAt g (now (img .entry))) pages level page lo hi ⌝ }
-    ensures { λ r. ⌜ Noted r (now (table .entry)) (now (table .exit)) (places (nodeAt g (now (img .entry))) level (naming page)) ⌝ }
+    ensures { λ r. ⌜ r ≡ judgeNode g (erased g (now (img .entry))) (nodeAt g (now (img .entry))) pages level page lo
+        hi ⌝ }
+    ensures { λ r. ⌜ Noted r (now (table .entry)) (now (table .exit)) (places (nodeAt g (now (img .entry))) level
+        (naming page)) ⌝ }
     ensures { λ _. ⌜ length (now (table .exit)) ≡ length (now (table .entry)) ⌝ }
 {
     if level == 0 {
@@ -289,8 +296,10 @@ fn node_under(
     i: usize,
     programmed: &[u16],
 ) -> Finding
-    requires { ⌜ (i < n) × (below < 256) × (at + 8 * n < 1152921504606846976) × Programmed g (now img) pages (now programmed) ⌝ }
-    ensures { λ r. ⌜ r ≡ judgedAt (judgeNode g (erased g (now (img .entry))) (nodeAt g (now (img .entry))) pages below) (now (img .entry)) at n hi i ⌝ }
+    requires { ⌜ (i < n) × (below < 256) × (at + 8 * n < 1152921504606846976) × Programmed g (now img) pages
+        (now programmed) ⌝ }
+    ensures { λ r. ⌜ r ≡ judgedAt (judgeNode g (erased g (now (img .entry))) (nodeAt g (now (img .entry))) pages below)
+        (now (img .entry)) at n hi i ⌝ }
     ensures { λ r. ⌜ Noted r (now (table .entry)) (now (table .exit)) (placesAt g (now (img .entry)) below at i) ⌝ }
     ensures { λ _. ⌜ length (now (table .exit)) ≡ length (now (table .entry)) ⌝ }
 {
@@ -323,7 +332,8 @@ fn judge_entries(
     programmed: &[u16],
 ) -> Finding
     requires { ⌜ (below < 256) × (at + 8 * n < 1152921504606846976) × Programmed g (now img) pages (now programmed) ⌝ }
-    ensures { λ r. ⌜ r ≡ judgeEntries (judgeNode g (erased g (now (img .entry))) (nodeAt g (now (img .entry))) pages below) (entriesAt (now (img .entry)) at n) hi ⌝ }
+    ensures { λ r. ⌜ r ≡ judgeEntries (judgeNode g (erased g (now (img .entry))) (nodeAt g (now (img .entry))) pages
+        below) (entriesAt (now (img .entry)) at n) hi ⌝ }
     ensures { λ r. ⌜ Noted r (now (table .entry)) (now (table .exit)) (left g (now (img .entry)) below at n 0) ⌝ }
     ensures { λ _. ⌜ length (now (table .exit)) ≡ length (now (table .entry)) ⌝ }
 {
@@ -357,7 +367,8 @@ fn judge_root(
 ) -> Finding
     requires { ⌜ (level < 255) × Programmed g (now img) pages (now programmed) ⌝ }
     ensures { λ r. ⌜ r ≡ r5 g pages (chipWith g (now (img .entry)) level root) ⌝ }
-    ensures { λ r. ⌜ Noted r (now (table .entry)) (now (table .exit)) (placesOf (chipWith g (now (img .entry)) level root)) ⌝ }
+    ensures { λ r. ⌜ Noted r (now (table .entry)) (now (table .exit))
+        (placesOf (chipWith g (now (img .entry)) level root)) ⌝ }
     ensures { λ _. ⌜ length (now (table .exit)) ≡ length (now (table .entry)) ⌝ }
 {
     if !root_own(g, img, pages, level + 1, root, programmed) {

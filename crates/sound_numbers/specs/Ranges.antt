@@ -1,4 +1,5 @@
--- The ranges of the blocks' numbers. `er` tells the erased pages, `seq` the numbers. Definitions alone; assumes nothing.
+-- The ranges of the blocks' numbers. `er` tells the erased pages, `seq` the numbers. Definitions alone; assumes
+-- nothing.
 use Prim.Native.Nat.{ℕ, zero, suc, _+_, _*_, _<_, _≤_}
 use mathlib.Core.Bool.{Bool, true, false}
 use mathlib.Core.Path.{_≡_}
@@ -59,7 +60,8 @@ pub record AllClear (lows highs : List ℕ) (n : ℕ) : Type 0 where
 
 -- of the blocks below b none has a number above floor and below ceiling: a range there lies apart from theirs
 pub record Free (lows highs : List ℕ) (b floor ceiling : ℕ) : Type 0 where
-  pub apart : (a : ℕ) → a < b → (low high : ℕ) → floor < low → high < ceiling → apartOf (getD lows a 0) (getD highs a 0) low high ≡ true
+  pub apart : (a : ℕ) → a < b → (low high : ℕ) → floor < low → high < ceiling → apartOf (getD lows a 0)
+      (getD highs a 0) low high ≡ true
 
 -- the ranges of the blocks below b lie apart and leave that space
 pub record Spaced (lows highs : List ℕ) (b floor ceiling : ℕ) : Type 0 where

@@ -4,6 +4,7 @@ ghost use mathlib.Core.Path.{_≡_};
 ghost use Prim.Native.Nat.{_+_, _*_, _-_, _≤_, _<_};
 ghost use mathlib.Core.Bool.{false};
 ghost use lib.ListN.{length, getD};
+ghost use Rattle.geometry.specs.Bounds.{fourBytes};
 ghost use Rattle.model.specs.Bytes.{erased, seqAt};
 ghost use Rattle.model.specs.Rules.{r3};
 ghost use Rattle.sound_numbers.specs.Ranges.{extended, apartOf, Zero, Shows, Ranges, Clear, AllClear, Spaced, Over, Nearer};
@@ -18,7 +19,8 @@ pub struct Range {
     pub high: u32,
 }
 
-// Whether the ranges of some blocks lie apart, and a space, above floor and below ceiling, that none of them reaches into.
+// Whether the ranges of some blocks lie apart, and a space, above floor and below ceiling, that none of them reaches
+// into.
 struct Space {
     apart: bool,
     floor: u32,
@@ -81,7 +83,7 @@ fn apart_below(lows: &[u32], highs: &[u32], block: usize) -> bool
 }
 
 fn long(x: u32) -> u64
-    ensures { λ r. ⌜ (r ≡ x) × (r < 4294967296) ⌝ }
+    ensures { λ r. ⌜ (r ≡ x) × (r < fourBytes) ⌝ }
 {
     x as u64
 }
@@ -119,7 +121,8 @@ fn far_space(lows: &[u32], highs: &[u32], block: usize, low: u32, high: u32) -> 
     requires { ⌜ (block < length (now lows)) × (block < length (now highs)) ⌝ }
     requires { ⌜ (low ≡ getD (now lows) block 0) × (high ≡ getD (now highs) block 0) × (1 ≤ high) × (low ≤ high) ⌝ }
     requires { ⌜ AllClear (now lows) (now highs) block ⌝ }
-    ensures { λ r. ⌜ Shows (r .apart) (Spaced (now (lows .entry)) (now (highs .entry)) (block + 1) (r .floor) (r .ceiling)) ⌝ }
+    ensures { λ r. ⌜ Shows (r .apart) (Spaced (now (lows .entry)) (now (highs .entry)) (block + 1) (r .floor)
+        (r .ceiling)) ⌝ }
 {
     let apart = apart_below(lows, highs, block);
     let ceiling = ceiling_above(lows, block, high);
@@ -132,8 +135,10 @@ fn far_space(lows: &[u32], highs: &[u32], block: usize, low: u32, high: u32) -> 
 
 // With one block more. Most often its range lies in the space above that of the block before.
 fn next_space(lows: &[u32], highs: &[u32], block: usize, floor: u32, ceiling: u64) -> Space
-    requires { ⌜ (block < length (now lows)) × (block < length (now highs)) × Spaced (now lows) (now highs) block floor ceiling ⌝ }
-    ensures { λ r. ⌜ Shows (r .apart) (Spaced (now (lows .entry)) (now (highs .entry)) (block + 1) (r .floor) (r .ceiling)) ⌝ }
+    requires { ⌜ (block < length (now lows)) × (block < length (now highs)) × Spaced (now lows) (now highs) block floor
+        ceiling ⌝ }
+    ensures { λ r. ⌜ Shows (r .apart) (Spaced (now (lows .entry)) (now (highs .entry)) (block + 1) (r .floor)
+        (r .ceiling)) ⌝ }
 {
     let low = lows[block];
     let high = highs[block];

@@ -52,7 +52,8 @@ module _ (p : ℕ) (er : ℕ → Bool) where
   pub mixed-no : (b q : ℕ) (r : Bool) → q ≡ p * b + 0 → r ≡ er q → r ≡ true → false ≡ mixed p er b
   mixed-no b q r eq er′ f = simp (← eq, ← er′, f)
 
-  pub mixed-yes : (b q s : ℕ) (r t : Bool) → q ≡ p * b + 0 → r ≡ er q → r ≡ false → s ≡ p * b + (p - 1) → t ≡ er s → t ≡ mixed p er b
+  pub mixed-yes : (b q s : ℕ) (r t : Bool) → q ≡ p * b + 0 → r ≡ er q → r ≡ false → s ≡ p * b + (p - 1) → t ≡ er s
+      → t ≡ mixed p er b
   mixed-yes b q s r t eq er′ f es et = et ∙ simp (es, ← eq, ← er′, f)
 
 -- a mixed block other than m
@@ -81,11 +82,13 @@ module _ (p n : ℕ) (er : ℕ → Bool) (b : ℕ) (eb : b ≡ least n (disorder
   pub rule-second : (s q : ℕ) → s ≡ secondMixed p n er → q ≡ p * s → n ≤ b → s < n → Bad q ≡ r2 p n er
   unfolding r2 fails
   rule-second s q es eq k h =
-      sym (rw (← eb, le-leb n b k, ← es, lt-leb n s h, ← eq) (unless-true _ (unless false q Good) ∙ unless-false q Good))
+      sym (rw (← eb, le-leb n b k, ← es, lt-leb n s h, ← eq) (unless-true _ (unless false q Good)
+      ∙ unless-false q Good))
 
   pub rule-good : (s : ℕ) → s ≡ secondMixed p n er → n ≤ b → n ≤ s → Good ≡ r2 p n er
   unfolding r2 fails
-  rule-good s es k h = sym (rw (← eb, le-leb n b k, ← es, le-leb n s h) (unless-true _ (unless true (p * s) Good) ∙ unless-true (p * s) Good))
+  rule-good s es k h = sym (rw (← eb, le-leb n b k, ← es, le-leb n s h) (unless-true _ (unless true (p * s) Good)
+      ∙ unless-true (p * s) Good))
 
 pub ruleset order-laws = (within-laws, order-start, late-is, order-bad, order-good, order-none)
 

@@ -24,7 +24,8 @@ module _ (g : Geometry) (img : List ℕ) (b : ℕ) where
   codes-later k (suc m) e = rw (add-suc, codes-later k m e) (and-false _)
 
   -- f, s: the fresh and the stored code of half k
-  module _ (k c f s : ℕ) (ec : c ≡ codePlace g k) (ef : f ≡ freshCode img (b + 256 * k)) (es : s ≡ codeAt img (b + c)) where
+  module _ (k c f s : ℕ) (ec : c ≡ codePlace g k) (ef : f ≡ freshCode img (b + 256 * k)) (es : s ≡ codeAt img
+      (b + c)) where
     pub codes-more : codesFit g img b k ≡ true → s ≡ f → codesFit g img b (k + 1) ≡ true
     unfolding codesFit fits
     codes-more e q = rw add-one (and-both _ _ e (eq-eqb (codeAt img (b + codePlace g k)) (freshCode img (b + 256 * k)) (rw (← ec, ← es, ← ef) q)))
@@ -39,7 +40,8 @@ module _ (g : Geometry) (img : List ℕ) (b : ℕ) where
         let e : suc k + (n - suc k) ≡ halves g = omega (arith, en, h) in
         sym (rw e at (codes-later (suc k) (n - suc k) (last-off q)))
 
-  pub codes-done : (k n : ℕ) → n ≡ halves g → k ≤ n → n ≤ k → codesFit g img b k ≡ true → true ≡ codesFit g img b (halves g)
+  pub codes-done : (k n : ℕ) → n ≡ halves g → k ≤ n → n ≤ k → codesFit g img b k ≡ true → true ≡ codesFit g img b
+      (halves g)
   codes-done k n en h l e = let q : k ≡ halves g = omega (arith, en) in rw (← q) (sym e)
 
 pub ruleset code-laws = (codes-start, codes-more, codes-off, codes-done)

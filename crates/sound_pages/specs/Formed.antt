@@ -23,7 +23,8 @@ module _ (g : Geometry) (img : List ℕ) (p : ℕ) where
   page-there e ee q = sym ee ∙ q
 
 -- a programmed page: t is the top, w its height as a wide number
-module _ (g : Geometry) (img : List ℕ) (p h s : ℕ) (q : erased g img p ≡ false) (eh : h ≡ heightAt g img p) (es : s ≡ seqAt g img p) (t w : ℕ) (et : t ≡ g .top) (ew : w ≡ h) where
+module _ (g : Geometry) (img : List ℕ) (p h s : ℕ) (q : erased g img p ≡ false) (eh : h ≡ heightAt g img p)
+    (es : s ≡ seqAt g img p) (t w : ℕ) (et : t ≡ g .top) (ew : w ≡ h) where
   pub formed-high : t < w → false ≡ wellFormed g img p
   unfolding wellFormed
   formed-high k = simp (q, ← et, ← eh, lt-leb h t (rw (← ew) k), and-false)
@@ -36,7 +37,8 @@ module _ (g : Geometry) (img : List ℕ) (p h s : ℕ) (q : erased g img p ≡ f
   unfolding wellFormed
   formed-number b eb k n z = simp (q, ← et, ← eh, le-leb h t (rw (← ew) k), ← eb, not-false b n, ← es, z, and-true, and-false)
 
-  pub formed-codes : (o : ℕ) (b r : Bool) → b ≡ tailAt g img p → o ≡ pageBase g p → r ≡ codesFit g img o (halves g) → w ≤ t → not b ≡ false → (s ≡ 0 → ⊥)
+  pub formed-codes : (o : ℕ) (b r : Bool) → b ≡ tailAt g img p → o ≡ pageBase g p → r ≡ codesFit g img o (halves g)
+      → w ≤ t → not b ≡ false → (s ≡ 0 → ⊥)
       → r ≡ wellFormed g img p
   unfolding wellFormed
   formed-codes o b r eb eo er k n z = simp (q, ← et, ← eh, le-leb h t (rw (← ew) k), ← eb, not-false b n, ← es, le-leb 1 s (omega arith), ← eo, ← er, and-true)

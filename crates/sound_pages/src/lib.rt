@@ -31,7 +31,8 @@ fn codes_fit(g: Geometry, img: &[u8], b: usize) -> bool
 
 // R1 of a programmed page: its height, tail, number and codes.
 pub fn is_formed(g: Geometry, img: &[u8], page: u32, height: u32, seq: u32) -> bool
-    requires { ⌜ (erased g (now img) page ≡ false) × (height ≡ heightAt g (now img) page) × (seq ≡ seqAt g (now img) page) ⌝ }
+    requires { ⌜ (erased g (now img) page ≡ false) × (height ≡ heightAt g (now img) page) ×
+        (seq ≡ seqAt g (now img) page) ⌝ }
     ensures { λ r. ⌜ r ≡ wellFormed g (now (img .entry)) page ⌝ }
 {
     if geometry::wide(g.top) < geometry::index(height) {

@@ -11,6 +11,7 @@ use borrow.Author.Tests.{not-true, not-false, eq-eqb, eqb-true, lt-ltb, le-ltb, 
 use Rattle.geometry.specs.declared.Geometry.{Geometry}
 use Rattle.geometry.specs.declared.Finding.the-variants.{Good, Bad}
 use Rattle.geometry.specs.Tests.{_&_, and-true, and-false}
+use Rattle.geometry.specs.Bounds.{fourBytes}
 use Rattle.model.specs.Bytes.{erased, seqAt}
 use Rattle.model.specs.Count.{any}
 use Rattle.model.specs.Rules.{repeated, r3}
@@ -21,7 +22,7 @@ use Rattle.sound_twins.specs.Split.{agree-start}
 use Rattle.sound_repeats.specs.Repeats.{within, Somewhere, Sieved, Stem, Keyed, Held, Stops, Differ, Swept}
 
 -- a page's key
-pub key-parts : (s p k : ℕ) → p < 4294967296 → k ≡ 4294967296 * s + p → (numberIn k ≡ s) × (pageIn k ≡ p)
+pub key-parts : (s p k : ℕ) → p < fourBytes → k ≡ fourBytes * s + p → (numberIn k ≡ s) × (pageIn k ≡ p)
 key-parts s p k h e = (omega arith, omega arith)
 
 -- keys that are kept
@@ -35,10 +36,11 @@ sieved-start l b = record {
 }
 
 module _ (l₀ l : List ℕ) (b k c : ℕ) (x : Sieved l₀ l b k c) where
-  pub sieved-skip : b ≤ getD l k 0 / 4294967296 → Sieved l₀ l b (k + 1) c
+  pub sieved-skip : b ≤ getD l k 0 / fourBytes → Sieved l₀ l b (k + 1) c
   sieved-skip h = record {
     few = omega (arith, x .few);
-    there = λ i m t. by-lt i k (λ s. x .there i s t) (λ s. absurd (let e = x .rest i (omega arith) in let w : i ≡ k = omega arith in no i w e t));
+    there = λ i m t. by-lt i k (λ s. x .there i s t) (λ s. absurd (let e = x .rest i (omega arith) in let w : i ≡ k =
+        omega arith in no i w e t));
     back = λ j m. (let w = x .back j m in record { place = w .place; below = omega (arith, w .below); is = w .is });
     less = x .less;
     rest = λ i m. x .rest i (omega arith);
@@ -46,20 +48,31 @@ module _ (l₀ l : List ℕ) (b k c : ℕ) (x : Sieved l₀ l b k c) where
     where
       no : (i : ℕ) → i ≡ k → getD l i 0 ≡ getD l₀ i 0 → numberIn (getD l₀ i 0) < b → ⊥
       no i w e t =
-          let u : numberIn (getD l₀ i 0) ≡ numberIn (getD l k 0) = ap (λ (z : ℕ). numberIn z) (sym e ∙ ap (λ (z : ℕ). getD l z 0) w) in
+          let u : numberIn (getD l₀ i 0) ≡ numberIn (getD l k 0) =
+          ap (λ (z : ℕ). numberIn z) (sym e ∙ ap (λ (z : ℕ). getD l z 0) w) in
           omega (arith, u, t, h)
 
-  pub sieved-more : (n : ℕ) → getD l k 0 / 4294967296 < b → k < n → n ≤ length l → Sieved l₀ (set l c (getD l k 0)) b (k + 1) (c + 1)
+  pub sieved-more : (n : ℕ) → getD l k 0 / fourBytes < b → k < n → n ≤ length l → Sieved l₀ (set l c (getD l k 0)) b
+      (k + 1) (c + 1)
   sieved-more n h m′ g = record {
     few = omega (arith, x .few);
     there = λ i m t. by-lt i k
         (λ s. (let w = x .there i s t in record { place = w .place; below = omega (arith, w .below); is = old (w .place) (w .below) ∙ w .is }))
-        (λ s. (let w : i ≡ k = omega arith in record { place = c; below = omega arith; is = new ∙ ap (λ (z : ℕ). getD l z 0) (sym w) ∙ x .rest i (omega arith) }));
+        (λ s. (let w : i ≡ k = omega arith in record {
+          place = c;
+          below = omega arith;
+          is = new ∙ ap (λ (z : ℕ). getD l z 0) (sym w) ∙ x .rest i (omega arith);
+        }));
     back = λ j m. by-lt j c
         (λ s. (let w = x .back j s in record { place = w .place; below = omega (arith, w .below); is = w .is ∙ sym (old j s) }))
-        (λ s. (let w : j ≡ c = omega arith in record { place = k; below = omega arith; is = sym (x .rest k (omega arith)) ∙ sym new ∙ ap (λ (z : ℕ). getD (set l c (getD l k 0)) z 0) (sym w) }));
+        (λ s. (let w : j ≡ c = omega arith in record {
+          place = k;
+          below = omega arith;
+          is = sym (x .rest k (omega arith)) ∙ sym new ∙ ap (λ (z : ℕ). getD (set l c (getD l k 0)) z 0) (sym w);
+        }));
     less = λ j m. by-lt j c (λ s. (rw (old j s) (x .less j s))) (λ s. (let w : j ≡ c = omega arith in rw (w, new) h));
-    rest = λ i m. getD-set-other l c i (getD l k 0) 0 (λ (e : i ≡ c). omega (arith, e, m, x .few)) ∙ x .rest i (omega arith);
+    rest = λ i m. getD-set-other l c i (getD l k 0) 0 (λ (e : i ≡ c). omega (arith, e, m, x .few))
+        ∙ x .rest i (omega arith);
   }
     where
       old : (j : ℕ) → j < c → getD (set l c (getD l k 0)) j 0 ≡ getD l j 0
@@ -86,11 +99,12 @@ module _ (er : ℕ → Bool) (seq : ℕ → ℕ) where
         by true = refl
         by false = refl
 
-    pub within-by : (s x : ℕ) (r : Bool) → s ≡ x → x ≡ seq p → low ≤ s → s < high → r ≡ er p → not r ≡ within er seq low high p
+    pub within-by : (s x : ℕ) (r : Bool) → s ≡ x → x ≡ seq p → low ≤ s → s < high → r ≡ er p
+        → not r ≡ within er seq low high p
     unfolding within
     within-by s x r es ex h g er′ = simp (← ex, ← es, ← er′, le-leb _ _ h, lt-ltb _ _ g, and-true)
 
-  pub number-small : (s x p : ℕ) → s ≡ x → x ≡ seq p → s < 4294967296 → seq p < 4294967296
+  pub number-small : (s x p : ℕ) → s ≡ x → x ≡ seq p → s < fourBytes → seq p < fourBytes
   number-small s x p es ex h = rw (← ex, ← es) h
 
   record Inside (low high p : ℕ) : Type 0 where
@@ -102,7 +116,8 @@ module _ (er : ℕ → Bool) (seq : ℕ → ℕ) where
   unfolding within _&_
   within-says low high p e = by (leb low (seq p)) (ltb (seq p) high) (er p) refl refl refl e
     where
-      by : (a b c : Bool) → leb low (seq p) ≡ a → ltb (seq p) high ≡ b → er p ≡ c → ((a & b) & not c) ≡ true → Inside low high p
+      by : (a b c : Bool) → leb low (seq p) ≡ a → ltb (seq p) high ≡ b → er p ≡ c → ((a & b) & not c) ≡ true
+          → Inside low high p
       by true true false ea eb ec q = record { programmed = ec; from = leb-true low (seq p) ea; to = ltb-true (seq p) high eb }
       by true true true ea eb ec q = absurd (false≢true q)
       by true false c ea eb ec q = absurd (false≢true q)
@@ -117,9 +132,11 @@ module _ (er : ℕ → Bool) (seq : ℕ → ℕ) where
   unfolding repeated
   repeats q p h eq ep e = by (any p (λ q. not (er q) & eqb (seq q) (seq p))) refl
     where
-      by : (b : Bool) → any p (λ q. not (er q) & eqb (seq q) (seq p)) ≡ b → (not (er p) & any p (λ q. not (er q) & eqb (seq q) (seq p))) ≡ true
+      by : (b : Bool) → any p (λ q. not (er q) & eqb (seq q) (seq p)) ≡ b
+          → (not (er p) & any p (λ q. not (er q) & eqb (seq q) (seq p))) ≡ true
       by true t = simp (ep, t, and-true)
-      by false t = absurd (false≢true (sym (none-passes (λ q. not (er q) & eqb (seq q) (seq p)) p t q h) ∙ simp (eq, eq-eqb _ _ e, and-true)))
+      by false t = absurd (false≢true (sym (none-passes (λ q. not (er q) & eqb (seq q) (seq p)) p t q h)
+          ∙ simp (eq, eq-eqb _ _ e, and-true)))
 
   -- the keys of a part
   pub held-start : (low high : ℕ) (l : List ℕ) → Held er seq low high 0 0 l
@@ -130,10 +147,18 @@ module _ (er : ℕ → Bool) (seq : ℕ → ℕ) where
   }
 
   stem-more : (low high t k : ℕ) → Stem er seq low high t k → Stem er seq low high (t + 1) k
-  stem-more low high t k s = record { below = omega (arith, s .below); programmed = s .programmed; number = s .number; from = s .from; to = s .to; fits = s .fits }
+  stem-more low high t k s = record {
+    below = omega (arith, s .below);
+    programmed = s .programmed;
+    number = s .number;
+    from = s .from;
+    to = s .to;
+    fits = s .fits;
+  }
 
-  module _ (low high t c : ℕ) (l : List ℕ) (x : Held er seq low high t c l) (r : Bool) (er′ : r ≡ within er seq low high t) (small : seq t < 4294967296) where
-    fits : (q : ℕ) → q < t + 1 → seq q < 4294967296
+  module _ (low high t c : ℕ) (l : List ℕ) (x : Held er seq low high t c l)
+      (r : Bool) (er′ : r ≡ within er seq low high t) (small : seq t < fourBytes) where
+    fits : (q : ℕ) → q < t + 1 → seq q < fourBytes
     fits q h = by-lt q t (λ k. x .small q k) (λ k. (let w : q ≡ t = omega arith in rw w small))
 
     pub held-skip : not r ≡ true → Held er seq low high (t + 1) c l
@@ -144,11 +169,17 @@ module _ (er : ℕ → Bool) (seq : ℕ → ℕ) where
       small = fits;
     }
 
-    pub held-more : not r ≡ false → (k : ℕ) → numberIn k ≡ seq t → pageIn k ≡ t → k < 18446744073709551616 → c < length l
+    pub held-more : not r ≡ false → (k : ℕ) → numberIn k ≡ seq t → pageIn k ≡ t → k < 18446744073709551616
+        → c < length l
         → Held er seq low high (t + 1) (c + 1) (set l c k)
     held-more n k en ep fk h = record {
       there = λ q g e f f′. by-lt q t
-          (λ m. (let w = x .there q m e f f′ in record { place = w .place; below = omega (arith, w .below); page = rw (old (w .place) (w .below)) (w .page); number = rw (old (w .place) (w .below)) (w .number) }))
+          (λ m. (let w = x .there q m e f f′ in record {
+            place = w .place;
+            below = omega (arith, w .below);
+            page = rw (old (w .place) (w .below)) (w .page);
+            number = rw (old (w .place) (w .below)) (w .number);
+          }))
           (λ m. (let w : q ≡ t = omega arith in record { place = c; below = omega arith; page = rw (new, w) ep; number = rw (new, w) en }));
       back = λ i g. by-lt i c (λ m. (rw (old i m) (stem-more low high t (getD l i 0) (x .back i m)))) (λ m. (let w : i ≡ c = omega arith in rw (w, new) stem));
       small = fits;
@@ -185,10 +216,12 @@ module _ (er : ℕ → Bool) (seq : ℕ → ℕ) where
 
         again : repeated er seq t ≡ true
         again = repeats (pageIn (getD l 0 0)) t (s .below) (s .programmed) (in-part .programmed)
-            (let w = s .number in let u = s .from in let v = s .to in let a = in-part .from in let b = in-part .to in omega (arith, w, u, v, a, b, eh))
+            (let w = s .number in let u = s .from in let v = s .to in let a = in-part .from in let b = in-part .to in
+            omega (arith, w, u, v, a, b, eh))
 
   -- a bound that came down
-  pub held-sieve : (low high bound t c k : ℕ) (l₀ l : List ℕ) → Held er seq low high t c l₀ → Sieved l₀ l bound c k → low < bound → bound < high → Held er seq low bound t k l
+  pub held-sieve : (low high bound t c k : ℕ) (l₀ l : List ℕ) → Held er seq low high t c l₀ → Sieved l₀ l bound c k
+      → low < bound → bound < high → Held er seq low bound t k l
   held-sieve low high bound t c k l₀ l x y hl h = record {
     there = there;
     back = λ j g. stem j g (y .back j g);
@@ -219,12 +252,15 @@ module _ (er : ℕ → Bool) (seq : ℕ → ℕ) where
     small = λ h. absurd (omega arith);
   }
 
-  module _ (t low best high end c r : ℕ) (l : List ℕ) (x : Swept er seq t low best) (y : Held er seq low high end c l) (z : Stops er seq best end) (w : Cut end r l 0 c) where
+  module _ (t low best high end c r : ℕ) (l : List ℕ) (x : Swept er seq t low best) (y : Held er seq low high end c l)
+      (z : Stops er seq best end) (w : Cut end r l 0 c) where
     pub swept-more : Swept er seq t high r
     swept-more = record {
       stops = record {
         most = omega (arith, x .stops .most, z .most, w .most);
-        stop = λ h. by-lt r end (λ g. mark g) (λ g. (let u : r ≡ end = omega (arith, w .most) in rw u (by-lt end best (λ k. z .stop k) (λ k. (let v : end ≡ best = omega (arith, z .most) in rw v (x .stops .stop (omega (arith, v, u))))))));
+        stop = λ h. by-lt r end (λ g. mark g) (λ g. (let u : r ≡ end = omega (arith, w .most) in
+            rw u (by-lt end best (λ k. z .stop k) (λ k. (let v : end ≡ best = omega (arith, z .most) in
+            rw v (x .stops .stop (omega (arith, v, u))))))));
       };
       differ = λ p q lt h ep eq e g. by-lt (seq p) low (λ k. x .differ p q lt (omega (arith, w .most, z .most)) ep eq e k) (λ k. part p q lt h ep eq e k g);
       small = λ h q k. y .small q (omega (arith, w .most));
@@ -235,23 +271,25 @@ module _ (er : ℕ → Bool) (seq : ℕ → ℕ) where
             let v = w .pair g in
             let a = y .back (v .low) (v .low-to) in
             let b = y .back (v .high) (v .high-to) in
-            rw (← v .is) (repeats (pageIn (getD l (v .low) 0)) (pageIn (getD l (v .high) 0)) (v .less) (a .programmed) (b .programmed) (a .number ∙ v .same ∙ sym (b .number)))
+            rw (← v .is) (repeats (pageIn (getD l (v .low) 0)) (pageIn (getD l (v .high) 0)) (v .less) (a .programmed)
+            (b .programmed) (a .number ∙ v .same ∙ sym (b .number)))
 
         part : (p q : ℕ) → q < p → p < r → er p ≡ false → er q ≡ false → seq q ≡ seq p → low ≤ seq p → seq p < high → ⊥
         part p q lt h ep eq e f g =
             let a = y .there p (omega (arith, w .most)) ep f g in
             let b = y .there q (omega (arith, w .most)) eq (rw e f) (rw e g) in
-            let u = w .unlike .one (a .place) (b .place) (omega arith) (a .below) (omega arith) (b .below) (rw (a .page) h) (rw (b .page) (omega arith)) (a .number ∙ sym e ∙ sym (b .number)) in
+            let u = w .unlike .one (a .place) (b .place) (omega arith) (a .below) (omega arith) (b .below)
+            (rw (a .page) h) (rw (b .page) (omega arith)) (a .number ∙ sym e ∙ sym (b .number)) in
             omega (arith, a .page, b .page, u, lt)
 
-  pub swept-end : (t low r : ℕ) → Swept er seq t low r → 4294967296 ≤ low → Swept er seq t 4294967296 r
+  pub swept-end : (t low r : ℕ) → Swept er seq t low r → fourBytes ≤ low → Swept er seq t fourBytes r
   swept-end t low r x h = record {
     stops = x .stops;
     differ = λ p q lt g ep eq e f. x .differ p q lt g ep eq e (omega arith);
     small = λ k. x .small (omega arith);
   }
 
-  pub swept-differ : (t r : ℕ) → Swept er seq t 4294967296 r → Differ er seq r
+  pub swept-differ : (t r : ℕ) → Swept er seq t fourBytes r → Differ er seq r
   swept-differ t r x = record { differ = λ p q lt h ep eq e. x .differ p q lt h ep eq e (x .small (omega arith) p h) }
 
   -- pages whose numbers differ
@@ -277,12 +315,14 @@ module _ (g : Geometry) (img : List ℕ) (n : ℕ) where
       lowest-good (repeated (erased g img) (seqAt g img)) (g .pages * n)
       (least-none (repeated (erased g img) (seqAt g img)) (g .pages * n) (λ p h. never (erased g img) (seqAt g img) (g .pages * n) d p h))
 
-  pub swept-good : (t r : ℕ) → t ≡ g .pages * n → Swept (erased g img) (seqAt g img) t 4294967296 r → t ≤ r → Good ≡ r3 g n img
+  pub swept-good : (t r : ℕ) → t ≡ g .pages * n → Swept (erased g img) (seqAt g img) t fourBytes r → t ≤ r
+      → Good ≡ r3 g n img
   swept-good t r et x h =
       let w : r ≡ g .pages * n = omega (arith, x .stops .most, et) in
       differ-good (rw (← w) (swept-differ (erased g img) (seqAt g img) t r x))
 
-  pub swept-bad : (t r : ℕ) → t ≡ g .pages * n → Swept (erased g img) (seqAt g img) t 4294967296 r → r < t → Bad r ≡ r3 g n img
+  pub swept-bad : (t r : ℕ) → t ≡ g .pages * n → Swept (erased g img) (seqAt g img) t fourBytes r → r < t
+      → Bad r ≡ r3 g n img
   unfolding r3
   swept-bad t r et x h =
       lowest-bad (repeated (erased g img) (seqAt g img)) (g .pages * n) r

@@ -25,7 +25,8 @@ use Rattle.sound_numbers.specs.RuleThree.{extend-erased, range-go}
 use Rattle.sound_sight.specs.Sight.{Told, Fronted, Back, Late, Spoilt, Strip}
 use Rattle.sound_sight.specs.Pages.{told-yes, told-no}
 
-pub seen-bound : (g : Geometry) (img : List ℕ) (t : Bool) (B : Type 0) (b j : ℕ) (s : Seen) (r : Range) → Told t (Fronted g img b j s r) B → not t ≡ false
+pub seen-bound : (g : Geometry) (img : List ℕ) (t : Bool) (B : Type 0) (b j : ℕ) (s : Seen) (r : Range)
+    → Told t (Fronted g img b j s r) B → not t ≡ false
     → s .erased ≤ g .pages * b + j
 unfolding seenTo
 seen-bound g img t B b j s r x n =
@@ -38,7 +39,8 @@ abbrev more : Seen → ℕ → Seen
 more s k = record { root = s .root; score = s .score; most = s .most; last = s .last; erased = s .erased + k }
 
 module _ (g : Geometry) (img : List ℕ) where
-  blank-seen : (k q : ℕ) (s : Seen) → s ≡ seenTo g img q → ((i : ℕ) → i < k → erased g img (q + i) ≡ true) → more s k ≡ seenTo g img (q + k)
+  blank-seen : (k q : ℕ) (s : Seen) → s ≡ seenTo g img q → ((i : ℕ) → i < k → erased g img (q + i) ≡ true)
+      → more s k ≡ seenTo g img (q + k)
   blank-seen zero q s e h = rw (add-zero (s .erased), add-zero q) e
   blank-seen (suc k) q s e h =
       let w : s .erased + k + 1 ≡ s .erased + suc k = omega arith in
@@ -46,7 +48,8 @@ module _ (g : Geometry) (img : List ℕ) where
       rw (← w, ← v) (see-erased g img (q + k) (more s k) (blank-seen k q s e (λ i m. h i (omega arith))) (erased g img (q + k)) refl (h k (omega arith)))
 
 module _ (er : ℕ → Bool) (seq : ℕ → ℕ) (base : ℕ) where
-  blank-range : (k j : ℕ) (r : Range) → r ≡ rangeTo er seq base j → ((i : ℕ) → i < k → er (base + (j + i)) ≡ true) → r ≡ rangeTo er seq base (j + k)
+  blank-range : (k j : ℕ) (r : Range) → r ≡ rangeTo er seq base j → ((i : ℕ) → i < k → er (base + (j + i)) ≡ true)
+      → r ≡ rangeTo er seq base (j + k)
   blank-range zero j r e h = rw (add-zero j) e
   blank-range (suc k) j r e h =
       let v : j + k + 1 ≡ j + suc k = omega arith in
@@ -54,10 +57,12 @@ module _ (er : ℕ → Bool) (seq : ℕ → ℕ) (base : ℕ) where
       rw (← v) (range-go er seq base (j + k) (base + (j + k)) r r w refl (extend-erased er seq (base + (j + k)) r (h k (omega arith))))
 
 -- a programmed page after an erased one
-late-order : (p : ℕ) (er : ℕ → Bool) (b j k : ℕ) → j < k → k < p → er (p * b + j) ≡ true → er (p * b + k) ≡ false → inOrder p er b ≡ true → ⊥
+late-order : (p : ℕ) (er : ℕ → Bool) (b j k : ℕ) → j < k → k < p → er (p * b + j) ≡ true → er (p * b + k) ≡ false
+    → inOrder p er b ≡ true → ⊥
 unfolding inOrder
 late-order p er b j k lt h ej ek o =
-    false≢true (sym (none-passes (λ i. ltb (firstIn p er b) i & not (er (p * b + i))) p (not-true _ o) k h) ∙ simp (lt-ltb (firstIn p er b) k first, ek, and-true))
+    false≢true (sym (none-passes (λ i. ltb (firstIn p er b) i & not (er (p * b + i))) p (not-true _ o) k h)
+    ∙ simp (lt-ltb (firstIn p er b) k first, ek, and-true))
   where
     first : firstIn p er b < k
     first = by-lt (firstIn p er b) k (λ m. m) (λ m. absurd (false≢true (sym (least-is (λ i. er (p * b + i)) p .before j (omega arith)) ∙ ej)))
@@ -69,7 +74,8 @@ blank-formed g img p e = simp e
 pub strip-kept : (t : Bool) (A A′ B : Type 0) → Told t A′ B → not t ≡ true → Told t A B
 strip-kept t A A′ B x n = rw (not-true t n) (told-no A B (x .no (not-true t n)))
 
-module _ (g : Geometry) (img : List ℕ) (b j : ℕ) (s : Seen) (r : Range) (t : Bool) (B : Type 0) (x : Told t (Fronted g img b j s r) B) (n : not t ≡ false) where
+module _ (g : Geometry) (img : List ℕ) (b j : ℕ) (s : Seen) (r : Range) (t : Bool) (B : Type 0)
+    (x : Told t (Fronted g img b j s r) B) (n : not t ≡ false) where
   f : Fronted g img b j s r
   f = x .yes (not-false t n)
 
@@ -84,28 +90,44 @@ module _ (g : Geometry) (img : List ℕ) (b j : ℕ) (s : Seen) (r : Range) (t :
         most = f .most;
         kinds = λ i k. f .front .programmed i (omega (arith, w, k)) ∙ sym (lt-leb j i (omega (arith, w, k)));
         formed = λ i k. f .front .formed i (omega (arith, w, k));
-        seen = f .seen ∙ ap (seenTo g img) (let e : g .pages * b + j ≡ g .pages * (b + 1) = omega (arith, base-next, w) in e);
+        seen = f .seen ∙ ap (seenTo g img) (let e : g .pages * b + j ≡ g .pages * (b + 1) =
+            omega (arith, base-next, w) in e);
         range = f .range ∙ ap (λ (k : ℕ). rangeTo (erased g img) (seqAt g img) (g .pages * b) k) w;
       }))
 
-  pub strip-late : (A : Type 0) (u : Bool) → j < g .pages → Told u (Back g img b (j + 1) (g .pages)) (Late g img b (j + 1)) → not u ≡ true
+  pub strip-late : (A : Type 0) (u : Bool) → j < g .pages → Told u (Back g img b (j + 1) (g .pages))
+      (Late g img b (j + 1)) → not u ≡ true
       → Told false A (Spoilt g img b)
   strip-late A u h y m =
       let l = y .no (not-true u m) in
-      told-no A _ (record { spoilt = λ w o. late-order (g .pages) (erased g img) b j (l .place) (omega (arith, l .after)) (l .inside) (f .ended h) (l .programmed) o })
+      told-no A _ (record {
+        spoilt = λ w o. late-order (g .pages) (erased g img) b j (l .place) (omega (
+          arith,
+          l .after,
+        )) (l .inside) (f .ended h) (l .programmed) o;
+      })
 
-  pub strip-good : (C : Type 0) (u : Bool) (a : Seen) → j < g .pages → Told u (Back g img b (j + 1) (g .pages)) (Late g img b (j + 1)) → not u ≡ false
-      → a ≡ record { root = s .root; score = s .score; most = s .most; last = s .last; erased = s .erased + (g .pages - j) } → Told true (Strip g img b j a r) C
+  pub strip-good : (C : Type 0) (u : Bool) (a : Seen) → j < g .pages → Told u (Back g img b (j + 1) (g .pages))
+      (Late g img b (j + 1)) → not u ≡ false
+      → a ≡ record {
+        root = s .root;
+        score = s .score;
+        most = s .most;
+        last = s .last;
+        erased = s .erased + (g .pages - j);
+      } → Told true (Strip g img b j a r) C
   strip-good C u a h y m ea = told-yes _ C (record {
     most = omega arith;
-    kinds = λ i k. by-lt i j (λ v. f .front .programmed i v ∙ sym (lt-leb j i v)) (λ v. blank i v k ∙ sym (le-leb j i v));
+    kinds = λ i k. by-lt i j (λ v. f .front .programmed i v ∙ sym (lt-leb j i v)) (λ v. blank i v k
+        ∙ sym (le-leb j i v));
     formed = λ i k. by-lt i j (λ v. f .front .formed i v) (λ v. blank-formed g img (g .pages * b + i) (blank i v k));
     seen = ea ∙ all-seen;
     range = all-range;
   })
     where
       blank : (i : ℕ) → j ≤ i → i < g .pages → erased g img (g .pages * b + i) ≡ true
-      blank i v k = by-lt j i (λ w. y .yes (not-false u m) .blank i (omega arith) k) (λ w. (let e : i ≡ j = omega arith in rw e (f .ended h)))
+      blank i v k = by-lt j i (λ w. y .yes (not-false u m) .blank i (omega arith) k) (λ w. (let e : i ≡ j =
+          omega arith in rw e (f .ended h)))
 
       after : (i : ℕ) → i < g .pages - j → erased g img (g .pages * b + (j + i)) ≡ true
       after i k = blank (j + i) (omega arith) (omega arith)
@@ -114,7 +136,8 @@ module _ (g : Geometry) (img : List ℕ) (b j : ℕ) (s : Seen) (r : Range) (t :
       all-seen =
           let e : g .pages * b + j + (g .pages - j) ≡ g .pages * (b + 1) = omega (arith, base-next) in
           blank-seen g img (g .pages - j) (g .pages * b + j) s (f .seen)
-          (λ i k. ap (erased g img) (let w : g .pages * b + j + i ≡ g .pages * b + (j + i) = omega arith in w) ∙ after i k)
+          (λ i k. ap (erased g img) (let w : g .pages * b + j + i ≡ g .pages * b + (j + i) = omega arith in w)
+          ∙ after i k)
           ∙ ap (seenTo g img) e
 
       all-range : r ≡ rangeTo (erased g img) (seqAt g img) (g .pages * b) (g .pages)

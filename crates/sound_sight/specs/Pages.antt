@@ -40,26 +40,33 @@ module _ (g : Geometry) (img : List ℕ) (b : ℕ) where
   pub seen-here : (s : Seen) (j q : ℕ) → s ≡ seenTo g img (g .pages * b + j) → q ≡ g .pages * b + j → s ≡ seenTo g img q
   seen-here s j q e eq = rw eq e
 
-  pub seen-next : (s : Seen) (j q : ℕ) → s ≡ seenTo g img (q + 1) → q ≡ g .pages * b + j → s ≡ seenTo g img (g .pages * b + (j + 1))
+  pub seen-next : (s : Seen) (j q : ℕ) → s ≡ seenTo g img (q + 1) → q ≡ g .pages * b + j → s ≡ seenTo g img
+      (g .pages * b + (j + 1))
   seen-next s j q e eq =
       let w : q + 1 ≡ g .pages * b + (j + 1) = omega (arith, eq) in
       rw (← w) e
 
   module _ (j q : ℕ) (eq : q ≡ g .pages * b + j) (e : Bool) (ee : e ≡ erased g img q) where
-    pub front-go : (r : Bool) → Front g img b j → e ≡ false → r ≡ wellFormed g img q → not r ≡ false → Front g img b (j + 1)
+    pub front-go : (r : Bool) → Front g img b j → e ≡ false → r ≡ wellFormed g img q → not r ≡ false
+        → Front g img b (j + 1)
     front-go r x z er n = record {
-      programmed = λ i h. by-lt i j (λ k. x .programmed i k) (λ k. (let w : i ≡ j = omega arith in rw (w, ← eq) (sym ee ∙ z)));
-      formed = λ i h. by-lt i j (λ k. x .formed i k) (λ k. (let w : i ≡ j = omega arith in rw (w, ← eq) (sym er ∙ not-false r n)));
+      programmed = λ i h. by-lt i j (λ k. x .programmed i k) (λ k. (let w : i ≡ j = omega arith in
+          rw (w, ← eq) (sym ee ∙ z)));
+      formed = λ i h. by-lt i j (λ k. x .formed i k) (λ k. (let w : i ≡ j = omega arith in
+          rw (w, ← eq) (sym er ∙ not-false r n)));
     }
 
-    pub front-ends : (B : Type 0) (s : Seen) (r : Range) → j < g .pages → Front g img b j → e ≡ true → s ≡ seenTo g img (g .pages * b + j)
+    pub front-ends : (B : Type 0) (s : Seen) (r : Range) → j < g .pages → Front g img b j → e ≡ true → s ≡ seenTo g img
+        (g .pages * b + j)
         → r ≡ rangeTo (erased g img) (seqAt g img) (g .pages * b) j → Told true (Fronted g img b j s r) B
     front-ends B s r h x z es er = told-yes _ B (record { most = omega arith; front = x; ended = λ k. (rw (← eq) (sym ee ∙ z)); seen = es; range = er })
 
-  pub front-bad : (A : Type 0) (j q : ℕ) (r : Bool) → q ≡ g .pages * b + j → r ≡ wellFormed g img q → not r ≡ true → j < g .pages → Told false A (Spoilt g img b)
+  pub front-bad : (A : Type 0) (j q : ℕ) (r : Bool) → q ≡ g .pages * b + j → r ≡ wellFormed g img q → not r ≡ true
+      → j < g .pages → Told false A (Spoilt g img b)
   front-bad A j q r eq er n h = told-no A _ (record { spoilt = λ f o. false≢true (sym (sym er ∙ not-true r n ∙ refl) ∙ rw eq (f j h)) })
 
-  pub front-full : (B : Type 0) (j : ℕ) (s : Seen) (r : Range) → j ≤ g .pages → g .pages ≤ j → Front g img b j → s ≡ seenTo g img (g .pages * b + j)
+  pub front-full : (B : Type 0) (j : ℕ) (s : Seen) (r : Range) → j ≤ g .pages → g .pages ≤ j → Front g img b j
+      → s ≡ seenTo g img (g .pages * b + j)
       → r ≡ rangeTo (erased g img) (seqAt g img) (g .pages * b) j → Told true (Fronted g img b j s r) B
   front-full B j s r h k x es er = told-yes _ B (record { most = h; front = x; ended = λ m. absurd (omega arith); seen = es; range = er })
 
@@ -67,12 +74,15 @@ module _ (g : Geometry) (img : List ℕ) (b : ℕ) where
   pub back-start : (f : ℕ) → Back g img b f f
   back-start f = record { blank = λ i h k. absurd (omega arith) }
 
-  pub back-go : (f j q : ℕ) (e : Bool) → Back g img b f j → q ≡ g .pages * b + j → e ≡ erased g img q → not e ≡ false → Back g img b f (j + 1)
+  pub back-go : (f j q : ℕ) (e : Bool) → Back g img b f j → q ≡ g .pages * b + j → e ≡ erased g img q → not e ≡ false
+      → Back g img b f (j + 1)
   back-go f j q e x eq ee n = record {
-    blank = λ i h k. by-lt i j (λ m. x .blank i h m) (λ m. (let w : i ≡ j = omega arith in rw (w, ← eq) (sym ee ∙ not-false e n)));
+    blank = λ i h k. by-lt i j (λ m. x .blank i h m) (λ m. (let w : i ≡ j = omega arith in
+        rw (w, ← eq) (sym ee ∙ not-false e n)));
   }
 
-  pub back-late : (A : Type 0) (f j q : ℕ) (e : Bool) → f ≤ j → j < g .pages → q ≡ g .pages * b + j → e ≡ erased g img q → not e ≡ true → Told false A (Late g img b f)
+  pub back-late : (A : Type 0) (f j q : ℕ) (e : Bool) → f ≤ j → j < g .pages → q ≡ g .pages * b + j → e ≡ erased g img q
+      → not e ≡ true → Told false A (Late g img b f)
   back-late A f j q e h k eq ee n = told-no A _ (record { place = j; after = h; inside = k; programmed = rw (← eq) (sym ee ∙ not-true e n) })
 
   pub back-end : (B : Type 0) (f j : ℕ) → Back g img b f j → g .pages ≤ j → Told true (Back g img b f (g .pages)) B

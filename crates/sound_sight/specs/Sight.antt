@@ -47,7 +47,8 @@ pub record Late (g : Geometry) (img : List ℕ) (b j : ℕ) : Type 0 where
 
 -- block b breaks R1, or the order of R2
 pub record Spoilt (g : Geometry) (img : List ℕ) (b : ℕ) : Type 0 where
-  pub spoilt : ((i : ℕ) → i < g .pages → wellFormed g img (g .pages * b + i) ≡ true) → inOrder (g .pages) (erased g img) b ≡ true → ⊥
+  pub spoilt : ((i : ℕ) → i < g .pages → wellFormed g img (g .pages * b + i) ≡ true) → inOrder (g .pages)
+      (erased g img) b ≡ true → ⊥
 
 -- block b has j programmed pages and then erased ones, all as R1 wants them; what is seen up to its end, its range
 pub record Strip (g : Geometry) (img : List ℕ) (b j : ℕ) (s : Seen) (r : Range) : Type 0 where
@@ -58,13 +59,14 @@ pub record Strip (g : Geometry) (img : List ℕ) (b j : ℕ) (s : Seen) (r : Ran
   pub range : r ≡ rangeTo (erased g img) (seqAt g img) (g .pages * b) (g .pages)
 
 -- the same of n blocks: the counts of programmed pages and the ranges stand in three lists; t if all ranges rise
-pub record Strips (g : Geometry) (img : List ℕ) (n : ℕ) (s : Seen) (t : Bool) (programmed lows highs : List ℕ) : Type 0 where
-  pub kinds : (b : ℕ) → b < n → (i : ℕ) → i < g .pages → erased g img (g .pages * b + i) ≡ leb (getD programmed b 0) i
-  pub formed : (b : ℕ) → b < n → (i : ℕ) → i < g .pages → wellFormed g img (g .pages * b + i) ≡ true
-  pub seen : s ≡ seenTo g img (g .pages * n)
-  pub rise : t ≡ true → (b : ℕ) → b < n → rangeTo (erased g img) (seqAt g img) (g .pages * b) (g .pages) .rising ≡ true
-  pub low : (b : ℕ) → b < n → getD lows b 0 ≡ rangeTo (erased g img) (seqAt g img) (g .pages * b) (g .pages) .low
-  pub high : (b : ℕ) → b < n → getD highs b 0 ≡ rangeTo (erased g img) (seqAt g img) (g .pages * b) (g .pages) .high
+pub record Strips (g : Geometry) (img : List ℕ) (n : ℕ) (s : Seen) (t : Bool) (programmed lows highs : List ℕ) : Type 0
+  where
+    pub kinds : (b : ℕ) → b < n → (i : ℕ) → i < g .pages → erased g img (g .pages * b + i) ≡ leb (getD programmed b 0) i
+    pub formed : (b : ℕ) → b < n → (i : ℕ) → i < g .pages → wellFormed g img (g .pages * b + i) ≡ true
+    pub seen : s ≡ seenTo g img (g .pages * n)
+    pub rise : t ≡ true → (b : ℕ) → b < n → rangeTo (erased g img) (seqAt g img) (g .pages * b) (g .pages) .rising ≡ true
+    pub low : (b : ℕ) → b < n → getD lows b 0 ≡ rangeTo (erased g img) (seqAt g img) (g .pages * b) (g .pages) .low
+    pub high : (b : ℕ) → b < n → getD highs b 0 ≡ rangeTo (erased g img) (seqAt g img) (g .pages * b) (g .pages) .high
 
 -- R1 or R2 is broken
 pub record Flaw (g : Geometry) (n : ℕ) (img : List ℕ) : Type 0 where
@@ -86,7 +88,8 @@ pub record Parts (p : ℕ) (programmed : List ℕ) (f n m : ℕ) : Type 0 where
 
 -- at most one block below n is programmed in part
 pub record Single (p n : ℕ) (programmed : List ℕ) : Type 0 where
-  pub same : (a b : ℕ) → a < b → b < n → parted p (getD programmed a 0) ≡ true → parted p (getD programmed b 0) ≡ true → ⊥
+  pub same : (a b : ℕ) → a < b → b < n → parted p (getD programmed a 0) ≡ true → parted p (getD programmed b 0) ≡ true
+      → ⊥
 
 -- two blocks below n are
 pub record Double (p n : ℕ) (programmed : List ℕ) : Type 0 where
@@ -102,10 +105,11 @@ pub record Counted (g : Geometry) (n : ℕ) (img programmed : List ℕ) : Type 0
   pub kinds : (b : ℕ) → b < n → (i : ℕ) → i < g .pages → erased g img (g .pages * b + i) ≡ leb (getD programmed b 0) i
 
 -- an image that R1 and R2 pass: its survey, the programmed pages of each block, and, where t, the ranges of R3
-pub record Clear (g : Geometry) (n : ℕ) (img : List ℕ) (t : Bool) (s : Survey) (programmed lows highs : List ℕ) : Type 0 where
-  pub formed : r1 g n img ≡ Good
-  pub ordered : r2 (g .pages) n (erased g img) ≡ Good
-  pub survey : s ≡ surveyOf g n img
-  pub level : s .level < 255
-  pub counted : Counted g n img programmed
-  pub ranges : Shows t (Ranges (erased g img) (seqAt g img) (g .pages) n lows highs)
+pub record Clear (g : Geometry) (n : ℕ) (img : List ℕ) (t : Bool) (s : Survey) (programmed lows highs : List ℕ) : Type 0
+  where
+    pub formed : r1 g n img ≡ Good
+    pub ordered : r2 (g .pages) n (erased g img) ≡ Good
+    pub survey : s ≡ surveyOf g n img
+    pub level : s .level < 255
+    pub counted : Counted g n img programmed
+    pub ranges : Shows t (Ranges (erased g img) (seqAt g img) (g .pages) n lows highs)

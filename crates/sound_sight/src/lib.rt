@@ -50,7 +50,8 @@ fn both(a: bool, b: bool) -> bool
 // The programmed pages before the first erased one.
 fn front(g: Geometry, img: &[u8], block: u16, before: Seen) -> Block
     requires { ⌜ before ≡ seenTo g (now img) (g .pages * block) ⌝ }
-    ensures { λ r. ⌜ Told (r .fine) (Fronted g (now (img .entry)) block (r .programmed) (r .seen) (r .range)) (Spoilt g (now (img .entry)) block) ⌝ }
+    ensures { λ r. ⌜ Told (r .fine) (Fronted g (now (img .entry)) block (r .programmed) (r .seen) (r .range))
+        (Spoilt g (now (img .entry)) block) ⌝ }
 {
     let mut seen = before;
     let mut range = Range {
@@ -109,7 +110,13 @@ fn rest_blank(g: Geometry, img: &[u8], block: u16, from: u16) -> bool
 // What is seen with the erased pages of a block too.
 fn see_blank(g: Geometry, block: u16, programmed: u16, seen: Seen) -> Seen
     requires { ⌜ (programmed ≤ g .pages) × (seen .erased ≤ g .pages * block + programmed) ⌝ }
-    ensures { λ r. ⌜ r ≡ record { root = seen .root; score = seen .score; most = seen .most; last = seen .last; erased = seen .erased + (g .pages - programmed) } ⌝ }
+    ensures { λ r. ⌜ r ≡ record {
+      root = seen .root;
+      score = seen .score;
+      most = seen .most;
+      last = seen .last;
+      erased = seen .erased + (g .pages - programmed);
+    } ⌝ }
 {
     let first = chip_read::first_page(g, block);
     let more = widen(g.pages - programmed);
@@ -125,7 +132,8 @@ fn see_blank(g: Geometry, block: u16, programmed: u16, seen: Seen) -> Seen
 // A block.
 fn scan_block(g: Geometry, img: &[u8], block: u16, before: Seen) -> Block
     requires { ⌜ before ≡ seenTo g (now img) (g .pages * block) ⌝ }
-    ensures { λ r. ⌜ Told (r .fine) (Strip g (now (img .entry)) block (r .programmed) (r .seen) (r .range)) (Spoilt g (now (img .entry)) block) ⌝ }
+    ensures { λ r. ⌜ Told (r .fine) (Strip g (now (img .entry)) block (r .programmed) (r .seen) (r .range))
+        (Spoilt g (now (img .entry)) block) ⌝ }
 {
     let f = front(g, img, block, before);
     if !f.fine {
@@ -164,7 +172,8 @@ fn scan_all(
     highs: &mut [u32],
 ) -> Scan
     requires { ⌜ (n ≤ length (now programmed)) × (n ≤ length (now lows)) × (n ≤ length (now highs)) ⌝ }
-    ensures { λ r. ⌜ Told (r .fine) (Strips g (now (img .entry)) n (r .seen) (r .rising) (now (programmed .exit)) (now (lows .exit)) (now (highs .exit))) (Flaw g n (now (img .entry))) ⌝ }
+    ensures { λ r. ⌜ Told (r .fine) (Strips g (now (img .entry)) n (r .seen) (r .rising) (now (programmed .exit))
+        (now (lows .exit)) (now (highs .exit))) (Flaw g n (now (img .entry))) ⌝ }
     ensures { λ r. ⌜ length (now (programmed .exit)) ≡ length (now (programmed .entry)) ⌝ }
     ensures { λ r. ⌜ length (now (lows .exit)) ≡ length (now (lows .entry)) ⌝ }
     ensures { λ r. ⌜ length (now (highs .exit)) ≡ length (now (highs .entry)) ⌝ }
@@ -251,7 +260,8 @@ pub fn take_sight(
     highs: &mut [u32],
 ) -> Sight
     requires { ⌜ (n ≤ length (now programmed)) × (n ≤ length (now lows)) × (n ≤ length (now highs)) ⌝ }
-    ensures { λ r. ⌜ Told (r .fine) (Clear g n (now (img .entry)) (r .rising) (r .survey) (now (programmed .exit)) (now (lows .exit)) (now (highs .exit))) (Flaw g n (now (img .entry))) ⌝ }
+    ensures { λ r. ⌜ Told (r .fine) (Clear g n (now (img .entry)) (r .rising) (r .survey) (now (programmed .exit))
+        (now (lows .exit)) (now (highs .exit))) (Flaw g n (now (img .entry))) ⌝ }
     ensures { λ r. ⌜ length (now (programmed .exit)) ≡ length (now (programmed .entry)) ⌝ }
     ensures { λ r. ⌜ length (now (lows .exit)) ≡ length (now (lows .entry)) ⌝ }
     ensures { λ r. ⌜ length (now (highs .exit)) ≡ length (now (highs .entry)) ⌝ }

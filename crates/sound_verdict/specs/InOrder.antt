@@ -79,7 +79,8 @@ tells-broken c tbl k q = record { marked = λ e. absurd (broken-sound k q e) }
 
 module _ (g : Geometry) (n : ℕ) (img : List ℕ) (s : Survey) where
   -- 65536 places have room for 1024 blocks of at most 64 pages
-  pub ready-is : (m : ℕ) → s ≡ surveyOf g n img → s .level < 255 → g .pages ≤ 64 → n ≤ 1024 → 65536 ≤ m → Ready g n img s m
+  pub ready-is : (m : ℕ) → s ≡ surveyOf g n img → s .level < 255 → g .pages ≤ 64 → n ≤ 1024 → 65536 ≤ m
+      → Ready g n img s m
   ready-is m e h p k r = record {
     survey = e;
     level = h;
@@ -94,7 +95,8 @@ module _ (g : Geometry) (n : ℕ) (img : List ℕ) (s : Survey) where
     marked-chip : (tbl : List ℕ) → Marked (chipWith g img (s .level) (s .root)) tbl → Marked (chipOf g n img) tbl
     marked-chip tbl y = subst (λ (c : Chip). Marked c tbl) (chip-is g n img s (x .survey)) y
 
-    pub marked-rule : (u : List ℕ) (v : Finding) → Marks v (chipWith g img (s .level) (s .root)) u → v ≡ Good → Marked (chipOf g n img) u
+    pub marked-rule : (u : List ℕ) (v : Finding) → Marks v (chipWith g img (s .level) (s .root)) u → v ≡ Good
+        → Marked (chipOf g n img) u
     marked-rule u v y e = marked-chip u (y .marks e)
 
     pub marked-with : (tbl : List ℕ) → Marked (chipOf g n img) tbl → Marked (chipWith g img (s .level) (s .root)) tbl
@@ -111,16 +113,19 @@ module _ (g : Geometry) (n : ℕ) (img : List ℕ) (s : Survey) where
         by-pages zero h = (let w = arg-most (rootScore g img) 0 in omega (arith, w, x .some))
         by-pages (suc t) h = (let w = arg-less (rootScore g img) (suc t) (omega arith) in omega (arith, w, h))
 
-    pub inside-good : (v : Finding) (t k : ℕ) → t ≡ g .pages * n → v ≡ r5 g t (chipWith g img (s .level) (s .root)) → v ≡ Good → k ≡ m
+    pub inside-good : (v : Finding) (t k : ℕ) → t ≡ g .pages * n → v ≡ r5 g t (chipWith g img (s .level) (s .root))
+        → v ≡ Good → k ≡ m
         → Inside (chipOf g n img) k
     inside-good v t k et e f ek =
         subst (λ (c : Chip). Inside c k) (chip-is g n img s (x .survey))
         (r5-inside g t k (chipWith g img (s .level) (s .root)) (omega (arith, et, ek, x .room)) (rw ek root-below) (sym e ∙ f))
 
-    pub tells-rule : (u : List ℕ) (v : Finding) (w : Verdict) → Marks v (chipWith g img (s .level) (s .root)) u → v ≡ Good → Tells (chipOf g n img) u w
+    pub tells-rule : (u : List ℕ) (v : Finding) (w : Verdict) → Marks v (chipWith g img (s .level) (s .root)) u
+        → v ≡ Good → Tells (chipOf g n img) u w
     tells-rule u v w y e = record { marked = λ _. marked-rule u v y e }
 
-pub judged-is : (g : Geometry) (n : ℕ) (img t u : List ℕ) (v : Verdict) (s : Survey) → v ≡ verdict g n img → s ≡ surveyOf g n img → s .level < 255
+pub judged-is : (g : Geometry) (n : ℕ) (img t u : List ℕ) (v : Verdict) (s : Survey) → v ≡ verdict g n img
+    → s ≡ surveyOf g n img → s .level < 255
     → Tells (chipOf g n img) u v → length u ≡ length t → Judged g n img (record { verdict = v; survey = s }) t u
 judged-is g n img t u v s ev es h x e = record { verdict = ev; survey = es; level = h; table = x; same = e }
 
@@ -139,19 +144,22 @@ programmed-is g n t img programmed x l e = record {
 pub never-broken : (k q : ℕ) → Never (Broken k q)
 never-broken k q = record { never = broken-sound k q }
 
-pub order-breaks : (g : Geometry) (n : ℕ) (img : List ℕ) (v : Finding) (q : ℕ) → Flaw g n img → r1 g n img ≡ Good → v ≡ r2 (g .pages) n (erased g img) → v ≡ Good
+pub order-breaks : (g : Geometry) (n : ℕ) (img : List ℕ) (v : Finding) (q : ℕ) → Flaw g n img → r1 g n img ≡ Good
+    → v ≡ r2 (g .pages) n (erased g img) → v ≡ Good
     → Broken 2 q ≡ from2 g n img
 order-breaks g n img v q x e f h = absurd (x .flaw e (sym f ∙ h))
 
 pub passed-1 : (g : Geometry) (n : ℕ) (img : List ℕ) (v : Finding) → v ≡ r1 g n img → v ≡ Good → r1 g n img ≡ Good
 passed-1 g n img v e f = sym e ∙ f
 
-pub judged-never : (g : Geometry) (n : ℕ) (img t : List ℕ) (j : Judgement) → j .verdict ≡ verdict g n img → Never (j .verdict) → j .survey ≡ surveyOf g n img
+pub judged-never : (g : Geometry) (n : ℕ) (img t : List ℕ) (j : Judgement) → j .verdict ≡ verdict g n img
+    → Never (j .verdict) → j .survey ≡ surveyOf g n img
     → j .survey .level < 255 → Judged g n img j t t
 judged-never g n img t j ev x es h = record { verdict = ev; survey = es; level = h; table = record { marked = λ e. absurd (x .never e) }; same = refl }
 
 -- an image that both pass
-module _ (g : Geometry) (n : ℕ) (img : List ℕ) (t f : Bool) (s : Survey) (programmed lows highs : List ℕ) (x : Told f (Clear g n img t s programmed lows highs) (Flaw g n img)) where
+module _ (g : Geometry) (n : ℕ) (img : List ℕ) (t f : Bool) (s : Survey) (programmed lows highs : List ℕ)
+    (x : Told f (Clear g n img t s programmed lows highs) (Flaw g n img)) where
   pub sight-broken : not f ≡ true → Flaw g n img
   sight-broken m = x .no (not-true f m)
 
@@ -168,7 +176,8 @@ module _ (g : Geometry) (n : ℕ) (img : List ℕ) (t f : Bool) (s : Survey) (pr
     pub sight-ranges : Shows t (Ranges (erased g img) (seqAt g img) (g .pages) n lows highs)
     sight-ranges = c .ranges
 
-    pub sight-judged : (w u : List ℕ) (v : Verdict) → v ≡ from3 g n img → Tells (chipOf g n img) u v → length u ≡ length w
+    pub sight-judged : (w u : List ℕ) (v : Verdict) → v ≡ from3 g n img → Tells (chipOf g n img) u v
+        → length u ≡ length w
         → Judged g n img (record { verdict = v; survey = s }) w u
     sight-judged w u v ev y e =
         judged-is g n img w u v s (verdict-is g n img v (or-good 1 _ Good _ v (sym (c .formed)) refl

@@ -135,7 +135,8 @@ fn from_rule_5(
     requires { ⌜ Ready g n (now img) survey (length (now table)) ⌝ }
     requires { ⌜ Counted g n (now img) (now programmed) ⌝ }
     requires { ⌜ n ≤ length (now programmed) ⌝ }
-    ensures { λ r. ⌜ (r ≡ from5 g n (now (img .entry))) × Tells (chipOf g n (now (img .entry))) (now (table .exit)) r ⌝ }
+    ensures { λ r. ⌜ (r ≡ from5 g n (now (img .entry))) × Tells (chipOf g n (now (img .entry)))
+        (now (table .exit)) r ⌝ }
     ensures { λ _. ⌜ length (now (table .exit)) ≡ length (now (table .entry)) ⌝ }
 {
     match sound_nodes::rule_5(
@@ -163,7 +164,8 @@ fn from_rule_4(
     requires { ⌜ Ready g n (now img) survey (length (now table)) ⌝ }
     requires { ⌜ Counted g n (now img) (now programmed) ⌝ }
     requires { ⌜ n ≤ length (now programmed) ⌝ }
-    ensures { λ r. ⌜ (r ≡ from4 g n (now (img .entry))) × Tells (chipOf g n (now (img .entry))) (now (table .exit)) r ⌝ }
+    ensures { λ r. ⌜ (r ≡ from4 g n (now (img .entry))) × Tells (chipOf g n (now (img .entry)))
+        (now (table .exit)) r ⌝ }
     ensures { λ _. ⌜ length (now (table .exit)) ≡ length (now (table .entry)) ⌝ }
 {
     match chip_survey::rule_4(g, img, n, survey) {
@@ -189,7 +191,8 @@ fn from_rule_3(
     requires { ⌜ Shows rising (Ranges (erased g (now img)) (seqAt g (now img)) (g .pages) n (now lows) (now highs)) ⌝ }
     requires { ⌜ Counted g n (now img) (now programmed) ⌝ }
     requires { ⌜ n ≤ length (now programmed) ⌝ }
-    ensures { λ r. ⌜ (r ≡ from3 g n (now (img .entry))) × Tells (chipOf g n (now (img .entry))) (now (table .exit)) r ⌝ }
+    ensures { λ r. ⌜ (r ≡ from3 g n (now (img .entry))) × Tells (chipOf g n (now (img .entry)))
+        (now (table .exit)) r ⌝ }
     ensures { λ _. ⌜ length (now (table .exit)) ≡ length (now (table .entry)) ⌝ }
 {
     match sound_numbers::rule_3(g, img, n, rising, lows, highs) {
@@ -224,7 +227,8 @@ fn broken_pages(g: Geometry, img: &[u8], n: u16) -> Verdict
 // Judges n blocks that R1 or R2 breaks.
 fn judge_broken(g: Geometry, img: &[u8], n: u16) -> Judgement
     requires { ⌜ Flaw g n (now img) ⌝ }
-    ensures { λ r. ⌜ (r .verdict ≡ verdict g n (now (img .entry))) × Never (r .verdict) × (r .survey ≡ surveyOf g n (now (img .entry))) × (r .survey .level < 255) ⌝ }
+    ensures { λ r. ⌜ (r .verdict ≡ verdict g n (now (img .entry))) × Never (r .verdict) ×
+        (r .survey ≡ surveyOf g n (now (img .entry))) × (r .survey .level < 255) ⌝ }
 {
     let survey = chip_survey::take_survey(g, img, n);
     let verdict = broken_pages(g, img, n);
@@ -247,7 +251,8 @@ fn judge_by(
 ) -> Judgement
     requires { ⌜ (g .pages ≤ 64) × (n ≤ 1024) × (65536 ≤ length (now table)) ⌝ }
     requires { ⌜ (n ≤ length (now programmed)) × (n ≤ length (now lows)) × (n ≤ length (now highs)) ⌝ }
-    requires { ⌜ Told (sight .fine) (Clear g n (now img) (sight .rising) (sight .survey) (now programmed) (now lows) (now highs)) (Flaw g n (now img)) ⌝ }
+    requires { ⌜ Told (sight .fine) (Clear g n (now img) (sight .rising) (sight .survey) (now programmed) (now lows)
+        (now highs)) (Flaw g n (now img)) ⌝ }
     ensures { λ r. ⌜ Judged g n (now (img .entry)) r (now (table .entry)) (now (table .exit)) ⌝ }
 {
     if !sight.fine {

@@ -25,4 +25,9 @@ make-stores-spec =
     (λ c. search all)
     (λ c. search all)
     (λ c. search all)
-    (λ c. stores-both _ _ _ _ _ _ _ _ _ _ _ _ _ (c .before .before .before .before .before .before .before .before .before .before .before .before .before .before .before .before .before .fresh .ensures .0) _ _ _ (c .before .before .own-stores .ensures) (c .before .before .before .before .before .before .before .before .before .before .before .before .before .collect .ensures) (c .before .before .before .before .if1 .left) (c .before .before .before .before .before .before .before .before .before .before .before .before .before .before .before .before .before .before .before .before .before .pre .0) (c .before .before .before .before .before .before .before .before .before .before .before .before .before .before .before .before .before .before .before .before .before .pre .2)))
+    (λ c.
+    let at-if1 = c .before .before .before .before in
+    let at-collect = at-if1 .before .before .before .before .before .before .before .before .before in
+    let at-fresh = at-collect .before .before .before .before in
+    let at-pre = at-fresh .before .before .before .before in
+    stores-both _ _ _ _ _ _ _ _ _ _ _ _ _ (at-fresh .fresh .ensures .0) _ _ _ (c .before .before .own-stores .ensures) (at-collect .collect .ensures) (at-if1 .if1 .left) (at-pre .pre .0) (at-pre .pre .2)))

@@ -15,14 +15,24 @@ pub update-blocks-spec : {M : Type 1} → statement M
 update-blocks-spec =
     tie.close
     (tie.spec
-    (λ c κs. (let p = c .before .before .before .before .before .pre in (known-pages _ (p .0 .0), p .1 .1, p .1 .3)))
+    (λ c κs.
+    let at-pre = c .before .before .before .before .before in
+    (let p = at-pre .pre in (known-pages _ (p .0 .0), p .1 .1, p .1 .3)))
     (λ c. search all)
     (λ c. search all)
-    (λ c κs. (let p = c .before .before .before .before .before .before .before .before .before .before .before .before .before .before .pre in let j = c .before .before .before .before .before .before .before .before .judge-image .ensures in (known-sized _ _ (p .0 .0) (p .1 .1), j .survey, j .level)))
+    (λ c κs.
+    let at-judge-image = c .before .before .before .before .before .before .before .before in
+    let at-pre = at-judge-image .before .before .before .before .before .before in
+    (let p = at-pre .pre in
+    let j = at-judge-image .judge-image .ensures in (known-sized _ _ (p .0 .0) (p .1 .1), j .survey, j .level)))
     (λ c. search all)
     (λ c. search all)
     (λ c. search all)
     (λ c. search all)
     (λ c. search all)
     (λ c. search all)
-    (λ c. (let p = c .before .before .before .before .before .before .before .before .before .before .before .before .before .before .before .before .before .before .before .before .before .pre in update-sound _ _ _ _ _ _ (p .1 .0) (p .1 .2) (p .1 .4) _ _ _ (c .before .before .before .before .before .before .before .before .before .before .before .before .before .before .before .judge-image .ensures) _ (c .before .before .before .before .before .before .update-judged .ensures) (search needs) (p .0 .0) (p .1 .1) (p .1 .3) (search needs) (p .0 .1))))
+    (λ c.
+    let at-update-judged = c .before .before .before .before .before .before in
+    let at-judge-image = at-update-judged .before .before .before .before .before .before .before .before .before in
+    let at-pre = at-judge-image .before .before .before .before .before .before in
+    (let p = at-pre .pre in update-sound _ _ _ _ _ _ (p .1 .0) (p .1 .2) (p .1 .4) _ _ _ (at-judge-image .judge-image .ensures) _ (at-update-judged .update-judged .ensures) (search needs) (p .0 .0) (p .1 .1) (p .1 .3) (search needs) (p .0 .1))))

@@ -17,8 +17,15 @@ update-judged-spec =
     (tie.spec
     (λ c κs. search all)
     (λ c κs. search all)
-    (λ c κs. (c .before .before .before .before .before .before .before .before .before .before .before .before .before .pre .0, height-low _ _ _ _ _ (c .before .before .before .record-of .ensures) (c .before .before .before .before .before .before .before .before .before .before .before .before .before .pre .1) (c .before .before .before .before .before .before .before .before .before .before .before .before .before .pre .2)))
+    (λ c κs.
+    let at-record-of = c .before .before .before in
+    let at-pre = at-record-of .before .before .before .before .before .before .before .before .before .before in
+    (at-pre .pre .0, height-low _ _ _ _ _ (at-record-of .record-of .ensures) (at-pre .pre .1) (at-pre .pre .2)))
     (λ c. search all)
     (λ c. search all)
     (λ c. search all)
-    (λ c. judged-is _ _ _ _ (c .before .before .before .before .before .before .update-rest .result .answer) _ _ _ _ _ _ _ _ (c .before .before .before .before .before .before .update-rest .ensures) (c .before .before .before .before .before .before .before .before .before .before .record-of .ensures) (c .before .before .before .before .before .before .before .before .before .before .before .before .before .before .fill-words .ensures)))
+    (λ c.
+    let at-update-rest = c .before .before .before .before .before .before in
+    let at-record-of = at-update-rest .before .before .before .before in
+    let at-fill-words = at-record-of .before .before .before .before in
+    judged-is _ _ _ _ (at-update-rest .update-rest .result .answer) _ _ _ _ _ _ _ _ (at-update-rest .update-rest .ensures) (at-record-of .record-of .ensures) (at-fill-words .fill-words .ensures)))

@@ -18,4 +18,6 @@ update-made-spec =
     (λ c. search all)
     (λ c. search all)
     (λ c. search all)
-    (λ c. made-is _ _ _ _ _ _ _ _ _ _ _ _ (c .before .before .finish .ensures) (c .before .before .before .before .before .before .before .before .before .before .before .before .before .make-stores .ensures)))
+    (λ c.
+    let at-make-stores = c .before .before .before .before .before .before .before .before .before .before .before .before .before in
+    made-is _ _ _ _ _ _ _ _ _ _ _ _ (c .before .before .finish .ensures) (at-make-stores .make-stores .ensures)))

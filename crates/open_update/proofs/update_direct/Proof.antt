@@ -19,4 +19,8 @@ update-direct-spec =
     (λ c κs. search all)
     (λ c. search all)
     (λ c. search all)
-    (λ c. direct-is _ _ _ _ _ _ _ _ _ (c .before .before .before .before .before .before .before .own-stores .ensures) _ _ _ _ (c .before .before .finish .ensures) (c .before .before .before .before .before .before .before .before .before .fresh .ensures .0) (c .before .before .before .before .before .before .before .before .before .before .before .before .pre .3) (c .before .before .before .before .before .before .before .before .before .before .before .before .pre .0) (c .before .before .before .before .before .before .before .before .before .before .before .before .pre .2)))
+    (λ c.
+    let at-own-stores = c .before .before .before .before .before .before .before in
+    let at-fresh = at-own-stores .before .before in
+    let at-pre = at-fresh .before .before .before in
+    direct-is _ _ _ _ _ _ _ _ _ (at-own-stores .own-stores .ensures) _ _ _ _ (c .before .before .finish .ensures) (at-fresh .fresh .ensures .0) (at-pre .pre .3) (at-pre .pre .0) (at-pre .pre .2)))

@@ -18,4 +18,7 @@ update-noted-spec =
     (λ c. search all)
     (λ c. search all)
     (λ c. search all)
-    (λ c. collected-is _ _ _ _ _ _ _ _ _ _ (c .before .before .before .before .before .before .update-made .ensures) (c .before .before .before .before .before .before .before .before .before .before .before .before .note-levels .ensures)))
+    (λ c.
+    let at-update-made = c .before .before .before .before .before .before in
+    let at-note-levels = at-update-made .before .before .before .before .before .before in
+    collected-is _ _ _ _ _ _ _ _ _ _ (at-update-made .update-made .ensures) (at-note-levels .note-levels .ensures)))

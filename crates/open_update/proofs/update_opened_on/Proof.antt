@@ -21,11 +21,30 @@ update-opened-on-spec =
     (λ c. with-length _ _ _ _ _ _ _ (c .before .good-blocks .ensures .0) (c .if1 .taken))
     (λ c κs. search all)
     (λ c. search all)
-    (λ c. with-short _ _ _ _ _ _ _ (c .before .before .before .good-blocks .ensures .0) (c .before .before .if1 .left) _ (c .before .words-of .ensures .0) (c .if2 .taken))
+    (λ c.
+    let at-good-blocks = c .before .before .before in
+    with-short _ _ _ _ _ _ _ (at-good-blocks .good-blocks .ensures .0) (c .before .before .if1 .left) _ (c .before .words-of .ensures .0) (c .if2 .taken))
     (λ c κs. search all)
     (λ c. search all)
-    (λ c. with-stale _ _ _ _ _ _ _ (c .before .before .before .before .before .before .good-blocks .ensures .0) (c .before .before .before .before .before .if1 .left) _ (c .before .before .before .before .words-of .ensures .0) (c .before .before .before .if2 .left) _ (c .before .standing .ensures) (c .if3 .taken))
-    (λ c κs. (known-sized _ _ (c .before .before .before .before .before .before .before .before .before .before .before .before .pre) (c .before .before .before .before .before .before .before .before .good-blocks .ensures .1), stands-low _ _ _ _ _ (c .before .before .before .standing .ensures) (c .before .before .if3 .left) (search needs)))
+    (λ c.
+    let at-if2 = c .before .before .before in
+    let at-words-of = at-if2 .before in
+    let at-if1 = at-words-of .before in
+    let at-good-blocks = at-if1 .before in
+    with-stale _ _ _ _ _ _ _ (at-good-blocks .good-blocks .ensures .0) (at-if1 .if1 .left) _ (at-words-of .words-of .ensures .0) (at-if2 .if2 .left) _ (c .before .standing .ensures) (c .if3 .taken))
+    (λ c κs.
+    let at-standing = c .before .before .before in
+    let at-good-blocks = at-standing .before .before .before .before .before in
+    let at-pre = at-good-blocks .before .before .before .before in
+    (known-sized _ _ (at-pre .pre) (at-good-blocks .good-blocks .ensures .1), stands-low _ _ _ _ _ (at-standing .standing .ensures) (c .before .before .if3 .left) (search needs)))
     (λ c. search all)
     (λ c. search all)
-    (λ c. with-rest _ _ _ _ _ _ _ (c .before .before .before .before .before .before .before .before .before .before .before .before .before .good-blocks .ensures .0) (c .before .before .before .before .before .before .before .before .before .before .before .before .if1 .left) _ (c .before .before .before .before .before .before .before .before .before .before .before .words-of .ensures .0) (c .before .before .before .before .before .before .before .before .before .before .if2 .left) _ (c .before .before .before .before .before .before .before .before .standing .ensures) _ (c .before .before .before .before .update-by .ensures) (c .before .before .before .before .before .before .before .if3 .left)))
+    (λ c.
+    let at-update-by = c .before .before .before .before in
+    let at-if3 = at-update-by .before .before .before in
+    let at-standing = at-if3 .before in
+    let at-if2 = at-standing .before .before in
+    let at-words-of = at-if2 .before in
+    let at-if1 = at-words-of .before in
+    let at-good-blocks = at-if1 .before in
+    with-rest _ _ _ _ _ _ _ (at-good-blocks .good-blocks .ensures .0) (at-if1 .if1 .left) _ (at-words-of .words-of .ensures .0) (at-if2 .if2 .left) _ (at-standing .standing .ensures) _ (at-update-by .update-by .ensures) (at-if3 .if3 .left)))

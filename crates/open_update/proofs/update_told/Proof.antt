@@ -18,8 +18,15 @@ update-told-spec =
     (λ c κs. search all)
     (λ c. search all)
     (λ c. search all)
-    (λ c. told-room _ _ _ _ _ _ _ _ _ (c .before .before .before .before .before .tell .ensures) _ (c .before .is-roomless .ensures) (c .if1 .taken))
+    (λ c.
+    let at-tell = c .before .before .before .before .before in
+    told-room _ _ _ _ _ _ _ _ _ (at-tell .tell .ensures) _ (c .before .is-roomless .ensures) (c .if1 .taken))
     (λ c κs. search all)
     (λ c. search all)
     (λ c. search all)
-    (λ c. told-made _ _ _ _ _ _ _ _ _ (c .before .before .before .before .before .before .before .before .before .before .before .before .tell .ensures) _ (c .before .before .before .before .before .before .before .before .is-roomless .ensures) _ (c .before .before .before .before .update-roomy .ensures) (c .before .before .before .before .before .before .before .if1 .left)))
+    (λ c.
+    let at-update-roomy = c .before .before .before .before in
+    let at-if1 = at-update-roomy .before .before .before in
+    let at-is-roomless = at-if1 .before in
+    let at-tell = at-is-roomless .before .before .before .before in
+    told-made _ _ _ _ _ _ _ _ _ (at-tell .tell .ensures) _ (at-is-roomless .is-roomless .ensures) _ (at-update-roomy .update-roomy .ensures) (at-if1 .if1 .left)))
