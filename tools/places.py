@@ -7,7 +7,7 @@ Then: `rt fmt` and `rt check`.
 import re
 import sys
 
-CHAIN = re.compile(r"\bc((?: \.before){3,}) \.([a-z0-9-]+)")
+CHAIN = re.compile(r"\bc((?: \.before){3,}) \.((?!before\b)[a-z0-9-]+)")
 GOAL = re.compile(r"^( *)(\(λ c(?: κs)?\.|[a-z0-9-]+ c(?: κs)? =)[ \n]*", re.M)
 
 

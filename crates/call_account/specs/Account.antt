@@ -1,4 +1,5 @@
--- A fresh allowance, the answer that a budget tells, and what an update makes and leaves. Definitions alone; assumes nothing.
+-- A fresh allowance, the answer that a budget tells, and what an update makes and leaves. Definitions alone; assumes
+-- nothing.
 use Prim.Native.Nat.{ℕ, _*_, _<_, _≤_}
 use mathlib.Core.Bool.{false}
 use mathlib.Core.List.{List}
@@ -6,6 +7,7 @@ use mathlib.Core.Path.{_≡_}
 use Rattle.geometry.specs.declared.Geometry.{Geometry}
 use Rattle.geometry.specs.Geometry.{pageBytes}
 use Rattle.geometry.specs.Tests.{pick}
+use Rattle.geometry.specs.Bounds.{longestPage}
 use Rattle.call_answers.specs.declared.Answer.{Answer}
 use Rattle.call_answers.specs.declared.Answer.the-variants.{Done, Stopped}
 use Rattle.model.specs.Stores.{Store}
@@ -27,7 +29,7 @@ use Rattle.call_account.specs.declared.Renewed.{Renewed}
 -- what an update's functions ask of a chip of n blocks: its levels, a page's bytes and the pages are few
 pub record Sized (g : Geometry) (n : ℕ) : Type 0 where
   pub top : g .top < 256
-  pub page : pageBytes g ≤ 2112
+  pub page : pageBytes g ≤ longestPage
   pub pages : g .pages * n ≤ 65536
 
 abbrev pub freshOf : ℕ → Budget
@@ -49,14 +51,16 @@ unfoldable pub leftRecord : Geometry → ℕ → Own → Opened → ℕ → List
 leftRecord g n own o m img = pick (own .budget .stopped) (openedIn g n img) (recordMade g n o m (crestOf own) img)
 
 -- what the last steps leave
-pub record Leaves (g : Geometry) (n : ℕ) (own : Own) (o : Opened) (m : ℕ) (img : List ℕ) (r : Renewed) (mid new : List ℕ) : Type 0 where
+pub record Leaves (g : Geometry) (n : ℕ) (own : Own) (o : Opened) (m : ℕ) (img : List ℕ)
+    (r : Renewed) (mid new : List ℕ) : Type 0 where
   pub answer : r .answer ≡ answerBy (own .budget)
   pub opened : r .opened ≡ leftRecord g n own o m img
   pub words : new ≡ wordsBy g n (leftRecord g n own o m img) img mid
 
--- an update's stores ss from an allowance of x, the own pages from the record h on, after which the root stands at t; the lent words, old
--- before, stay past the image's
-pub record Makes (g : Geometry) (n : ℕ) (ss : List Store) (h : Opened) (t : Crest) (x : ℕ) (r : Made) (i o old mid : List ℕ) : Type 0 where
+-- an update's stores ss from an allowance of x, the own pages from the record h on, after which the root stands at t;
+-- the lent words, old before, stay past the image's
+pub record Makes (g : Geometry) (n : ℕ) (ss : List Store)
+    (h : Opened) (t : Crest) (x : ℕ) (r : Made) (i o old mid : List ℕ) : Type 0 where
   pub ran : Ran g ss (freshOf x) (r .own .budget) i o
   pub opened : r .own .budget .stopped ≡ false → r .opened ≡ h
   pub crest : r .own .budget .stopped ≡ false → crestOf (r .own) ≡ t

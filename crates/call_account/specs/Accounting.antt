@@ -62,7 +62,8 @@ module _ (g : Geometry) (n e k w : ℕ) (lent : List ℕ) (ew : w ≡ 2 * g .pag
   room-words p l ep el s h = sym (rw (← ew, lt-ltb 1 k s, lt-ltb e w h, and-true, and-true, ← el, ← ep))
 
 -- ---- the lent words
-pub fill-is : (g : Geometry) (n m : ℕ) (tbl x y : List ℕ) → y ≡ filled (liveIn tbl) m x → m ≡ wordsOf g n → y ≡ filled (liveIn tbl) (wordsOf g n) x
+pub fill-is : (g : Geometry) (n m : ℕ) (tbl x y : List ℕ) → y ≡ filled (liveIn tbl) m x → m ≡ wordsOf g n
+    → y ≡ filled (liveIn tbl) (wordsOf g n) x
 fill-is g n m tbl x y e em = e ∙ rw em
 
 words-pages : (p n : ℕ) → p / 32 * n * 32 ≤ p * n
@@ -75,20 +76,23 @@ by-table g n c tbl x m h =
     let w : g .pages / 32 * n * 32 ≤ g .pages * n = words-pages (g .pages) n in
     filled-alike (liveIn tbl) (live (placesOf c)) (wordsOf g n) (λ p k. marked-live c tbl m p (omega (arith, w, h))) x
 
-pub tell-is : (g : Geometry) (n l : ℕ) (o : Opened) (img x y : List ℕ) → y ≡ filled (live (take 8388608 (placesOf (chipWith g img l (o .root))))) (wordsOf g n) x
+pub tell-is : (g : Geometry) (n l : ℕ) (o : Opened) (img x y : List ℕ)
+    → y ≡ filled (live (take 8388608 (placesOf (chipWith g img l (o .root))))) (wordsOf g n) x
     → l ≡ levelBy g o → y ≡ wordsBy g n o img x
 unfolding wordsBy
 tell-is g n l o img x y e el = e ∙ ap (λ (z : ℕ). filled (live (take 8388608 (placesOf (chipWith g img z (o .root))))) (wordsOf g n) x) el
 
 -- a table of zeros
 zeros-are : (n : ℕ) (tbl : List ℕ) → length tbl ≡ n → Zeros tbl n → tbl ≡ replicate n 0
-zeros-are n tbl e z = ext-getD 0 tbl (replicate n 0) (e ∙ sym (length-replicate n 0)) (λ i h. z .zeros i (rw e at h) ∙ sym (getD-replicate n i 0 0 (rw e at h)))
+zeros-are n tbl e z = ext-getD 0 tbl (replicate n 0) (e ∙ sym (length-replicate n 0)) (λ i h. z .zeros i (rw e at h)
+    ∙ sym (getD-replicate n i 0 0 (rw e at h)))
 
 no-levels : (t tbl : List ℕ) → Zeros tbl (length t) → length tbl ≡ length t → length t ≡ 65536 → tbl ≡ noLevels
 unfolding noLevels
 no-levels t tbl z e h = zeros-are 65536 tbl (e ∙ h) (rw h at z)
 
-pub levels-is : (g : Geometry) (l : ℕ) (o : Opened) (img t u tbl : List ℕ) → tbl ≡ noteAll (take 8388608 (placesOf (chipWith g img l (o .root)))) u → l ≡ levelBy g o
+pub levels-is : (g : Geometry) (l : ℕ) (o : Opened) (img t u tbl : List ℕ)
+    → tbl ≡ noteAll (take 8388608 (placesOf (chipWith g img l (o .root)))) u → l ≡ levelBy g o
     → Zeros u (length t) → length u ≡ length t → length t ≡ 65536 → tbl ≡ levelsBy g img o
 unfolding levelsBy
 levels-is g l o img t u tbl e el z eu h =
@@ -104,7 +108,8 @@ module _ (g : Geometry) (n m : ℕ) (own : Own) (o r : Opened) (img : List ℕ) 
   unfolding leftRecord
   left-stopped e t = e ∙ rw t
 
-  pub left-made : r ≡ recordAt g n o m (own .page) (own .level) img → own .budget .stopped ≡ false → r ≡ leftRecord g n own o m img
+  pub left-made : r ≡ recordAt g n o m (own .page) (own .level) img → own .budget .stopped ≡ false
+      → r ≡ leftRecord g n own o m img
   unfolding leftRecord
   left-made e t = e ∙ made-at g n o m (crestOf own) img ∙ rw t
 
@@ -112,9 +117,11 @@ module _ (g : Geometry) (n m : ℕ) (own : Own) (o r : Opened) (img : List ℕ) 
   unfolding recordAt recordMade
   left-low e h = rw (ap (λ (y : Opened). y .height) e) (omega arith)
 
-pub leaves : (g : Geometry) (n m : ℕ) (own : Own) (o t : Opened) (a : Answer) (img mid new : List ℕ) → new ≡ wordsBy g n t img mid → t ≡ leftRecord g n own o m img
+pub leaves : (g : Geometry) (n m : ℕ) (own : Own) (o t : Opened) (a : Answer) (img mid new : List ℕ)
+    → new ≡ wordsBy g n t img mid → t ≡ leftRecord g n own o m img
     → a ≡ answerBy (own .budget) → Leaves g n own o m img (record { answer = a; opened = t }) mid new
-leaves g n m own o t a img mid new ew et ea = record { answer = ea; opened = et; words = ew ∙ ap (λ (y : Opened). wordsBy g n y img mid) et }
+leaves g n m own o t a img mid new ew et ea =
+    record { answer = ea; opened = et; words = ew ∙ ap (λ (y : Opened). wordsBy g n y img mid) et }
 
 -- ---- the outcome of a run of all stores from a fresh allowance
 module _ (g : Geometry) (ss : List Store) (a : ℕ) (r : Budget) (i o : List ℕ) (run : Ran g ss (freshOf a) r i o) where
@@ -128,7 +135,8 @@ module _ (g : Geometry) (ss : List Store) (a : ℕ) (r : Budget) (i o : List ℕ
   pub whole-is : r .stopped ≡ false → all ≡ true
   whole-is q = le-leb (length ss) (length (madeOf g ss a i)) (ltb-false _ _ (sym (run .stopped) ∙ q))
 
-  pub told-made : told (answerBy r) o ≡ gives (pick all 0 7) 0 (programs (madeOf g ss a i)) (erases (madeOf g ss a i)) (applyAll g (madeOf g ss a i) i)
+  pub told-made : told (answerBy r) o ≡ gives (pick all 0 7) 0 (programs (madeOf g ss a i)) (erases (madeOf g ss a i))
+      (applyAll g (madeOf g ss a i) i)
   unfolding answerBy
   told-made = go (r .stopped) refl
     where
@@ -138,8 +146,10 @@ module _ (g : Geometry) (ss : List Store) (a : ℕ) (r : Budget) (i o : List ℕ
       erased : r .erased ≡ erases (madeOf g ss a i)
       erased = run .erased ∙ zero-add (erases (madeOf g ss a i))
 
-      go : (t : Bool) → r .stopped ≡ t → told (pick (r .stopped) (Stopped (r .programmed) (r .erased)) (Done 0 (r .programmed) (r .erased))) o
-          ≡ gives (pick all 0 7) 0 (programs (madeOf g ss a i)) (erases (madeOf g ss a i)) (applyAll g (madeOf g ss a i) i)
+      go : (t : Bool) → r .stopped ≡ t → told (pick (r .stopped) (Stopped (r .programmed) (r .erased))
+          (Done 0 (r .programmed) (r .erased))) o
+          ≡ gives (pick all 0 7) 0 (programs (madeOf g ss a i)) (erases (madeOf g ss a i))
+          (applyAll g (madeOf g ss a i) i)
       go true e = rw (halted-is e, e, programmed, erased, run .image)
       go false e = rw (whole-is e, e, programmed, erased, run .image)
 

@@ -1,4 +1,5 @@
--- A call with lent words, judged first, in the form in which the code has the premises: `rest` is what a sound image gives. Assumes nothing.
+-- A call with lent words, judged first, in the form in which the code has the premises: `rest` is what a sound image
+-- gives. Assumes nothing.
 use Prim.Native.Nat.{ℕ, _*_, _<_, _≤_}
 use mathlib.Core.Bool.{Bool, true, false}
 use mathlib.Core.Path.{_≡_, refl, sym, _∙_}
@@ -46,7 +47,8 @@ module _ (g : Geometry) (img old : List ℕ) (rest : Outcome) (n : ℕ) (en : n 
         → reply (damaged img rule page) old ≡ withWords g img old (judgedCall g img rest)
     unfolding withWords byVerdict leavesWords
     lent-broken rule page h e =
-        let o : damaged img rule page ≡ judgedCall g img rest = judged-blocks g img (refused 1 img) (damaged img) rest n en _ some (sym (rw e)) in
+        let o : damaged img rule page ≡ judgedCall g img rest =
+        judged-blocks g img (refused 1 img) (damaged img) rest n en _ some (sym (rw e)) in
         sym (rw (← o, ← (some-blocks g img n en some), le-leb (wordsOf g n) (length old) h))
 
 -- what the code asks of a geometry
@@ -75,13 +77,16 @@ module _ (g : Geometry) (known : Known g) (img old : List ℕ) (room : 2048 ≤ 
   unfolding withWords judged
   lent-outcome rest = go (goodLength g img) refl
     where
-      same : (t : Bool) (y : List ℕ) → pick t (reply (refused 1 img) y) (reply (refused 1 img) old) .outcome ≡ refused 1 img
+      same : (t : Bool) (y : List ℕ) → pick t (reply (refused 1 img) y) (reply (refused 1 img) old) .outcome ≡ refused 1
+          img
       same true y = refl
       same false y = refl
 
-      go : (t : Bool) → goodLength g img ≡ t → withWords g img old (judgedCall g img rest) .outcome ≡ judgedCall g img rest
+      go : (t : Bool) → goodLength g img ≡ t → withWords g img old (judgedCall g img rest) .outcome ≡ judgedCall g img
+          rest
       go true e =
-          let h : wordsOf g (blocksOf g img) ≤ length old = (let w = words-most g (blocksOf g img) known (good-most g img e) in omega (arith, w, room)) in
+          let h : wordsOf g (blocksOf g img) ≤ length old =
+          (let w = words-most g (blocksOf g img) known (good-most g img e) in omega (arith, w, room)) in
           rw (le-leb (wordsOf g (blocksOf g img)) (length old) h)
       go false e = rw e (same (leb (wordsOf g (blocksOf g img)) (length old)) _)
 
@@ -94,10 +99,12 @@ module _ (g : Geometry) (known : Known g) (img old : List ℕ) (room : 2048 ≤ 
   delete-outcome k x = lent-outcome _
 
 -- the table and the words as the judge and the first filling leave them
-pub right : (g : Geometry) (n : ℕ) (img tbl old words : List ℕ) → Marked (chipOf g n img) tbl → g .pages * n ≤ length tbl
+pub right : (g : Geometry) (n : ℕ) (img tbl old words : List ℕ) → Marked (chipOf g n img) tbl
+    → g .pages * n ≤ length tbl
     → words ≡ filled (liveIn tbl) (wordsOf g n) old → wordsOf g n ≤ length old → Right g n img (tableIn tbl words)
 right g n img tbl old words marked room e h =
-    let f : words ≡ filled (live (placesOf (chipOf g n img))) (wordsOf g n) old = e ∙ by-table g n (chipOf g n img) tbl old marked room in
+    let f : words ≡ filled (live (placesOf (chipOf g n img))) (wordsOf g n) old =
+    e ∙ by-table g n (chipOf g n img) tbl old marked room in
     record {
       room = room;
       marked = marked;

@@ -45,7 +45,13 @@ from-most p n (suc i) er x y h k =
 module _ (g : Geometry) (n : ℕ) (i : List ℕ) (o : Opened) (sized : Sized g n) where
   -- the first 256 pages to come
   pub page-low : (j : ℕ) → j ≤ 256 → pageBy g n i o j < 4294967295
-  page-low j h = omega (arith, from-most (g .pages) n j (erased g i) (min (g .pages * n) (o .next)) (g .pages * n) (min-le-left (g .pages * n) (o .next)) (omega arith), sized .pages, h)
+  page-low j h = omega (
+    arith,
+    from-most (g .pages) n j (erased g i) (min (g .pages * n) (o .next))
+        (g .pages * n) (min-le-left (g .pages * n) (o .next)) (omega arith),
+    sized .pages,
+    h,
+  )
 
   -- the pages of the first 256 levels
   pub side-low : (m : ℕ) → m ≤ 256 → sidesBy g n i o m < 4294967295

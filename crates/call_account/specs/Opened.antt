@@ -1,4 +1,5 @@
--- A call with the record, in the form in which the code has the premises: `rest` is what is given where the record stands. Assumes nothing.
+-- A call with the record, in the form in which the code has the premises: `rest` is what is given where the record
+-- stands. Assumes nothing.
 use Prim.Native.Nat.{ℕ, _<_, _≤_}
 use mathlib.Core.Bool.{Bool, true, false, not}
 use mathlib.Core.Path.{_≡_, refl, sym, ap, _∙_}

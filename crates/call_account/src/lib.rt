@@ -1,11 +1,12 @@
-// The account of an update: its fresh allowance, ROOM, the record and the lent words that it leaves, and the answer that its stores
-// give.
+// The account of an update: its fresh allowance, ROOM, the record and the lent words that it leaves, and the answer
+// that its stores give.
 ghost use mathlib.Core.Path.{_≡_};
 ghost use mathlib.Core.Bool.{false};
 ghost use Prim.Native.Nat.{_+_, _*_, _-_, _≤_, _<_};
 ghost use lib.Dec.{ltb};
 ghost use lib.ListN.{length};
 ghost use Rattle.geometry.specs.Tests.{_&_};
+ghost use Rattle.chip_store.specs.Run.{Countable};
 ghost use Rattle.model.specs.Calls.{roomless};
 ghost use Rattle.call_answers.specs.Answers.{told};
 ghost use Rattle.live_walk.specs.Table.{liveIn};
@@ -31,7 +32,7 @@ pub struct Renewed {
 }
 
 pub fn fresh(allowance: u32) -> Budget
-    ensures { λ r. ⌜ (r ≡ freshOf allowance) × (r .left + r .programmed + r .erased < 4294967296) × (r .stopped ≡ false) ⌝ }
+    ensures { λ r. ⌜ (r ≡ freshOf allowance) × (Countable r) × (r .stopped ≡ false) ⌝ }
 {
     Budget {
         left: allowance,
@@ -65,7 +66,8 @@ pub fn needed(g: Geometry, k: u32) -> u32
 // ROOM, not for one page, by the erased pages alone where they are enough, else by the lent words of live pages.
 pub fn is_roomless(g: Geometry, lent: &[u32], n: u16, erased: u32, k: u32) -> bool
     requires { ⌜ k < 65536 ⌝ }
-    ensures { λ r. ⌜ r ≡ (ltb 1 k & roomless g erased k & roomless g (g .pages * n - allOnes g n (now (lent .entry))) k) ⌝ }
+    ensures { λ r. ⌜ r ≡ (ltb 1 k & roomless g erased k & roomless g (g .pages * n - allOnes g n (now (lent .entry)))
+        k) ⌝ }
 {
     if k <= 1 {
         return false;
@@ -119,7 +121,8 @@ pub fn refuse(g: Geometry, img: &[u8], lent: &mut [u32], n: u16, o: Opened, a: A
     }
 }
 
-// The record of the image that an update of m own pages leaves: it goes on from o where all stores were made, else it is taken anew.
+// The record of the image that an update of m own pages leaves: it goes on from o where all stores were made, else it
+// is taken anew.
 fn left_record(g: Geometry, img: &[u8], n: u16, own: Own, o: Opened, m: u32) -> Opened
     requires { ⌜ (m ≤ 256) × (own .page < 4294967295) × (own .level < 255) ⌝ }
     ensures { λ r. ⌜ (r ≡ leftRecord g n own o m (now (img .entry))) × (r .height < 256) ⌝ }

@@ -1,4 +1,2 @@
--- Delete, and its laws.
-pub mod Delete
+-- Delete as an update.
 pub mod Deletes
-pub mod With

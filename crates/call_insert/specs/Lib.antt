@@ -1,4 +1,2 @@
--- Insert, and its laws.
-pub mod Insert
+-- Insert as an update.
 pub mod Inserts
-pub mod With

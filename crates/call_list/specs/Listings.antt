@@ -239,7 +239,8 @@ module _ (g : Geometry) (n : ℕ) (img : List ℕ) (low high : ℕ) (j : Judgeme
     listed-broken r p b e = sym (simp (← (x .verdict), e))
 
     pub listed-sound : (b : List ℕ) (o : Outcome) → Known g → j .verdict ≡ Sound
-        → o ≡ asOutcome (lists (take pairsMost (rangedOf (chipWith g img (j .survey .level) (j .survey .root)) low high))
+        → o ≡ asOutcome (lists (take pairsMost (rangedOf (chipWith g img (j .survey .level) (j .survey .root)) low
+        high))
         b) → o ≡ asOutcome (listedIn g n img low high b)
     unfolding listedIn byVerdict
     listed-sound b o known e f =

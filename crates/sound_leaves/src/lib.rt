@@ -3,19 +3,20 @@ ghost use mathlib.Core.Path.{_≡_};
 ghost use Prim.Native.Nat.{_+_, _*_, _-_, _≤_, _<_};
 ghost use lib.Dec.{eqb, leb};
 ghost use lib.ListN.{length};
+ghost use Rattle.geometry.specs.Bounds.{fourBytes};
 ghost use Rattle.model.specs.Bytes.{u32At, entriesAt};
 ghost use Rattle.model.specs.Rules.{rising};
 ghost use Rattle.sound_leaves.specs.Leaves.{anyPage, after};
 
 fn long(x: u32) -> u64
-    ensures { λ r. ⌜ (r ≡ x) × (r < 4294967296) ⌝ }
+    ensures { λ r. ⌜ (r ≡ x) × (r < fourBytes) ⌝ }
 {
     x as u64
 }
 
 // The key at an index.
 pub fn key_at(img: &[u8], at: usize) -> u64
-    ensures { λ r. ⌜ (r ≡ u32At (now (img .entry)) at) × (r < 4294967296) ⌝ }
+    ensures { λ r. ⌜ (r ≡ u32At (now (img .entry)) at) × (r < fourBytes) ⌝ }
 {
     chip_read::read_u32(img, at) as u64
 }

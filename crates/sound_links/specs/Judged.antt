@@ -11,6 +11,7 @@ use Rattle.geometry.specs.declared.Entry.{Entry}
 use Rattle.geometry.specs.declared.Finding.{Finding}
 use Rattle.geometry.specs.declared.Finding.the-variants.{Good, Bad}
 use Rattle.geometry.specs.Tests.{_&_, and-left, and-right}
+use Rattle.geometry.specs.Bounds.{fourBytes}
 use Rattle.model.specs.Image.{Nodes, Chip}
 use Rattle.model.specs.Tree.{following, gather, Place, places}
 use Rattle.model.specs.Rules.{first, names, rising, own, ownRoot, judgeEntries, judgeNode, r5}
@@ -72,12 +73,12 @@ unfolding places r5 ownRoot Below
 r5-inside g t m c le k h =
     let own = ownRoot g (c .er) (c .nodes) t (suc (c .level)) (c .root) in
     let node = c .nodes (c .root) (suc (c .level)) in
-    let two = good-unless own (c .root) (judgeEntries (judgeNode g (c .er) (c .nodes) t (c .level)) node 4294967296) h in
+    let two = good-unless own (c .root) (judgeEntries (judgeNode g (c .er) (c .nodes) t (c .level)) node fourBytes) h in
     record {
       inside = (
         k,
-        below-entries g (c .er) (c .nodes) t m le (c .level) node 4294967296
+        below-entries g (c .er) (c .nodes) t m le (c .level) node fourBytes
             (λ x a b. below-node g (c .er) (c .nodes) t m le (c .level) x a b)
-            (rising-names (names (c .er) t (suc (c .level))) node 0 4294967296 (and-right _ _ (two .0))) (two .1),
+            (rising-names (names (c .er) t (suc (c .level))) node 0 fourBytes (and-right _ _ (two .0))) (two .1),
       );
     }

@@ -17,6 +17,7 @@ use Rattle.geometry.specs.declared.Finding.{Finding}
 use Rattle.geometry.specs.declared.Finding.the-variants.{Good, Bad}
 use Rattle.geometry.specs.Geometry.{slotsOf, rootMost}
 use Rattle.geometry.specs.Tests.{pick, _&_, and-true, and-false}
+use Rattle.geometry.specs.Bounds.{fourBytes}
 use Rattle.model.specs.Bytes.{u32At, erased, nodePlace, nodeCount, entriesAt, nodeAt}
 use Rattle.model.specs.Image.{Nodes}
 use Rattle.model.specs.Tree.{following}
@@ -50,7 +51,7 @@ module _ (er : ℕ → Bool) (t l a : ℕ) where
   names-on b f e h = simp (ne-eqb _ _ e, lt-ltb _ _ h, and-true, ← f)
 
 -- by the count of programmed pages
-pub blank-fits : (r s : ℕ) → r < 4294967296 → Fits w64 (r / s * 2)
+pub blank-fits : (r s : ℕ) → r < fourBytes → Fits w64 (r / s * 2)
 blank-fits r s h = record { fits = omega (arith, h, div-le-self r s) }
 
 pub blank-read : (r s p q : ℕ) (xs : List ℕ) → r ≡ p → s ≡ q → p / q < length xs → r / s < length xs
@@ -167,7 +168,7 @@ module _ (g : Geometry) (er : ℕ → Bool) (img : List ℕ) (t l p n m : ℕ) (
   root-over s es f h = simp (root-size, ← em, ← es, le-leb _ _ f, lt-leb _ _ h, and-true, and-false)
 
   pub root-on : (s at : ℕ) (b : Bool) → s ≡ rootMost g l → at ≡ nodePlace g p l → b ≡ rising (names er t l)
-      (entriesAt img at n) 0 4294967296
+      (entriesAt img at n) 0 fourBytes
       → m ≤ n → n ≤ s → b ≡ ownRoot g er (nodeAt g img) t l p
   unfolding ownRoot rootLeast
   root-on s at b es ea eb f h =
@@ -264,7 +265,7 @@ module _ (g : Geometry) (img : List ℕ) (t l p : ℕ) (b : Bool) (eb : b ≡ ow
   rule-root q = sym (rw (← (add-one l), ← eb, not-true b q) (unless-false p _))
 
   pub rule-below : (at n : ℕ) (v : Finding) → not b ≡ false → at ≡ nodePlace g p (l + 1) → n ≡ nodeCount g img p (l + 1)
-      → v ≡ judgeEntries (judgeNode g (erased g img) (nodeAt g img) t l) (entriesAt img at n) 4294967296
+      → v ≡ judgeEntries (judgeNode g (erased g img) (nodeAt g img) t l) (entriesAt img at n) fourBytes
       → v ≡ r5 g t (chipWith g img l p)
   unfolding r5
   rule-below at n v q ea en ev =

@@ -11,6 +11,7 @@ use borrow.Author.Tests.{not-false, eq-eqb, ne-eqb, lt-ltb, le-leb, lt-leb, eqb-
 use Rattle.geometry.specs.declared.Geometry.{Geometry}
 use Rattle.geometry.specs.declared.Finding.the-variants.{Good}
 use Rattle.geometry.specs.Tests.{pick}
+use Rattle.geometry.specs.Bounds.{fourBytes}
 use Rattle.model.specs.Bytes.{erased, seqAt}
 use Rattle.model.specs.Rules.{r3}
 use Rattle.theory_counts.specs.Least.{by-lt}
@@ -142,7 +143,7 @@ module _ (lows highs : List ℕ) where
   clear-end b i k x h = record { holds = λ e. record { clear = record { apart = λ a m. x .clear (eqb-true k 0 e) .apart a (omega arith) } } }
 
   -- the nearest beginning above
-  pub over-start : (h : ℕ) → Over lows 0 h 4294967296
+  pub over-start : (h : ℕ) → Over lows 0 h fourBytes
   over-start h = record { over = λ a k. absurd (omega arith) }
 
   pub over-go : (i h c r low : ℕ) → Over lows i h c → low ≡ getD lows i 0 → Nearer low h c r → Over lows (i + 1) h r
@@ -208,7 +209,7 @@ module _ (lows highs : List ℕ) where
     };
   }
 
-  pub space-start : Spaced lows highs 0 0 4294967296
+  pub space-start : Spaced lows highs 0 0 fourBytes
   space-start = record { clear = record { each = λ b h. absurd (omega arith) }; free = record { apart = λ a h. absurd (omega arith) } }
 
   pub space-go : (b floor ceiling : ℕ) (r : Bool) → Shows r (Spaced lows highs b floor ceiling) → not r ≡ false

@@ -4,6 +4,7 @@ ghost use mathlib.Core.Path.{_≡_};
 ghost use Prim.Native.Nat.{_+_, _*_, _-_, _≤_, _<_};
 ghost use mathlib.Core.Bool.{false};
 ghost use lib.ListN.{length, getD};
+ghost use Rattle.geometry.specs.Bounds.{fourBytes};
 ghost use Rattle.model.specs.Bytes.{erased, seqAt};
 ghost use Rattle.model.specs.Rules.{r3};
 ghost use Rattle.sound_numbers.specs.Ranges.{extended, apartOf, Zero, Shows, Ranges, Clear, AllClear, Spaced, Over, Nearer};
@@ -82,7 +83,7 @@ fn apart_below(lows: &[u32], highs: &[u32], block: usize) -> bool
 }
 
 fn long(x: u32) -> u64
-    ensures { λ r. ⌜ (r ≡ x) × (r < 4294967296) ⌝ }
+    ensures { λ r. ⌜ (r ≡ x) × (r < fourBytes) ⌝ }
 {
     x as u64
 }

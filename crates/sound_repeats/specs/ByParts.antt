@@ -11,6 +11,7 @@ use borrow.Author.Tests.{not-true, not-false, eq-eqb, eqb-true, lt-ltb, le-ltb, 
 use Rattle.geometry.specs.declared.Geometry.{Geometry}
 use Rattle.geometry.specs.declared.Finding.the-variants.{Good, Bad}
 use Rattle.geometry.specs.Tests.{_&_, and-true, and-false}
+use Rattle.geometry.specs.Bounds.{fourBytes}
 use Rattle.model.specs.Bytes.{erased, seqAt}
 use Rattle.model.specs.Count.{any}
 use Rattle.model.specs.Rules.{repeated, r3}
@@ -21,7 +22,7 @@ use Rattle.sound_twins.specs.Split.{agree-start}
 use Rattle.sound_repeats.specs.Repeats.{within, Somewhere, Sieved, Stem, Keyed, Held, Stops, Differ, Swept}
 
 -- a page's key
-pub key-parts : (s p k : ℕ) → p < 4294967296 → k ≡ 4294967296 * s + p → (numberIn k ≡ s) × (pageIn k ≡ p)
+pub key-parts : (s p k : ℕ) → p < fourBytes → k ≡ fourBytes * s + p → (numberIn k ≡ s) × (pageIn k ≡ p)
 key-parts s p k h e = (omega arith, omega arith)
 
 -- keys that are kept
@@ -35,7 +36,7 @@ sieved-start l b = record {
 }
 
 module _ (l₀ l : List ℕ) (b k c : ℕ) (x : Sieved l₀ l b k c) where
-  pub sieved-skip : b ≤ getD l k 0 / 4294967296 → Sieved l₀ l b (k + 1) c
+  pub sieved-skip : b ≤ getD l k 0 / fourBytes → Sieved l₀ l b (k + 1) c
   sieved-skip h = record {
     few = omega (arith, x .few);
     there = λ i m t. by-lt i k (λ s. x .there i s t) (λ s. absurd (let e = x .rest i (omega arith) in let w : i ≡ k =
@@ -51,7 +52,7 @@ module _ (l₀ l : List ℕ) (b k c : ℕ) (x : Sieved l₀ l b k c) where
           ap (λ (z : ℕ). numberIn z) (sym e ∙ ap (λ (z : ℕ). getD l z 0) w) in
           omega (arith, u, t, h)
 
-  pub sieved-more : (n : ℕ) → getD l k 0 / 4294967296 < b → k < n → n ≤ length l → Sieved l₀ (set l c (getD l k 0)) b
+  pub sieved-more : (n : ℕ) → getD l k 0 / fourBytes < b → k < n → n ≤ length l → Sieved l₀ (set l c (getD l k 0)) b
       (k + 1) (c + 1)
   sieved-more n h m′ g = record {
     few = omega (arith, x .few);
@@ -103,7 +104,7 @@ module _ (er : ℕ → Bool) (seq : ℕ → ℕ) where
     unfolding within
     within-by s x r es ex h g er′ = simp (← ex, ← es, ← er′, le-leb _ _ h, lt-ltb _ _ g, and-true)
 
-  pub number-small : (s x p : ℕ) → s ≡ x → x ≡ seq p → s < 4294967296 → seq p < 4294967296
+  pub number-small : (s x p : ℕ) → s ≡ x → x ≡ seq p → s < fourBytes → seq p < fourBytes
   number-small s x p es ex h = rw (← ex, ← es) h
 
   record Inside (low high p : ℕ) : Type 0 where
@@ -156,8 +157,8 @@ module _ (er : ℕ → Bool) (seq : ℕ → ℕ) where
   }
 
   module _ (low high t c : ℕ) (l : List ℕ) (x : Held er seq low high t c l)
-      (r : Bool) (er′ : r ≡ within er seq low high t) (small : seq t < 4294967296) where
-    fits : (q : ℕ) → q < t + 1 → seq q < 4294967296
+      (r : Bool) (er′ : r ≡ within er seq low high t) (small : seq t < fourBytes) where
+    fits : (q : ℕ) → q < t + 1 → seq q < fourBytes
     fits q h = by-lt q t (λ k. x .small q k) (λ k. (let w : q ≡ t = omega arith in rw w small))
 
     pub held-skip : not r ≡ true → Held er seq low high (t + 1) c l
@@ -281,14 +282,14 @@ module _ (er : ℕ → Bool) (seq : ℕ → ℕ) where
             (rw (a .page) h) (rw (b .page) (omega arith)) (a .number ∙ sym e ∙ sym (b .number)) in
             omega (arith, a .page, b .page, u, lt)
 
-  pub swept-end : (t low r : ℕ) → Swept er seq t low r → 4294967296 ≤ low → Swept er seq t 4294967296 r
+  pub swept-end : (t low r : ℕ) → Swept er seq t low r → fourBytes ≤ low → Swept er seq t fourBytes r
   swept-end t low r x h = record {
     stops = x .stops;
     differ = λ p q lt g ep eq e f. x .differ p q lt g ep eq e (omega arith);
     small = λ k. x .small (omega arith);
   }
 
-  pub swept-differ : (t r : ℕ) → Swept er seq t 4294967296 r → Differ er seq r
+  pub swept-differ : (t r : ℕ) → Swept er seq t fourBytes r → Differ er seq r
   swept-differ t r x = record { differ = λ p q lt h ep eq e. x .differ p q lt h ep eq e (x .small (omega arith) p h) }
 
   -- pages whose numbers differ
@@ -314,13 +315,13 @@ module _ (g : Geometry) (img : List ℕ) (n : ℕ) where
       lowest-good (repeated (erased g img) (seqAt g img)) (g .pages * n)
       (least-none (repeated (erased g img) (seqAt g img)) (g .pages * n) (λ p h. never (erased g img) (seqAt g img) (g .pages * n) d p h))
 
-  pub swept-good : (t r : ℕ) → t ≡ g .pages * n → Swept (erased g img) (seqAt g img) t 4294967296 r → t ≤ r
+  pub swept-good : (t r : ℕ) → t ≡ g .pages * n → Swept (erased g img) (seqAt g img) t fourBytes r → t ≤ r
       → Good ≡ r3 g n img
   swept-good t r et x h =
       let w : r ≡ g .pages * n = omega (arith, x .stops .most, et) in
       differ-good (rw (← w) (swept-differ (erased g img) (seqAt g img) t r x))
 
-  pub swept-bad : (t r : ℕ) → t ≡ g .pages * n → Swept (erased g img) (seqAt g img) t 4294967296 r → r < t
+  pub swept-bad : (t r : ℕ) → t ≡ g .pages * n → Swept (erased g img) (seqAt g img) t fourBytes r → r < t
       → Bad r ≡ r3 g n img
   unfolding r3
   swept-bad t r et x h =

@@ -7,6 +7,7 @@ use mathlib.Core.List.{List}
 use lib.Dec.{leb, ltb}
 use lib.ListN.{getD}
 use Rattle.geometry.specs.Tests.{_&_}
+use Rattle.geometry.specs.Bounds.{fourBytes}
 use Rattle.model.specs.Rules.{repeated}
 use Rattle.sound_twins.specs.Twins.{pageIn, numberIn}
 
@@ -49,7 +50,7 @@ module _ (er : ℕ → Bool) (seq : ℕ → ℕ) where
   pub record Held (low high t c : ℕ) (l : List ℕ) : Type 0 where
     pub there : (q : ℕ) → q < t → er q ≡ false → low ≤ seq q → seq q < high → Keyed l c q
     pub back : (i : ℕ) → i < c → Stem low high t (getD l i 0)
-    pub small : (q : ℕ) → q < t → seq q < 4294967296
+    pub small : (q : ℕ) → q < t → seq q < fourBytes
 
   -- a page before t at which one stops has the number of a lower one
   pub record Stops (t p : ℕ) : Type 0 where
@@ -64,4 +65,4 @@ module _ (er : ℕ → Bool) (seq : ℕ → ℕ) where
   pub record Swept (t low r : ℕ) : Type 0 where
     pub stops : Stops t r
     pub differ : (p q : ℕ) → q < p → p < r → er p ≡ false → er q ≡ false → seq q ≡ seq p → seq p < low → ⊥
-    pub small : 0 < low → (q : ℕ) → q < r → seq q < 4294967296
+    pub small : 0 < low → (q : ℕ) → q < r → seq q < fourBytes

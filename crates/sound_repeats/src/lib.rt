@@ -3,6 +3,7 @@
 ghost use mathlib.Core.Path.{_≡_};
 ghost use Prim.Native.Nat.{_+_, _*_, _-_, _≤_, _<_};
 ghost use lib.ListN.{length};
+ghost use Rattle.geometry.specs.Bounds.{fourBytes};
 ghost use Rattle.model.specs.Bytes.{erased, seqAt};
 ghost use Rattle.model.specs.Rules.{r3};
 ghost use Rattle.sound_twins.specs.Twins.{pageIn, numberIn};
@@ -11,7 +12,7 @@ use geometry::Finding;
 use geometry::Geometry;
 
 fn long(x: u32) -> u64
-    ensures { λ r. ⌜ (r ≡ x) × (r < 4294967296) ⌝ }
+    ensures { λ r. ⌜ (r ≡ x) × (r < fourBytes) ⌝ }
 {
     x as u64
 }
@@ -19,7 +20,7 @@ fn long(x: u32) -> u64
 // Whether a page is programmed and its number is `low` or more, and below `high`.
 fn is_within(g: Geometry, img: &[u8], page: u32, low: u64, high: u64) -> bool
     ensures { λ r. ⌜ r ≡ within (erased g (now (img .entry))) (seqAt g (now (img .entry))) low high page ⌝ }
-    ensures { λ r. ⌜ seqAt g (now (img .entry)) page < 4294967296 ⌝ }
+    ensures { λ r. ⌜ seqAt g (now (img .entry)) page < fourBytes ⌝ }
 {
     let number = long(chip_read::seq_at(g, img, page));
     if number < low {
@@ -62,7 +63,7 @@ fn below(keys: &[u64], bound: u64) -> usize {
 
 // A number between two, with up to three quarters of the keys below it. The answer does not hang on which it is.
 fn bound_for(keys: &[u64], low: u64, high: u64) -> u64
-    requires { ⌜ (low + 1 < high) × (high ≤ 4294967296) ⌝ }
+    requires { ⌜ (low + 1 < high) × (high ≤ fourBytes) ⌝ }
     ensures { λ r. ⌜ (low < r) × (r < high) ⌝ }
 {
     let most = keys.len() / 4 * 3;
@@ -110,7 +111,7 @@ struct Part {
 // Writes the keys of the programmed pages below `best` with numbers from `low` on; where they are too many, the bound
 // of the numbers comes down. Where one number alone is too many, the page at which that shows is the part's end.
 fn gather(g: Geometry, img: &[u8], keys: &mut [u64], low: u64, best: u32) -> Part
-    requires { ⌜ (low < 4294967296) × (1 ≤ length (now keys)) ⌝ }
+    requires { ⌜ (low < fourBytes) × (1 ≤ length (now keys)) ⌝ }
     ensures { λ r.
         ⌜ Held (erased g (now (img .entry))) (seqAt g (now (img .entry))) low (r .high) (r .end) (r .count)
         (now (keys .exit)) ⌝ }
@@ -152,7 +153,7 @@ fn gather(g: Geometry, img: &[u8], keys: &mut [u64], low: u64, best: u32) -> Par
 
 // The lowest page whose number a lower one has, or the number of pages.
 fn lowest_page(g: Geometry, img: &[u8], pages: u32) -> u32
-    ensures { λ r. ⌜ Swept (erased g (now (img .entry))) (seqAt g (now (img .entry))) pages 4294967296 r ⌝ }
+    ensures { λ r. ⌜ Swept (erased g (now (img .entry))) (seqAt g (now (img .entry))) pages fourBytes r ⌝ }
 {
     let mut keys: [u64; 4096] = [0; 4096];
     let mut low: u64 = 0;

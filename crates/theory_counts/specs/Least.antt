@@ -27,7 +27,8 @@ module _ (f : ℕ → Bool) where
     pub before : (i : ℕ) → i < m → f i ≡ false
     pub there : m < n → f m ≡ true
 
-  least-next : (n : ℕ) (t b : Bool) → ltb (least n f) n ≡ t → f n ≡ b → Least n (least n f) → Least (suc n) (pick t (least n f) (pick b n (suc n)))
+  least-next : (n : ℕ) (t b : Bool) → ltb (least n f) n ≡ t → f n ≡ b → Least n (least n f)
+      → Least (suc n) (pick t (least n f) (pick b n (suc n)))
   least-next n true b q e h = record {
     most = omega (arith, h .most);
     before = h .before;
@@ -40,7 +41,8 @@ module _ (f : ℕ → Bool) where
   }
   least-next n false false q e h = record {
     most = omega arith;
-    before = λ i k. by-lt i n (λ j. h .before i (omega (arith, ltb-false (least n f) n q))) (λ j. (let w : i ≡ n = omega arith in rw w e));
+    before = λ i k. by-lt i n (λ j. h .before i (omega (arith, ltb-false (least n f) n q))) (λ j. (let w : i ≡ n =
+        omega arith in rw w e));
     there = λ k. absurd (omega arith);
   }
 
@@ -67,7 +69,8 @@ module _ (f : ℕ → Bool) where
   none-below i e j h = least-is i .before j (rw e h)
 
   pub least-go : (i : ℕ) → least i f ≡ i → f i ≡ false → least (i + 1) f ≡ i + 1
-  least-go i e q = least-none (i + 1) (λ j h. by-lt j i (λ k. none-below i e j k) (λ k. (let w : j ≡ i = omega arith in rw w q)))
+  least-go i e q = least-none (i + 1) (λ j h. by-lt j i (λ k. none-below i e j k) (λ k. (let w : j ≡ i = omega arith in
+      rw w q)))
 
   pub least-hit : (n i : ℕ) → least i f ≡ i → f i ≡ true → i < n → least n f ≡ i
   least-hit n i e q h = least-of n i (record { most = omega arith; before = none-below i e; there = λ k. q })
