@@ -52,7 +52,8 @@ weighed-is g n img j t u x = record { before = t; after = u; judged = x }
 module _ (g : Geometry) (n : ℕ) (img : List ℕ) (k : ℕ) (j : Judgement) (x : Weighed g n img j) where
   pub lookup-broken : (a : Answer) (r p : ℕ) → j .verdict ≡ Broken r p → told a img ≡ damaged img r p
       → told a img ≡ byVerdict (verdict g n img) (damaged img) (answered (sought (chipOf g n img) k) img)
-  lookup-broken a r p e h = judged-broken g n img (damaged img) _ j (x .before) (x .after) (x .judged) (told a img) r p e h
+  lookup-broken a r p e h =
+      judged-broken g n img (damaged img) _ j (x .before) (x .after) (x .judged) (told a img) r p e h
 
   pub lookup-done : (f : Found) (a : Answer) → j .verdict ≡ Sound → found f ≡ sought (chipWith g img (j .survey .level)
       (j .survey .root)) k

@@ -3,4 +3,5 @@ pub mod Programmed
 pub mod Noted
 pub mod RuleFive
 pub mod Levels
+pub mod Ahead
 pub mod All

@@ -79,10 +79,16 @@ tells-broken c tbl k q = record { marked = λ e. absurd (broken-sound k q e) }
 
 -- 65536 places have room for 1024 blocks of at most 64 pages, 4096 for 64 blocks
 pub roomy-many : (g : Geometry) (n m : ℕ) → g .pages ≤ 64 → n ≤ 1024 → 65536 ≤ m → Roomy g n m
-roomy-many g n m p k r = record { some = omega arith; room = omega (arith, r, mul-le-mul {n₁ = g .pages} {m₁ = n} {n₂ = 64} {m₂ = 1024} p k) }
+roomy-many g n m p k r = record {
+  some = omega arith;
+  room = omega (arith, r, mul-le-mul {n₁ = g .pages} {m₁ = n} {n₂ = 64} {m₂ = 1024} p k);
+}
 
 pub roomy-few : (g : Geometry) (n m : ℕ) → g .pages ≤ 64 → n ≤ 64 → 4096 ≤ m → Roomy g n m
-roomy-few g n m p k r = record { some = omega arith; room = omega (arith, r, mul-le-mul {n₁ = g .pages} {m₁ = n} {n₂ = 64} {m₂ = 64} p k) }
+roomy-few g n m p k r = record {
+  some = omega arith;
+  room = omega (arith, r, mul-le-mul {n₁ = g .pages} {m₁ = n} {n₂ = 64} {m₂ = 64} p k);
+}
 
 module _ (g : Geometry) (n : ℕ) (img : List ℕ) (s : Survey) where
   pub ready-is : (m : ℕ) → s ≡ surveyOf g n img → s .level < 255 → Roomy g n m → Ready g n img s m

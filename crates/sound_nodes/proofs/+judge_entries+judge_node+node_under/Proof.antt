@@ -24,7 +24,7 @@ use Rattle.sound_nodes.proofs.+judge_entries+judge_node+node_under.Lts-
 use Rattle.chip_read.proofs.node_count.Reads as node-count-reads
 use Rattle.chip_read.proofs.node_place.Reads as node-place-reads
 use Rattle.chip_read.proofs.read_u32.Reads as read-u32-reads
-use Rattle.sound_nodes.proofs.judge_leaves.Reads as judge-leaves-reads
+use Rattle.sound_nodes.proofs.judge_ahead.Reads as judge-ahead-reads
 use Rattle.sound_nodes.proofs.next_key.Reads as next-key-reads
 use Rattle.sound_nodes.proofs.node_own.Reads as node-own-reads
 use Rattle.sound_leaves.proofs.key_at.Reads as key-at-reads
@@ -84,8 +84,8 @@ judge-entries-μ-loop g img table₀ pages below at n hi programmed i₀ table i
 pub +judge-entries+judge-node+node-under-spec : {M : Type 1} → statement M
 +judge-entries+judge-node+node-under-spec =
     close μ-judge-entries μ-judge-node μ-node-under (λ t. judge-entries-lts.spec (
-      judge-leaves-reads.Asked,
-      judge-leaves-reads.Learnt,
+      judge-ahead-reads.Asked,
+      judge-ahead-reads.Learnt,
       node-under-below t,
       node-under.Post,
     )
@@ -130,7 +130,7 @@ pub +judge-entries+judge-node+node-under-spec : {M : Type 1} → statement M
     (λ c κs. search all)
     (λ c κs. search all)
     (λ c. search all)
-    (λ c κs. (search needs, (search needs, search needs, search needs)))
+    (λ c κs. (search needs, (search needs, search needs, search needs, search needs)))
     (λ c. search all)
     (λ c. (search judge-on, (search node-noted, search note-then))))
     λ t. node-under-lts.spec (
