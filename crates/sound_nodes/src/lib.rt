@@ -241,9 +241,9 @@ fn leaf_keys(g: Geometry, img: &[u8], page: u32) -> u64
     line_keys(img, at, lines) + sound_leaves::key_at(img, at + geometry::wide(g.main))
 }
 
-// Gives hi. In an image that is too long for the processor's caches it first reads the lines of the leaves that n entries
-// from byte `at` name: so they come from memory side by side, and not one leaf after another. Their sum is below the
-// divisor, but the compiler does not see that, and reads them.
+// Gives hi. In an image that is too long for the processor's caches it first reads the lines of the leaves that n
+// entries from byte `at` name: so they come from memory side by side, and not one leaf after another. Their sum is
+// below the divisor, but the compiler does not see that, and reads them.
 fn read_ahead(g: Geometry, img: &[u8], at: usize, n: usize, hi: u64) -> u64
     requires { ⌜ (n < 256) × (at + 8 * n < 1152921504606846976) ⌝ }
     ensures { λ r. ⌜ r ≡ hi ⌝ }
@@ -395,8 +395,10 @@ fn judge_entries(
     hi: u64,
     programmed: &[u16],
 ) -> Finding
-    requires { ⌜ (below < 256) × (n < 256) × (at + 8 * n < 1152921504606846976) × Programmed g (now img) pages (now programmed) ⌝ }
-    ensures { λ r. ⌜ r ≡ judgeEntries (judgeNode g (erased g (now (img .entry))) (nodeAt g (now (img .entry))) pages below) (entriesAt (now (img .entry)) at n) hi ⌝ }
+    requires { ⌜ (below < 256) × (n < 256) × (at + 8 * n < 1152921504606846976) × Programmed g (now img) pages
+        (now programmed) ⌝ }
+    ensures { λ r. ⌜ r ≡ judgeEntries (judgeNode g (erased g (now (img .entry))) (nodeAt g (now (img .entry))) pages
+        below) (entriesAt (now (img .entry)) at n) hi ⌝ }
     ensures { λ r. ⌜ Noted r (now (table .entry)) (now (table .exit)) (left g (now (img .entry)) below at n 0) ⌝ }
     ensures { λ _. ⌜ length (now (table .exit)) ≡ length (now (table .entry)) ⌝ }
 {

@@ -64,7 +64,8 @@ pub record Strips (g : Geometry) (img : List ℕ) (n : ℕ) (s : Seen) (t : Bool
     pub kinds : (b : ℕ) → b < n → (i : ℕ) → i < g .pages → erased g img (g .pages * b + i) ≡ leb (getD programmed b 0) i
     pub formed : (b : ℕ) → b < n → (i : ℕ) → i < g .pages → wellFormed g img (g .pages * b + i) ≡ true
     pub seen : s ≡ seenTo g img (g .pages * n)
-    pub rise : t ≡ true → (b : ℕ) → b < n → rangeTo (erased g img) (seqAt g img) (g .pages * b) (g .pages) .rising ≡ true
+    pub rise : t ≡ true → (b : ℕ) → b < n → rangeTo (erased g img) (seqAt g img) (g .pages * b) (g .pages) .rising
+        ≡ true
     pub low : (b : ℕ) → b < n → getD lows b 0 ≡ rangeTo (erased g img) (seqAt g img) (g .pages * b) (g .pages) .low
     pub high : (b : ℕ) → b < n → getD highs b 0 ≡ rangeTo (erased g img) (seqAt g img) (g .pages * b) (g .pages) .high
 

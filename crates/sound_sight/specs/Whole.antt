@@ -102,7 +102,8 @@ module _ (g : Geometry) (img : List ℕ) where
         kinds = λ c k i w. by-lt c b
             (λ v. x .kinds c v i w ∙ ap (λ (z : ℕ). leb z i) (sym (kept programmed b at j c ea v)))
             (λ v. (let e : c ≡ b = omega arith in rw (stored programmed programmed₀ b at j c n ea h hp ep e, e) (z .kinds i w)));
-        formed = λ c k i w. by-lt c b (λ v. x .formed c v i w) (λ v. (let e : c ≡ b = omega arith in rw e (z .formed i w)));
+        formed = λ c k i w. by-lt c b (λ v. x .formed c v i w) (λ v. (let e : c ≡ b = omega arith in
+            rw e (z .formed i w)));
         seen = z .seen;
         rise = λ f c k. by-lt c b (λ v. x .rise (and-left t (r .rising) (sym et ∙ f)) c v)
             (λ v. (let e : c ≡ b = omega arith in rw (e, ← (z .range)) (and-right t (r .rising) (sym et ∙ f))));

@@ -33,7 +33,7 @@ use Rattle.sound_links.specs.Loose.{Inside}
 use Rattle.sound_links.specs.Judged.{r5-inside}
 use Rattle.sound_verdict.specs.SpareRoom.{room-laws}
 use Rattle.sound_verdict.specs.declared.Judgement.{Judgement}
-use Rattle.sound_verdict.specs.Verdict.{from2, from3, Roomy, Ready, Tells, Never, Judged}
+use Rattle.sound_verdict.specs.Verdict.{from2, from3, Roomy, Surveyed, Tells, Never, Judged}
 
 -- rule k and those after it: v is its finding
 module _ (k : ℕ) (f v : Finding) (w : Verdict) where
@@ -91,12 +91,12 @@ roomy-few g n m p k r = record {
 }
 
 module _ (g : Geometry) (n : ℕ) (img : List ℕ) (s : Survey) where
-  pub ready-is : (m : ℕ) → s ≡ surveyOf g n img → s .level < 255 → Roomy g n m → Ready g n img s m
-  ready-is m e h r = record { survey = e; level = h; some = r .some; room = r .room }
+  pub surveyed-is : (m : ℕ) → s ≡ surveyOf g n img → s .level < 255 → Roomy g n m → Surveyed g n img s m
+  surveyed-is m e h r = record { survey = e; level = h; some = r .some; room = r .room }
 
-  module _ (m : ℕ) (x : Ready g n img s m) where
-    pub ready-same : (k : ℕ) → k ≡ m → Ready g n img s k
-    ready-same k e = rw e x
+  module _ (m : ℕ) (x : Surveyed g n img s m) where
+    pub surveyed-same : (k : ℕ) → k ≡ m → Surveyed g n img s k
+    surveyed-same k e = rw e x
 
     marked-chip : (tbl : List ℕ) → Marked (chipWith g img (s .level) (s .root)) tbl → Marked (chipOf g n img) tbl
     marked-chip tbl y = subst (λ (c : Chip). Marked c tbl) (chip-is g n img s (x .survey)) y
@@ -173,8 +173,8 @@ module _ (g : Geometry) (n : ℕ) (img : List ℕ) (t f : Bool) (s : Survey) (pr
     c : Clear g n img t s programmed lows highs
     c = x .yes (not-false f m)
 
-    pub sight-ready : (k : ℕ) → Roomy g n k → Ready g n img s k
-    sight-ready k r = ready-is g n img s k (c .survey) (c .level) r
+    pub sight-surveyed : (k : ℕ) → Roomy g n k → Surveyed g n img s k
+    sight-surveyed k r = surveyed-is g n img s k (c .survey) (c .level) r
 
     pub sight-counted : Counted g n img programmed
     sight-counted = c .counted
@@ -191,12 +191,12 @@ module _ (g : Geometry) (n : ℕ) (img : List ℕ) (t f : Bool) (s : Survey) (pr
 
 pub ruleset rule-laws = (or-bad, or-good, verdict-is, nodes-by, links-by, not-asked, asked-is, asked-or)
 
-pub ruleset table-laws = (roomy-many, roomy-few, tells-broken, tells-rule, ready-is, ready-same, marked-rule, marked-with)
+pub ruleset table-laws = (roomy-many, roomy-few, tells-broken, tells-rule, surveyed-is, surveyed-same, marked-rule, marked-with)
 
 pub ruleset inside-laws = (inside-with, inside-good)
 
 pub ruleset broken-laws = (never-broken, order-breaks, passed-1, judged-never)
 
-pub ruleset sight-laws = (sight-broken, sight-ready, sight-counted, sight-ranges, sight-judged, programmed-is)
+pub ruleset sight-laws = (sight-broken, sight-surveyed, sight-counted, sight-ranges, sight-judged, programmed-is)
 
 pub ruleset verdict-laws = (scan-laws, room-laws, rule-laws, table-laws, inside-laws, broken-laws, sight-laws)

@@ -23,7 +23,7 @@ use Rattle.chip_survey.specs.declared.Survey.{Survey}
 use Rattle.chip_survey.specs.Survey.{surveyOf}
 use Rattle.live_walk.specs.Table.{liveIn, Marked}
 use Rattle.live_walk.specs.Lows.{marked-block, marked-pages}
-use Rattle.sound_verdict.specs.Verdict.{clearable, Ready}
+use Rattle.sound_verdict.specs.Verdict.{clearable, Surveyed}
 
 -- R7
 module _ (p : ℕ) (er : ℕ → Bool) (tbl : List ℕ) (free b : ℕ) where
@@ -36,7 +36,7 @@ module _ (p : ℕ) (er : ℕ → Bool) (tbl : List ℕ) (free b : ℕ) where
   unfolding clearable
   clear-is r l e q el = sym (rw (← e, q, ← el) (and-true (leb l free)))
 
-module _ (g : Geometry) (n : ℕ) (img : List ℕ) (s : Survey) (tbl : List ℕ) (x : Ready g n img s (length tbl))
+module _ (g : Geometry) (n : ℕ) (img : List ℕ) (s : Survey) (tbl : List ℕ) (x : Surveyed g n img s (length tbl))
     (m : Marked (chipOf g n img) tbl) where
   abbrev lives : ℕ → Bool
   lives = live (placesOf (chipOf g n img))

@@ -51,7 +51,7 @@ pub record Roomy (g : Geometry) (n m : ℕ) : Type 0 where
   pub room : g .pages * n ≤ m
 
 -- a survey of the image, and a table of m places that has room for its pages
-pub record Ready (g : Geometry) (n : ℕ) (img : List ℕ) (s : Survey) (m : ℕ) : Type 0 where
+pub record Surveyed (g : Geometry) (n : ℕ) (img : List ℕ) (s : Survey) (m : ℕ) : Type 0 where
   pub survey : s ≡ surveyOf g n img
   pub level : s .level < 255
   pub some : 1 ≤ m

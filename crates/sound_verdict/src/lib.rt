@@ -12,7 +12,7 @@ ghost use Rattle.sound_numbers.specs.Ranges.{Shows, Ranges};
 ghost use Rattle.sound_sight.specs.Sight.{Told, Counted, Clear, Flaw};
 ghost use Rattle.live_walk.specs.Table.{Marked};
 ghost use Rattle.sound_links.specs.Loose.{Inside};
-ghost use Rattle.sound_verdict.specs.Verdict.{clearable, from2, from3, from4, from5, from6, from7, from8, Roomy, Ready, Tells, Never, Judged};
+ghost use Rattle.sound_verdict.specs.Verdict.{clearable, from2, from3, from4, from5, from6, from7, from8, Roomy, Surveyed, Tells, Never, Judged};
 use chip_survey::Survey;
 use geometry::Finding;
 use geometry::Geometry;
@@ -50,7 +50,7 @@ fn some_clearable(g: Geometry, img: &[u8], table: &[u8], n: u16, free: u32) -> b
 
 // R7: at least a block's pages are erased, or some block can be cleared.
 fn rule_7(g: Geometry, img: &[u8], table: &[u8], n: u16, survey: Survey) -> Finding
-    requires { ⌜ Ready g n (now img) survey (length (now table)) ⌝ }
+    requires { ⌜ Surveyed g n (now img) survey (length (now table)) ⌝ }
     requires { ⌜ Marked (chipOf g n (now img)) (now table) ⌝ }
     ensures { λ r. ⌜ r ≡ r7 (g .pages) n (chipOf g n (now (img .entry))) ⌝ }
 {
@@ -66,7 +66,7 @@ fn rule_7(g: Geometry, img: &[u8], table: &[u8], n: u16, survey: Survey) -> Find
 
 // R8: the pages that are not live are two blocks' at least.
 fn rule_8(g: Geometry, img: &[u8], table: &[u8], n: u16, survey: Survey) -> Finding
-    requires { ⌜ Ready g n (now img) survey (length (now table)) ⌝ }
+    requires { ⌜ Surveyed g n (now img) survey (length (now table)) ⌝ }
     requires { ⌜ Marked (chipOf g n (now img)) (now table) ⌝ }
     ensures { λ r. ⌜ r ≡ r8 (g .pages) n (chipOf g n (now (img .entry))) ⌝ }
 {
@@ -80,7 +80,7 @@ fn rule_8(g: Geometry, img: &[u8], table: &[u8], n: u16, survey: Survey) -> Find
 }
 
 fn from_rule_8(g: Geometry, img: &[u8], table: &[u8], n: u16, survey: Survey) -> Verdict
-    requires { ⌜ Ready g n (now img) survey (length (now table)) ⌝ }
+    requires { ⌜ Surveyed g n (now img) survey (length (now table)) ⌝ }
     requires { ⌜ Marked (chipOf g n (now img)) (now table) ⌝ }
     ensures { λ r. ⌜ r ≡ from8 g n (now (img .entry)) ⌝ }
 {
@@ -92,7 +92,7 @@ fn from_rule_8(g: Geometry, img: &[u8], table: &[u8], n: u16, survey: Survey) ->
 
 // R7 and R8 are not asked of the plain tree.
 fn from_rule_7(g: Geometry, img: &[u8], table: &[u8], n: u16, survey: Survey) -> Verdict
-    requires { ⌜ Ready g n (now img) survey (length (now table)) ⌝ }
+    requires { ⌜ Surveyed g n (now img) survey (length (now table)) ⌝ }
     requires { ⌜ Marked (chipOf g n (now img)) (now table) ⌝ }
     ensures { λ r. ⌜ r ≡ from7 g n (now (img .entry)) ⌝ }
 {
@@ -106,7 +106,7 @@ fn from_rule_7(g: Geometry, img: &[u8], table: &[u8], n: u16, survey: Survey) ->
 }
 
 fn from_rule_6(g: Geometry, img: &[u8], table: &[u8], n: u16, survey: Survey) -> Verdict
-    requires { ⌜ Ready g n (now img) survey (length (now table)) ⌝ }
+    requires { ⌜ Surveyed g n (now img) survey (length (now table)) ⌝ }
     requires { ⌜ Marked (chipOf g n (now img)) (now table) ⌝ }
     requires { ⌜ Inside (chipOf g n (now img)) (length (now table)) ⌝ }
     ensures { λ r. ⌜ r ≡ from6 g n (now (img .entry)) ⌝ }
@@ -132,7 +132,7 @@ fn from_rule_5(
     survey: Survey,
     programmed: &[u16],
 ) -> Verdict
-    requires { ⌜ Ready g n (now img) survey (length (now table)) ⌝ }
+    requires { ⌜ Surveyed g n (now img) survey (length (now table)) ⌝ }
     requires { ⌜ Counted g n (now img) (now programmed) ⌝ }
     requires { ⌜ n ≤ length (now programmed) ⌝ }
     ensures { λ r. ⌜ (r ≡ from5 g n (now (img .entry))) × Tells (chipOf g n (now (img .entry)))
@@ -161,7 +161,7 @@ fn from_rule_4(
     survey: Survey,
     programmed: &[u16],
 ) -> Verdict
-    requires { ⌜ Ready g n (now img) survey (length (now table)) ⌝ }
+    requires { ⌜ Surveyed g n (now img) survey (length (now table)) ⌝ }
     requires { ⌜ Counted g n (now img) (now programmed) ⌝ }
     requires { ⌜ n ≤ length (now programmed) ⌝ }
     ensures { λ r. ⌜ (r ≡ from4 g n (now (img .entry))) × Tells (chipOf g n (now (img .entry)))
@@ -186,7 +186,7 @@ fn from_rule_3(
     lows: &[u32],
     highs: &[u32],
 ) -> Verdict
-    requires { ⌜ Ready g n (now img) survey (length (now table)) ⌝ }
+    requires { ⌜ Surveyed g n (now img) survey (length (now table)) ⌝ }
     requires { ⌜ (n ≤ length (now lows)) × (n ≤ length (now highs)) ⌝ }
     requires { ⌜ Shows rising (Ranges (erased g (now img)) (seqAt g (now img)) (g .pages) n (now lows) (now highs)) ⌝ }
     requires { ⌜ Counted g n (now img) (now programmed) ⌝ }

@@ -1,4 +1,4 @@
-use Rattle.sound_verdict.specs.InOrder.{ready-same, marked-rule, inside-good}
+use Rattle.sound_verdict.specs.InOrder.{surveyed-same, marked-rule, inside-good}
 use borrow.Author.Needs.{needs}
 use Rattle.sound_verdict.specs.InOrder.{verdict-laws}
 use Rattle.sound_verdict.proofs.from_rule_5.Statement.{statement}
@@ -19,7 +19,7 @@ from-rule-5-spec =
     (λ c κs. search all)
     (λ c. search all)
     (λ c. search all)
-    (λ c κs. (search ready-same, (search marked-rule, search inside-good)))
+    (λ c κs. (search surveyed-same, (search marked-rule, search inside-good)))
     (λ c. search all)
     (λ c. search all)
     (λ c. search all)

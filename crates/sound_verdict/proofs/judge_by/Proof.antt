@@ -1,4 +1,4 @@
-use Rattle.sound_verdict.specs.InOrder.{sight-ready, sight-ranges, sight-counted}
+use Rattle.sound_verdict.specs.InOrder.{sight-surveyed, sight-ranges, sight-counted}
 use borrow.Author.Needs.{needs}
 use Rattle.sound_verdict.specs.InOrder.{verdict-laws}
 use Rattle.sound_verdict.proofs.judge_by.Statement.{statement}
@@ -12,4 +12,4 @@ ruleset all = (needs, verdict-laws)
 
 pub judge-by-spec : {M : Type 1} → statement M
 judge-by-spec =
-    tie.close (tie.spec (λ c κs. search all) (λ c. search all) (λ c κs. (search sight-ready, (search needs, (search sight-ranges, (search sight-counted, search needs))))) (λ c. search all) (λ c. search all))
+    tie.close (tie.spec (λ c κs. search all) (λ c. search all) (λ c κs. (search sight-surveyed, (search needs, (search sight-ranges, (search sight-counted, search needs))))) (λ c. search all) (λ c. search all))
