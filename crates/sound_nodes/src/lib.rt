@@ -228,7 +228,7 @@ fn line_keys(img: &[u8], at: usize, k: usize) -> u64
     sum
 }
 
-// The sum of a leaf's first keys of each line and of its page's number.
+// The sum of the first key of each line of a leaf and of its page's number: so both its keys and its count are read.
 fn leaf_keys(g: Geometry, img: &[u8], page: u32) -> u64
     ensures { λ r. ⌜ r < 2199023255552 ⌝ }
 {
@@ -237,9 +237,9 @@ fn leaf_keys(g: Geometry, img: &[u8], page: u32) -> u64
     line_keys(img, at, lines) + sound_leaves::key_at(img, at + geometry::wide(g.main))
 }
 
-// Gives hi. In an image that is too long for the processor's caches it first reads the lines of the leaves that n entries
-// from byte `at` name: so they come from memory side by side, and not one leaf after another. Their sum is below the
-// divisor, but the compiler does not see that, and reads them.
+// Gives hi. In an image that is too long for the processor's caches it first reads the lines of the leaves that n
+// entries from byte `at` name: so they come from memory side by side, and not one leaf after another. Their sum is below
+// the divisor, but the compiler does not see that, and reads them.
 fn read_ahead(g: Geometry, img: &[u8], at: usize, n: usize, hi: u64) -> u64
     requires { ⌜ (n < 256) × (at + 8 * n < 1152921504606846976) ⌝ }
     ensures { λ r. ⌜ r ≡ hi ⌝ }
