@@ -238,8 +238,8 @@ fn leaf_keys(g: Geometry, img: &[u8], page: u32) -> u64
 }
 
 // Gives hi. In an image that is too long for the processor's caches it first reads the lines of the leaves that n
-// entries from byte `at` name: so they come from memory side by side, and not one leaf after another. Their sum is below
-// the divisor, but the compiler does not see that, and reads them.
+// entries from byte `at` name: so they come from memory side by side, and not one leaf after another. Their sum is
+// below the divisor, but the compiler does not see that, and reads them.
 fn read_ahead(g: Geometry, img: &[u8], at: usize, n: usize, hi: u64) -> u64
     requires { ⌜ (n < 256) × (at + 8 * n < 1152921504606846976) ⌝ }
     ensures { λ r. ⌜ r ≡ hi ⌝ }

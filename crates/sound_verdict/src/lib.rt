@@ -284,8 +284,8 @@ fn judge_many(g: Geometry, img: &[u8], table: &mut [u8], n: u16) -> Judgement
     judge_by(g, img, &mut *table, n, sight, &programmed, &lows, &highs)
 }
 
-// Judges at most 64 blocks, with a shorter table and shorter lists: these are cleared at every call. Where they are sound
-// the table then tells each page's lowest live level.
+// Judges at most 64 blocks, with a shorter table and shorter lists: these are cleared at every call. Where they are
+// sound the table then tells each page's lowest live level.
 pub fn judge_few(g: Geometry, img: &[u8], table: &mut [u8], n: u16) -> Judgement
     requires { ⌜ (g .pages ≤ 64) × (n ≤ 64) × (4096 ≤ length (now table)) ⌝ }
     ensures { λ r. ⌜ Judged g n (now (img .entry)) r (now (table .entry)) (now (table .exit)) ⌝ }
