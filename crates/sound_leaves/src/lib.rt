@@ -53,7 +53,7 @@ fn fall(before: u32, key: u32) -> u32
 }
 
 // How many of the n keys are not above the one before them, counted without an early end. The count is as wide as a
-// key: so the compiler takes four keys at once.
+// key: so the compiler takes eight keys at once.
 fn falls(img: &[u8], at: usize, n: usize) -> u32
     requires { ⌜ (1 ≤ n) × (n < 256) × (at + 8 * n ≤ length (now img)) × (at + 8 * n < 1152921504606846976) ⌝ }
     ensures { λ r. ⌜ eqb r 0 ≡ after (now (img .entry)) at n 1 (u32At (now (img .entry)) at) ⌝ }

@@ -232,7 +232,7 @@ fn line_keys(img: &[u8], at: usize, k: usize) -> u64
     sum
 }
 
-// The sum of a leaf's first keys of each line and of its page's number.
+// The sum of the first key of each line of a leaf and of its page's number: so both its keys and its count are read.
 fn leaf_keys(g: Geometry, img: &[u8], page: u32) -> u64
     ensures { λ r. ⌜ r < 2199023255552 ⌝ }
 {

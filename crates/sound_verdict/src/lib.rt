@@ -277,8 +277,8 @@ fn judge_by(
     }
 }
 
-// Judges n blocks. Where they are sound the table then tells each page's lowest live level.
-pub fn judge_image(g: Geometry, img: &[u8], table: &mut [u8], n: u16) -> Judgement
+// Judges at most 1,024 blocks.
+fn judge_many(g: Geometry, img: &[u8], table: &mut [u8], n: u16) -> Judgement
     requires { ⌜ (g .pages ≤ 64) × (n ≤ 1024) × (65536 ≤ length (now table)) ⌝ }
     ensures { λ r. ⌜ Judged g n (now (img .entry)) r (now (table .entry)) (now (table .exit)) ⌝ }
 {
@@ -289,7 +289,8 @@ pub fn judge_image(g: Geometry, img: &[u8], table: &mut [u8], n: u16) -> Judgeme
     judge_by(g, img, &mut *table, n, sight, &programmed, &lows, &highs)
 }
 
-// The same of at most 64 blocks, with a shorter table and shorter lists: these are cleared at every call.
+// Judges at most 64 blocks, with a shorter table and shorter lists: these are cleared at every call. Where they are
+// sound the table then tells each page's lowest live level.
 pub fn judge_few(g: Geometry, img: &[u8], table: &mut [u8], n: u16) -> Judgement
     requires { ⌜ (g .pages ≤ 64) × (n ≤ 64) × (4096 ≤ length (now table)) ⌝ }
     ensures { λ r. ⌜ Judged g n (now (img .entry)) r (now (table .entry)) (now (table .exit)) ⌝ }
@@ -299,4 +300,15 @@ pub fn judge_few(g: Geometry, img: &[u8], table: &mut [u8], n: u16) -> Judgement
     let mut highs: [u32; 64] = [0; 64];
     let sight = sound_sight::take_sight(g, img, n, &mut programmed, &mut lows, &mut highs);
     judge_by(g, img, &mut *table, n, sight, &programmed, &lows, &highs)
+}
+
+// Judges n blocks. Where they are sound the table then tells each page's lowest live level.
+pub fn judge_image(g: Geometry, img: &[u8], table: &mut [u8], n: u16) -> Judgement
+    requires { ⌜ (g .pages ≤ 64) × (n ≤ 1024) × (65536 ≤ length (now table)) ⌝ }
+    ensures { λ r. ⌜ Judged g n (now (img .entry)) r (now (table .entry)) (now (table .exit)) ⌝ }
+{
+    if n <= 64 {
+        return judge_few(g, img, &mut *table, n);
+    }
+    judge_many(g, img, &mut *table, n)
 }
