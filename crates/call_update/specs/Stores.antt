@@ -6,9 +6,7 @@ use mathlib.Core.List.{List, [], _∷_}
 use native.Mathlib.Omega.{arith}
 use borrow.Author.Tests.{ltb-true}
 use Rattle.geometry.specs.declared.Geometry.{Geometry}
-use Rattle.geometry.specs.Geometry.{pageBytes}
 use Rattle.geometry.specs.Tests.{pick, and-left}
-use Rattle.geometry.specs.Bounds.{longestPage}
 use Rattle.model.specs.Image.{Chip}
 use Rattle.model.specs.Stores.{Store}
 use Rattle.model.specs.Tree.{sought}
@@ -170,24 +168,8 @@ module _ (g : Geometry) (n : ℕ) (ss : List Store) (h : Opened) (t : Crest) (x 
   pub makes-page : s .own .page < 4294967295
   makes-page = w .page
 
-pub sized-page : (g : Geometry) (n : ℕ) → Sized g n → pageBytes g ≤ longestPage
-sized-page g n sized = sized .page
+pub ruleset asks-laws = (insert-asks, plan-some, plan-few, absent-no, absent-is, delete-asks, asks-is)
 
-pub ruleset store-laws = (
-  collect-laws,
-  insert-asks,
-  plan-some,
-  plan-few,
-  absent-no,
-  absent-is,
-  delete-asks,
-  asks-is,
-  own-insert,
-  own-delete,
-  stores-first,
-  stores-both,
-  made-is,
-  makes-low,
-  makes-page,
-  sized-page,
-)
+pub ruleset own-laws = (collect-laws, own-insert, own-delete)
+
+pub ruleset store-laws = (own-laws, stores-first, stores-both, made-is, makes-low, makes-page)

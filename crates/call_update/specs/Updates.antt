@@ -5,7 +5,6 @@ use mathlib.Core.Path.{_≡_, refl, sym, ap, _∙_}
 use mathlib.Core.List.{List}
 use lib.Dec.{ltb}
 use lib.ListN.{length}
-use native.Mathlib.Omega.{arith}
 use native.Mathlib.Numerals.{add-one}
 use borrow.Author.Tests.{lt-ltb, le-ltb}
 use mir.Syntax.{w8}
@@ -44,7 +43,6 @@ use Rattle.call_update.specs.declared.Update.{Update}
 use Rattle.call_update.specs.declared.Update.the-variants.{Insert, Delete}
 use Rattle.call_update.specs.Update.{asksOf, ownFor, crestFor, madeFor, plannedFor, updateBy, replied}
 use Rattle.call_update.specs.Update.{updateLive, heldIn, filledBy, Small}
-use Rattle.call_update.specs.Stores.{store-laws}
 
 -- ---- the frame is the insert and the delete
 pub insert-is : (g : Geometry) (n k a x : ℕ) (h : Held) (i : List ℕ)
@@ -62,14 +60,15 @@ module _ (u : Update) (g : Geometry) (n x : ℕ) (s : Opened) (i tbl ws : List �
   abbrev t : Held
   t = heldIn s tbl ws
 
-  pub rest-worn : g .worn < s .most → returned (told Worn i) s ws ≡ updateBy u g n t i x
+  pub rest-worn : (r : Returned) → r ≡ returned (told Worn i) s ws → g .worn < s .most → r ≡ updateBy u g n t i x
   unfolding updateBy
-  rest-worn h = sym (rw (lt-ltb (g .worn) (s .most) h))
+  rest-worn r e h = e ∙ sym (rw (lt-ltb (g .worn) (s .most) h))
 
   module _ (q : Asks) (eq : q ≡ asksOf u g i s) (h : s .most ≤ g .worn) where
-    pub rest-refused : q .refused ≡ true → returned (told (q .answer) i) s ws ≡ updateBy u g n t i x
+    pub rest-refused : (r : Returned) → r ≡ returned (told (q .answer) i) s ws → q .refused ≡ true
+        → r ≡ updateBy u g n t i x
     unfolding updateBy
-    rest-refused e = sym (rw (le-ltb (g .worn) (s .most) h, ← eq, e))
+    rest-refused r er e = er ∙ sym (rw (le-ltb (g .worn) (s .most) h, ← eq, e))
 
     module _ (taken : q .refused ≡ false) where
       pub rest-planned : (r : Returned) → r ≡ plannedFor u g n (q .pages) t i x → r ≡ updateBy u g n t i x
@@ -86,10 +85,6 @@ module _ (u : Update) (g : Geometry) (n x : ℕ) (s : Opened) (i tbl ws : List �
         pub rest-made : (r : Returned) → r ≡ madeFor u g n (q .pages) t i x → v ≡ false → r ≡ updateBy u g n t i x
         unfolding plannedFor
         rest-made r er e = rest-planned r (er ∙ sym (rw (← ev, e)))
-
--- the pages asked for are few
-pub asks-small : (m : ℕ) → m ≤ 256 → m < 65536
-asks-small m h = omega (arith, h)
 
 -- ---- judged first
 pub judged-is : (u : Update) (g : Geometry) (n x : ℕ) (c : Answer) (t o : Opened) (i out tbl old words new : List ℕ)
@@ -155,20 +150,10 @@ module _ (u : Update) (g : Geometry) (img old : List ℕ) (x n : ℕ) (en : n �
               (some-blocks g img n en some) (λ i. bytes i .fits) (sym (d .verdict) ∙ es) held tells
               known old past k x low
 
-pub ruleset update-laws = (
-  store-laws,
-  known-sized,
-  known-pages,
-  lent-enough,
-  height-low,
-  asks-small,
-  rest-worn,
-  rest-refused,
-  rest-room,
-  rest-made,
-  judged-is,
-  update-length,
-  update-short,
-  update-broken,
-  update-sound,
-)
+pub ruleset judged-laws = (judged-is, update-length, update-short, update-broken, update-sound)
+
+pub ruleset known-laws = (known-sized, known-pages, lent-enough, height-low)
+
+pub ruleset rest-laws = (rest-worn, rest-refused, rest-planned, rest-room, rest-made)
+
+pub ruleset update-laws = (known-laws, rest-laws, judged-laws)

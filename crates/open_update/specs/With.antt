@@ -15,7 +15,7 @@ use Rattle.geometry.specs.Tests.{_&_, and-false, and-none}
 use Rattle.model.specs.Bytes.{byteAt}
 use Rattle.model.specs.Image.{blocksOf}
 use Rattle.model.specs.Calls.{roomless}
-use Rattle.call_answers.specs.declared.Answer.the-variants.{Length, Worn, Room, Stale}
+use Rattle.call_answers.specs.declared.Answer.the-variants.{Length, Room, Stale}
 use Rattle.call_answers.specs.Answers.{told}
 use Rattle.chip_read.specs.Chip.{goodBlocks}
 use Rattle.chip_read.specs.Blocks.{some-blocks}
@@ -40,12 +40,11 @@ use Rattle.call_account.specs.Rest.{makes-both, finished, made-words}
 use Rattle.call_account.specs.Low.{known-sized}
 use Rattle.call_account.specs.Opened.{opened-length, opened-short, opened-stale, opened-rest, told-past, held-told}
 use Rattle.call_account.specs.Opened.{held-is}
-use Rattle.call_update.specs.declared.Asks.{Asks}
 use Rattle.call_update.specs.declared.Update.{Update}
 use Rattle.call_update.specs.declared.Update.the-variants.{Insert, Delete}
-use Rattle.call_update.specs.Update.{asksOf, ownFor, crestFor, madeFor, plannedFor, updateBy, updateOpened, heldIn}
+use Rattle.call_update.specs.Update.{ownFor, crestFor, madeFor, plannedFor, updateBy, updateOpened, heldIn}
 use Rattle.call_update.specs.Stores.{crest-level, crest-page}
-use Rattle.call_update.specs.Updates.{insert-is, delete-is, rest-worn, rest-refused, rest-planned}
+use Rattle.call_update.specs.Updates.{insert-is, delete-is, rest-laws}
 use Rattle.open_update.specs.Direct.{directFor, plentyFor}
 
 -- ---- without collection
@@ -151,23 +150,6 @@ module _ (u : Update) (g : Geometry) (n m x : ℕ) (o : Opened) (i ws mid : List
   unfolding plannedFor
   told-made r er e = er ∙ sym (rw (← ev, e)) ∙ planned-held
 
--- ---- by a record that stands
-module _ (u : Update) (g : Geometry) (n x : ℕ) (o : Opened) (i ws : List ℕ) (r : Returned) where
-  abbrev words : List ℕ
-  words = wordsBy g n o i ws
-
-  pub by-worn : r ≡ returned (told Worn i) o words → g .worn < o .most → r ≡ updateBy u g n (heldOf g n o i ws) i x
-  by-worn e h = e ∙ rest-worn u g n x o i (levelsBy g i o) words h
-
-  module _ (q : Asks) (eq : q ≡ asksOf u g i o) (h : o .most ≤ g .worn) where
-    pub by-refused : r ≡ returned (told (q .answer) i) o words → q .refused ≡ true
-        → r ≡ updateBy u g n (heldOf g n o i ws) i x
-    by-refused e t = e ∙ rest-refused u g n x o i (levelsBy g i o) words q eq h t
-
-    pub by-planned : r ≡ plannedFor u g n (q .pages) (heldOf g n o i ws) i x → q .refused ≡ false
-        → r ≡ updateBy u g n (heldOf g n o i ws) i x
-    by-planned e t = rest-planned u g n x o i (levelsBy g i o) words q eq h t r e
-
 -- ---- LENGTH and STALE
 abbrev restOf : Update → Geometry → List ℕ → List ℕ → Opened → ℕ → Returned
 restOf u g img old o x = updateBy u g (blocksOf g img) (heldBy g (blocksOf g img) o img old) img x
@@ -205,24 +187,10 @@ pub stands-low : (g : Geometry) (n : ℕ) (img : List ℕ) (o : Opened) (t : Boo
     → ((i : ℕ) → Fits w8 (byteAt img i)) → o .height < 256
 stands-low g n img o t et q bytes = standing-low g n img o (sym et ∙ not-false t q) bytes
 
-pub ruleset with-laws = (
-  known-sized,
-  own-level,
-  own-page,
-  direct-is,
-  roomy-direct,
-  collected-is,
-  plenty-one,
-  plenty-more,
-  planned-direct,
-  told-room,
-  told-made,
-  by-worn,
-  by-refused,
-  by-planned,
-  with-length,
-  with-short,
-  with-stale,
-  with-rest,
-  stands-low,
-)
+pub ruleset direct-laws = (own-level, own-page, direct-is, roomy-direct, collected-is)
+
+pub ruleset planned-laws = (plenty-one, plenty-more, planned-direct, told-room, told-made)
+
+pub ruleset opened-laws = (known-sized, with-length, with-short, with-stale, with-rest, stands-low)
+
+pub ruleset with-laws = (direct-laws, planned-laws, rest-laws, opened-laws)

@@ -1,12 +1,13 @@
 use borrow.Author.Needs.{needs}
-use Rattle.call_insert.specs.Inserts.{insert-laws, insert-small}
+use Rattle.call_update.specs.Update.{updateLive, Small}
 use Rattle.call_insert.proofs.insert_on.Statement.{statement}
 use Rattle.call_insert.proofs.insert_on.Tie as tie
 use Rattle.call_insert.proofs.insert_on.Reads as reads
 use Rattle.call_insert.proofs.insert_on.Lts as lts
 use Rattle.call_update.proofs.update_on.Reads as update-on-reads
 
-ruleset all = (needs, insert-laws)
-
+-- the update that is an insert is the insert
 pub insert-on-spec : {M : Type 1} → statement M
-insert-on-spec = tie.close (tie.spec (λ c κs. (search all, insert-small _ _ (search all) (search all))) (λ c. search all) (λ c. search all) (λ c. search all))
+unfolding updateLive Small
+insert-on-spec =
+    tie.close (tie.spec (λ c κs. (search needs, (search needs, search needs))) (λ c. search needs) (λ c. search needs) (λ c. search needs))

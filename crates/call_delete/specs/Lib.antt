@@ -1,2 +1,0 @@
--- Delete as an update.
-pub mod Deletes

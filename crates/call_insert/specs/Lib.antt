@@ -1,2 +1,0 @@
--- Insert as an update.
-pub mod Inserts
