@@ -4,7 +4,6 @@ use Prim.Native.Nat.{ℕ, _*_, _≤_}
 use mathlib.Core.Path.{_≡_, sym, _∙_}
 use mathlib.Core.List.{List}
 use native.Mathlib.Omega.{arith}
-use native.Mathlib.Nat.{mul-le-mul-left, mul-le-mul-right}
 use lib.ListN.{length}
 use Rattle.geometry.specs.declared.Geometry.{Geometry}
 use Rattle.geometry.specs.declared.Verdict.the-variants.{Sound, Broken}
@@ -15,7 +14,7 @@ use Rattle.chip_read.specs.Chip.{goodBlocks}
 use Rattle.chip_read.specs.Blocks.{none-good, some-good, some-blocks}
 use Rattle.live_walk.specs.Table.{Marked}
 use Rattle.sound_verdict.specs.declared.Judgement.{Judgement}
-use Rattle.sound_verdict.specs.Verdict.{Judged}
+use Rattle.sound_verdict.specs.Verdict.{Roomy, Judged}
 
 -- an image of n blocks, in a call of any kind
 module _ {A : Type 0} (g : Geometry) (n : ℕ) (img : List ℕ)
@@ -35,9 +34,8 @@ pub judged-marked : (g : Geometry) (n : ℕ) (img : List ℕ) (j : Judgement) (t
 judged-marked g n img j t u x e = x .table .marked e
 
 pub judged-room : (g : Geometry) (n : ℕ) (img : List ℕ) (j : Judgement) (t u : List ℕ) → Judged g n img j t u
-    → g .pages ≤ 64 → n ≤ 1024 → 65536 ≤ length t → g .pages * n ≤ length u
-judged-room g n img j t u x p b h = let y = mul-le-mul-left (g .pages) b in let z = mul-le-mul-right 1024 p in
-    omega (arith, y, z, h, x .same)
+    → Roomy g n (length t) → g .pages * n ≤ length u
+judged-room g n img j t u x h = omega (arith, h .room, x .same)
 
 module _ {A : Type 0} (g : Geometry) (img : List ℕ) (short : A) (broken : ℕ → ℕ → A) (rest : A) (n : ℕ) (en : n
     ≡ goodBlocks g img) where

@@ -19,6 +19,7 @@ use Rattle.tree_search.specs.declared.Found.the-variants.{At, Nothing}
 use Rattle.tree_search.specs.Search.{found}
 use Rattle.sound_verdict.specs.declared.Judgement.{Judgement}
 use Rattle.sound_verdict.specs.Verdict.{Judged}
+use Rattle.sound_verdict.specs.InOrder.{roomy-few}
 use Rattle.chip_survey.specs.Pass.{chip-is}
 use Rattle.call_judged.specs.Judging.{judged-broken, judged-rest, judged-length, judged-blocks}
 
@@ -77,4 +78,4 @@ module _ (g : Geometry) (img : List ℕ) (k n : ℕ) (en : n ≡ goodBlocks g im
       judged-blocks g img (refused 1 img) (damaged img) _ n en (told a img) h
       (e ∙ ap (λ (m : ℕ). byVerdict (verdict g n img) (damaged img) (answered (sought (chipOf g m img) k) img)) (some-blocks g img n en h))
 
-pub ruleset lookup-laws = (answer-at, answer-none, weighed-is, lookup-length, lookup-broken, lookup-done, lookup-blocks)
+pub ruleset lookup-laws = (answer-at, answer-none, roomy-few, weighed-is, lookup-length, lookup-broken, lookup-done, lookup-blocks)

@@ -29,7 +29,7 @@ fn judge_few(g: Geometry, img: &[u8], n: u16) -> Judgement
     ensures { λ r. ⌜ Weighed g n (now (img .entry)) r ⌝ }
 {
     let mut table: [u8; 4096] = [0; 4096];
-    sound_verdict::judge_few(g, img, &mut table, n)
+    sound_verdict::judge_in(g, img, &mut table, n)
 }
 
 // The judgement of at most 1,024 blocks, its table of 65,536 places.

@@ -24,7 +24,8 @@ use Rattle.chip_read.specs.Chip.{goodBlocks}
 use Rattle.chip_read.specs.Blocks.{some-good, some-blocks}
 use Rattle.live_walk.specs.Table.{liveIn}
 use Rattle.sound_verdict.specs.declared.Judgement.{Judgement}
-use Rattle.sound_verdict.specs.Verdict.{Judged}
+use Rattle.sound_verdict.specs.Verdict.{Roomy, Judged}
+use Rattle.sound_verdict.specs.InOrder.{roomy-few, roomy-many}
 use Rattle.call_judged.specs.Judging.{judged-marked, judged-room}
 use Rattle.live_words.specs.Words.{wordsOf, allOnes, Past}
 use Rattle.live_words.specs.Filled.{filled-past}
@@ -122,10 +123,10 @@ module _ (u : Update) (g : Geometry) (img old : List ℕ) (x n : ℕ) (en : n �
 
       pub update-sound : (r : Reply)
           → r ≡ replied (updateBy u g n (heldIn (openedIn g n img) tbl (filledBy g n tbl old)) img x)
-          → j .verdict ≡ Sound → Known g → n ≤ 1024 → 65536 ≤ length t → ((i : ℕ) → Fits w8 (byteAt img i)) → Small u
+          → j .verdict ≡ Sound → Known g → Roomy g n (length t) → ((i : ℕ) → Fits w8 (byteAt img i)) → Small u
           → r ≡ updateLive u g img old x
       unfolding updateLive Small
-      update-sound r e es known few long bytes small = e ∙ replies u small
+      update-sound r e es known long bytes small = e ∙ replies u small
         where
           held : Held
           held = heldIn (openedIn g n img) tbl (filledBy g n tbl old)
@@ -134,7 +135,7 @@ module _ (u : Update) (g : Geometry) (img old : List ℕ) (x n : ℕ) (en : n �
           tells = record {
             at-is = refl;
             right = right g n img tbl old (filledBy g n tbl old) (judged-marked g n img j t tbl d es)
-                (judged-room g n img j t tbl d (shape g known .pages-high) few long) refl room;
+                (judged-room g n img j t tbl d long) refl room;
           }
 
           past : Past (wordsOf g n) old (filledBy g n tbl old)

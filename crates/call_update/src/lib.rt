@@ -10,6 +10,7 @@ ghost use Rattle.call_answers.specs.Answers.{told};
 ghost use Rattle.chip_read.specs.Chip.{goodBlocks};
 ghost use Rattle.call_account.specs.Account.{Sized, Makes};
 ghost use Rattle.chip_survey.specs.Survey.{surveyOf};
+ghost use Rattle.sound_verdict.specs.Verdict.{Roomy};
 ghost use Rattle.live_words.specs.Words.{wordsOf};
 ghost use Rattle.live_words.specs.Live.{reply};
 ghost use Rattle.open_record.specs.Opened.{openedIn, chipBy};
@@ -258,12 +259,12 @@ fn update_blocks(
     allowance: u32,
 ) -> Answer
     requires { ⌜ (Known g) × (Small u) ⌝ }
-    requires { ⌜ (n ≡ goodBlocks g (now img)) × (n ≤ 1024) × (n ≡ 0 → ⊥) × (65536 ≤ length (now table))
+    requires { ⌜ (n ≡ goodBlocks g (now img)) × (n ≤ 1024) × (n ≡ 0 → ⊥) × (Roomy g n (length (now table)))
         × (wordsOf g n ≤ length (now lent)) ⌝ }
     ensures { λ r. ⌜ reply (told r (now (img .exit))) (now (lent .exit))
         ≡ updateLive u g (now (img .entry)) (now (lent .entry)) allowance ⌝ }
 {
-    let judgement = sound_verdict::judge_image(g, &*img, &mut *table, n);
+    let judgement = sound_verdict::judge_in(g, &*img, &mut *table, n);
     let verdict = judgement.verdict;
     let survey = judgement.survey;
     match verdict {
@@ -281,6 +282,42 @@ fn update_blocks(
     }
 }
 
+// The update on at most 64 blocks, with a short table: it is cleared at every call.
+fn update_few(
+    g: Geometry,
+    img: &mut [u8],
+    lent: &mut [u32],
+    n: u16,
+    u: Update,
+    allowance: u32,
+) -> Answer
+    requires { ⌜ (Known g) × (Small u) ⌝ }
+    requires { ⌜ (n ≡ goodBlocks g (now img)) × (n ≤ 64) × (n ≡ 0 → ⊥) × (wordsOf g n ≤ length (now lent)) ⌝ }
+    ensures { λ r. ⌜ reply (told r (now (img .exit))) (now (lent .exit))
+        ≡ updateLive u g (now (img .entry)) (now (lent .entry)) allowance ⌝ }
+{
+    let mut table: [u8; 4096] = [0; 4096];
+    update_blocks(g, &mut *img, &mut table, &mut *lent, n, u, allowance)
+}
+
+// The update on at most 1,024 blocks.
+fn update_many(
+    g: Geometry,
+    img: &mut [u8],
+    lent: &mut [u32],
+    n: u16,
+    u: Update,
+    allowance: u32,
+) -> Answer
+    requires { ⌜ (Known g) × (Small u) ⌝ }
+    requires { ⌜ (n ≡ goodBlocks g (now img)) × (n ≤ 1024) × (n ≡ 0 → ⊥) × (wordsOf g n ≤ length (now lent)) ⌝ }
+    ensures { λ r. ⌜ reply (told r (now (img .exit))) (now (lent .exit))
+        ≡ updateLive u g (now (img .entry)) (now (lent .entry)) allowance ⌝ }
+{
+    let mut table: [u8; 65536] = [0; 65536];
+    update_blocks(g, &mut *img, &mut table, &mut *lent, n, u, allowance)
+}
+
 // The update on a chip of a known geometry.
 pub fn update_on(g: Geometry, img: &mut [u8], lent: &mut [u32], u: Update, allowance: u32) -> Answer
     requires { ⌜ (Known g) × (Small u) ⌝ }
@@ -294,6 +331,8 @@ pub fn update_on(g: Geometry, img: &mut [u8], lent: &mut [u32], u: Update, allow
     if lent.len() < live_fill::words_of(g, n) {
         return Answer::Length;
     }
-    let mut table: [u8; 65536] = [0; 65536];
-    update_blocks(g, &mut *img, &mut table, &mut *lent, n, u, allowance)
+    if n <= 64 {
+        return update_few(g, &mut *img, &mut *lent, n, u, allowance);
+    }
+    update_many(g, &mut *img, &mut *lent, n, u, allowance)
 }

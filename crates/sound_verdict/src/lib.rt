@@ -279,7 +279,7 @@ fn judge_by(
 
 // Judges at most 1,024 blocks.
 fn judge_many(g: Geometry, img: &[u8], table: &mut [u8], n: u16) -> Judgement
-    requires { ⌜ (g .pages ≤ 64) × (n ≤ 1024) × (65536 ≤ length (now table)) ⌝ }
+    requires { ⌜ (n ≤ 1024) × (Roomy g n (length (now table))) ⌝ }
     ensures { λ r. ⌜ Judged g n (now (img .entry)) r (now (table .entry)) (now (table .exit)) ⌝ }
 {
     let mut programmed: [u16; 1024] = [0; 1024];
@@ -289,10 +289,9 @@ fn judge_many(g: Geometry, img: &[u8], table: &mut [u8], n: u16) -> Judgement
     judge_by(g, img, &mut *table, n, sight, &programmed, &lows, &highs)
 }
 
-// Judges at most 64 blocks, with a shorter table and shorter lists: these are cleared at every call. Where they are
-// sound the table then tells each page's lowest live level.
-pub fn judge_few(g: Geometry, img: &[u8], table: &mut [u8], n: u16) -> Judgement
-    requires { ⌜ (g .pages ≤ 64) × (n ≤ 64) × (4096 ≤ length (now table)) ⌝ }
+// Judges at most 64 blocks, with shorter lists: these are cleared at every call.
+fn judge_few(g: Geometry, img: &[u8], table: &mut [u8], n: u16) -> Judgement
+    requires { ⌜ (n ≤ 64) × (Roomy g n (length (now table))) ⌝ }
     ensures { λ r. ⌜ Judged g n (now (img .entry)) r (now (table .entry)) (now (table .exit)) ⌝ }
 {
     let mut programmed: [u16; 64] = [0; 64];
@@ -302,13 +301,22 @@ pub fn judge_few(g: Geometry, img: &[u8], table: &mut [u8], n: u16) -> Judgement
     judge_by(g, img, &mut *table, n, sight, &programmed, &lows, &highs)
 }
 
-// Judges n blocks. Where they are sound the table then tells each page's lowest live level.
-pub fn judge_image(g: Geometry, img: &[u8], table: &mut [u8], n: u16) -> Judgement
-    requires { ⌜ (g .pages ≤ 64) × (n ≤ 1024) × (65536 ≤ length (now table)) ⌝ }
+// Judges n blocks, with a table that has room for their pages. Where they are sound the table then tells each page's
+// lowest live level.
+pub fn judge_in(g: Geometry, img: &[u8], table: &mut [u8], n: u16) -> Judgement
+    requires { ⌜ (n ≤ 1024) × (Roomy g n (length (now table))) ⌝ }
     ensures { λ r. ⌜ Judged g n (now (img .entry)) r (now (table .entry)) (now (table .exit)) ⌝ }
 {
     if n <= 64 {
         return judge_few(g, img, &mut *table, n);
     }
     judge_many(g, img, &mut *table, n)
+}
+
+// The same with a table for the largest image.
+pub fn judge_image(g: Geometry, img: &[u8], table: &mut [u8], n: u16) -> Judgement
+    requires { ⌜ (g .pages ≤ 64) × (n ≤ 1024) × (65536 ≤ length (now table)) ⌝ }
+    ensures { λ r. ⌜ Judged g n (now (img .entry)) r (now (table .entry)) (now (table .exit)) ⌝ }
+{
+    judge_in(g, img, &mut *table, n)
 }
