@@ -153,7 +153,7 @@ module _ (u : Update) (g : Geometry) (img old : List ℕ) (x n : ℕ) (en : n �
 
 pub ruleset judged-laws = (judged-is, update-length, update-short, update-broken, update-sound)
 
-pub ruleset known-laws = (known-sized, known-pages, lent-enough, height-low)
+pub ruleset known-laws = (known-sized, known-pages, lent-enough, height-low, roomy-few, roomy-many)
 
 pub ruleset rest-laws = (rest-worn, rest-refused, rest-planned, rest-room, rest-made)
 
