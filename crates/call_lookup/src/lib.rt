@@ -1,6 +1,6 @@
 // Lookup on an image: judged first, then sought.
 ghost use mathlib.Core.Path.{_≡_};
-ghost use Prim.Native.Nat.{ℕ, _≤_};
+ghost use Prim.Native.Nat.{_≤_};
 ghost use Rattle.model.specs.Image.{chipOf};
 ghost use Rattle.model.specs.Tree.{sought};
 ghost use Rattle.model.specs.Rules.{verdict};

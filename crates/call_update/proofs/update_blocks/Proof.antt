@@ -1,4 +1,3 @@
-use Rattle.call_account.specs.Lent.{known-pages}
 use Rattle.call_account.specs.Low.{known-sized}
 use borrow.Author.Needs.{needs}
 use Rattle.call_update.specs.Updates.{update-laws, update-sound}

@@ -40,16 +40,11 @@ same-length-2 c = search all
 
 returns : tie.Need-returns
 returns c =
-    let at-put-line = c .before .before .before in
-    let at-letter-of = at-put-line .before in
-    let at-row-of = at-letter-of .before .before .before .before .before .before in
-    let at-obey = at-row-of .before .before .before in
-    let at-before = at-obey .before .before .before in
-    let start = at-before .before in
-    let obeyed = at-obey .obey in
-    let row = at-row-of .row-of in
-    let letter = at-letter-of .letter-of in
-    let line = at-put-line .put-line .ensures in (
+    let start = c .before .before .before .before .before .before .before .before .before .before .before .before .before .before .before .before .before in
+    let obeyed = c .before .before .before .before .before .before .before .before .before .before .before .before .before .obey in
+    let row = c .before .before .before .before .before .before .before .before .before .before .row-of in
+    let letter = c .before .before .before .before .letter-of in
+    let line = c .before .before .before .put-line .ensures in (
       answer-run (start .args .t) (start .args .img .now) (obeyed .last .0) (start .args .order) (obeyed .result) (row .result) (obeyed .ensures) (row .ensures)
           (letter .result) (letter .ensures) (start .args .wrote) _ _ (c .after-line .ensures) (line .0),
       (
