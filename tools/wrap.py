@@ -83,14 +83,15 @@ def pieces(line):
 
 
 def comments(text):
-    """Comments with a line that is too long, filled anew."""
+    """Comments with a line that is too long, filled anew. A short heading `-- ---- ..` keeps its line."""
     def filled(found):
         lines = found.group(0).split("\n")[:-1]
         if all(len(line) <= WIDTH for line in lines):
             return found.group(0)
         mark = found.group(1)
+        heading = [lines.pop(0)] if lines[0].startswith(mark + "---- ") and len(lines[0]) < 100 else []
         words = " ".join(line[len(mark):] for line in lines)
-        return "\n".join(textwrap.wrap(words, WIDTH, initial_indent=mark, subsequent_indent=mark, break_on_hyphens=False, break_long_words=False)) + "\n"
+        return "\n".join(heading + textwrap.wrap(words, WIDTH, initial_indent=mark, subsequent_indent=mark, break_on_hyphens=False, break_long_words=False)) + "\n"
     return re.sub(r"(?m)^( *(?:--|//) )(?! ).*\n(?:\1(?! ).*\n)*", filled, text)
 
 

@@ -50,8 +50,9 @@ returned o img buf = pick (ltb (length buf) 24)
 unfoldable pub wordsLeft : Reply → List ℕ → List ℕ → List ℕ
 wordsLeft r old buf = pick (ltb (length buf) 24) old (r .words)
 
--- ---- request 8: the record in 24 bytes "root page, its sequence number, the largest one on the image, height, next
--- page, erased pages", each of 32 bits, least byte first
+-- ---- request 8: the record in 24 bytes
+-- "root page, its sequence number, the largest one on the image, height, next page, erased pages", each of 32 bits,
+-- least byte first
 unfoldable pub recordIn : List ℕ → Opened
 recordIn bytes = record {
   root = u32At bytes 0;

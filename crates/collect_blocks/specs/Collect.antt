@@ -66,7 +66,7 @@ pub record Remarks (g : Geometry) (n l q low key : ℕ) (h : Kept) (img tbl tbl�
   pub long : length tbl′ ≡ length tbl
   pub past : Past (wordsOf g n) ws ws′
 
--- what is kept once the page kept as the following one is programmed; then is the image after
+-- what is kept once the page kept as the next one is programmed; then is the image after
 pub record Onward (g : Geometry) (n : ℕ) (then : List ℕ) (h k : Kept) : Type 0 where
   pub root : k .root ≡ h .next
   pub most : k .most ≡ suc (h .most)

@@ -28,18 +28,18 @@ pub record Held : Type 0 where
 abbrev pub holding : Opened → Table → Held
 holding o t = record { at = o; table = t }
 
--- ---- the pages to come the page after page x, which has just been programmed and so has the largest number: the following
--- one of its block; past the block's end page 0 of the first wholly erased block after it, round past the end to the
--- start
+-- ---- the pages to come
+-- the page after page x, which has just been programmed and so has the largest number: the next one of its block; past
+-- the block's end page 0 of the first wholly erased block after it, round past the end to the start
 unfoldable pub nextAfter : ℕ → ℕ → (ℕ → Bool) → ℕ → ℕ
 nextAfter p n er x = pick (eqb (suc x % p) 0) (p * round n (x / p) (λ b. er (p * b + 0))) (suc x)
 
--- the i-th page to come, x the following one
+-- the i-th page to come, x the next one
 unfoldable pub pageFrom : ℕ → ℕ → (ℕ → Bool) → ℕ → ℕ → ℕ
 pageFrom p n er x zero = x
 pageFrom p n er x (suc i) = pageFrom p n (after x er) (nextAfter p n (after x er) x) i
 
--- the following page by the record: T where it names one past the image
+-- the next page by the record: T where it names one past the image
 abbrev pub nextBy : Geometry → ℕ → Opened → ℕ
 nextBy g n o = min (pagesOf g n) (o .next)
 
@@ -47,7 +47,7 @@ nextBy g n o = min (pagesOf g n) (o .next)
 abbrev pub pageBy : Geometry → ℕ → List ℕ → Opened → ℕ → ℕ
 pageBy g n img o i = pageFrom (g .pages) n (erased g img) (nextBy g n o) i
 
--- ---- a sweep: the root's page, the largest number, the levels below the root, the following page, and the table
+-- ---- a sweep: the root's page, the largest number, the levels below the root, the next page, and the table
 pub record Beside : Type 0 where
   pub root : ℕ
   pub most : ℕ

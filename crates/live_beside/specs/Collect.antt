@@ -51,9 +51,9 @@ unfoldable pub sweepBy : Geometry → ℕ → ℕ → ℕ → Beside → List �
 sweepBy g n v zero h img = still h img
 sweepBy g n v (suc j) h img = andThen (pageBy g n (g .pages * v + (g .pages - suc j)) h img) (sweepBy g n v j)
 
--- ---- "Then erase the victim": no page of it is live, so the table stays the next page x once a block was erased, the
--- largest number on the root's page: in a partly programmed block it stays, else the first wholly erased block after
--- the root's is looked for anew
+-- ---- "Then erase the victim": no page of it is live, so the table stays
+-- the next page x once a block was erased, the largest number on the root's page: in a partly programmed block it
+-- stays, else the first wholly erased block after the root's is looked for anew
 unfoldable pub nextErased : ℕ → ℕ → (ℕ → Bool) → ℕ → ℕ → ℕ
 nextErased p n er root x = pick (eqb (x % p) 0) (p * round n (root / p) (λ b. er (p * b + 0))) x
 

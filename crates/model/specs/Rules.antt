@@ -24,7 +24,7 @@ use Rattle.model.specs.Next.{mixed, full, firstIn, inBlock}
 unfoldable pub lowest : ℕ → (ℕ → Bool) → Finding
 lowest t f = pick (any t f) (Bad (least t f)) Good
 
--- a finding where the test fails, else what comes following
+-- a finding where the test fails, else what comes next
 unfoldable pub unless : Bool → ℕ → Finding → Finding
 unless true p v = v
 unless false p v = Bad p

@@ -53,7 +53,7 @@ livePages t c = count t (live (placesOf c))
 abbrev pub erasedPages : ℕ → Chip → ℕ
 erasedPages t c = count t (c .er)
 
--- the key that follows: the following entry's, or the bound
+-- the key that follows: the next entry's, or the bound
 abbrev pub following : List Entry → ℕ → ℕ
 following [] hi = hi
 following (e ∷ es) hi = e .key

@@ -44,8 +44,9 @@ pub fn lookup(img: &[u8], key: u32) -> Answer
     call_lookup::lookup_on(Geometry::plain(), img, key)
 }
 
-// ---- insert The levels that an insert splits, under the root at a page with `level` levels below it, and whether the
-// root is one of them.
+// ---- insert
+// The levels that an insert splits, under the root at a page with `level` levels below it, and whether the root is one
+// of them.
 fn count_cuts(g: Geometry, img: &[u8], level: u32, root: u32, key: u32) -> Run
     requires { ⌜ level < 255 ⌝ }
     ensures { λ r. ⌜ Cuts g (chipWith g (now (img .entry)) level root) key r ⌝ }

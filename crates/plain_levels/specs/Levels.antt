@@ -82,7 +82,7 @@ deleteStoresAt g c k page seq v = pick (eqb (topAt c k page v .level) (c .level)
     (nodeStore g page seq 0 (suc (topAt c k page v .level)) (suc (topAt c k page v .level)) (topAt c k page v .list) ∷ [])
 
 -- ---- the calls on an image of n blocks, whatever it holds: erased pages alone are programmed
--- the pages to come, after the following one
+-- the pages to come, after the next one
 abbrev pub pagesBy : Geometry → ℕ → List ℕ → ℕ → ℕ
 pagesBy g n img i = pageBy g n img (openedIn g n img) i
 

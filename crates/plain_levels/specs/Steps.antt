@@ -108,6 +108,7 @@ grownStores g j l c = halfStores g j l c
 unfoldable pub topStores : Geometry → Job → ℕ → List Entry → List Store
 topStores g j l c = rootStores g (pageAt j) (j .seq) (j .levels) l c
 
+-- ---- the whole, by its job
 -- e names the root, l levels are below it
 unfoldable pub putStores : Geometry → Job → ℕ → Entry → List ℕ → List Store
 putStores g j l e i = storesUp g j (pathOf g j i l e) l ++ topStores g j (suc l) (changed g j i l e)

@@ -29,7 +29,7 @@ use Rattle.chip_read.specs.Chip.{chipWith}
 use Rattle.chip_read.specs.Node.{node-length, node-read, entries-start, entries-step, entries-none, entries-turn, entries-past, key-is, addr-is}
 use Rattle.theory_counts.specs.Lowest.{unless-true, unless-false}
 
--- the following entry's key
+-- the next entry's key
 pub next-none : (img : List ℕ) (at n hi : ℕ) → n ≡ 0 → hi ≡ following (entriesAt img at n) hi
 next-none img at n hi e = sym (rw (entries-none img at n e) refl)
 

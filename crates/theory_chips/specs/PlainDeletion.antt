@@ -121,7 +121,7 @@ module _ (g : Geometry) (core : Core g) (n k : ℕ) (k-low : k < fourBytes) (c :
       ))))
       ∙ count-all (c .level)
 
-  -- the new root then goes to the following page
+  -- the new root then goes to the next page
   first-page : 1 ≤ c .level → length (lists (suc (c .level))) ≡ 1 → P (suc (top .level)) ≡ nth (g .pages) n
       (ahead g n c) 0
   unfolding plainTop keptPage

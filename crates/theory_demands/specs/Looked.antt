@@ -59,7 +59,7 @@ module _ (fit : ℕ → ℕ → Type 0) (room : ℕ → ℕ) (r : Nodes) (low hi
   upto-none y [] h = refl
   upto-none y (e ∷ es) h = rw (lt-leb (e .key) high h) refl
 
-  -- from an entry on, where the low key lies before the following one: only that entry's range and the last one's have an
+  -- from an entry on, where the low key lies before the next one: only that entry's range and the last one's have an
   -- end inside
   head-few : (l top : ℕ) (e : Entry) (es : List Entry) → Rises (Ok fit room r l) top (e ∷ es) → low < following es top
       → Few l

@@ -57,7 +57,7 @@ round-none n b f h = go (ltb (least n (λ i. ltb b i & f i)) n)
     go true = higher
     go false = least-none f n h
 
--- then the following page lies past the image
+-- then the next page lies past the image
 pub next-past : (p n : ℕ) (w : Ahead) → 1 ≤ p → count (p * n) (w .er) ≡ 0 → p * n ≤ nextPage p n w
 unfolding nextBlock
 next-past p n w pos h =
@@ -73,7 +73,7 @@ next-past p n w pos h =
     last true u e = refl
     last false u e = e
 
--- the page after the following one, once that is programmed and while one is left. p is a block's pages
+-- the page after the next one, once that is programmed and while one is left. p is a block's pages
 pub next-after : (p n : ℕ) (w : Ahead) → 1 ≤ p → R2 p n (w .er) → 1 ≤ count (p * n) (w .er)
     → 1 ≤ count (p * n) (after (nextPage p n w) (w .er))
     → nextAfter p n (after (nextPage p n w) (w .er)) (nextPage p n w) ≡ nextPage p n (onward (nextPage p n w) w)
@@ -147,7 +147,7 @@ pub record Tracks (g : Geometry) (n : ℕ) (o : Opened) (img : List ℕ) (h : Be
   -- nothing has moved, or the root's page has the largest number
   pub crest : ((h .most ≡ o .most) × (seqOf g img (h .root) ≡ o .number)) ⊎ (seqOf g img (h .root) ≡ h .most)
 
--- the following page while one is left
+-- the next page while one is left
 pub next-of : (g : Geometry) → Shape g → (n : ℕ) (o : Opened) (img : List ℕ) (h : Beside) → Held g n img
     → Tracks g n o img h
     → 1 ≤ count (pagesOf g n) (chipOf g n img .er) → h .next ≡ nextPage (g .pages) n (ahead g n (chipOf g n img))
