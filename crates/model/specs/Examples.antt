@@ -43,8 +43,8 @@ after-64 (suc p) (suc zero) = run 33 32
 after-64 (suc p) (suc (suc l)) = pair 1 0 ∷ pair 33 1 ∷ []
 
 -- key 65: page 2 takes 33 to 48, page 3 takes 49 to 65 and the root 1, 33, 49 naming 0, 2, 3
-key-65-root : edited after-64 65 (putIn 65 65) (named 65 3 (λ l. 2) (half small)) 1 (pair 0 1) ≡ pair 1 0 ∷ pair 33
-    2 ∷ pair 49 3 ∷ []
+key-65-root : edited after-64 65 (putIn 65 65) (named 65 3 (λ l. 2) (half small)) 1 (pair 0 1)
+    ≡ pair 1 0 ∷ pair 33 2 ∷ pair 49 3 ∷ []
 unfolding edited slotsOf splice chosen place halve putIn
 key-65-root = refl
 
@@ -58,8 +58,8 @@ unfolding slotsOf
 key-65-halves = (refl, refl)
 
 -- a key below all enters the first leaf, which splits; the first key above is lowered to it
-lowering : edited after-64 0 (putIn 0 9) (named 0 3 (λ l. 2) (half small)) 1 (pair 0 1) ≡ pair 0 3 ∷ pair 16 2 ∷ pair 33
-    1 ∷ []
+lowering : edited after-64 0 (putIn 0 9) (named 0 3 (λ l. 2) (half small)) 1 (pair 0 1)
+    ≡ pair 0 3 ∷ pair 16 2 ∷ pair 33 1 ∷ []
 unfolding edited slotsOf splice chosen place halve putIn
 lowering = refl
 
@@ -80,10 +80,8 @@ unfolding onPath edited splice chosen place halve putIn
 moves = refl
 
 -- the live pages of the tree, and the lowest live level of its root's page
-lives : places after-64 2 (pair 0 1) ≡ record { page = 1; level = 2 } ∷ record {
-  page = 0;
-  level = 1;
-} ∷ record { page = 1; level = 1 } ∷ []
+lives : places after-64 2 (pair 0 1)
+    ≡ record { page = 1; level = 2 } ∷ record { page = 0; level = 1 } ∷ record { page = 1; level = 1 } ∷ []
 unfolding places gather
 lives = refl
 
