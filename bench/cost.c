@@ -1,6 +1,7 @@
-/* cost.c: what a list costs after the image is judged, counted and not timed. A lookup judges the same image, so a list's instructions less a
- * lookup's are those of its walk. The calls are made by a child, and its parent steps it one instruction at a time (ptrace; Linux). The
- * count is the same at every run, whatever else the machine does.
+/* cost.c: what a list costs after the image is judged, counted and not timed. An opening judges the same image, so the instructions of a
+ * list of no pairs less an opening's are those of its walk less those of the record; longer lists are held to the list of no pairs. The
+ * calls are made by a child, and its parent steps it one instruction at a time (ptrace; Linux). The count is the same at every run,
+ * whatever else the machine does.
  *
  * Fails where a walk takes more than A_LEVEL instructions for each level of the tree and A_PAIR for each pair, however large the image.
  *
@@ -19,9 +20,9 @@
 #include <unistd.h>
 
 enum { A_LEVEL = 300, A_PAIR = 200 };
-enum { LISTS = 6, CALLS = LISTS + 2, NOTHING = 0, LOOKUP = 1 }; /* the calls from 2 on are lists */
-enum { STEP = 16 };                                             /* between two keys */
-enum { MAY_NOT_TRACE = 3 };                                     /* the child's status where the machine forbids it */
+enum { LISTS = 6, CALLS = LISTS + 2, NOTHING = 0, OPENING = 1, NO_PAIRS = 2 }; /* from NO_PAIRS on lists */
+enum { STEP = 16 };                                                            /* between two keys */
+enum { MAY_NOT_TRACE = 3 };                                                    /* the child's status where the machine forbids it */
 
 static const uint32_t wishes[LISTS] = { 0, 1, 10, 100, 1000, UINT32_MAX };
 static const char *const chip_names[MUTREE_GEOMETRIES] = { "small", "large" };
@@ -88,21 +89,21 @@ static unsigned height_of_tree(void)
 /* How many pairs a call lists: around the middle of the map, where there are fewer than all. */
 static uint32_t pairs_of(int call)
 {
-    return call <= LOOKUP ? 0 : wishes[call - 2] < keys ? wishes[call - 2] : keys;
+    return call <= OPENING ? 0 : wishes[call - 2] < keys ? wishes[call - 2] : keys;
 }
 
 static void make(int call)
 {
-    uint8_t result[MUTREE_RESULT_BYTES];
+    uint8_t result[MUTREE_RESULT_BYTES], record[MUTREE_RECORD_BYTES];
     uint32_t count = pairs_of(call), low = STEP * ((keys - count) / 2) + 1, high = low + STEP * count - (count > 0);
     uint32_t answer = MUTREE_DONE;
     raise(SIGSTOP);
-    if (call == LOOKUP)
-        answer = mutree_lookup(chip->number, image, length, STEP, result, sizeof result);
-    else if (call > LOOKUP)
+    if (call == OPENING)
+        answer = mutree_open(chip->number, image, length, record, sizeof record, result, sizeof result);
+    else if (call > OPENING)
         answer = mutree_list(chip->number, image, length, low, high, pairs, 2 * (size_t)keys, result, sizeof result);
     raise(SIGSTOP);
-    if (answer != MUTREE_DONE || (call > LOOKUP && mutree_read_listed(result).written != count))
+    if (answer != MUTREE_DONE || (call > OPENING && mutree_read_listed(result).written != count))
         _exit(1);
 }
 
@@ -167,9 +168,9 @@ static void tell(int which, int calls)
     int call;
     count_calls(calls, counts);
     printf("| %s, %u blocks, %u keys, height %u | %lu |", chip_names[chip->number], (unsigned)images[which].blocks, (unsigned)keys, height,
-           counts[LOOKUP] - counts[NOTHING]);
-    for (call = 2; call < calls; call++) {
-        long beyond = (long)counts[call] - (long)counts[LOOKUP];
+           counts[OPENING] - counts[NOTHING]);
+    for (call = NO_PAIRS; call < calls; call++) {
+        long beyond = (long)counts[call] - (long)counts[call == NO_PAIRS ? OPENING : NO_PAIRS];
         printf(" %ld |", beyond);
         fflush(stdout);
         need(beyond <= A_LEVEL * (long)height + A_PAIR * (long)pairs_of(call), "a list takes more than its levels and pairs allow");
@@ -180,7 +181,7 @@ static void tell(int which, int calls)
 int main(int count, char **words)
 {
     int quick = count > 1 && strcmp(words[1], "--quick") == 0, calls = quick ? 5 : CALLS, which;
-    printf("| instructions | a lookup | a list of no pairs beyond that | 1 pair | 10 |%s\n", quick ? "" : " 100 | 1,000 | all |");
+    printf("| instructions | an opening | a list of no pairs beyond that | beyond that 1 pair | 10 |%s\n", quick ? "" : " 100 | 1,000 | all |");
     printf("|---|---|---|---|---|%s\n", quick ? "" : "---|---|---|");
     for (which = 0; which < (quick ? 2 : IMAGES); which++) {
         fflush(stdout);

@@ -1,7 +1,7 @@
 """A proof file's frame with every hole answered by `search` over the prover's needs and a ruleset, each answer written inside the call of `spec`.
 Invariants and measures of loops stay as they are, for you to write.
 
-usage: fill.py FILE RULESET MODULE > NEW        for example: fill.py crates/plan/proofs/seek/Proof.antt plan-laws Rattle.plan.specs.Laws
+usage: fill.py FILE RULESET MODULE > NEW        for example: fill.py crates/tree_plan/proofs/seek/Proof.antt plan-laws Rattle.plan.specs.Laws
 """
 import re
 import sys

@@ -1,4 +1,4 @@
-"""Runs the definitions of crates/geometry/specs and crates/model/specs as they stand, and those of texts (crates/texts, decimals, carrying).
+"""Runs the definitions of crates/geometry/specs and crates/model/specs as they stand, and those of texts (crates/text_lines, text_decimals, text_carrying).
 
 A small translator for the part of antt that these files use: clauses by patterns, records, data, `pick`, `let`, `λ`.
 Arguments are worked out only where they are needed, as in mathematics. `blank`, `written`, `least`, `arg` and `freshCode`,
@@ -255,9 +255,9 @@ def match(p, value, env):
 class Definitions:
     def __init__(self, root):
         self.names = dict(self.library())
-        for crate, files in (("geometry", ["Tests", "Geometry"]),
+        for crate, files in (("geometry", ["Bounds", "Tests", "Geometry"]),
                              ("model", ["Bytes", "Codes", "Count", "Image", "Tree", "Next", "Rules", "Page", "Stores", "Edit", "Collect", "Update", "Calls", "Listing"]),
-                             ("texts", ["Lines"]), ("decimals", ["Decimals"]), ("carrying", ["Carrying"])):
+                             ("text_lines", ["Lines"]), ("text_decimals", ["Decimals"]), ("text_carrying", ["Carrying"])):
             for f in files:
                 self.read("%s/crates/%s/specs/%s.antt" % (root, crate, f))
         self.names.update(self.quick())

@@ -1,4 +1,4 @@
-"""The definitions of request 8 (crates/opened, stores, beside), run as they stand, against the reference model: opening, and lookup, list, insert
+"""The definitions of request 8 (crates/open_record, chip_store, live_beside), run as they stand, against the reference model: opening, and lookup, list, insert
 and delete with a record. Records are right, stale or outdated; of the last it is looked at what the request says of them.
 
 usage: opened.py [seconds] [seed] [small|large]
@@ -32,13 +32,14 @@ def definitions():
     reads, updates = Definitions(reference.ROOT), Definitions(reference.ROOT)
     for name in ("filled", "word"):
         del updates.names[name]
-    for name in ("live/Words", "live/Live"):
+    for name in ("live_words/Words", "live_words/Live"):
         read(updates, name)
     for d in (reads, updates):
-        named = read(d, "chip/Chip")  # the model has another `named`
-        read(d, "opened/Opened", named)
-    for name in ("walk/Table", "stores/Careful", "beside/Table", "beside/Beside", "beside/Collect", "beside/Update", "beside/Calls"):
-        read(updates, name, named)
+        read(d, "chip_read/Chip")
+        read(d, "open_record/Opened")
+    beside = ["live_beside/" + name for name in ("Table", "Beside", "Collect", "Update", "Calls")]
+    for name in ["live_walk/Table", "chip_store/Careful"] + beside:
+        read(updates, name)
     return reads, updates
 
 

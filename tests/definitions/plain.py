@@ -1,5 +1,5 @@
 """The definitions of request 12, run as they stand, against the reference model's plain tree: verdicts, lookups, inserts and deletes
-(crates/model/specs/Plain.antt), and what the comparing program reports of short logs (crates/scores/specs).
+(crates/model/specs/Plain.antt), and what the comparing program reports of short logs (crates/compare_scores/specs).
 
 usage: plain.py [seconds] [seed]
 """
@@ -18,7 +18,7 @@ import replay
 from antt import deep, force
 from compare import outcome, same
 
-FILES = [("model", "Plain"), ("scores", "Ratio"), ("scores", "Scores"), ("scores", "Compare")]
+FILES = [("model", "Plain"), ("compare_scores", "Ratio"), ("compare_scores", "Scores"), ("compare_scores", "Compare")]
 
 
 def definitions():

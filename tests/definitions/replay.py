@@ -1,4 +1,4 @@
-"""The definitions of request 3 (crates/texts, decimals, tally and logs), run as they stand, against the reference model:
+"""The definitions of request 3 (crates/text_lines, text_decimals, log_tally, log_lines), run as they stand, against the reference model:
 forms of lines, decimals, whole logs. The first log is the request's, and its answers are printed.
 
 usage: replay.py [seed]
@@ -14,7 +14,7 @@ import reference
 from antt import CONSTRUCTORS, Definitions, Function, deep, force
 
 ORDERS = {"F": "Format", "I": "Insert", "D": "Delete", "L": "Lookup", "S": "Limited"}
-FILES = [("texts", "Lines"), ("decimals", "Decimals"), ("tally", "Counted"), ("logs", "Forms"), ("logs", "Replay")]
+FILES = [("text_lines", "Lines"), ("text_decimals", "Decimals"), ("log_tally", "Counted"), ("log_lines", "Forms"), ("log_lines", "Replay")]
 
 
 def definitions():

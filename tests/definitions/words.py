@@ -1,4 +1,4 @@
-"""The definitions of request 7 (crates/live), run as they stand, against the reference model: inserts and deletes with lent words.
+"""The definitions of request 7 (crates/live_words), run as they stand, against the reference model: inserts and deletes with lent words.
 
 usage: words.py [seconds] [seed] [small|large]
 """
@@ -19,12 +19,12 @@ RESULT = bytes(marking.RESULT)
 
 
 def definitions():
-    """Those of crates/live over those of crates/model. Two names that other requests have as well are theirs."""
+    """Those of crates/live_words over those of crates/model. Two names that other requests have as well are theirs."""
     d = Definitions(reference.ROOT)
     for name in ("filled", "word"):
         del d.names[name]
     for name in ("Words", "Live"):
-        d.read("%s/crates/live/specs/%s.antt" % (reference.ROOT, name))
+        d.read("%s/crates/live_words/specs/%s.antt" % (reference.ROOT, name))
     return d
 
 

@@ -1,10 +1,11 @@
-// Request 13's bench cases on three blocks, of the small chip and of the large one. Each import gives a line: answer, records stored or the
-// line that is refused, pages programmed, blocks erased, rule and page. Each export gives answer, records, bytes of the text, bytes written, rule
-// and page, then the 64 bytes of the buffer, each a full stop before; as many of them are lent as the case says.
+// Request 13's bench cases on three blocks, of the small chip and of the large one. Each import gives a line: answer,
+// records stored or the line that is refused, pages programmed, blocks erased, rule and page. Each export gives answer,
+// records, bytes of the text, bytes written, rule and page, then the 64 bytes of the buffer, each a full stop before;
+// as many of them are lent as the case says.
 ghost use mathlib.Core.Path.{_≡_};
 ghost use Prim.Native.Nat.{_*_, _≤_};
 ghost use lib.ListN.{length};
-use answers::Row;
+use call_answers::Row;
 
 fn number(n: u32) {
     io::write_all(1, b" ");
@@ -108,13 +109,13 @@ fn put_line(text: &mut [u8], i: usize)
 {
     let key = 1000 + i;
     let at = 7 * i;
-    texts::put_byte(&mut *text, at, digit(key / 1000));
-    texts::put_byte(&mut *text, at + 1, digit(key / 100));
-    texts::put_byte(&mut *text, at + 2, digit(key / 10));
-    texts::put_byte(&mut *text, at + 3, digit(key));
-    texts::put_byte(&mut *text, at + 4, 9);
-    texts::put_byte(&mut *text, at + 5, 55);
-    texts::put_byte(&mut *text, at + 6, 10);
+    text_lines::put_byte(&mut *text, at, digit(key / 1000));
+    text_lines::put_byte(&mut *text, at + 1, digit(key / 100));
+    text_lines::put_byte(&mut *text, at + 2, digit(key / 10));
+    text_lines::put_byte(&mut *text, at + 3, digit(key));
+    text_lines::put_byte(&mut *text, at + 4, 9);
+    text_lines::put_byte(&mut *text, at + 5, 55);
+    text_lines::put_byte(&mut *text, at + 6, 10);
 }
 
 fn put_lines(text: &mut [u8]) {

@@ -1,11 +1,11 @@
-// Document 01's bench cases on three blocks, of the small chip and of the large one: bad lengths and bytes of 255 through all
-// calls, format and as many keys as a root of level 1 stores, one key more with an allowance of 1 and in full, the next
-// key, a key inserted and deleted, and patrols of a half with no, one and two flipped bits. Each call gives a line: answer,
-// address (of a patrol what it found), programmed (of a patrol the bit), erased. A page gives a line for each level that it
-// counts: page, sequence number, height, level, entries, then key and address, of a leaf's first and last entry and of each
-// entry above.
+// Document 01's bench cases on three blocks, of the small chip and of the large one: bad lengths and bytes of 255
+// through all calls, format and as many keys as a root of level 1 stores, one key more with an allowance of 1 and in
+// full, the next key, a key inserted and deleted, and patrols of a half with no, one and two flipped bits. Each call
+// gives a line: answer, address (of a patrol what it found), programmed (of a patrol the bit), erased. A page gives a
+// line for each level that it counts: page, sequence number, height, level, entries, then key and address, of a leaf's
+// first and last entry and of each entry above.
 ghost use Prim.Native.Nat.{_<_, _≤_};
-use answers::Answer;
+use call_answers::Answer;
 use geometry::Entry;
 use geometry::Geometry;
 
@@ -26,7 +26,7 @@ fn line() {
 }
 
 fn tell(a: Answer) {
-    let w = answers::row_of(a);
+    let w = call_answers::row_of(a);
     number(w.answer);
     number(w.address);
     number(w.programmed);
@@ -41,14 +41,14 @@ fn entry(e: Entry) {
 
 // The page on which the root is.
 fn root_page(bench: Bench, img: &[u8]) -> u32 {
-    survey::take_survey(bench.geometry, img, 3).root
+    chip_survey::take_survey(bench.geometry, img, 3).root
 }
 
 fn show_head(bench: Bench, img: &[u8], page: u32, level: u32) {
     io::write_all(1, b"  page");
     number(page);
-    number(chip::seq_at(bench.geometry, img, page));
-    number(chip::height_at(bench.geometry, img, page));
+    number(chip_read::seq_at(bench.geometry, img, page));
+    number(chip_read::height_at(bench.geometry, img, page));
     number(level);
 }
 
@@ -58,8 +58,8 @@ fn show_ends(img: &[u8], at: usize, n: usize)
 {
     io::write_all(1, b" ");
     io::print_decimal(1, n as u64);
-    entry(chip::entry_at(img, at));
-    entry(chip::entry_at(img, at + 8 * (n - 1)));
+    entry(chip_read::entry_at(img, at));
+    entry(chip_read::entry_at(img, at + 8 * (n - 1)));
     line();
 }
 
@@ -71,29 +71,29 @@ fn show_entries(img: &[u8], at: usize, n: usize)
     io::print_decimal(1, n as u64);
     let mut i: usize = 0;
     while i < n {
-        entry(chip::entry_at(img, at + 8 * i));
+        entry(chip_read::entry_at(img, at + 8 * i));
         i += 1;
     }
     line();
 }
 
 fn show_leaf(bench: Bench, img: &[u8], page: u32) {
-    let n = chip::node_count(bench.geometry, img, page, 1);
+    let n = chip_read::node_count(bench.geometry, img, page, 1);
     if n == 0 {
         return;
     }
     show_head(bench, img, page, 1);
-    let at = chip::node_place(bench.geometry, page, 1);
+    let at = chip_read::node_place(bench.geometry, page, 1);
     show_ends(img, at, n);
 }
 
 fn show_inner(bench: Bench, img: &[u8], page: u32) {
-    let n = chip::node_count(bench.geometry, img, page, 2);
+    let n = chip_read::node_count(bench.geometry, img, page, 2);
     if n == 0 {
         return;
     }
     show_head(bench, img, page, 2);
-    let at = chip::node_place(bench.geometry, page, 2);
+    let at = chip_read::node_place(bench.geometry, page, 2);
     show_entries(img, at, n);
 }
 
@@ -103,7 +103,7 @@ fn show_page(bench: Bench, img: &[u8], page: u32) {
 }
 
 fn holds(bench: Bench, img: &[u8], key: u32) -> bool {
-    let w = answers::row_of(index::lookup(bench.kind, img, key));
+    let w = call_answers::row_of(index::lookup(bench.kind, img, key));
     w.answer == 0
 }
 
@@ -167,7 +167,7 @@ fn format(bench: Bench, img: &mut [u8]) {
 fn show_erased(bench: Bench, img: &[u8], page: u32) {
     io::write_all(1, b"  erased page");
     number(page);
-    if chip::page_erased(bench.geometry, img, page) {
+    if chip_read::page_erased(bench.geometry, img, page) {
         io::write_all(1, b" yes\n");
     } else {
         io::write_all(1, b" no\n");
@@ -222,9 +222,9 @@ fn splits(bench: Bench, img: &mut [u8], key: u32) {
 // The root at level 1, an empty one too.
 fn show_root_leaf(bench: Bench, img: &[u8]) {
     let page = root_page(bench, img);
-    let n = chip::node_count(bench.geometry, img, page, 1);
+    let n = chip_read::node_count(bench.geometry, img, page, 1);
     show_head(bench, img, page, 1);
-    let at = chip::node_place(bench.geometry, page, 1);
+    let at = chip_read::node_place(bench.geometry, page, 1);
     show_entries(img, at, n);
 }
 

@@ -43,7 +43,7 @@ fn put_count(img: &mut [u8; 50688], page: u32, level: u32, n: u8) {
 fn put_entry(img: &mut [u8; 50688], page: u32, level: u32, i: usize, key: u8, addr: u8)
     requires { ⌜ i < 64 ⌝ }
 {
-    let at = chip::node_place(Geometry::small(), page, level) + 8 * i;
+    let at = chip_read::node_place(Geometry::small(), page, level) + 8 * i;
     put_number(&mut *img, at, key);
     put_number(&mut *img, at + 4, addr);
 }
@@ -151,16 +151,16 @@ fn put_code(img: &mut [u8; 50688], page: u32, half: usize)
     requires { ⌜ half < 2 ⌝ }
 {
     let base = geometry::page_base(Geometry::small(), page);
-    let v = parity::fresh_code(&*img, base + 256 * half);
+    let v = chip_codes::fresh_code(&*img, base + 256 * half);
     let place = geometry::code_place(Geometry::small(), half);
-    page::put_code(&mut *img, base + place, v);
+    chip_page::put_code(&mut *img, base + place, v);
 }
 
 // Fitting codes on every programmed page.
 pub fn put_codes(img: &mut [u8; 50688]) {
     let mut page: u32 = 0;
     while page < 96 {
-        if !chip::page_erased(Geometry::small(), &*img, page) {
+        if !chip_read::page_erased(Geometry::small(), &*img, page) {
             put_code(&mut *img, page, 0);
             put_code(&mut *img, page, 1);
         }

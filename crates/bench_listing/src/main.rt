@@ -1,11 +1,11 @@
-// Request 1's bench cases on three blocks, of the small chip and of the large one: bad lengths and bytes of 255, an index without a
-// pair, then keys 10, 20, .. with addresses 11, 21, .., more than a root of level 1 stores. Each listing gives a line: answer, pairs
-// that exist, pairs written, 0, rule and page, then the nine numbers of the buffer, each 7 before; as many of them are lent as the
-// case says.
+// Request 1's bench cases on three blocks, of the small chip and of the large one: bad lengths and bytes of 255, an
+// index without a pair, then keys 10, 20, .. with addresses 11, 21, .., more than a root of level 1 stores. Each
+// listing gives a line: answer, pairs that exist, pairs written, 0, rule and page, then the nine numbers of the buffer,
+// each 7 before; as many of them are lent as the case says.
 ghost use mathlib.Core.Path.{_≡_};
 ghost use Prim.Native.Nat.{_≤_};
 ghost use lib.ListN.{length};
-use answers::Answer;
+use call_answers::Answer;
 
 fn number(n: u32) {
     io::write_all(1, b" ");
@@ -23,7 +23,7 @@ fn numbers(buffer: &[u32]) {
 }
 
 fn tell(a: Answer) {
-    let w = answers::row_of(a);
+    let w = call_answers::row_of(a);
     number(w.answer);
     number(w.address);
     number(w.programmed);
@@ -69,7 +69,8 @@ fn fill(kind: u32, img: &mut [u8], n: u32)
     }
 }
 
-// What an index with keys 10, 20, .. to `last` lists: all, both ends taken in and not, an odd buffer, across two leaves, no pair.
+// What an index with keys 10, 20, .. to `last` lists: all, both ends taken in and not, an odd buffer, across two
+// leaves, no pair.
 fn cases(kind: u32, img: &[u8], last: u32) {
     list(kind, img, 0, 4294967295, 9);
     list(kind, img, 25, 55, 9);

@@ -1,4 +1,4 @@
 // The same program on a longer log.
 fn main() {
-    day::replay();
+    log_day::replay();
 }

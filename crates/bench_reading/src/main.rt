@@ -1,5 +1,5 @@
-// Document 01's reading bench cases and request 5's: lengths, an image of all 255, and damaged trees, for each rule and each
-// clause that names a page. For each image a line: its name, lookup's answer, the rule and the page.
+// Document 01's reading bench cases and request 5's: lengths, an image of all 255, and damaged trees, for each rule and
+// each clause that names a page. For each image a line: its name, lookup's answer, the rule and the page.
 fn number(n: u32) {
     io::write_all(1, b" ");
     io::print_decimal(1, n as u64);
@@ -7,7 +7,7 @@ fn number(n: u32) {
 
 // One image: lookup with key 20.
 fn case(img: &[u8]) {
-    let w = answers::row_of(index::lookup(0, img, 20));
+    let w = call_answers::row_of(index::lookup(0, img, 20));
     number(w.answer);
     number(w.rule);
     number(w.page);

@@ -8,5 +8,5 @@ ghost use Rattle.model.specs.Tree.{place};
 pub extern "C" fn bench_chosen_index(node: &[u8], n: u8, key: u32) -> usize
     ensures { λ r. ⌜ r ≡ place key (entriesAt (now (node .entry)) 0 n) ⌝ }
 {
-    search::chosen_index(node, 0, n as usize, key)
+    tree_search::chosen_index(node, 0, n as usize, key)
 }

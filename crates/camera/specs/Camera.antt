@@ -1,5 +1,6 @@
--- A call of the camera service: the number returned, the image, the lent words, the record's bytes and the result buffer afterwards; a
--- listing has its lent pairs, and an export its lent text, where the other calls have the image. Definitions alone; assumes nothing.
+-- A call of the camera service: the number returned, the image, the lent words, the record's bytes and the result
+-- buffer afterwards; a listing has its lent pairs, and an export its lent text, where the other calls have the image.
+-- Definitions alone; assumes nothing.
 use mathlib.Core.List.{List, [], _∷_}
 use Prim.Native.Nat.{ℕ, _+_}
 use lib.Dec.{ltb}
@@ -9,14 +10,14 @@ use Rattle.model.specs.Page.{putU32}
 use Rattle.model.specs.Bytes.{u32At}
 use Rattle.model.specs.Calls.{Outcome, refused}
 use Rattle.model.specs.Listing.{asOutcome}
-use Rattle.answers.specs.declared.Answer.{Answer}
-use Rattle.answers.specs.declared.Row.{Row}
-use Rattle.answers.specs.Answers.{rowOf, toldBy}
-use Rattle.live.specs.Live.{Reply}
-use Rattle.opened.specs.declared.Opened.{Opened}
-use Rattle.opened.specs.Opened.{openedOf, openingOf, lookupWithOf, listWithOf}
-use Rattle.beside.specs.Update.{Returned}
-use Rattle.beside.specs.Calls.{insertWithOf, deleteWithOf}
+use Rattle.call_answers.specs.declared.Answer.{Answer}
+use Rattle.call_answers.specs.declared.Row.{Row}
+use Rattle.call_answers.specs.Answers.{rowOf, toldBy}
+use Rattle.live_words.specs.Live.{Reply}
+use Rattle.open_record.specs.declared.Opened.{Opened}
+use Rattle.open_record.specs.Opened.{openedOf, openingOf, lookupWithOf, listWithOf}
+use Rattle.live_beside.specs.Update.{Returned}
+use Rattle.live_beside.specs.Calls.{insertWithOf, deleteWithOf}
 
 pub record Left : Type 0 where
   pub answer : ℕ
@@ -50,7 +51,8 @@ unfoldable pub wordsLeft : Reply → List ℕ → List ℕ → List ℕ
 wordsLeft r old buf = pick (ltb (length buf) 24) old (r .words)
 
 -- ---- request 8: the record in 24 bytes
--- "root page, its sequence number, the largest one on the image, height, next page, erased pages", each of 32 bits, least byte first
+-- "root page, its sequence number, the largest one on the image, height, next page, erased pages", each of 32 bits,
+-- least byte first
 unfoldable pub recordIn : List ℕ → Opened
 recordIn bytes = record {
   root = u32At bytes 0;
@@ -82,7 +84,8 @@ unfoldable pub lookupBytes : ℕ → List ℕ → List ℕ → ℕ → Outcome
 lookupBytes kind img bytes k = withRecord bytes (refused 1 img) (λ o. lookupWithOf kind img o k)
 
 unfoldable pub listBytes : ℕ → List ℕ → List ℕ → ℕ → ℕ → List ℕ → Outcome
-listBytes kind img bytes low high pairs = withRecord bytes (refused 1 pairs) (λ o. asOutcome (listWithOf kind img o low high pairs))
+listBytes kind img bytes low high pairs =
+    withRecord bytes (refused 1 pairs) (λ o. asOutcome (listWithOf kind img o low high pairs))
 
 -- an update: its outcome, the record's bytes, and the lent words
 pub record Reopened : Type 0 where

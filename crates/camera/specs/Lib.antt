@@ -1,4 +1,4 @@
 -- What a C call leaves, and the laws by which the calls are proved.
 pub mod Camera
-pub mod Laws
+pub mod Results
 pub mod Opened

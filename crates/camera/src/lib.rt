@@ -1,14 +1,15 @@
-// The calls as a camera service in C makes them: the geometry's number, numbers, the lent image, and a lent result buffer.
+// The calls as a camera service in C makes them: the geometry's number, numbers, the lent image, and a lent result
+// buffer.
 ghost use mathlib.Core.Path.{_≡_};
 ghost use Rattle.model.specs.Calls.{formatOf, lookupOf, patrolOf};
 ghost use Rattle.model.specs.Listing.{listOf, asOutcome};
-ghost use Rattle.answers.specs.Answers.{rowOf, told};
-ghost use Rattle.live.specs.Live.{insertLiveOf, deleteLiveOf};
-ghost use Rattle.carrying.specs.Carrying.{exportOf, importOf};
+ghost use Rattle.call_answers.specs.Answers.{rowOf, told};
+ghost use Rattle.live_words.specs.Live.{insertLiveOf, deleteLiveOf};
+ghost use Rattle.text_carrying.specs.Carrying.{exportOf, importOf};
 ghost use Rattle.camera.specs.Camera.{putNumbers, reportRow, reportOf, returned, wordsLeft, recordIn, putRecord, openBytes, openRecord, lookupBytes, listBytes, reopened, insertBytes, deleteBytes, kept};
-use answers::Answer;
-use answers::Row;
-use opened::Opened;
+use call_answers::Answer;
+use call_answers::Row;
+use open_record::Opened;
 
 fn long(v: u32) -> u64
     ensures { λ r. ⌜ r ≡ v ⌝ }
@@ -22,7 +23,7 @@ fn put_numbers(buf: &mut [u8], numbers: [u32; 6])
 {
     let mut i: usize = 0;
     while i < 6 {
-        page::put_u32(&mut *buf, 4 * i, long(numbers[i]));
+        chip_page::put_u32(&mut *buf, 4 * i, long(numbers[i]));
         i += 1;
     }
 }
@@ -44,14 +45,17 @@ pub fn report(result: &mut [u8], a: Answer) -> u32
     ensures number { λ r. ⌜ r ≡ rowOf a .answer ⌝ }
     ensures bytes { λ _. ⌜ now (result .exit) ≡ reportOf a (now (result .entry)) ⌝ }
 {
-    report_row(&mut *result, answers::row_of(a))
+    report_row(&mut *result, call_answers::row_of(a))
 }
 
 #[no_mangle]
 pub extern "C" fn mutree_format(kind: u32, image: &mut [u8], result: &mut [u8]) -> u32
-    ensures answer { λ r. ⌜ r ≡ returned (formatOf kind (now (image .entry))) (now (image .entry)) (now (result .entry)) .answer ⌝ }
-    ensures image { λ _. ⌜ now (image .exit) ≡ returned (formatOf kind (now (image .entry))) (now (image .entry)) (now (result .entry)) .image ⌝ }
-    ensures result { λ _. ⌜ now (result .exit) ≡ returned (formatOf kind (now (image .entry))) (now (image .entry)) (now (result .entry)) .result ⌝ }
+    ensures answer { λ r. ⌜ r ≡ returned (formatOf kind (now (image .entry))) (now (image .entry))
+        (now (result .entry)) .answer ⌝ }
+    ensures image { λ _. ⌜ now (image .exit) ≡ returned (formatOf kind (now (image .entry))) (now (image .entry))
+        (now (result .entry)) .image ⌝ }
+    ensures result { λ _. ⌜ now (result .exit) ≡ returned (formatOf kind (now (image .entry))) (now (image .entry))
+        (now (result .entry)) .result ⌝ }
 {
     if result.len() < 24 {
         return 1;
@@ -62,8 +66,10 @@ pub extern "C" fn mutree_format(kind: u32, image: &mut [u8], result: &mut [u8]) 
 
 #[no_mangle]
 pub extern "C" fn mutree_lookup(kind: u32, image: &[u8], key: u32, result: &mut [u8]) -> u32
-    ensures answer { λ r. ⌜ r ≡ returned (lookupOf kind (now (image .entry)) key) (now (image .entry)) (now (result .entry)) .answer ⌝ }
-    ensures result { λ _. ⌜ now (result .exit) ≡ returned (lookupOf kind (now (image .entry)) key) (now (image .entry)) (now (result .entry)) .result ⌝ }
+    ensures answer { λ r. ⌜ r ≡ returned (lookupOf kind (now (image .entry)) key) (now (image .entry))
+        (now (result .entry)) .answer ⌝ }
+    ensures result { λ _. ⌜ now (result .exit) ≡ returned (lookupOf kind (now (image .entry)) key) (now (image .entry))
+        (now (result .entry)) .result ⌝ }
 {
     if result.len() < 24 {
         return 1;
@@ -81,9 +87,12 @@ pub extern "C" fn mutree_list(
     pairs: &mut [u32],
     result: &mut [u8],
 ) -> u32
-    ensures answer { λ r. ⌜ r ≡ returned (asOutcome (listOf kind (now (image .entry)) low high (now (pairs .entry)))) (now (pairs .entry)) (now (result .entry)) .answer ⌝ }
-    ensures pairs { λ _. ⌜ now (pairs .exit) ≡ returned (asOutcome (listOf kind (now (image .entry)) low high (now (pairs .entry)))) (now (pairs .entry)) (now (result .entry)) .image ⌝ }
-    ensures result { λ _. ⌜ now (result .exit) ≡ returned (asOutcome (listOf kind (now (image .entry)) low high (now (pairs .entry)))) (now (pairs .entry)) (now (result .entry)) .result ⌝ }
+    ensures answer { λ r. ⌜ r ≡ returned (asOutcome (listOf kind (now (image .entry)) low high (now (pairs .entry))))
+        (now (pairs .entry)) (now (result .entry)) .answer ⌝ }
+    ensures pairs { λ _. ⌜ now (pairs .exit) ≡ returned (asOutcome (listOf kind (now (image .entry)) low high
+        (now (pairs .entry)))) (now (pairs .entry)) (now (result .entry)) .image ⌝ }
+    ensures result { λ _. ⌜ now (result .exit) ≡ returned (asOutcome (listOf kind (now (image .entry)) low high
+        (now (pairs .entry)))) (now (pairs .entry)) (now (result .entry)) .result ⌝ }
 {
     if result.len() < 24 {
         return 1;
@@ -102,10 +111,14 @@ pub extern "C" fn mutree_insert(
     allowance: u32,
     result: &mut [u8],
 ) -> u32
-    ensures answer { λ r. ⌜ r ≡ returned (insertLiveOf kind (now (image .entry)) (now (live .entry)) key address allowance .outcome) (now (image .entry)) (now (result .entry)) .answer ⌝ }
-    ensures image { λ _. ⌜ now (image .exit) ≡ returned (insertLiveOf kind (now (image .entry)) (now (live .entry)) key address allowance .outcome) (now (image .entry)) (now (result .entry)) .image ⌝ }
-    ensures live { λ _. ⌜ now (live .exit) ≡ wordsLeft (insertLiveOf kind (now (image .entry)) (now (live .entry)) key address allowance) (now (live .entry)) (now (result .entry)) ⌝ }
-    ensures result { λ _. ⌜ now (result .exit) ≡ returned (insertLiveOf kind (now (image .entry)) (now (live .entry)) key address allowance .outcome) (now (image .entry)) (now (result .entry)) .result ⌝ }
+    ensures answer { λ r. ⌜ r ≡ returned (insertLiveOf kind (now (image .entry)) (now (live .entry)) key address
+        allowance .outcome) (now (image .entry)) (now (result .entry)) .answer ⌝ }
+    ensures image { λ _. ⌜ now (image .exit) ≡ returned (insertLiveOf kind (now (image .entry)) (now (live .entry)) key
+        address allowance .outcome) (now (image .entry)) (now (result .entry)) .image ⌝ }
+    ensures live { λ _. ⌜ now (live .exit) ≡ wordsLeft (insertLiveOf kind (now (image .entry)) (now (live .entry)) key
+        address allowance) (now (live .entry)) (now (result .entry)) ⌝ }
+    ensures result { λ _. ⌜ now (result .exit) ≡ returned (insertLiveOf kind (now (image .entry))
+        (now (live .entry)) key address allowance .outcome) (now (image .entry)) (now (result .entry)) .result ⌝ }
 {
     if result.len() < 24 {
         return 1;
@@ -123,10 +136,14 @@ pub extern "C" fn mutree_delete(
     allowance: u32,
     result: &mut [u8],
 ) -> u32
-    ensures answer { λ r. ⌜ r ≡ returned (deleteLiveOf kind (now (image .entry)) (now (live .entry)) key allowance .outcome) (now (image .entry)) (now (result .entry)) .answer ⌝ }
-    ensures image { λ _. ⌜ now (image .exit) ≡ returned (deleteLiveOf kind (now (image .entry)) (now (live .entry)) key allowance .outcome) (now (image .entry)) (now (result .entry)) .image ⌝ }
-    ensures live { λ _. ⌜ now (live .exit) ≡ wordsLeft (deleteLiveOf kind (now (image .entry)) (now (live .entry)) key allowance) (now (live .entry)) (now (result .entry)) ⌝ }
-    ensures result { λ _. ⌜ now (result .exit) ≡ returned (deleteLiveOf kind (now (image .entry)) (now (live .entry)) key allowance .outcome) (now (image .entry)) (now (result .entry)) .result ⌝ }
+    ensures answer { λ r. ⌜ r ≡ returned (deleteLiveOf kind (now (image .entry)) (now (live .entry)) key
+        allowance .outcome) (now (image .entry)) (now (result .entry)) .answer ⌝ }
+    ensures image { λ _. ⌜ now (image .exit) ≡ returned (deleteLiveOf kind (now (image .entry)) (now (live .entry)) key
+        allowance .outcome) (now (image .entry)) (now (result .entry)) .image ⌝ }
+    ensures live { λ _. ⌜ now (live .exit) ≡ wordsLeft (deleteLiveOf kind (now (image .entry)) (now (live .entry)) key
+        allowance) (now (live .entry)) (now (result .entry)) ⌝ }
+    ensures result { λ _. ⌜ now (result .exit) ≡ returned (deleteLiveOf kind (now (image .entry))
+        (now (live .entry)) key allowance .outcome) (now (image .entry)) (now (result .entry)) .result ⌝ }
 {
     if result.len() < 24 {
         return 1;
@@ -143,9 +160,12 @@ pub extern "C" fn mutree_patrol(
     half: u32,
     result: &mut [u8],
 ) -> u32
-    ensures answer { λ r. ⌜ r ≡ returned (patrolOf kind (now (image .entry)) page half) (now (image .entry)) (now (result .entry)) .answer ⌝ }
-    ensures image { λ _. ⌜ now (image .exit) ≡ returned (patrolOf kind (now (image .entry)) page half) (now (image .entry)) (now (result .entry)) .image ⌝ }
-    ensures result { λ _. ⌜ now (result .exit) ≡ returned (patrolOf kind (now (image .entry)) page half) (now (image .entry)) (now (result .entry)) .result ⌝ }
+    ensures answer { λ r. ⌜ r ≡ returned (patrolOf kind (now (image .entry)) page half) (now (image .entry))
+        (now (result .entry)) .answer ⌝ }
+    ensures image { λ _. ⌜ now (image .exit) ≡ returned (patrolOf kind (now (image .entry)) page half)
+        (now (image .entry)) (now (result .entry)) .image ⌝ }
+    ensures result { λ _. ⌜ now (result .exit) ≡ returned (patrolOf kind (now (image .entry)) page half)
+        (now (image .entry)) (now (result .entry)) .result ⌝ }
 {
     if result.len() < 24 {
         return 1;
@@ -156,9 +176,12 @@ pub extern "C" fn mutree_patrol(
 
 #[no_mangle]
 pub extern "C" fn mutree_export(kind: u32, image: &[u8], text: &mut [u8], result: &mut [u8]) -> u32
-    ensures answer { λ r. ⌜ r ≡ returned (exportOf kind (now (image .entry)) (now (text .entry))) (now (text .entry)) (now (result .entry)) .answer ⌝ }
-    ensures text { λ _. ⌜ now (text .exit) ≡ returned (exportOf kind (now (image .entry)) (now (text .entry))) (now (text .entry)) (now (result .entry)) .image ⌝ }
-    ensures result { λ _. ⌜ now (result .exit) ≡ returned (exportOf kind (now (image .entry)) (now (text .entry))) (now (text .entry)) (now (result .entry)) .result ⌝ }
+    ensures answer { λ r. ⌜ r ≡ returned (exportOf kind (now (image .entry)) (now (text .entry))) (now (text .entry))
+        (now (result .entry)) .answer ⌝ }
+    ensures text { λ _. ⌜ now (text .exit) ≡ returned (exportOf kind (now (image .entry)) (now (text .entry)))
+        (now (text .entry)) (now (result .entry)) .image ⌝ }
+    ensures result { λ _. ⌜ now (result .exit) ≡ returned (exportOf kind (now (image .entry)) (now (text .entry)))
+        (now (text .entry)) (now (result .entry)) .result ⌝ }
 {
     if result.len() < 24 {
         return 1;
@@ -169,9 +192,12 @@ pub extern "C" fn mutree_export(kind: u32, image: &[u8], text: &mut [u8], result
 
 #[no_mangle]
 pub extern "C" fn mutree_import(kind: u32, image: &mut [u8], text: &[u8], result: &mut [u8]) -> u32
-    ensures answer { λ r. ⌜ r ≡ returned (importOf kind (now (image .entry)) (now (text .entry))) (now (image .entry)) (now (result .entry)) .answer ⌝ }
-    ensures image { λ _. ⌜ now (image .exit) ≡ returned (importOf kind (now (image .entry)) (now (text .entry))) (now (image .entry)) (now (result .entry)) .image ⌝ }
-    ensures result { λ _. ⌜ now (result .exit) ≡ returned (importOf kind (now (image .entry)) (now (text .entry))) (now (image .entry)) (now (result .entry)) .result ⌝ }
+    ensures answer { λ r. ⌜ r ≡ returned (importOf kind (now (image .entry)) (now (text .entry))) (now (image .entry))
+        (now (result .entry)) .answer ⌝ }
+    ensures image { λ _. ⌜ now (image .exit) ≡ returned (importOf kind (now (image .entry)) (now (text .entry)))
+        (now (image .entry)) (now (result .entry)) .image ⌝ }
+    ensures result { λ _. ⌜ now (result .exit) ≡ returned (importOf kind (now (image .entry)) (now (text .entry)))
+        (now (image .entry)) (now (result .entry)) .result ⌝ }
 {
     if result.len() < 24 {
         return 1;
@@ -185,12 +211,12 @@ pub extern "C" fn mutree_import(kind: u32, image: &mut [u8], text: &[u8], result
 fn record_in(bytes: &[u8]) -> Opened
     ensures { λ r. ⌜ r ≡ recordIn (now (bytes .entry)) ⌝ }
 {
-    let root = chip::read_u32(bytes, 0);
-    let number = chip::read_u32(bytes, 4);
-    let most = chip::read_u32(bytes, 8);
-    let height = chip::read_u32(bytes, 12);
-    let next = chip::read_u32(bytes, 16);
-    let erased = chip::read_u32(bytes, 20);
+    let root = chip_read::read_u32(bytes, 0);
+    let number = chip_read::read_u32(bytes, 4);
+    let most = chip_read::read_u32(bytes, 8);
+    let height = chip_read::read_u32(bytes, 12);
+    let next = chip_read::read_u32(bytes, 16);
+    let erased = chip_read::read_u32(bytes, 20);
     Opened {
         root: root,
         number: number,
@@ -242,7 +268,8 @@ fn list_bytes(
     high: u32,
     pairs: &mut [u32],
 ) -> Answer
-    ensures { λ r. ⌜ told r (now (pairs .exit)) ≡ listBytes kind (now (image .entry)) (now (bytes .entry)) low high (now (pairs .entry)) ⌝ }
+    ensures { λ r. ⌜ told r (now (pairs .exit)) ≡ listBytes kind (now (image .entry)) (now (bytes .entry)) low high
+        (now (pairs .entry)) ⌝ }
 {
     if bytes.len() < 24 {
         return Answer::Length;
@@ -260,7 +287,8 @@ fn insert_bytes(
     address: u32,
     allowance: u32,
 ) -> Answer
-    ensures { λ r. ⌜ reopened (told r (now (image .exit))) (now (bytes .exit)) (now (live .exit)) ≡ insertBytes kind (now (image .entry)) (now (live .entry)) (now (bytes .entry)) key address allowance ⌝ }
+    ensures { λ r. ⌜ reopened (told r (now (image .exit))) (now (bytes .exit)) (now (live .exit)) ≡ insertBytes kind
+        (now (image .entry)) (now (live .entry)) (now (bytes .entry)) key address allowance ⌝ }
 {
     if bytes.len() < 24 {
         return Answer::Length;
@@ -280,7 +308,8 @@ fn delete_bytes(
     key: u32,
     allowance: u32,
 ) -> Answer
-    ensures { λ r. ⌜ reopened (told r (now (image .exit))) (now (bytes .exit)) (now (live .exit)) ≡ deleteBytes kind (now (image .entry)) (now (live .entry)) (now (bytes .entry)) key allowance ⌝ }
+    ensures { λ r. ⌜ reopened (told r (now (image .exit))) (now (bytes .exit)) (now (live .exit)) ≡ deleteBytes kind
+        (now (image .entry)) (now (live .entry)) (now (bytes .entry)) key allowance ⌝ }
 {
     if bytes.len() < 24 {
         return Answer::Length;
@@ -294,9 +323,12 @@ fn delete_bytes(
 
 #[no_mangle]
 pub extern "C" fn mutree_open(kind: u32, image: &[u8], bytes: &mut [u8], result: &mut [u8]) -> u32
-    ensures answer { λ r. ⌜ r ≡ returned (openBytes kind (now (image .entry)) (now (bytes .entry))) (now (image .entry)) (now (result .entry)) .answer ⌝ }
-    ensures bytes { λ _. ⌜ now (bytes .exit) ≡ kept (now (result .entry)) (now (bytes .entry)) (openRecord kind (now (image .entry)) (now (bytes .entry))) ⌝ }
-    ensures result { λ _. ⌜ now (result .exit) ≡ returned (openBytes kind (now (image .entry)) (now (bytes .entry))) (now (image .entry)) (now (result .entry)) .result ⌝ }
+    ensures answer { λ r. ⌜ r ≡ returned (openBytes kind (now (image .entry)) (now (bytes .entry))) (now (image .entry))
+        (now (result .entry)) .answer ⌝ }
+    ensures bytes { λ _. ⌜ now (bytes .exit) ≡ kept (now (result .entry)) (now (bytes .entry))
+        (openRecord kind (now (image .entry)) (now (bytes .entry))) ⌝ }
+    ensures result { λ _. ⌜ now (result .exit) ≡ returned (openBytes kind (now (image .entry)) (now (bytes .entry)))
+        (now (image .entry)) (now (result .entry)) .result ⌝ }
 {
     if result.len() < 24 {
         return 1;
@@ -313,8 +345,10 @@ pub extern "C" fn mutree_lookup_opened(
     key: u32,
     result: &mut [u8],
 ) -> u32
-    ensures answer { λ r. ⌜ r ≡ returned (lookupBytes kind (now (image .entry)) (now (bytes .entry)) key) (now (image .entry)) (now (result .entry)) .answer ⌝ }
-    ensures result { λ _. ⌜ now (result .exit) ≡ returned (lookupBytes kind (now (image .entry)) (now (bytes .entry)) key) (now (image .entry)) (now (result .entry)) .result ⌝ }
+    ensures answer { λ r. ⌜ r ≡ returned (lookupBytes kind (now (image .entry)) (now (bytes .entry)) key)
+        (now (image .entry)) (now (result .entry)) .answer ⌝ }
+    ensures result { λ _. ⌜ now (result .exit) ≡ returned (lookupBytes kind (now (image .entry))
+        (now (bytes .entry)) key) (now (image .entry)) (now (result .entry)) .result ⌝ }
 {
     if result.len() < 24 {
         return 1;
@@ -333,9 +367,12 @@ pub extern "C" fn mutree_list_opened(
     pairs: &mut [u32],
     result: &mut [u8],
 ) -> u32
-    ensures answer { λ r. ⌜ r ≡ returned (listBytes kind (now (image .entry)) (now (bytes .entry)) low high (now (pairs .entry))) (now (pairs .entry)) (now (result .entry)) .answer ⌝ }
-    ensures pairs { λ _. ⌜ now (pairs .exit) ≡ returned (listBytes kind (now (image .entry)) (now (bytes .entry)) low high (now (pairs .entry))) (now (pairs .entry)) (now (result .entry)) .image ⌝ }
-    ensures result { λ _. ⌜ now (result .exit) ≡ returned (listBytes kind (now (image .entry)) (now (bytes .entry)) low high (now (pairs .entry))) (now (pairs .entry)) (now (result .entry)) .result ⌝ }
+    ensures answer { λ r. ⌜ r ≡ returned (listBytes kind (now (image .entry)) (now (bytes .entry)) low high
+        (now (pairs .entry))) (now (pairs .entry)) (now (result .entry)) .answer ⌝ }
+    ensures pairs { λ _. ⌜ now (pairs .exit) ≡ returned (listBytes kind (now (image .entry)) (now (bytes .entry)) low
+        high (now (pairs .entry))) (now (pairs .entry)) (now (result .entry)) .image ⌝ }
+    ensures result { λ _. ⌜ now (result .exit) ≡ returned (listBytes kind (now (image .entry)) (now (bytes .entry)) low
+        high (now (pairs .entry))) (now (pairs .entry)) (now (result .entry)) .result ⌝ }
 {
     if result.len() < 24 {
         return 1;
@@ -355,11 +392,16 @@ pub extern "C" fn mutree_insert_opened(
     allowance: u32,
     result: &mut [u8],
 ) -> u32
-    ensures answer { λ r. ⌜ r ≡ returned (insertBytes kind (now (image .entry)) (now (live .entry)) (now (bytes .entry)) key address allowance .outcome) (now (image .entry)) (now (result .entry)) .answer ⌝ }
-    ensures image { λ _. ⌜ now (image .exit) ≡ returned (insertBytes kind (now (image .entry)) (now (live .entry)) (now (bytes .entry)) key address allowance .outcome) (now (image .entry)) (now (result .entry)) .image ⌝ }
-    ensures bytes { λ _. ⌜ now (bytes .exit) ≡ kept (now (result .entry)) (now (bytes .entry)) (insertBytes kind (now (image .entry)) (now (live .entry)) (now (bytes .entry)) key address allowance .bytes) ⌝ }
-    ensures live { λ _. ⌜ now (live .exit) ≡ kept (now (result .entry)) (now (live .entry)) (insertBytes kind (now (image .entry)) (now (live .entry)) (now (bytes .entry)) key address allowance .words) ⌝ }
-    ensures result { λ _. ⌜ now (result .exit) ≡ returned (insertBytes kind (now (image .entry)) (now (live .entry)) (now (bytes .entry)) key address allowance .outcome) (now (image .entry)) (now (result .entry)) .result ⌝ }
+    ensures answer { λ r. ⌜ r ≡ returned (insertBytes kind (now (image .entry)) (now (live .entry))
+        (now (bytes .entry)) key address allowance .outcome) (now (image .entry)) (now (result .entry)) .answer ⌝ }
+    ensures image { λ _. ⌜ now (image .exit) ≡ returned (insertBytes kind (now (image .entry)) (now (live .entry))
+        (now (bytes .entry)) key address allowance .outcome) (now (image .entry)) (now (result .entry)) .image ⌝ }
+    ensures bytes { λ _. ⌜ now (bytes .exit) ≡ kept (now (result .entry)) (now (bytes .entry))
+        (insertBytes kind (now (image .entry)) (now (live .entry)) (now (bytes .entry)) key address allowance .bytes) ⌝ }
+    ensures live { λ _. ⌜ now (live .exit) ≡ kept (now (result .entry)) (now (live .entry))
+        (insertBytes kind (now (image .entry)) (now (live .entry)) (now (bytes .entry)) key address allowance .words) ⌝ }
+    ensures result { λ _. ⌜ now (result .exit) ≡ returned (insertBytes kind (now (image .entry)) (now (live .entry))
+        (now (bytes .entry)) key address allowance .outcome) (now (image .entry)) (now (result .entry)) .result ⌝ }
 {
     if result.len() < 24 {
         return 1;
@@ -386,11 +428,16 @@ pub extern "C" fn mutree_delete_opened(
     allowance: u32,
     result: &mut [u8],
 ) -> u32
-    ensures answer { λ r. ⌜ r ≡ returned (deleteBytes kind (now (image .entry)) (now (live .entry)) (now (bytes .entry)) key allowance .outcome) (now (image .entry)) (now (result .entry)) .answer ⌝ }
-    ensures image { λ _. ⌜ now (image .exit) ≡ returned (deleteBytes kind (now (image .entry)) (now (live .entry)) (now (bytes .entry)) key allowance .outcome) (now (image .entry)) (now (result .entry)) .image ⌝ }
-    ensures bytes { λ _. ⌜ now (bytes .exit) ≡ kept (now (result .entry)) (now (bytes .entry)) (deleteBytes kind (now (image .entry)) (now (live .entry)) (now (bytes .entry)) key allowance .bytes) ⌝ }
-    ensures live { λ _. ⌜ now (live .exit) ≡ kept (now (result .entry)) (now (live .entry)) (deleteBytes kind (now (image .entry)) (now (live .entry)) (now (bytes .entry)) key allowance .words) ⌝ }
-    ensures result { λ _. ⌜ now (result .exit) ≡ returned (deleteBytes kind (now (image .entry)) (now (live .entry)) (now (bytes .entry)) key allowance .outcome) (now (image .entry)) (now (result .entry)) .result ⌝ }
+    ensures answer { λ r. ⌜ r ≡ returned (deleteBytes kind (now (image .entry)) (now (live .entry))
+        (now (bytes .entry)) key allowance .outcome) (now (image .entry)) (now (result .entry)) .answer ⌝ }
+    ensures image { λ _. ⌜ now (image .exit) ≡ returned (deleteBytes kind (now (image .entry)) (now (live .entry))
+        (now (bytes .entry)) key allowance .outcome) (now (image .entry)) (now (result .entry)) .image ⌝ }
+    ensures bytes { λ _. ⌜ now (bytes .exit) ≡ kept (now (result .entry)) (now (bytes .entry))
+        (deleteBytes kind (now (image .entry)) (now (live .entry)) (now (bytes .entry)) key allowance .bytes) ⌝ }
+    ensures live { λ _. ⌜ now (live .exit) ≡ kept (now (result .entry)) (now (live .entry))
+        (deleteBytes kind (now (image .entry)) (now (live .entry)) (now (bytes .entry)) key allowance .words) ⌝ }
+    ensures result { λ _. ⌜ now (result .exit) ≡ returned (deleteBytes kind (now (image .entry)) (now (live .entry))
+        (now (bytes .entry)) key allowance .outcome) (now (image .entry)) (now (result .entry)) .result ⌝ }
 {
     if result.len() < 24 {
         return 1;

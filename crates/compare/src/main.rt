@@ -1,4 +1,4 @@
 // Request 12's program: replays a log through both trees and reports their pages.
 fn main() {
-    contest::compare();
+    compare_input::compare();
 }

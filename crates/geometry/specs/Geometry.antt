@@ -1,6 +1,6 @@
 -- The numbers of a geometry, and document 01's table of levels. Definitions alone; assumes nothing.
 use Prim.Native.Nat.{ℕ, zero, suc, _+_, _-_, _*_, _/_}
-use mathlib.Core.Bool.{Bool, true, false}
+use mathlib.Core.Bool.{Bool}
 use mathlib.Core.List.{List, [], _∷_}
 use lib.Dec.{eqb, leb, ltb}
 use lib.ListN.{getD}
@@ -34,7 +34,8 @@ pageBytes g = g .main + g .spare
 abbrev pub halves : Geometry → ℕ
 halves g = g .main / 256
 
--- the byte of a page at which the code of half i stands: spare bytes 10 to 12 and 13 to 15, and 12 to 35 on the large chip
+-- the byte of a page at which the code of half i stands: spare bytes 10 to 12 and 13 to 15, and 12 to 35 on the large
+-- chip
 abbrev pub codePlace : Geometry → ℕ → ℕ
 codePlace g i = g .main + 5 + g .top + 3 * i
 

@@ -1,8 +1,8 @@
--- The halving rule over the table, and what theorems may know of a geometry: linear facts, proved once for each geometry.
--- Assumes nothing.
+-- The halving rule over the table, and what theorems may know of a geometry: linear facts, proved once for each
+-- geometry. Assumes nothing.
 use Prim.Native.Nat.{ℕ, zero, suc, _+_, _-_, _*_, _/_, _^_, _<_, _≤_}
 use mathlib.Core.Bool.{Bool, true, false}
-use mathlib.Core.Path.{_≡_, refl, sym, ap, subst, _∙_}
+use mathlib.Core.Path.{_≡_, refl, ap, subst}
 use mathlib.Core.List.{List, [], _∷_}
 use lib.Dec.{T, eqb, leb, ltb, eqb→eq, leb→le, ltb→lt, lit<, lit≤}
 use lib.ListN.{getD, length, List·getD-eq-default}
@@ -15,6 +15,7 @@ use Rattle.geometry.specs.declared.Geometry.{Geometry}
 use Rattle.geometry.specs.declared.Chosen.{Chosen}
 use Rattle.geometry.specs.declared.Chosen.the-variants.{Of, Unknown}
 use Rattle.geometry.specs.Geometry.{small, large, plain, chosenOf, slots, pageBytes, halves, codePlace, pageBase, smallFirst, smallSlots, largeFirst, largeSlots, plainSlots, firstSlot, slotsOf, half, rootSlots, rootMost}
+use Rattle.geometry.specs.Bounds.{longestPage}
 
 -- "The first slot of level l is 64 − 64/2^(l−1)", with 256 for 64 on the large chip, over each table once
 rule : ℕ → ℕ → ℕ → Bool
@@ -137,11 +138,13 @@ here f n l y h = at f (levels n) y l (rw (levels-length n) h)
 module _ (g : Geometry) (past : (l : ℕ) → suc (g .top) ≤ l → slotsOf g l ≡ 0) where
   even-all : T (every (even-test g) 0 (levels (suc (g .top)))) → (l : ℕ) → slotsOf g l ≡ 2 * half g l
   unfolding even-test
-  even-all t l = by-lt l (suc (g .top)) (λ h. eqb→eq _ _ (here (even-test g) (suc (g .top)) l t h)) (λ h. let e = past l h in rw e refl)
+  even-all t l = by-lt l (suc (g .top)) (λ h. eqb→eq _ _ (here (even-test g) (suc (g .top)) l t h)) (λ h. let e =
+      past l h in rw e refl)
 
   most-all : T (every (most-test g) 0 (levels (suc (g .top)))) → (l : ℕ) → slotsOf g l ≤ rootMost g l
   unfolding most-test
-  most-all t l = by-lt l (suc (g .top)) (λ h. leb→le _ _ (here (most-test g) (suc (g .top)) l t h)) (λ h. let e = past l h in omega (arith, e))
+  most-all t l = by-lt l (suc (g .top)) (λ h. leb→le _ _ (here (most-test g) (suc (g .top)) l t h)) (λ h. let e =
+      past l h in omega (arith, e))
 
 module _ (g : Geometry) (x : Numbers g) (t : Tested g) where
   shape-by : Shape g
@@ -225,8 +228,8 @@ pub shape : (g : Geometry) → Known g → Shape g
 shape _ is-small = small-shape
 shape _ is-large = large-shape
 
--- what holds of the plain tree's geometry too: all that the laws of bytes, stores, next pages and R1 to R6 use. Of `Shape`
--- those of the μ-Tree's updates use also steps, double, some, top-none and top-slots
+-- what holds of the plain tree's geometry too: all that the laws of bytes, stores, next pages and R1 to R6 use. Of
+-- `Shape` those of the μ-Tree's updates use also steps, double, some, top-none and top-slots
 pub record Core (g : Geometry) : Type 0 where
   pub pages-low : 2 ≤ g .pages
   pub pages-high : g .pages ≤ 64
@@ -309,7 +312,7 @@ halved g s = ne-eqb (g .table) 2 (λ e.
     omega (arith, c, r, z, d, w))
 
 -- the page of the large chip is the longest
-pub page-most : (g : Geometry) → Known g → pageBytes g ≤ 2112
+pub page-most : (g : Geometry) → Known g → pageBytes g ≤ longestPage
 page-most _ is-small = lit≤ tt
 page-most _ is-large = lit≤ tt
 

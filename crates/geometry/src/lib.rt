@@ -2,6 +2,7 @@
 ghost use mathlib.Core.Path.{_≡_};
 ghost use Prim.Native.Nat.{_<_, _≤_};
 ghost use Rattle.geometry.specs.Geometry.{small, large, plain, chosenOf, pageBytes, halves, codePlace, pageBase, slots, firstSlot, slotsOf, half, rootSlots, rootMost, inTable};
+ghost use Rattle.geometry.specs.Bounds.{fourBytes};
 
 // A block's pages, a page's main and spare bytes, the greatest height, the number above which the chip is WORN, and the
 // number of its table of levels: 0 the small chip's, 1 the large one's, 2 the plain tree's on the small chip.
@@ -121,7 +122,8 @@ pub enum Verdict {
     Broken(u32, u32),
 }
 
-// What a patrol of one half finds: nothing, the number of the data bit or of the code's bit that it mended, or more than it can mend.
+// What a patrol of one half finds: nothing, the number of the data bit or of the code's bit that it mended, or more
+// than it can mend.
 pub enum Patrol {
     Clean,
     DataMended(u32),
@@ -136,7 +138,7 @@ pub fn wide(x: u16) -> usize
 }
 
 pub fn index(x: u32) -> usize
-    ensures { λ r. ⌜ (r ≡ x) × (r < 4294967296) ⌝ }
+    ensures { λ r. ⌜ (r ≡ x) × (r < fourBytes) ⌝ }
 {
     x as usize
 }

@@ -1,3 +1,3 @@
 -- Laws by which the calls on a geometry by its number are proved.
-pub mod Laws
+pub mod ByNumber
 pub mod Opened

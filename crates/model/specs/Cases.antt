@@ -1,5 +1,5 @@
--- The bench cases that document 01 marks P, as one table over the definitions, and the single statement that they all hold.
--- Assumes nothing.
+-- The bench cases that document 01 marks P, as one table over the definitions, and the single statement that they all
+-- hold. Assumes nothing.
 use mathlib.Core.Path.{_≡_, refl}
 use mathlib.Core.List.{List, [], _∷_, map}
 use mathlib.Core.Bool.{false}

@@ -1,4 +1,5 @@
--- Request 4, "Flipped bits": the code of 256 bytes, the codes of a page, and the patrol of one half. Definitions alone; assumes nothing.
+-- Request 4, "Flipped bits": the code of 256 bytes, the codes of a page, and the patrol of one half. Definitions alone;
+-- assumes nothing.
 use Prim.Native.Nat.{ℕ, zero, suc, _+_, _-_, _*_, _/_, _%_, _^_}
 use mathlib.Core.Bool.{Bool, true}
 use mathlib.Core.List.{List}
@@ -72,9 +73,9 @@ oneOfEach (suc k) a b = eqb (a % 2 + b % 2) 1 & oneOfEach k (a / 2) (b / 2)
 unfoldable pub inPairs : ℕ → Bool
 inPairs d = oneOfEach 11 (d % 2048) (d / 2048 % 2048) & eqb (d / 4194304) 0
 
--- what the 24 bits that differ tell: "clean if no bit differs; a data bit mended (the one that E's difference numbers) if
--- exactly one bit differs in each of the 11 pairs; code mended if one of the 24 bits differs; else beyond repair". The one
--- of the 24 bits that differs is the lowest
+-- what the 24 bits that differ tell: "clean if no bit differs; a data bit mended (the one that E's difference numbers)
+-- if exactly one bit differs in each of the 11 pairs; code mended if one of the 24 bits differs; else beyond repair".
+-- The one of the 24 bits that differs is the lowest
 unfoldable pub diagnosis : ℕ → Patrol
 diagnosis d =
     pick (eqb d 0) Clean (

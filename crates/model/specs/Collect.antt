@@ -1,4 +1,5 @@
--- Collection: the victim, the moves, the erase, each on the image as it then stands. Definitions alone; assumes nothing.
+-- Collection: the victim, the moves, the erase, each on the image as it then stands. Definitions alone; assumes
+-- nothing.
 use Prim.Native.Nat.{ℕ, zero, suc, _+_, _-_, _*_}
 use mathlib.Core.Bool.{Bool}
 use mathlib.Core.List.{List, [], _∷_, _++_}
@@ -8,7 +9,7 @@ use Rattle.geometry.specs.declared.Geometry.{Geometry}
 use Rattle.geometry.specs.declared.Entry.{Entry}
 use Rattle.geometry.specs.Tests.{pick}
 use Rattle.model.specs.Image.{Chip, chipOf, theRoot, pagesOf, maxSeq}
-use Rattle.model.specs.Tree.{next, placesOf, live, lowLevel, erasedPages}
+use Rattle.model.specs.Tree.{following, placesOf, live, lowLevel, erasedPages}
 use Rattle.model.specs.Next.{full, inBlock, ahead, nextPage}
 use Rattle.model.specs.Page.{built}
 use Rattle.model.specs.Stores.{Store, program, erase, applyStore, applyAll}
@@ -32,7 +33,7 @@ theVictim p n c = victim (full p (c .er)) (λ b. livesIn p b c) n
 
 -- the key by which descent comes to the lowest live node of page q: its first
 abbrev pub moveKey : Chip → ℕ → ℕ
-moveKey c q = next (c .nodes q (lowLevel (placesOf c) q)) 0
+moveKey c q = following (c .nodes q (lowLevel (placesOf c) q)) 0
 
 -- "one page holding the nodes from the root to that page's lowest live node": at level j, on the new page m
 unfoldable pub movePart : Chip → ℕ → ℕ → ℕ → List Entry
@@ -44,7 +45,8 @@ unfoldable pub moveStore : Geometry → ℕ → ℕ → List ℕ → Store
 moveStore g n q img = program (nextPage (g .pages) n (ahead g n (chipOf g n img)))
     (built g (suc (maxSeq g n img)) (suc (chipOf g n img .level)) (movePart (chipOf g n img) q (nextPage (g .pages) n (ahead g n (chipOf g n img)))))
 
--- "While the victim has a live page, take the lowest-numbered": its last j pages in rising order, each that is then live
+-- "While the victim has a live page, take the lowest-numbered": its last j pages in rising order, each that is then
+-- live
 unfoldable pub sweepStores : Geometry → ℕ → ℕ → ℕ → List ℕ → List Store
 sweepStores g n v zero img = []
 sweepStores g n v (suc j) img = pick (live (placesOf (chipOf g n img)) (g .pages * v + (g .pages - suc j)))

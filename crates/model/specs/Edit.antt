@@ -1,14 +1,14 @@
 -- Insert, delete and move on nodes. All three are one recursion: down the path the chosen entry gives way to a list of
 -- entries (insert 1 or 2, delete 0 or 1, move 1). Definitions alone; assumes nothing.
-use Prim.Native.Nat.{ℕ, zero, suc, _+_, _-_, _*_, min}
-use mathlib.Core.Bool.{Bool, true, false}
+use Prim.Native.Nat.{ℕ, zero, suc, _+_, _*_, min}
+use mathlib.Core.Bool.{Bool}
 use mathlib.Core.List.{List, [], _∷_, _++_}
 use lib.Dec.{eqb, leb, ltb}
 use lib.ListN.{length, take, drop}
 use Rattle.geometry.specs.declared.Entry.{Entry}
 use Rattle.geometry.specs.Tests.{pick, bit, _&_}
 use Rattle.model.specs.Image.{Nodes}
-use Rattle.model.specs.Tree.{next, place, chosen}
+use Rattle.model.specs.Tree.{following, place, chosen}
 
 -- entry i gives way to the list f makes of it
 abbrev pub swap : (Entry → List Entry) → ℕ → List Entry → List Entry
@@ -20,14 +20,16 @@ swap f (suc i) (e ∷ es) = e ∷ swap f i es
 unfoldable pub splice : (Entry → List Entry) → ℕ → List Entry → List Entry
 splice f k es = swap f (place k es) es
 
--- the edited node at level suc l that e names: a leaf by `leaf`; above, the chosen entry x gives way to what `name` says
--- of x and of the edited node below
-unfoldable pub edited : Nodes → ℕ → (List Entry → List Entry) → (ℕ → Entry → List Entry → List Entry) → ℕ → Entry → List Entry
+-- the edited node at level suc l that e names: a leaf by `leaf`; above, the chosen entry x gives way to what `name`
+-- says of x and of the edited node below
+unfoldable pub edited : Nodes → ℕ → (List Entry → List Entry) → (ℕ → Entry → List Entry → List Entry) → ℕ → Entry
+    → List Entry
 edited r k leaf name zero e = leaf (r (e .addr) 1)
 edited r k leaf name (suc l) e = splice (λ x. name (suc l) x (edited r k leaf name l x)) k (r (e .addr) (suc (suc l)))
 
 -- the edited node of the path at level j, from the node at level suc l that e names
-unfoldable pub onPath : Nodes → ℕ → (List Entry → List Entry) → (ℕ → Entry → List Entry → List Entry) → ℕ → Entry → ℕ → List Entry
+unfoldable pub onPath : Nodes → ℕ → (List Entry → List Entry) → (ℕ → Entry → List Entry → List Entry) → ℕ → Entry → ℕ
+    → List Entry
 onPath r k leaf name zero e j = pick (eqb j 1) (edited r k leaf name zero e) []
 onPath r k leaf name (suc l) e j =
     pick (eqb j (suc (suc l))) (edited r k leaf name (suc l) e) (onPath r k leaf name l (chosen k (r (e .addr) (suc (suc l)))) j)
@@ -47,7 +49,7 @@ putIn k a (e ∷ es) = splice (λ x. put k a (x ∷ [])) k (e ∷ es)
 -- "The path half is, in a leaf, the half that holds K, and above, the half that names page N": the right one exactly
 -- when its first key is not above K
 abbrev pub turn : ℕ → ℕ → List Entry → Bool
-turn k m c = leb (next (drop m c) 0) k
+turn k m c = leb (following (drop m c) 0) k
 
 abbrev pub pathHalf : ℕ → ℕ → List Entry → List Entry
 pathHalf k m c = pick (turn k m c) (drop m c) (take m c)
@@ -59,10 +61,10 @@ sideHalf k m c = pick (turn k m c) (take m c) (drop m c)
 -- z is the key kept, n the page of the path half, o that of the other
 abbrev pub two : ℕ → ℕ → ℕ → ℕ → ℕ → List Entry → List Entry
 two k n o m z c =
-    record { key = z; addr = pick (turn k m c) o n } ∷ record { key = next (drop m c) 0; addr = pick (turn k m c) n o } ∷ []
+    record { key = z; addr = pick (turn k m c) o n } ∷ record { key = following (drop m c) 0; addr = pick (turn k m c) n o } ∷ []
 
--- what stands above an edited node c at level l: one entry that names N, its key lowered to K where it is above K, or two
--- where c exceeds the level's slots, 2 * half
+-- what stands above an edited node c at level l: one entry that names N, its key lowered to K where it is above K, or
+-- two where c exceeds the level's slots, 2 * half
 abbrev pub named : ℕ → ℕ → (ℕ → ℕ) → (ℕ → ℕ) → ℕ → Entry → List Entry → List Entry
 named k n side half l e c =
     pick (leb (length c) (2 * half l)) (record { key = min (e .key) k; addr = n } ∷ []) (two k n (side l) (half l) (min (e .key) k) c)

@@ -1,4 +1,5 @@
--- Worked examples of the definitions by computation: nodes, single pages built and read back, and codes. Assumes nothing.
+-- Worked examples of the definitions by computation: nodes, single pages built and read back, and codes. Assumes
+-- nothing.
 use mathlib.Core.Path.{_≡_, refl}
 use mathlib.Core.List.{List, [], _∷_}
 use mathlib.Core.Bool.{Bool, true, false}
@@ -42,7 +43,8 @@ after-64 (suc p) (suc zero) = run 33 32
 after-64 (suc p) (suc (suc l)) = pair 1 0 ∷ pair 33 1 ∷ []
 
 -- key 65: page 2 takes 33 to 48, page 3 takes 49 to 65 and the root 1, 33, 49 naming 0, 2, 3
-key-65-root : edited after-64 65 (putIn 65 65) (named 65 3 (λ l. 2) (half small)) 1 (pair 0 1) ≡ pair 1 0 ∷ pair 33 2 ∷ pair 49 3 ∷ []
+key-65-root : edited after-64 65 (putIn 65 65) (named 65 3 (λ l. 2) (half small)) 1 (pair 0 1)
+    ≡ pair 1 0 ∷ pair 33 2 ∷ pair 49 3 ∷ []
 unfolding edited slotsOf splice chosen place halve putIn
 key-65-root = refl
 
@@ -50,12 +52,14 @@ key-65-leaf : onPath after-64 65 (putIn 65 65) (named 65 3 (λ l. 2) (half small
 unfolding onPath edited splice chosen place halve putIn
 key-65-leaf = refl
 
-key-65-halves : (pathPart 65 (half small) 1 (run 33 33) ≡ run 49 17) × (sideHalf 65 (half small 1) (run 33 33) ≡ run 33 16)
+key-65-halves : (pathPart 65 (half small) 1 (run 33 33) ≡ run 49 17) ×
+    (sideHalf 65 (half small 1) (run 33 33) ≡ run 33 16)
 unfolding slotsOf
 key-65-halves = (refl, refl)
 
 -- a key below all enters the first leaf, which splits; the first key above is lowered to it
-lowering : edited after-64 0 (putIn 0 9) (named 0 3 (λ l. 2) (half small)) 1 (pair 0 1) ≡ pair 0 3 ∷ pair 16 2 ∷ pair 33 1 ∷ []
+lowering : edited after-64 0 (putIn 0 9) (named 0 3 (λ l. 2) (half small)) 1 (pair 0 1)
+    ≡ pair 0 3 ∷ pair 16 2 ∷ pair 33 1 ∷ []
 unfolding edited slotsOf splice chosen place halve putIn
 lowering = refl
 
@@ -65,7 +69,8 @@ thin zero l = pair 10 4 ∷ pair 20 5 ∷ []
 thin (suc p) l = pair (10 * (p - 2)) 7 ∷ []
 
 -- collapse: the leaf of 20 vanishes with its entry, and the other leaf becomes the root
-shrinks : collapse thin 1 (edited thin 20 (removeIn 20) (kept 6) 1 (pair 0 0)) ≡ record { level = 0; list = pair 10 7 ∷ [] }
+shrinks : collapse thin 1 (edited thin 20 (removeIn 20) (kept 6) 1 (pair 0 0))
+    ≡ record { level = 0; list = pair 10 7 ∷ [] }
 unfolding edited collapse splice chosen place halve removeIn
 shrinks = refl
 
@@ -75,7 +80,8 @@ unfolding onPath edited splice chosen place halve putIn
 moves = refl
 
 -- the live pages of the tree, and the lowest live level of its root's page
-lives : places after-64 2 (pair 0 1) ≡ record { page = 1; level = 2 } ∷ record { page = 0; level = 1 } ∷ record { page = 1; level = 1 } ∷ []
+lives : places after-64 2 (pair 0 1)
+    ≡ record { page = 1; level = 2 } ∷ record { page = 0; level = 1 } ∷ record { page = 1; level = 1 } ∷ []
 unfolding places gather
 lives = refl
 
@@ -83,15 +89,18 @@ lives = refl
 abbrev half-full : ℕ → Bool
 half-full p = lib.Dec.leb 64 p
 
-pages-to-come : (nth 32 3 (record { er = half-full; last = 63 }) 0 ≡ 64) × (nth 32 3 (record { er = half-full; last = 63 }) 1 ≡ 65)
+pages-to-come : (nth 32 3 (record { er = half-full; last = 63 }) 0 ≡ 64) ×
+    (nth 32 3 (record { er = half-full; last = 63 }) 1 ≡ 65)
 unfolding taken nextBlock round least _&_
 pages-to-come = (refl, refl)
 
--- key 64: block 0 was erased, page 63 has the largest number, so pages 64 and 65 follow; after page 95 it goes round to page 0
+-- key 64: block 0 was erased, page 63 has the largest number, so pages 64 and 65 follow; after page 95 it goes round to
+-- page 0
 abbrev first-and-last : ℕ → Bool
 first-and-last p = Rattle.geometry.specs.Tests.pick (lib.Dec.leb 64 p) true (lib.Dec.leb (p + 1) 32)
 
-key-64-pages : (nth 32 3 (record { er = first-and-last; last = 63 }) 0 ≡ 64) × (nth 32 3 (record { er = first-and-last; last = 63 }) 1 ≡ 65)
+key-64-pages : (nth 32 3 (record { er = first-and-last; last = 63 }) 0 ≡ 64) ×
+    (nth 32 3 (record { er = first-and-last; last = 63 }) 1 ≡ 65)
     × (nth 32 3 (record { er = λ p. lib.Dec.leb (p + 1) 32; last = 95 }) 0 ≡ 0)
 unfolding taken nextBlock round least _&_
 key-64-pages = (refl, refl, refl)
@@ -100,7 +109,8 @@ key-64-pages = (refl, refl, refl)
 abbrev sample : List ℕ
 sample = built small 66 2 (λ j. only 1 (run 33 2) j)
 
-read-back : (nodeAt small sample 0 1 ≡ run 33 2) × (nodeAt small sample 0 2 ≡ []) × (seqAt small sample 0 ≡ 66) × (heightAt small sample 0 ≡ 2)
+read-back : (nodeAt small sample 0 1 ≡ run 33 2) × (nodeAt small sample 0 2 ≡ []) × (seqAt small sample 0 ≡ 66) ×
+    (heightAt small sample 0 ≡ 2)
     × (tailAt small sample 0 ≡ true) × (erased small sample 0 ≡ false)
 unfolding built sealed coded putCode numbered putLevels putLevel putEntries putEntry putU32 nodeAt nodeCount nodePlace entriesAt u32At blank seqAt heightAt countAt tailAt erased pageBase firstSlot rootSlots inTable _&_
 read-back = (refl, refl, refl, refl, refl, refl)

@@ -24,20 +24,24 @@ below-power (suc s) = omega (arith, below-power s)
 
 module _ (k : ℕ) (es : List Entry) where
   -- one step
-  pub halve-left : (s lo hi : ℕ) → k < entryOf es (middle lo hi) .key → halve (suc s) k es lo hi ≡ halve s k es lo (middle lo hi)
+  pub halve-left : (s lo hi : ℕ) → k < entryOf es (middle lo hi) .key → halve (suc s) k es lo hi ≡ halve s k es lo
+      (middle lo hi)
   unfolding halve
   halve-left s lo hi g = rw (lt-ltb _ _ g)
 
-  pub halve-right : (s lo hi : ℕ) → entryOf es (middle lo hi) .key ≤ k → halve (suc s) k es lo hi ≡ halve s k es (middle lo hi) hi
+  pub halve-right : (s lo hi : ℕ) → entryOf es (middle lo hi) .key ≤ k → halve (suc s) k es lo hi ≡ halve s k es
+      (middle lo hi) hi
   unfolding halve
   halve-right s lo hi g = rw (le-ltb _ _ g)
 
   pub halve-done : (s lo hi : ℕ) → hi ≤ lo + 1 → halve s k es lo hi ≡ lo
   unfolding halve
   halve-done zero lo hi h = refl
-  halve-done (suc s) lo hi h = go (ltb k (entryOf es (middle lo hi) .key)) (omega arith) (halve-done s lo (middle lo hi) (omega arith)) (halve-done s (middle lo hi) hi (omega arith))
+  halve-done (suc s) lo hi h = go (ltb k (entryOf es (middle lo hi) .key)) (omega arith)
+      (halve-done s lo (middle lo hi) (omega arith)) (halve-done s (middle lo hi) hi (omega arith))
     where
-      go : (t : Bool) → middle lo hi ≡ lo → halve s k es lo (middle lo hi) ≡ lo → halve s k es (middle lo hi) hi ≡ middle lo hi
+      go : (t : Bool) → middle lo hi ≡ lo → halve s k es lo (middle lo hi) ≡ lo → halve s k es (middle lo hi) hi
+          ≡ middle lo hi
           → halve s k es (pick t lo (middle lo hi)) (pick t (middle lo hi) hi) ≡ lo
       go true q a b = a
       go false q a b = b ∙ q
@@ -50,8 +54,10 @@ module _ (k : ℕ) (es : List Entry) where
   halve-enough (suc s) (suc t) lo hi h g = go (ltb k (entryOf es (middle lo hi) .key))
       (halve-enough s t lo (middle lo hi) (omega arith) (omega arith)) (halve-enough s t (middle lo hi) hi (omega arith) (omega arith))
     where
-      go : (t′ : Bool) → halve s k es lo (middle lo hi) ≡ halve t k es lo (middle lo hi) → halve s k es (middle lo hi) hi ≡ halve t k es (middle lo hi) hi
-          → halve s k es (pick t′ lo (middle lo hi)) (pick t′ (middle lo hi) hi) ≡ halve t k es (pick t′ lo (middle lo hi)) (pick t′ (middle lo hi) hi)
+      go : (t′ : Bool) → halve s k es lo (middle lo hi) ≡ halve t k es lo (middle lo hi)
+          → halve s k es (middle lo hi) hi ≡ halve t k es (middle lo hi) hi
+          → halve s k es (pick t′ lo (middle lo hi)) (pick t′ (middle lo hi) hi) ≡ halve t k es
+          (pick t′ lo (middle lo hi)) (pick t′ (middle lo hi) hi)
       go true a b = a
       go false a b = b
 
@@ -63,10 +69,12 @@ module _ (k : ℕ) (es : List Entry) where
   unfolding place
   place-few s h = halve-enough (length es) s 0 (length es) (omega (arith, below-power (length es))) (omega arith)
 
-  last : (lo hi : ℕ) → hi ≡ suc lo → hi ≤ length es → (0 < lo → entryOf es lo .key ≤ k) → (hi < length es → k < entryOf es hi .key) → Placed k es lo
+  last : (lo hi : ℕ) → hi ≡ suc lo → hi ≤ length es → (0 < lo → entryOf es lo .key ≤ k)
+      → (hi < length es → k < entryOf es hi .key) → Placed k es lo
   last lo hi q d low high = record { inside = omega arith; low = low; high = rw q at high }
 
-  halve-placed : (s lo hi : ℕ) → hi ≤ lo + 1 + s → lo < hi → hi ≤ length es → (0 < lo → entryOf es lo .key ≤ k) → (hi < length es → k < entryOf es hi .key)
+  halve-placed : (s lo hi : ℕ) → hi ≤ lo + 1 + s → lo < hi → hi ≤ length es → (0 < lo → entryOf es lo .key ≤ k)
+      → (hi < length es → k < entryOf es hi .key)
       → Placed k es (halve s k es lo hi)
   unfolding halve
   halve-placed zero lo hi b c d low high = last lo hi (omega arith) d low high
@@ -98,13 +106,15 @@ pub record Last (k : ℕ) (es : List Entry) (i : ℕ) : Type 0 where
   pub low : 0 < i → entryOf es i .key ≤ k
   pub rest : (j : ℕ) → i < j → j < length es → k < entryOf es j .key
 
-pub place-last : (k : ℕ) (es : List Entry) → 0 < length es → ((i j : ℕ) → i < j → j < length es → entryOf es i .key < entryOf es j .key)
+pub place-last : (k : ℕ) (es : List Entry) → 0 < length es → ((i j : ℕ) → i < j → j < length es
+    → entryOf es i .key < entryOf es j .key)
     → Last k es (place k es)
 place-last k es n rise =
     let w = place-is k es n in
     record { inside = w .inside; low = w .low; rest = λ j h g. go j h g (w .high) (ltb (suc (place k es)) j) refl }
   where
-    go : (j : ℕ) → place k es < j → j < length es → (suc (place k es) < length es → k < entryOf es (suc (place k es)) .key)
+    go : (j : ℕ) → place k es < j → j < length es
+        → (suc (place k es) < length es → k < entryOf es (suc (place k es)) .key)
         → (t : Bool) → ltb (suc (place k es)) j ≡ t → k < entryOf es j .key
     go j h g high true e =
         let later = ltb-true (suc (place k es)) j e in
@@ -114,17 +124,20 @@ place-last k es n rise =
         rw here (high (omega (arith, here)))
 
 -- the place hangs on the keys alone
-halve-keys : (k : ℕ) (xs ys : List Entry) → ((i : ℕ) → entryOf xs i .key ≡ entryOf ys i .key) → (s lo hi : ℕ) → halve s k xs lo hi ≡ halve s k ys lo hi
+halve-keys : (k : ℕ) (xs ys : List Entry) → ((i : ℕ) → entryOf xs i .key ≡ entryOf ys i .key) → (s lo hi : ℕ)
+    → halve s k xs lo hi ≡ halve s k ys lo hi
 unfolding halve
 halve-keys k xs ys e zero lo hi = refl
 halve-keys k xs ys e (suc s) lo hi = rw (e (middle lo hi)) (halve-keys k xs ys e s _ _)
 
-pub place-keys : (k : ℕ) (xs ys : List Entry) → length xs ≡ length ys → ((i : ℕ) → entryOf xs i .key ≡ entryOf ys i .key) → place k xs ≡ place k ys
+pub place-keys : (k : ℕ) (xs ys : List Entry) → length xs ≡ length ys
+    → ((i : ℕ) → entryOf xs i .key ≡ entryOf ys i .key) → place k xs ≡ place k ys
 unfolding place
 place-keys k xs ys n e = rw n (halve-keys k xs ys e (length ys) 0 (length ys))
 
 -- a splice, by its place
-pub swap-cut : (f : Entry → List Entry) (i : ℕ) (es : List Entry) → i < length es → swap f i es ≡ take i es ++ (f (entryOf es i) ++ drop (suc i) es)
+pub swap-cut : (f : Entry → List Entry) (i : ℕ) (es : List Entry) → i < length es
+    → swap f i es ≡ take i es ++ (f (entryOf es i) ++ drop (suc i) es)
 swap-cut f i [] h = absurd (omega arith)
 swap-cut f zero (e ∷ es) h = refl
 swap-cut f (suc i) (e ∷ es) h = ap (λ (l : List Entry). e ∷ l) (swap-cut f i es (omega arith))

@@ -12,8 +12,8 @@ use Rattle.model.specs.Tree.{placesOf, live}
 use Rattle.model.specs.Next.{ahead, nextPage}
 use Rattle.model.specs.Stores.{Store, program, erase}
 
--- "only erased pages are programmed, only blocks without a live page are erased". A program: the whole of the next page, which is
--- erased, with the largest number plus 1. An erase: a block without live pages
+-- "only erased pages are programmed, only blocks without a live page are erased". A program: the whole of the next
+-- page, which is erased, with the largest number plus 1. An erase: a block without live pages
 unfoldable pub Legal : Geometry → ℕ → List ℕ → Store → Type 0
 Legal g n img (program p bs) =
     (p ≡ nextPage (g .pages) n (ahead g n (chipOf g n img))) × (p < pagesOf g n) × (erased g img p ≡ true) × (length bs ≡ pageBytes g) ×

@@ -1,5 +1,5 @@
--- Document 01 as definitions, in its order: Bytes to Calls, then request 1 of document 02, Listing, Legal, a word of demand 3, and Plain, request 12. These a
--- reader must believe; Halving, Cases and Examples are theorems about them.
+-- Document 01 as definitions, in its order: Bytes to Calls, then request 1 of document 02, Listing, Legal, a word of
+-- demand 3, and Plain, request 12. These a reader must believe; Halving, Cases and Examples are theorems about them.
 pub mod Bytes
 pub mod Codes
 pub mod Count

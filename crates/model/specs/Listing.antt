@@ -1,5 +1,5 @@
--- Request 1 of document 02, "Frames between two keys": the part of a map, the walk that finds it, and the call on every image.
--- Definitions alone; assumes nothing.
+-- Request 1 of document 02, "Frames between two keys": the part of a map, the walk that finds it, and the call on every
+-- image. Definitions alone; assumes nothing.
 use Prim.Native.Nat.{ℕ, zero, suc, _*_, _/_, min}
 use mathlib.Core.List.{List, [], _∷_, _++_}
 use lib.Dec.{leb}
@@ -74,7 +74,8 @@ listing g img low high buffer =
 unfoldable pub listOf : ℕ → List ℕ → ℕ → ℕ → List ℕ → Listed
 listOf kind img low high buffer = chosenCall (chosenOf kind) (λ g. listing g img low high buffer) (listsNone 1 0 0 buffer)
 
--- a listing in the numbers of the other calls: pairs that exist, pairs written, 0. The lent buffer stands where they have the image
+-- a listing in the numbers of the other calls: pairs that exist, pairs written, 0. The lent buffer stands where they
+-- have the image
 abbrev pub asOutcome : Listed → Outcome
 asOutcome l = record {
   answer = l .answer;

@@ -1,5 +1,5 @@
--- A page as it is built: all 255, then each level's entries and count, then number and height, then the codes. A put outside the page
--- changes nothing. Definitions alone; assumes nothing.
+-- A page as it is built: all 255, then each level's entries and count, then number and height, then the codes. A put
+-- outside the page changes nothing. Definitions alone; assumes nothing.
 use Prim.Native.Nat.{ℕ, zero, suc, _+_, _*_, _/_, _%_}
 use mathlib.Core.List.{List, [], _∷_}
 use lib.Dec.{eqb}

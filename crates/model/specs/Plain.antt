@@ -1,5 +1,6 @@
--- The pages of an update of request 12's plain tree, the wandering tree of document 004: one node to a page. It is read as the μ-Tree is,
--- with the geometry `plain`; what differs is which pages an update programs. Definitions alone; assumes nothing.
+-- The pages of an update of request 12's plain tree, the wandering tree of document 004: one node to a page. It is read
+-- as the μ-Tree is, with the geometry `plain`; what differs is which pages an update programs. Definitions alone;
+-- assumes nothing.
 use Prim.Native.Nat.{ℕ, zero, suc, _+_, _-_, _*_, min}
 use mathlib.Core.Bool.{Bool, true, false}
 use mathlib.Core.List.{List, [], _∷_, _++_}
@@ -11,7 +12,7 @@ use Rattle.geometry.specs.Geometry.{half}
 use Rattle.geometry.specs.Tests.{pick, bit, _&_}
 use Rattle.model.specs.Count.{count}
 use Rattle.model.specs.Image.{Chip, chipOf, pagesOf, blocksOf, theRoot, maxSeq}
-use Rattle.model.specs.Tree.{next, sought, erasedPages}
+use Rattle.model.specs.Tree.{following, sought, erasedPages}
 use Rattle.model.specs.Next.{ahead, nth}
 use Rattle.model.specs.Page.{built, only}
 use Rattle.model.specs.Stores.{Store, program}
@@ -22,10 +23,11 @@ use Rattle.model.specs.Calls.{Outcome, refused, made, judgedCall, worn}
 -- ---- what stands above a changed node
 -- two entries over the halves of c: z is the key kept, left and right are the pages
 abbrev pub both : ℕ → ℕ → ℕ → ℕ → List Entry → List Entry
-both left right m z c = record { key = z; addr = left } ∷ record { key = next (drop m c) 0; addr = right } ∷ []
+both left right m z c = record { key = z; addr = left } ∷ record { key = following (drop m c) 0; addr = right } ∷ []
 
--- what stands above an edited node c at level l: one entry that names `left l`, its key lowered to K where it is above K, or
--- two where c exceeds the level's slots, 2 * half: `left l` is the page of the left half, `right l` that of the right
+-- what stands above an edited node c at level l: one entry that names `left l`, its key lowered to K where it is above
+-- K, or two where c exceeds the level's slots, 2 * half: `left l` is the page of the left half, `right l` that of the
+-- right
 abbrev pub renewed : ℕ → (ℕ → ℕ) → (ℕ → ℕ) → (ℕ → ℕ) → ℕ → Entry → List Entry → List Entry
 renewed k left right half l e c =
     pick (leb (length c) (2 * half l)) (record { key = min (e .key) k; addr = left l } ∷ []) (both (left l) (right l) (half l) (min (e .key) k) c)
@@ -39,7 +41,8 @@ pub record Plan : Type 0 where
   pub level : ℕ
   pub list : List Entry
 
--- the i-th plan goes to the i-th page to come; "the root last": the last one carries the root, and its level is the height
+-- the i-th plan goes to the i-th page to come; "the root last": the last one carries the root, and its level is the
+-- height
 unfoldable pub laid : Geometry → ℕ → Chip → ℕ → ℕ → List Plan → List Store
 laid g n c seq i [] = []
 laid g n c seq i (x ∷ []) =
@@ -60,8 +63,8 @@ plainCuts g c k = splits (c .nodes) k (half g) (isNone (sought c k)) (suc (c .le
 unfoldable pub plainHigh : Geometry → Chip → ℕ → Bool
 plainHigh g c k = eqb (suc (c .level)) (g .top) & plainGrows g c k
 
--- "lower level first, left half before right": below level l stand l - 1 pages and one more for each level that splits; the right half's page
--- comes after the left one's, where level l splits
+-- "lower level first, left half before right": below level l stand l - 1 pages and one more for each level that splits;
+-- the right half's page comes after the left one's, where level l splits
 unfoldable pub leftPage : Geometry → ℕ → Chip → ℕ → ℕ → ℕ
 leftPage g n c cuts l = nth (g .pages) n (ahead g n c) (l - 1 + min (l - 1) cuts)
 
@@ -82,10 +85,11 @@ unfoldable pub plansTo : Geometry → (ℕ → List Entry) → ℕ → List Plan
 plansTo g lists zero = []
 plansTo g lists (suc l) = plansTo g lists l ++ levelPlans g (suc l) (lists (suc l))
 
--- "a root that would hold 65 entries is split under a new root": keyed by the halves' first keys, as a root that grows is
+-- "a root that would hold 65 entries is split under a new root": keyed by the halves' first keys, as a root that grows
+-- is
 unfoldable pub crownPlans : Geometry → ℕ → Chip → ℕ → ℕ → List Entry → List Plan
 crownPlans g n c cuts l es = pick (leb (length es) (2 * half g l)) []
-    (record { level = suc l; list = both (leftPage g n c cuts l) (rightPage g n c cuts l) (half g l) (next es 0) es } ∷ [])
+    (record { level = suc l; list = both (leftPage g n c cuts l) (rightPage g n c cuts l) (half g l) (following es 0) es } ∷ [])
 
 unfoldable pub insertPlans : Geometry → ℕ → Chip → ℕ → ℕ → List Plan
 insertPlans g n c k a = plansTo g (plainList g n c k a) (suc (c .level))
@@ -99,7 +103,8 @@ abbrev pub noneLeft : List Entry → Bool
 noneLeft [] = true
 noneLeft (e ∷ es) = false
 
--- the levels below the root whose node is emptied are 1 to this (whether a node is emptied does not hang on page numbers)
+-- the levels below the root whose node is emptied are 1 to this (whether a node is emptied does not hang on page
+-- numbers)
 unfoldable pub emptied : Chip → ℕ → ℕ
 emptied c k = count (c .level) (λ j. noneLeft (deleteList c k 0 (suc j)))
 

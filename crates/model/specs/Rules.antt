@@ -1,5 +1,5 @@
--- "A sound image": R1 to R7 and, by request 11, R8, one by one, each with the page that request 5 of document 02 names, and the verdict: the first broken rule.
--- Definitions alone; assumes nothing.
+-- "A sound image": R1 to R7 and, by request 11, R8, one by one, each with the page that request 5 of document 02 names,
+-- and the verdict: the first broken rule. Definitions alone; assumes nothing.
 use Prim.Native.Nat.{ℕ, zero, suc, _+_, _-_, _*_}
 use mathlib.Core.Bool.{Bool, true, false, not}
 use mathlib.Core.List.{List, [], _∷_}
@@ -17,7 +17,7 @@ use Rattle.model.specs.Bytes.{erased, seqAt, heightAt, tailAt}
 use Rattle.model.specs.Codes.{codesFit}
 use Rattle.model.specs.Count.{count, least, any}
 use Rattle.model.specs.Image.{Nodes, Chip, chipOf, pagesOf, heightOf, rootOf}
-use Rattle.model.specs.Tree.{next, Place, placesOf, live, lowLevel, livePages}
+use Rattle.model.specs.Tree.{following, Place, placesOf, live, lowLevel, livePages}
 use Rattle.model.specs.Next.{mixed, full, firstIn, inBlock}
 
 -- the least page below t that a test finds bad
@@ -34,7 +34,8 @@ unfoldable pub first : Finding → Finding → Finding
 first Good v = v
 first (Bad p) v = Bad p
 
--- R1: erased, or byte 4 is 0 to 5, the bytes after the codes are 255, the number isn't 0 and, by request 4, the codes fit
+-- R1: erased, or byte 4 is 0 to 5, the bytes after the codes are 255, the number isn't 0 and, by request 4, the codes
+-- fit
 unfoldable pub wellFormed : Geometry → List ℕ → ℕ → Bool
 wellFormed g img p = pick (erased g img p) true
     (leb (heightAt g img p) (g .top) & tailAt g img p & leb 1 (seqAt g img p) & codesFit g img (pageBase g p) (halves g))
@@ -91,7 +92,7 @@ ownRoot g er r t l p =
 -- its subtrees and those left to right
 unfoldable pub judgeEntries : (ℕ → ℕ → ℕ → Finding) → List Entry → ℕ → Finding
 judgeEntries sub [] hi = Good
-judgeEntries sub (e ∷ es) hi = first (sub (e .addr) (e .key) (next es hi)) (judgeEntries sub es hi)
+judgeEntries sub (e ∷ es) hi = first (sub (e .addr) (e .key) (following es hi)) (judgeEntries sub es hi)
 
 unfoldable pub judgeNode : Geometry → (ℕ → Bool) → Nodes → ℕ → ℕ → ℕ → ℕ → ℕ → Finding
 judgeNode g er r t zero p lo hi = Good
@@ -121,7 +122,8 @@ lowestPage f (x ∷ xs) t = lowestPage f xs (pick (f x & ltb (x .page) t) (x .pa
 unfoldable pub r6 : ℕ → Chip → Finding
 r6 t c = unless (leb t (lowestPage (loose (c .nodes) (placesOf c)) (placesOf c) t)) (lowestPage (loose (c .nodes) (placesOf c)) (placesOf c) t) Good
 
--- R7: at least 32 pages are erased, or some block without erased pages has no more live pages than the image has erased ones
+-- R7: at least 32 pages are erased, or some block without erased pages has no more live pages than the image has erased
+-- ones
 unfoldable pub spareRoom : ℕ → ℕ → Chip → Bool
 spareRoom p n c = pick (leb p (count (p * n) (c .er))) true
     (any n (λ b. full p (c .er) b & leb (inBlock p (live (placesOf c)) b) (count (p * n) (c .er))))

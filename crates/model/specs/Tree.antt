@@ -1,4 +1,5 @@
--- The tree from the root down: its map, its live pages, descent. Level 0 is the pair itself. Definitions alone; assumes nothing.
+-- The tree from the root down: its map, its live pages, descent. Level 0 is the pair itself. Definitions alone; assumes
+-- nothing.
 use Prim.Native.Nat.{ℕ, zero, suc, _+_, _-_, _/_, min}
 use mathlib.Core.Bool.{Bool, true, false}
 use mathlib.Core.List.{List, [], _∷_, _++_}
@@ -53,9 +54,9 @@ abbrev pub erasedPages : ℕ → Chip → ℕ
 erasedPages t c = count t (c .er)
 
 -- the key that follows: the next entry's, or the bound
-abbrev pub next : List Entry → ℕ → ℕ
-next [] hi = hi
-next (e ∷ es) hi = e .key
+abbrev pub following : List Entry → ℕ → ℕ
+following [] hi = hi
+following (e ∷ es) hi = e .key
 
 -- ---- search in a node, by halving
 -- entry i of a node; past the end the pair of zeros
@@ -66,8 +67,8 @@ entryOf es i = getD es i (record { key = 0; addr = 0 })
 abbrev pub middle : ℕ → ℕ → ℕ
 middle lo hi = lo + (hi - lo) / 2
 
--- s halvings of the entries from lo to hi, hi left out: the half before the middle where its key is above K, else the half
--- that starts with it. Of one entry or none lo stays
+-- s halvings of the entries from lo to hi, hi left out: the half before the middle where its key is above K, else the
+-- half that starts with it. Of one entry or none lo stays
 unfoldable pub halve : ℕ → ℕ → List Entry → ℕ → ℕ → ℕ
 halve zero k es lo hi = lo
 halve (suc s) k es lo hi =

@@ -10,7 +10,7 @@ use Rattle.geometry.specs.declared.Entry.{Entry}
 use Rattle.geometry.specs.Geometry.{half, rootSlots}
 use Rattle.geometry.specs.Tests.{pick, bit, _&_}
 use Rattle.model.specs.Image.{Chip, chipOf, theRoot, maxSeq}
-use Rattle.model.specs.Tree.{next, chosen, sought}
+use Rattle.model.specs.Tree.{following, chosen, sought}
 use Rattle.model.specs.Next.{ahead, nth}
 use Rattle.model.specs.Page.{built, only}
 use Rattle.model.specs.Stores.{Store, program, erase, applyAll}
@@ -50,7 +50,7 @@ insertList g c k a n side j = onPath (c .nodes) k (putIn k a) (named k n side (h
 -- the root's changed node es at level l, as it stands on N at level j: as it is, or halved under a two-entry root
 unfoldable pub crownPart : Geometry → ℕ → ℕ → (ℕ → ℕ) → ℕ → List Entry → ℕ → List Entry
 crownPart g k n side l es j = pick (fills g l (length es))
-    (pick (eqb j l) (pathHalf k (2 * half g l) es) (pick (eqb j (suc l)) (two k n (side l) (2 * half g l) (next es 0) es) []))
+    (pick (eqb j l) (pathHalf k (2 * half g l) es) (pick (eqb j (suc l)) (two k n (side l) (2 * half g l) (following es 0) es) []))
     (pick (eqb j l) es [])
 
 -- what N holds at level j
@@ -104,7 +104,8 @@ deleteList c k n j = onPath (c .nodes) k (removeIn k) (kept n) (c .level) (theRo
 unfoldable pub deleteTop : Chip → ℕ → ℕ → Top
 deleteTop c k n = collapse (c .nodes) (c .level) (deleteList c k n (suc (c .level)))
 
--- "Delete programs N only, holding the root and the path's nodes left below it": at level j. Where the tree shrinks none is left below
+-- "Delete programs N only, holding the root and the path's nodes left below it": at level j. Where the tree shrinks
+-- none is left below
 unfoldable pub deletePart : Chip → ℕ → ℕ → ℕ → List Entry
 deletePart c k n j = pick (eqb j (suc (deleteTop c k n .level))) (deleteTop c k n .list)
     (pick (eqb (deleteTop c k n .level) (c .level) & leb j (c .level)) (deleteList c k n j) [])

@@ -12,7 +12,7 @@ use Rattle.model.specs.Tree.{leaf, findIn, sought}
 use Rattle.model.specs.Edit.{removeIn, kept, edited, onPath}
 use Rattle.model.specs.Update.{isNone, deleteList}
 use Rattle.model.specs.Plain.{plainCuts, plainGrows, noneLeft, emptied}
-use Rattle.plan.specs.declared.Run.{Run}
+use Rattle.tree_plan.specs.declared.Run.{Run}
 use Rattle.plain_calls.specs.declared.Loss.{Loss}
 
 -- the levels that an insert splits, and whether the root is one
@@ -21,7 +21,8 @@ pub record Cuts (g : Geometry) (c : Chip) (k : ℕ) (r : Run) : Type 0 where
   pub grows : r .gains ≡ plainGrows g c k
   pub few : r .splits ≤ suc (c .level)
 
--- the node that e names with l levels below it, after a delete (whether a node is emptied does not hang on page numbers: 0)
+-- the node that e names with l levels below it, after a delete (whether a node is emptied does not hang on page
+-- numbers: 0)
 abbrev pub lessOf : Nodes → ℕ → ℕ → Entry → List Entry
 lessOf r k l e = edited r k (removeIn k) (kept 0) l e
 

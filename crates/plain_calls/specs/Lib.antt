@@ -1,4 +1,4 @@
 -- The plain tree's calls: what an update counts before its stores, and laws by which the calls are proved.
 pub mod Counts
 pub mod Losses
-pub mod Laws
+pub mod Judged

@@ -1,28 +1,31 @@
-// The plain tree of request 12 as Rattle calls: format, lookup, insert, delete. No call asks anything of its caller, and each contract is
-// one equation: the answer, its numbers and the image afterwards are those of the definition, for every image.
+// The plain tree of request 12 as Rattle calls: format, lookup, insert, delete. No call asks anything of its caller,
+// and each contract is one equation: the answer, its numbers and the image afterwards are those of the definition, for
+// every image.
 ghost use mathlib.Core.Path.{_≡_};
 ghost use Prim.Native.Nat.{suc, _+_, _-_, _≤_, _<_};
 ghost use lib.Dec.{eqb, leb, ltb};
 ghost use lib.ListN.{length};
 ghost use Rattle.geometry.specs.Geometry.{plain, pageBytes};
 ghost use Rattle.geometry.specs.Tests.{pick, bit, _&_};
+ghost use Rattle.geometry.specs.Bounds.{longestPage};
 ghost use Rattle.model.specs.Image.{chipOf, maxSeq};
 ghost use Rattle.model.specs.Calls.{format, lookup};
 ghost use Rattle.model.specs.Plain.{plainInsert, plainDelete};
-ghost use Rattle.answers.specs.Answers.{told};
-ghost use Rattle.chip.specs.Chip.{chipWith, goodBlocks};
-ghost use Rattle.survey.specs.Survey.{surveyOf};
+ghost use Rattle.call_answers.specs.Answers.{told};
+ghost use Rattle.chip_read.specs.Chip.{chipWith, goodBlocks};
+ghost use Rattle.chip_survey.specs.Survey.{surveyOf};
 ghost use Rattle.plain_levels.specs.Levels.{insertStoresAt, deleteStoresAt, pagesBy, madeWith, plainInsertBy, plainDeleteBy};
 ghost use Rattle.plain_calls.specs.Counts.{Cuts, Loses, Sheds};
-use answers::Answer;
+use call_answers::Answer;
+use chip_survey::Survey;
 use geometry::Entry;
 use geometry::Geometry;
 use geometry::Verdict;
-use plan::Run;
-use search::Found;
-use survey::Survey;
+use tree_plan::Run;
+use tree_search::Found;
 
-// What a delete does to the node that an entry names: whether its key is absent, how many levels below are emptied, the entries left.
+// What a delete does to the node that an entry names: whether its key is absent, how many levels below are emptied, the
+// entries left.
 pub struct Loss {
     pub absent: bool,
     pub emptied: u32,
@@ -32,23 +35,24 @@ pub struct Loss {
 pub fn format(img: &mut [u8]) -> Answer
     ensures { λ r. ⌜ told r (now (img .exit)) ≡ format plain (now (img .entry)) ⌝ }
 {
-    format::format(Geometry::plain(), &mut *img)
+    call_format::format(Geometry::plain(), &mut *img)
 }
 
 pub fn lookup(img: &[u8], key: u32) -> Answer
     ensures { λ r. ⌜ told r (now (img .entry)) ≡ lookup plain (now (img .entry)) key ⌝ }
 {
-    lookup::lookup_on(Geometry::plain(), img, key)
+    call_lookup::lookup_on(Geometry::plain(), img, key)
 }
 
 // ---- insert
-// The levels that an insert splits, under the root at a page with `level` levels below it, and whether the root is one of them.
+// The levels that an insert splits, under the root at a page with `level` levels below it, and whether the root is one
+// of them.
 fn count_cuts(g: Geometry, img: &[u8], level: u32, root: u32, key: u32) -> Run
     requires { ⌜ level < 255 ⌝ }
     ensures { λ r. ⌜ Cuts g (chipWith g (now (img .entry)) level root) key r ⌝ }
 {
-    let absent = plan::is_absent(g, img, key, level, Entry { key: 0, addr: root });
-    plan::count_splits(g, img, key, absent, level + 1, Entry { key: 0, addr: root })
+    let absent = tree_plan::is_absent(g, img, key, level, Entry { key: 0, addr: root });
+    tree_plan::count_splits(g, img, key, absent, level + 1, Entry { key: 0, addr: root })
 }
 
 // HEIGHT: the root splits at the greatest height.
@@ -66,7 +70,7 @@ fn insert_roomless(s: Survey, run: Run) -> bool
     requires { ⌜ (s .level ≤ 100) × (run .splits ≤ 101) ⌝ }
     ensures { λ r. ⌜ r ≡ ltb (s .erased) (suc (s .level + run .splits + bit (run .gains))) ⌝ }
 {
-    s.erased < plan::count_pages(s.level + run.splits, run.gains)
+    s.erased < tree_plan::count_pages(s.level + run.splits, run.gains)
 }
 
 // The stores of an insert that splits so many levels, on an image of n blocks with its survey.
@@ -80,16 +84,17 @@ fn insert_made(
     addr: u32,
     allowance: u32,
 ) -> Answer
-    requires { ⌜ (s ≡ surveyOf g n (now img)) × (s .level ≤ 100) × (cuts ≤ 101) × (pageBytes g ≤ 2112) ⌝ }
+    requires { ⌜ (s ≡ surveyOf g n (now img)) × (s .level ≤ 100) × (cuts ≤ 101) × (pageBytes g ≤ longestPage) ⌝ }
     ensures { λ r.
         ⌜ told r (now (img .exit))
-        ≡ madeWith g (insertStoresAt g (chipOf g n (now (img .entry))) key addr (pagesBy g n (now (img .entry))) (maxSeq g n (now (img .entry))) cuts)
+        ≡ madeWith g (insertStoresAt g (chipOf g n (now (img .entry))) key addr (pagesBy g n (now (img .entry)))
+        (maxSeq g n (now (img .entry))) cuts)
         allowance (now (img .entry)) ⌝ }
 {
-    let o = recording::record_of(g, &*img, n, s);
-    let b = account::fresh(allowance);
+    let o = open_renew::record_of(g, &*img, n, s);
+    let b = call_account::fresh(allowance);
     let r = plain_levels::insert_pages(g, &mut *img, n, b, o, s.level, cuts, key, addr);
-    account::answer_of(r)
+    call_account::answer_of(r)
 }
 
 // The rest of an insert on a judged image of n blocks, by its survey.
@@ -102,7 +107,7 @@ fn insert_judged(
     addr: u32,
     allowance: u32,
 ) -> Answer
-    requires { ⌜ (s ≡ surveyOf g n (now img)) × (s .level ≤ 100) × (pageBytes g ≤ 2112) ⌝ }
+    requires { ⌜ (s ≡ surveyOf g n (now img)) × (s .level ≤ 100) × (pageBytes g ≤ longestPage) ⌝ }
     ensures { λ r. ⌜ told r (now (img .exit)) ≡ plainInsertBy g n (now (img .entry)) key addr allowance ⌝ }
 {
     if g.worn < s.most {
@@ -128,10 +133,11 @@ fn insert_blocks(
     addr: u32,
     allowance: u32,
 ) -> Answer
-    requires { ⌜ (g ≡ plain) × (n ≡ goodBlocks g (now img)) × (n ≤ 1024) × (n ≡ 0 → ⊥) × (65536 ≤ length (now table)) ⌝ }
+    requires { ⌜ (g ≡ plain) × (n ≡ goodBlocks g (now img)) × (n ≤ 1024) × (n ≡ 0 → ⊥) ×
+        (65536 ≤ length (now table)) ⌝ }
     ensures { λ r. ⌜ told r (now (img .exit)) ≡ plainInsert plain (now (img .entry)) key addr allowance ⌝ }
 {
-    let judgement = verdict::judge_image(g, &*img, &mut *table, n);
+    let judgement = sound_verdict::judge_image(g, &*img, &mut *table, n);
     let verdict = judgement.verdict;
     let survey = judgement.survey;
     match verdict {
@@ -144,7 +150,7 @@ pub fn insert(img: &mut [u8], key: u32, addr: u32, allowance: u32) -> Answer
     ensures { λ r. ⌜ told r (now (img .exit)) ≡ plainInsert plain (now (img .entry)) key addr allowance ⌝ }
 {
     let g = Geometry::plain();
-    let n = chip::good_blocks(g, &*img);
+    let n = chip_read::good_blocks(g, &*img);
     if n == 0 {
         return Answer::Length;
     }
@@ -166,8 +172,8 @@ fn one_less(n: usize) -> usize
 fn leaf_loss(g: Geometry, img: &[u8], key: u32, e: Entry) -> Loss
     ensures { λ r. ⌜ Loses g (now (img .entry)) key 0 e r ⌝ }
 {
-    let n = chip::node_count(g, img, e.addr, 1);
-    match search::find_key(g, img, e.addr, 1, key) {
+    let n = chip_read::node_count(g, img, e.addr, 1);
+    match tree_search::find_key(g, img, e.addr, 1, key) {
         Found::At(_) => Loss {
             absent: false,
             emptied: 0,
@@ -181,7 +187,8 @@ fn leaf_loss(g: Geometry, img: &[u8], key: u32, e: Entry) -> Loss
     }
 }
 
-// What it does to the node that an entry names, with `below` levels under it: that loses an entry where the node below is emptied.
+// What it does to the node that an entry names, with `below` levels under it: that loses an entry where the node below
+// is emptied.
 fn count_loss(g: Geometry, img: &[u8], key: u32, below: u32, e: Entry) -> Loss
     requires { ⌜ below < 256 ⌝ }
     ensures { λ r. ⌜ Loses g (now (img .entry)) key below e r ⌝ }
@@ -189,8 +196,8 @@ fn count_loss(g: Geometry, img: &[u8], key: u32, below: u32, e: Entry) -> Loss
     if below == 0 {
         return leaf_loss(g, img, key, e);
     }
-    let n = chip::node_count(g, img, e.addr, below + 1);
-    let x = search::chosen_entry(g, img, e.addr, below + 1, key);
+    let n = chip_read::node_count(g, img, e.addr, below + 1);
+    let x = tree_search::chosen_entry(g, img, e.addr, below + 1, key);
     let r = count_loss(g, img, key, below - 1, x);
     if r.left != 0 {
         return Loss {
@@ -231,7 +238,8 @@ fn count_left(level: u32, loss: Loss) -> u32
 // ROOM: fewer erased pages are left than the delete needs.
 fn delete_roomless(s: Survey, loss: Loss) -> bool
     requires { ⌜ (s .level ≤ 100) × (loss .emptied ≤ s .level) ⌝ }
-    ensures { λ r. ⌜ r ≡ ltb (s .erased) (suc (pick (leb 1 (s .level) & eqb (loss .left) 1) 0 (s .level - loss .emptied))) ⌝ }
+    ensures { λ r. ⌜ r ≡ ltb (s .erased) (suc (pick (leb 1 (s .level) & eqb (loss .left) 1) 0
+        (s .level - loss .emptied))) ⌝ }
 {
     s.erased < count_left(s.level, loss)
 }
@@ -246,21 +254,22 @@ fn delete_made(
     key: u32,
     allowance: u32,
 ) -> Answer
-    requires { ⌜ (s ≡ surveyOf g n (now img)) × (s .level ≤ 100) × (pageBytes g ≤ 2112) ⌝ }
+    requires { ⌜ (s ≡ surveyOf g n (now img)) × (s .level ≤ 100) × (pageBytes g ≤ longestPage) ⌝ }
     ensures { λ r.
         ⌜ told r (now (img .exit))
-        ≡ madeWith g (deleteStoresAt g (chipOf g n (now (img .entry))) key (pagesBy g n (now (img .entry))) (maxSeq g n (now (img .entry))) emptied)
+        ≡ madeWith g (deleteStoresAt g (chipOf g n (now (img .entry))) key (pagesBy g n (now (img .entry)))
+        (maxSeq g n (now (img .entry))) emptied)
         allowance (now (img .entry)) ⌝ }
 {
-    let o = recording::record_of(g, &*img, n, s);
-    let b = account::fresh(allowance);
+    let o = open_renew::record_of(g, &*img, n, s);
+    let b = call_account::fresh(allowance);
     let r = plain_levels::delete_pages(g, &mut *img, n, b, o, s.level, emptied, key);
-    account::answer_of(r)
+    call_account::answer_of(r)
 }
 
 // The rest of a delete on a judged image of n blocks, by its survey.
 fn delete_judged(g: Geometry, img: &mut [u8], n: u16, s: Survey, key: u32, allowance: u32) -> Answer
-    requires { ⌜ (s ≡ surveyOf g n (now img)) × (s .level ≤ 100) × (pageBytes g ≤ 2112) ⌝ }
+    requires { ⌜ (s ≡ surveyOf g n (now img)) × (s .level ≤ 100) × (pageBytes g ≤ longestPage) ⌝ }
     ensures { λ r. ⌜ told r (now (img .exit)) ≡ plainDeleteBy g n (now (img .entry)) key allowance ⌝ }
 {
     if g.worn < s.most {
@@ -285,10 +294,11 @@ fn delete_blocks(
     key: u32,
     allowance: u32,
 ) -> Answer
-    requires { ⌜ (g ≡ plain) × (n ≡ goodBlocks g (now img)) × (n ≤ 1024) × (n ≡ 0 → ⊥) × (65536 ≤ length (now table)) ⌝ }
+    requires { ⌜ (g ≡ plain) × (n ≡ goodBlocks g (now img)) × (n ≤ 1024) × (n ≡ 0 → ⊥) ×
+        (65536 ≤ length (now table)) ⌝ }
     ensures { λ r. ⌜ told r (now (img .exit)) ≡ plainDelete plain (now (img .entry)) key allowance ⌝ }
 {
-    let judgement = verdict::judge_image(g, &*img, &mut *table, n);
+    let judgement = sound_verdict::judge_image(g, &*img, &mut *table, n);
     let verdict = judgement.verdict;
     let survey = judgement.survey;
     match verdict {
@@ -301,7 +311,7 @@ pub fn delete(img: &mut [u8], key: u32, allowance: u32) -> Answer
     ensures { λ r. ⌜ told r (now (img .exit)) ≡ plainDelete plain (now (img .entry)) key allowance ⌝ }
 {
     let g = Geometry::plain();
-    let n = chip::good_blocks(g, &*img);
+    let n = chip_read::good_blocks(g, &*img);
     if n == 0 {
         return Answer::Length;
     }

@@ -1,5 +1,5 @@
--- An update of the plain tree (request 12) level by level, as the code makes it, over any pages to come: page i is the i-th of them. Definitions
--- alone; assumes nothing.
+-- An update of the plain tree (request 12) level by level, as the code makes it, over any pages to come: page i is the
+-- i-th of them. Definitions alone; assumes nothing.
 use Prim.Native.Nat.{ℕ, zero, suc, _+_, _-_, _*_, min}
 use mathlib.Core.List.{List, [], _∷_, _++_}
 use lib.Dec.{eqb, leb}
@@ -9,16 +9,16 @@ use Rattle.geometry.specs.declared.Entry.{Entry}
 use Rattle.geometry.specs.Geometry.{half}
 use Rattle.geometry.specs.Tests.{pick}
 use Rattle.model.specs.Image.{Chip, chipOf, theRoot, maxSeq}
-use Rattle.model.specs.Tree.{next, sought}
+use Rattle.model.specs.Tree.{following, sought}
 use Rattle.model.specs.Page.{built, only}
 use Rattle.model.specs.Stores.{Store, program, applyAll, programs, erases}
 use Rattle.model.specs.Edit.{onPath, putIn, removeIn, Top, collapse}
 use Rattle.model.specs.Update.{isNone}
 use Rattle.model.specs.Calls.{Outcome, gives, refused, worn}
 use Rattle.model.specs.Plain.{both, renewed, keptOn, noneLeft, plainCuts, plainHigh, plainNeeds, plainLeaves, plainRoomless, emptied}
-use Rattle.stores.specs.Careful.{madeOf}
-use Rattle.opened.specs.Opened.{openedIn}
-use Rattle.beside.specs.Beside.{pageBy}
+use Rattle.chip_store.specs.Careful.{madeOf}
+use Rattle.open_record.specs.Opened.{openedIn}
+use Rattle.live_beside.specs.Beside.{pageBy}
 
 -- a node alone on the i-th page to come
 abbrev pub nodeStore : Geometry → (ℕ → ℕ) → ℕ → ℕ → ℕ → ℕ → List Entry → Store
@@ -43,7 +43,7 @@ storesTo g page seq cuts lists (suc l) = storesTo g page seq cuts lists l ++ lev
 
 -- the new root over the halves of es, that of level h
 abbrev pub crownList : Geometry → (ℕ → ℕ) → ℕ → ℕ → List Entry → List Entry
-crownList g page cuts h es = both (page (leftPlace cuts h)) (page (rightPlace cuts h)) (half g h) (next es 0) es
+crownList g page cuts h es = both (page (leftPlace cuts h)) (page (rightPlace cuts h)) (half g h) (following es 0) es
 
 -- the root, at level h: whole, or its halves under a new one
 unfoldable pub rootStores : Geometry → (ℕ → ℕ) → ℕ → ℕ → ℕ → List Entry → List Store

@@ -8,17 +8,18 @@ use Rattle.geometry.specs.declared.Geometry.{Geometry}
 use Rattle.geometry.specs.declared.Entry.{Entry}
 use Rattle.geometry.specs.Geometry.{half}
 use Rattle.geometry.specs.Tests.{pick}
+use Rattle.geometry.specs.Bounds.{fourBytes}
 use Rattle.model.specs.Bytes.{nodeAt}
-use Rattle.model.specs.Tree.{next}
+use Rattle.model.specs.Tree.{following}
 use Rattle.model.specs.Stores.{Store}
 use Rattle.model.specs.Edit.{edited, onPath, putIn, removeIn, collapse}
 use Rattle.model.specs.Plain.{keptOn, noneLeft}
-use Rattle.node.specs.Node.{entries, carried, replaceBy}
-use Rattle.stores.specs.Run.{Ran}
-use Rattle.stores.specs.declared.Budget.{Budget}
-use Rattle.load.specs.declared.Taken.{Taken}
-use Rattle.step.specs.declared.Climbed.{Climbed}
-use Rattle.edit.specs.declared.Changed.{Changed}
+use Rattle.tree_node.specs.Node.{entries, carried, replaceBy}
+use Rattle.chip_store.specs.Run.{Ran}
+use Rattle.chip_store.specs.declared.Budget.{Budget}
+use Rattle.tree_load.specs.declared.Taken.{Taken}
+use Rattle.tree_split.specs.declared.Climbed.{Climbed}
+use Rattle.tree_path.specs.declared.Changed.{Changed}
 use Rattle.plain_levels.specs.declared.Change.{Change}
 use Rattle.plain_levels.specs.declared.Change.the-variants.{Put, Remove}
 use Rattle.plain_levels.specs.declared.Job.{Job}
@@ -56,18 +57,20 @@ pairOf j l z y = record { key = z; addr = pageAt j (leftPlace (j .levels) l) } �
 pub record Halved (g : Geometry) (j : Job) (l z : ℕ) (c : List Entry) (r : Halves) : Type 0 where
   pub left : entries (r .left) ≡ take (half g l) c
   pub right : entries (r .right) ≡ drop (half g l) c
-  pub carry : carried (r .carry) ≡ pairOf j l z (next (drop (half g l) c) 0)
+  pub carry : carried (r .carry) ≡ pairOf j l z (following (drop (half g l) c) 0)
   pub few : r .left .count ≤ 256
   pub some : r .right .count ≤ 256
 
 unfoldable pub halfStores : Geometry → Job → ℕ → List Entry → List Store
 halfStores g j l c = aloneStore g j (leftPlace (j .levels) l) 0 l (take (half g l) c) ∷ aloneStore g j (rightPlace (j .levels) l) 0 l (drop (half g l) c) ∷ []
 
-pub record Parted (g : Geometry) (j : Job) (l z : ℕ) (c : List Entry) (b : Budget) (r : Climbed) (i o : List ℕ) : Type 0 where
-  pub carry : carried (r .carry) ≡ pairOf j l z (next (drop (half g l) c) 0)
-  pub ran : Ran g (halfStores g j l c) b (r .budget) i o
+pub record Parted (g : Geometry) (j : Job) (l z : ℕ) (c : List Entry) (b : Budget) (r : Climbed) (i o : List ℕ) : Type 0
+  where
+    pub carry : carried (r .carry) ≡ pairOf j l z (following (drop (half g l) c) 0)
+    pub ran : Ran g (halfStores g j l c) b (r .budget) i o
 
-pub record Settled (g : Geometry) (j : Job) (w : Change) (l : ℕ) (e : Entry) (c : List Entry) (b : Budget) (r : Climbed) (i o : List ℕ) : Type 0 where
+pub record Settled (g : Geometry) (j : Job) (w : Change) (l : ℕ) (e : Entry) (c : List Entry)
+    (b : Budget) (r : Climbed) (i o : List ℕ) : Type 0 where
   pub carry : carried (r .carry) ≡ nameBy g w j l e c
   pub ran : Ran g (storesBy g w j l c) b (r .budget) i o
 
@@ -85,7 +88,8 @@ unfoldable pub storesUp : Geometry → Job → (ℕ → List Entry) → ℕ → 
 storesUp g j lists zero = []
 storesUp g j lists (suc l) = storesUp g j lists l ++ storesBy g (j .change) j (suc l) (lists (suc l))
 
-pub record Rejoined (g : Geometry) (j : Job) (l : ℕ) (t : Taken) (c : List Entry) (b : Budget) (r : Changed) (i o : List ℕ) : Type 0 where
+pub record Rejoined (g : Geometry) (j : Job) (l : ℕ) (t : Taken) (c : List Entry)
+    (b : Budget) (r : Changed) (i o : List ℕ) : Type 0 where
   pub node : entries (r .node) ≡ replaceBy (t .at) (nameBy g (j .change) j l (t .entry) c) (entries (t .node))
   pub few : r .node .count ≤ 256
   pub ran : Ran g (storesBy g (j .change) j l c) b (r .budget) i o
@@ -99,16 +103,12 @@ pub record Changes (g : Geometry) (j : Job) (l : ℕ) (e : Entry) (b : Budget) (
 -- halved under a new one
 unfoldable pub grownStores : Geometry → Job → ℕ → List Entry → List Store
 grownStores g j l c = halfStores g j l c
-    ++ (aloneStore g j (leftPlace (j .levels) (suc l)) (suc l) (suc l) (pairOf j l (next c 0) (next (drop (half g l) c) 0)) ∷ [])
+    ++ (aloneStore g j (leftPlace (j .levels) (suc l)) (suc l) (suc l) (pairOf j l (following c 0) (following (drop (half g l) c) 0)) ∷ [])
 
 unfoldable pub topStores : Geometry → Job → ℕ → List Entry → List Store
 topStores g j l c = rootStores g (pageAt j) (j .seq) (j .levels) l c
 
 -- ---- the whole, by its job
--- the entry that names the root
-abbrev pub rootAt : ℕ → Entry
-rootAt p = record { key = 0; addr = p }
-
 -- e names the root, l levels are below it
 unfoldable pub putStores : Geometry → Job → ℕ → Entry → List ℕ → List Store
 putStores g j l e i = storesUp g j (pathOf g j i l e) l ++ topStores g j (suc l) (changed g j i l e)
@@ -128,6 +128,6 @@ pub record Given (page : ℕ → ℕ) (seq v k m : ℕ) (w : Change) (j : Job) :
   pub key : j .key ≡ k
   pub change : j .change ≡ w
   pub number : j .seq ≡ seq
-  pub small : j .seq < 4294967296
+  pub small : j .seq < fourBytes
   pub levels : j .levels ≡ v
   pub pages : (i : ℕ) → i < m → pageAt j i ≡ page i

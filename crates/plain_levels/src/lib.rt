@@ -1,27 +1,28 @@
-// An update of the plain tree (request 12), level by level. All is read on the way down; on the way up each changed node is stored alone on
-// its page among the pages to come.
+// An update of the plain tree (request 12), level by level. All is read on the way down; on the way up each changed
+// node is stored alone on its page among the pages to come.
 ghost use mathlib.Core.Path.{_≡_};
 ghost use mathlib.Core.List.{[], _∷_};
 ghost use Prim.Native.Nat.{suc, _+_, _*_, _-_, _≤_, _<_};
 ghost use Rattle.geometry.specs.Geometry.{pageBytes};
+ghost use Rattle.geometry.specs.Bounds.{fourBytes, longestPage};
 ghost use Rattle.model.specs.Bytes.{nodeAt};
-ghost use Rattle.chip.specs.Chip.{chipWith};
-ghost use Rattle.node.specs.Node.{entries, carried};
-ghost use Rattle.stores.specs.Run.{Ran};
-ghost use Rattle.beside.specs.Beside.{pageBy};
+ghost use Rattle.chip_read.specs.Chip.{chipWith, naming};
+ghost use Rattle.tree_node.specs.Node.{entries, carried};
+ghost use Rattle.chip_store.specs.Run.{Ran, Countable};
+ghost use Rattle.live_beside.specs.Beside.{pageBy};
 ghost use Rattle.plain_levels.specs.declared.Change.{Change};
 ghost use Rattle.plain_levels.specs.Levels.{leftPlace, rightPlace, insertStoresAt, deleteStoresAt};
-ghost use Rattle.plain_levels.specs.Steps.{rootAt, pageAt, aloneStore, leafBy, pairOf, Halved, Parted, Settled};
+ghost use Rattle.plain_levels.specs.Steps.{pageAt, aloneStore, leafBy, pairOf, Halved, Parted, Settled};
 ghost use Rattle.plain_levels.specs.Steps.{changed, Rejoined, Changes, grownStores, topStores, putStores, stayStores, removeStores, Given};
-use edit::Changed;
+use chip_store::Budget;
 use geometry::Entry;
 use geometry::Geometry;
-use load::Taken;
-use node::Carry;
-use node::Node;
-use opened::Opened;
-use step::Climbed;
-use stores::Budget;
+use open_record::Opened;
+use tree_load::Taken;
+use tree_node::Carry;
+use tree_node::Node;
+use tree_path::Changed;
+use tree_split::Climbed;
 
 // What an update does: put the key at an address, or remove it.
 pub enum Change {
@@ -29,7 +30,8 @@ pub enum Change {
     Remove,
 }
 
-// An update: its key, the largest sequence number, the pages to come, the levels from 1 on that split or are emptied, what it does.
+// An update: its key, the largest sequence number, the pages to come, the levels from 1 on that split or are emptied,
+// what it does.
 pub struct Job {
     pub key: u32,
     pub seq: u64,
@@ -62,7 +64,7 @@ fn left_place(cuts: u32, level: u32) -> u32
     ensures { λ r. ⌜ r ≡ leftPlace cuts level ⌝ }
 {
     let below = level - 1;
-    below + step::least(below, cuts)
+    below + tree_split::least(below, cuts)
 }
 
 // The place of a level's right half.
@@ -71,7 +73,7 @@ fn right_place(cuts: u32, level: u32) -> u32
     ensures { λ r. ⌜ r ≡ rightPlace cuts level ⌝ }
 {
     let below = level - 1;
-    below + step::least(level, cuts)
+    below + tree_split::least(level, cuts)
 }
 
 // The place of a level's node where the levels up to `emptied` have none.
@@ -105,11 +107,12 @@ fn store_node(
     level: u32,
     n: Node,
 ) -> Budget
-    requires { ⌜ (n .count ≤ 256) × (pageBytes g ≤ 2112) × (job .seq < 8589934592) × (b .left + b .programmed + b .erased < 4294967296) ⌝ }
-    ensures { λ r. ⌜ Ran g (aloneStore g job place height level (entries n) ∷ []) b r (now (img .entry)) (now (img .exit)) ⌝ }
+    requires { ⌜ (n .count ≤ 256) × (pageBytes g ≤ longestPage) × (job .seq < 8589934592) × (Countable b) ⌝ }
+    ensures { λ r. ⌜ Ran g (aloneStore g job place height level (entries n) ∷ []) b r (now (img .entry))
+        (now (img .exit)) ⌝ }
 {
-    let bytes = page::only_bytes(g, number(job.seq, place), height, level, n);
-    stores::put_page(g, &mut *img, b, page_at(job, place), &bytes)
+    let bytes = chip_page::only_bytes(g, number(job.seq, place), height, level, n);
+    chip_store::put_page(g, &mut *img, b, page_at(job, place), &bytes)
 }
 
 // What stands above two halves, by their keys there.
@@ -137,9 +140,9 @@ fn halve(g: Geometry, job: Job, level: u32, low: u32, c: Node) -> Halves
     ensures { λ r. ⌜ Halved g job level low (entries c) r ⌝ }
 {
     let h = geometry::half(g, level);
-    let left = node::left_half(c, h);
-    let right = node::right_half(c, h);
-    let carry = pair(job, level, low, node::first_key(right));
+    let left = tree_node::left_half(c, h);
+    let right = tree_node::right_half(c, h);
+    let carry = pair(job, level, low, tree_node::first_key(right));
     Halves {
         left: left,
         right: right,
@@ -149,7 +152,8 @@ fn halve(g: Geometry, job: Job, level: u32, low: u32, c: Node) -> Halves
 
 // Programs the halves of a node, the left one first.
 fn part(g: Geometry, img: &mut [u8], b: Budget, job: Job, level: u32, low: u32, c: Node) -> Climbed
-    requires { ⌜ (c .count ≤ 256) × (1 ≤ level) × (level ≤ 102) × (pageBytes g ≤ 2112) × (job .seq < 8589934592) × (b .left + b .programmed + b .erased < 4294967296) ⌝ }
+    requires { ⌜ (c .count ≤ 256) × (1 ≤ level) × (level ≤ 102) × (pageBytes g ≤ longestPage) ×
+        (job .seq < 8589934592) × (Countable b) ⌝ }
     ensures { λ r. ⌜ Parted g job level low (entries c) b r (now (img .entry)) (now (img .exit)) ⌝ }
 {
     let s = halve(g, job, level, low, c);
@@ -177,11 +181,12 @@ fn settle_put(
     e: Entry,
     c: Node,
 ) -> Climbed
-    requires { ⌜ (c .count ≤ 256) × (1 ≤ level) × (level ≤ 102) × (pageBytes g ≤ 2112) × (job .seq < 8589934592) × (b .left + b .programmed + b .erased < 4294967296) ⌝ }
+    requires { ⌜ (c .count ≤ 256) × (1 ≤ level) × (level ≤ 102) × (pageBytes g ≤ longestPage) ×
+        (job .seq < 8589934592) × (Countable b) ⌝ }
     ensures { λ r. ⌜ Settled g job (Change.Put addr) level e (entries c) b r (now (img .entry)) (now (img .exit)) ⌝ }
 {
-    let low = step::least(e.key, job.key);
-    let n = node::size(c);
+    let low = tree_split::least(e.key, job.key);
+    let n = tree_node::size(c);
     let h = geometry::half(g, level);
     if 2 * h < n {
         return part(g, &mut *img, b, job, level, low, c);
@@ -208,10 +213,11 @@ fn settle_remove(
     e: Entry,
     c: Node,
 ) -> Climbed
-    requires { ⌜ (c .count ≤ 256) × (1 ≤ level) × (pageBytes g ≤ 2112) × (job .seq < 8589934592) × (b .left + b .programmed + b .erased < 4294967296) ⌝ }
+    requires { ⌜ (c .count ≤ 256) × (1 ≤ level) × (pageBytes g ≤ longestPage) × (job .seq < 8589934592) ×
+        (Countable b) ⌝ }
     ensures { λ r. ⌜ Settled g job Change.Remove level e (entries c) b r (now (img .entry)) (now (img .exit)) ⌝ }
 {
-    if node::size(c) == 0 {
+    if tree_node::size(c) == 0 {
         return Climbed {
             carry: Carry::Nothing,
             budget: b,
@@ -239,7 +245,8 @@ fn settle(
     e: Entry,
     c: Node,
 ) -> Climbed
-    requires { ⌜ (c .count ≤ 256) × (1 ≤ level) × (level ≤ 102) × (pageBytes g ≤ 2112) × (job .seq < 8589934592) × (b .left + b .programmed + b .erased < 4294967296) ⌝ }
+    requires { ⌜ (c .count ≤ 256) × (1 ≤ level) × (level ≤ 102) × (pageBytes g ≤ longestPage) ×
+        (job .seq < 8589934592) × (Countable b) ⌝ }
     ensures { λ r. ⌜ Settled g job (job .change) level e (entries c) b r (now (img .entry)) (now (img .exit)) ⌝ }
 {
     let change = job.change;
@@ -250,18 +257,20 @@ fn settle(
 }
 
 fn leaf(g: Geometry, img: &[u8], job: Job, page: u32) -> Node
-    ensures { λ r. ⌜ (entries r ≡ leafBy (job .change) (job .key) (nodeAt g (now (img .entry)) page 1)) × (r .count ≤ 256) ⌝ }
+    ensures { λ r. ⌜ (entries r ≡ leafBy (job .change) (job .key) (nodeAt g (now (img .entry)) page 1)) ×
+        (r .count ≤ 256) ⌝ }
 {
     let change = job.change;
     match change {
-        Change::Put(addr) => load::put_leaf(g, img, page, job.key, addr),
-        Change::Remove => load::remove_leaf(g, img, page, job.key),
+        Change::Put(addr) => tree_load::put_leaf(g, img, page, job.key, addr),
+        Change::Remove => tree_load::remove_leaf(g, img, page, job.key),
     }
 }
 
 // What came of the change below: settled at its level, then put in place of the entry taken.
 fn rejoin(g: Geometry, img: &mut [u8], job: Job, below: u32, t: Taken, u: Changed) -> Changed
-    requires { ⌜ (t .at ≤ t .node .count - 1) × (t .node .count < 256) × (u .node .count ≤ 256) × (1 ≤ below) × (below ≤ 102) × (pageBytes g ≤ 2112) × (job .seq < 8589934592) × (u .budget .left + u .budget .programmed + u .budget .erased < 4294967296) ⌝ }
+    requires { ⌜ (t .at ≤ t .node .count - 1) × (t .node .count < 256) × (u .node .count ≤ 256) × (1 ≤ below) ×
+        (below ≤ 102) × (pageBytes g ≤ longestPage) × (job .seq < 8589934592) × (Countable (u .budget)) ⌝ }
     ensures { λ r. ⌜ Rejoined g job below t (entries (u .node)) (u .budget) r (now (img .entry)) (now (img .exit)) ⌝ }
 {
     let c = u.node;
@@ -271,7 +280,7 @@ fn rejoin(g: Geometry, img: &mut [u8], job: Job, below: u32, t: Taken, u: Change
     let m = t.node;
     let carry = f.carry;
     let rest = f.budget;
-    let n = node::splice(m, t.at, carry);
+    let n = tree_node::splice(m, t.at, carry);
     Changed {
         node: n,
         budget: rest,
@@ -280,14 +289,14 @@ fn rejoin(g: Geometry, img: &mut [u8], job: Job, below: u32, t: Taken, u: Change
 
 // The changed node that entry e names, with `below` levels under it, all of them stored.
 fn climb(g: Geometry, img: &mut [u8], b: Budget, job: Job, below: u32, e: Entry) -> Changed
-    requires { ⌜ (below ≤ 100) × (pageBytes g ≤ 2112) × (job .seq < 8589934592) × (b .left + b .programmed + b .erased < 4294967296) ⌝ }
+    requires { ⌜ (below ≤ 100) × (pageBytes g ≤ longestPage) × (job .seq < 8589934592) × (Countable b) ⌝ }
     ensures { λ r. ⌜ Changes g job below e b r (now (img .entry)) (now (img .exit)) ⌝ }
 {
     if below == 0 {
         let c = leaf(g, &*img, job, e.addr);
         return Changed { node: c, budget: b };
     }
-    let t = load::take_node(g, &*img, e.addr, below + 1, job.key);
+    let t = tree_load::take_node(g, &*img, e.addr, below + 1, job.key);
     let x = t.entry;
     let u = climb(g, &mut *img, b, job, below - 1, x);
     rejoin(g, &mut *img, job, below, t, u)
@@ -295,24 +304,26 @@ fn climb(g: Geometry, img: &mut [u8], b: Budget, job: Job, below: u32, e: Entry)
 
 // The halves of a root under a new one.
 fn grow(g: Geometry, img: &mut [u8], b: Budget, job: Job, level: u32, c: Node) -> Budget
-    requires { ⌜ (c .count ≤ 256) × (1 ≤ level) × (level ≤ 101) × (pageBytes g ≤ 2112) × (job .seq < 8589934592) × (b .left + b .programmed + b .erased < 4294967296) ⌝ }
+    requires { ⌜ (c .count ≤ 256) × (1 ≤ level) × (level ≤ 101) × (pageBytes g ≤ longestPage) ×
+        (job .seq < 8589934592) × (Countable b) ⌝ }
     ensures { λ r. ⌜ Ran g (grownStores g job level (entries c)) b r (now (img .entry)) (now (img .exit)) ⌝ }
 {
-    let low = node::first_key(c);
+    let low = tree_node::first_key(c);
     let u = part(g, &mut *img, b, job, level, low, c);
     let carry = u.carry;
     let left = u.budget;
-    let above = crown::node_of(carry);
+    let above = tree_root::node_of(carry);
     let at = left_place(job.levels, level + 1);
     store_node(g, &mut *img, left, job, at, level + 1, level + 1, above)
 }
 
 // The changed root of an insert: whole on its page, or its halves under a new one.
 fn store_root(g: Geometry, img: &mut [u8], b: Budget, job: Job, level: u32, c: Node) -> Budget
-    requires { ⌜ (c .count ≤ 256) × (1 ≤ level) × (level ≤ 101) × (pageBytes g ≤ 2112) × (job .seq < 8589934592) × (b .left + b .programmed + b .erased < 4294967296) ⌝ }
+    requires { ⌜ (c .count ≤ 256) × (1 ≤ level) × (level ≤ 101) × (pageBytes g ≤ longestPage) ×
+        (job .seq < 8589934592) × (Countable b) ⌝ }
     ensures { λ r. ⌜ Ran g (topStores g job level (entries c)) b r (now (img .entry)) (now (img .exit)) ⌝ }
 {
-    let n = node::size(c);
+    let n = tree_node::size(c);
     let h = geometry::half(g, level);
     if 2 * h < n {
         return grow(g, &mut *img, b, job, level, c);
@@ -323,8 +334,9 @@ fn store_root(g: Geometry, img: &mut [u8], b: Budget, job: Job, level: u32, c: N
 
 // All stores of an insert's job.
 fn insert_with(g: Geometry, img: &mut [u8], b: Budget, job: Job, level: u32, root: u32) -> Budget
-    requires { ⌜ (level ≤ 100) × (pageBytes g ≤ 2112) × (job .seq < 4294967296) × (b .left + b .programmed + b .erased < 4294967296) ⌝ }
-    ensures { λ r. ⌜ Ran g (putStores g job level (rootAt root) (now (img .entry))) b r (now (img .entry)) (now (img .exit)) ⌝ }
+    requires { ⌜ (level ≤ 100) × (pageBytes g ≤ longestPage) × (job .seq < fourBytes) × (Countable b) ⌝ }
+    ensures { λ r. ⌜ Ran g (putStores g job level (naming root) (now (img .entry))) b r (now (img .entry))
+        (now (img .exit)) ⌝ }
 {
     let u = climb(g, &mut *img, b, job, level, Entry { key: 0, addr: root });
     let c = u.node;
@@ -334,8 +346,9 @@ fn insert_with(g: Geometry, img: &mut [u8], b: Budget, job: Job, level: u32, roo
 
 // The changed root of a delete before anything is stored: no store is allowed.
 fn look(g: Geometry, img: &mut [u8], job: Job, level: u32, root: u32) -> Node
-    requires { ⌜ (level ≤ 100) × (pageBytes g ≤ 2112) × (job .seq < 4294967296) ⌝ }
-    ensures { λ r. ⌜ (entries r ≡ changed g job (now (img .entry)) level (rootAt root)) × (r .count ≤ 256) × (now (img .exit) ≡ now (img .entry)) ⌝ }
+    requires { ⌜ (level ≤ 100) × (pageBytes g ≤ longestPage) × (job .seq < fourBytes) ⌝ }
+    ensures { λ r. ⌜ (entries r ≡ changed g job (now (img .entry)) level (naming root)) × (r .count ≤ 256) ×
+        (now (img .exit) ≡ now (img .entry)) ⌝ }
 {
     let none = Budget {
         left: 0,
@@ -349,8 +362,9 @@ fn look(g: Geometry, img: &mut [u8], job: Job, level: u32, root: u32) -> Node
 
 // The stores of a delete's job where the root stays.
 fn store_path(g: Geometry, img: &mut [u8], b: Budget, job: Job, level: u32, root: u32) -> Budget
-    requires { ⌜ (level ≤ 100) × (pageBytes g ≤ 2112) × (job .seq < 4294967296) × (b .left + b .programmed + b .erased < 4294967296) ⌝ }
-    ensures { λ r. ⌜ Ran g (stayStores g job level (rootAt root) (now (img .entry))) b r (now (img .entry)) (now (img .exit)) ⌝ }
+    requires { ⌜ (level ≤ 100) × (pageBytes g ≤ longestPage) × (job .seq < fourBytes) × (Countable b) ⌝ }
+    ensures { λ r. ⌜ Ran g (stayStores g job level (naming root) (now (img .entry))) b r (now (img .entry))
+        (now (img .exit)) ⌝ }
 {
     let u = climb(g, &mut *img, b, job, level, Entry { key: 0, addr: root });
     let c = u.node;
@@ -361,11 +375,12 @@ fn store_path(g: Geometry, img: &mut [u8], b: Budget, job: Job, level: u32, root
 
 // All stores of a delete's job: the path's, or where the tree shrinks the new root's alone.
 fn delete_with(g: Geometry, img: &mut [u8], b: Budget, job: Job, level: u32, root: u32) -> Budget
-    requires { ⌜ (level ≤ 100) × (pageBytes g ≤ 2112) × (job .seq < 4294967296) × (b .left + b .programmed + b .erased < 4294967296) ⌝ }
-    ensures { λ r. ⌜ Ran g (removeStores g job level (rootAt root) (now (img .entry))) b r (now (img .entry)) (now (img .exit)) ⌝ }
+    requires { ⌜ (level ≤ 100) × (pageBytes g ≤ longestPage) × (job .seq < fourBytes) × (Countable b) ⌝ }
+    ensures { λ r. ⌜ Ran g (removeStores g job level (naming root) (now (img .entry))) b r (now (img .entry))
+        (now (img .exit)) ⌝ }
 {
     let c = look(g, &mut *img, job, level, root);
-    let t = load::collapse(g, &*img, level, c);
+    let t = tree_load::collapse(g, &*img, level, c);
     if t.level == level {
         return store_path(g, &mut *img, b, job, level, root);
     }
@@ -375,7 +390,7 @@ fn delete_with(g: Geometry, img: &mut [u8], b: Budget, job: Job, level: u32, roo
 }
 
 fn long(x: u32) -> u64
-    ensures { λ r. ⌜ (r ≡ x) × (r < 4294967296) ⌝ }
+    ensures { λ r. ⌜ (r ≡ x) × (r < fourBytes) ⌝ }
 {
     x as u64
 }
@@ -394,8 +409,8 @@ fn job_of(
     requires { ⌜ count ≤ 256 ⌝ }
     ensures { λ r. ⌜ Given (pageBy g n (now (img .entry)) o) (o .most) levels key count change r ⌝ }
 {
-    let next = next::next_by(g, n, o.next);
-    let pages = next::coming_from(g, img, n, next, geometry::index(count));
+    let next = chip_next::next_by(g, n, o.next);
+    let pages = chip_next::coming_from(g, img, n, next, geometry::index(count));
     let seq = long(o.most);
     Job {
         key: key,
@@ -406,7 +421,8 @@ fn job_of(
     }
 }
 
-// The stores of an insert on an image of n blocks, by its record: `level` levels are below the root, levels 1 to `cuts` split.
+// The stores of an insert on an image of n blocks, by its record: `level` levels are below the root, levels 1 to `cuts`
+// split.
 pub fn insert_pages(
     g: Geometry,
     img: &mut [u8],
@@ -418,9 +434,10 @@ pub fn insert_pages(
     key: u32,
     addr: u32,
 ) -> Budget
-    requires { ⌜ (level ≤ 100) × (cuts ≤ 101) × (pageBytes g ≤ 2112) × (b .left + b .programmed + b .erased < 4294967296) ⌝ }
+    requires { ⌜ (level ≤ 100) × (cuts ≤ 101) × (pageBytes g ≤ longestPage) × (Countable b) ⌝ }
     ensures { λ r.
-        ⌜ Ran g (insertStoresAt g (chipWith g (now (img .entry)) level (o .root)) key addr (pageBy g n (now (img .entry)) o) (o .most) cuts) b r (now (img .entry)) (now (img .exit)) ⌝ }
+        ⌜ Ran g (insertStoresAt g (chipWith g (now (img .entry)) level (o .root)) key addr
+        (pageBy g n (now (img .entry)) o) (o .most) cuts) b r (now (img .entry)) (now (img .exit)) ⌝ }
 {
     let job = job_of(
         g,
@@ -446,9 +463,10 @@ pub fn delete_pages(
     emptied: u32,
     key: u32,
 ) -> Budget
-    requires { ⌜ (level ≤ 100) × (pageBytes g ≤ 2112) × (b .left + b .programmed + b .erased < 4294967296) ⌝ }
+    requires { ⌜ (level ≤ 100) × (pageBytes g ≤ longestPage) × (Countable b) ⌝ }
     ensures { λ r.
-        ⌜ Ran g (deleteStoresAt g (chipWith g (now (img .entry)) level (o .root)) key (pageBy g n (now (img .entry)) o) (o .most) emptied) b r (now (img .entry)) (now (img .exit)) ⌝ }
+        ⌜ Ran g (deleteStoresAt g (chipWith g (now (img .entry)) level (o .root)) key (pageBy g n (now (img .entry)) o)
+        (o .most) emptied) b r (now (img .entry)) (now (img .exit)) ⌝ }
 {
     let job = job_of(g, &*img, n, o, emptied, key, level + 1, Change::Remove);
     delete_with(g, &mut *img, b, job, level, o.root)

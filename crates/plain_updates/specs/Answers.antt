@@ -1,5 +1,6 @@
--- The plain tree's calls (request 12) under demands 1 and 2, in the demands' words: which answers they give, and what those say of the map. Which number
--- is given where several apply, the definitions say: LENGTH, DAMAGED, WORN, ABSENT, HEIGHT, ROOM, STOPPED, the first that applies. Assumes nothing.
+-- The plain tree's calls (request 12) under demands 1 and 2, in the demands' words: which answers they give, and what
+-- those say of the map. Which number is given where several apply, the definitions say: LENGTH, DAMAGED, WORN, ABSENT,
+-- HEIGHT, ROOM, STOPPED, the first that applies. Assumes nothing.
 use mathlib.Core.Path.{_≡_, refl, ap, sym, subst, _∙_}
 use mathlib.Core.List.{List, [], _∷_}
 use mathlib.Core.Bool.{Bool, true, false}
@@ -9,25 +10,26 @@ use Prim.Native.Nat.{ℕ, _<_, _≤_}
 use native.Mathlib.Omega.{arith}
 use Rattle.geometry.specs.Geometry.{plain}
 use Rattle.geometry.specs.Tests.{pick, bit, and-right}
+use Rattle.geometry.specs.Bounds.{fourBytes}
 use Rattle.model.specs.Image.{blocksOf, Chip, chipOf}
 use Rattle.model.specs.Tree.{find, sought}
 use Rattle.model.specs.Update.{isNone}
 use Rattle.model.specs.Calls.{Outcome, refused, made, worn}
 use Rattle.model.specs.Plain.{plainHigh, plainInsertStores, plainNeeds, plainInsertRest, plainInsert}
 use Rattle.model.specs.Plain.{plainRoomless, plainDeleteStores, plainLeaves, plainDeleteRest, plainDelete}
-use Rattle.trees.specs.Tests.{true-false}
-use Rattle.chips.specs.Whole.{map-rises}
-use Rattle.chips.specs.PlainPresent.{present-pages}
-use Rattle.demands.specs.Words.{Ready, mapAt, Rising, OneOf}
-use Rattle.demands.specs.Maps.{rising}
-use Rattle.demands.specs.Tests.{Met, tested-one, tested-met, tested-later}
-use Rattle.demands.specs.Calls.{made-began}
-use Rattle.demands.specs.Refusals.{Refuses, judged-refuses}
+use Rattle.theory_counts.specs.Cases.{true-false}
+use Rattle.theory_chips.specs.Whole.{map-rises}
+use Rattle.theory_chips.specs.PlainPresent.{present-pages}
+use Rattle.theory_demands.specs.Words.{Ready, mapAt, Rising, OneOf}
+use Rattle.theory_demands.specs.Maps.{rising}
+use Rattle.theory_demands.specs.Tests.{Met, tested-one, tested-met, tested-later}
+use Rattle.theory_demands.specs.Calls.{made-began}
+use Rattle.theory_demands.specs.Refusals.{Refuses, judged-refuses}
 use Rattle.plain_updates.specs.Words.{plainInsertTests, plainDeleteTests, plain-insert-rest, plain-delete-rest}
 use Rattle.plain_updates.specs.Words.{plain-insert-is, plain-delete-is, ready-held, plain-found}
 
--- ---- Demand 1, every image: LENGTH for a bad length, DAMAGED with rule and page for an image that is not sound, neither otherwise. That answers 1 to 6
--- leave the image: `plain-insert-refused`, `plain-delete-refused` (Words)
+-- ---- Demand 1, every image: LENGTH for a bad length, DAMAGED with rule and page for an image that is not sound,
+-- neither otherwise. That answers 1 to 6 leave the image: `plain-insert-refused`, `plain-delete-refused` (Words)
 module _ (img : List ℕ) (k : ℕ) where
   abbrev n : ℕ
   n = blocksOf plain img
@@ -60,18 +62,20 @@ module _ (img : List ℕ) (k : ℕ) where
         (tested-one img (plainDeleteTests img k 0 al) _ (made-began plain (plainDeleteStores plain n img k) al img))
 
     -- a refusal is the number of a test that is met
-    insert-met : (a al j : ℕ) → 1 ≤ j → j ≤ 6 → plainInsert plain img k a al .answer ≡ j → Met j (plainInsertTests img k a al)
+    insert-met : (a al j : ℕ) → 1 ≤ j → j ≤ 6 → plainInsert plain img k a al .answer ≡ j
+        → Met j (plainInsertTests img k a al)
     insert-met a al j p q h = tested-met img j (plainInsertTests img k a al) _ (made-began plain (plainInsertStores plain n img k a) al img) p q
         (sym (ap (λ (o : Outcome). o .answer) (plain-insert-is img k a al ready)) ∙ h)
 
-    delete-met : (al j : ℕ) → 1 ≤ j → j ≤ 6 → plainDelete plain img k al .answer ≡ j → Met j (plainDeleteTests img k 0 al)
+    delete-met : (al j : ℕ) → 1 ≤ j → j ≤ 6 → plainDelete plain img k al .answer ≡ j
+        → Met j (plainDeleteTests img k 0 al)
     delete-met al j p q h = tested-met img j (plainDeleteTests img k 0 al) _ (made-began plain (plainDeleteStores plain n img k) al img) p q
         (sym (ap (λ (o : Outcome). o .answer) (plain-delete-is img k 0 al ready)) ∙ h)
 
-    module _ (k-low : k < 4294967296) where
+    module _ (k-low : k < fourBytes) where
       -- the map's keys rise strictly and stay below 2^32
-      pub plain-map-sorted : Rising 4294967296 (mapAt plain img)
-      plain-map-sorted = rising 4294967296 (mapAt plain img) (map-rises plain n c (ready-held img ready .whole))
+      pub plain-map-sorted : Rising fourBytes (mapAt plain img)
+      plain-map-sorted = rising fourBytes (mapAt plain img) (map-rises plain n c (ready-held img ready .whole))
 
       -- what the map has, by what descent finds
       by-sought : (isNone (sought c k) ≡ false → ⊥) → find k (mapAt plain img) ≡ none
@@ -113,7 +117,8 @@ module _ (img : List ℕ) (k : ℕ) where
           rest = pick (plainRoomless plain n c (plainLeaves c k)) (refused 6 img) (made plain (plainDeleteStores plain n img k) al img)
 
           go : (x y : Bool) → y ≡ true
-              → (pick x (refused 3 img) (pick y (refused 4 img) rest) .answer ≡ 3) ⊎ (pick x (refused 3 img) (pick y (refused 4 img) rest) .answer ≡ 4)
+              → (pick x (refused 3 img) (pick y (refused 4 img) rest) .answer ≡ 3) ⊎
+              (pick x (refused 3 img) (pick y (refused 4 img) rest) .answer ≡ 4)
           go true y e = inl refl
           go false true e = inr refl
           go false false e = absurd (true-false false e refl)

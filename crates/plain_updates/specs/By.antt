@@ -10,6 +10,7 @@ use Rattle.geometry.specs.declared.Entry.{Entry}
 use Rattle.geometry.specs.Geometry.{plain, half, rootMost}
 use Rattle.geometry.specs.Shape.{plain-core}
 use Rattle.geometry.specs.Tests.{pick}
+use Rattle.geometry.specs.Bounds.{fourBytes}
 use Rattle.model.specs.Count.{count}
 use Rattle.model.specs.Image.{Chip, chipOf, pagesOf, maxSeq}
 use Rattle.model.specs.Tree.{mapOf, sought, erasedPages}
@@ -18,11 +19,11 @@ use Rattle.model.specs.Edit.{put, remove}
 use Rattle.model.specs.Update.{isNone}
 use Rattle.model.specs.Calls.{Outcome, made, refused, worn}
 use Rattle.model.specs.Plain.{plainCuts, plainHigh, plainNeeds, plainInsertStores, plainInsertRest, plainLeaves, emptied, plainDeleteStores, plainDeleteRest, plainRoomless}
-use Rattle.counts.specs.Tally.{count-most}
-use Rattle.stores.specs.Careful.{Cautious}
-use Rattle.images.specs.Held.{Held, height-most}
-use Rattle.updates.specs.Made.{along-cautious, made-is, all-made}
-use Rattle.updates.specs.Pages.{pages-right}
+use Rattle.theory_counts.specs.Tally.{count-most}
+use Rattle.chip_store.specs.Careful.{Cautious}
+use Rattle.theory_images.specs.Held.{Held, height-most}
+use Rattle.theory_updates.specs.Made.{along-cautious, made-is, all-made}
+use Rattle.theory_updates.specs.Pages.{pages-right}
 use Rattle.plain_levels.specs.Levels.{insertStoresAt, deleteStoresAt, pagesBy, madeWith, plainInsertBy, plainDeleteBy}
 use Rattle.plain_updates.specs.Single.{plain-single}
 use Rattle.plain_updates.specs.Laid.{PlainKeeps, PlainUpdated}
@@ -36,10 +37,11 @@ unfolding plainNeeds
 some-needed c k = omega arith
 
 -- ---- the stores
-pub plain-insert-same : (n : ℕ) (img : List ℕ) (k a : ℕ) → Held plain n img → k < 4294967296
+pub plain-insert-same : (n : ℕ) (img : List ℕ) (k a : ℕ) → Held plain n img → k < fourBytes
     → plainNeeds plain (chipOf plain n img) k ≤ count (pagesOf plain n) (chipOf plain n img .er)
     → plainInsertStores plain n img k a
-    ≡ insertStoresAt plain (chipOf plain n img) k a (pagesBy plain n img) (maxSeq plain n img) (plainCuts plain (chipOf plain n img) k)
+    ≡ insertStoresAt plain (chipOf plain n img) k a (pagesBy plain n img) (maxSeq plain n img)
+    (plainCuts plain (chipOf plain n img) k)
 unfolding plainInsertStores
 plain-insert-same n img k a held k-low free =
     let c = chipOf plain n img in
@@ -47,7 +49,8 @@ plain-insert-same n img k a held k-low free =
     (pagesBy plain n img) (maxSeq plain n img) (λ i b. pages-right plain plain-core n img held i (omega (arith, b, free)))
   where
     some-page : 1 ≤ pagesOf plain n
-    some-page = let w = count-most (chipOf plain n img .er) (pagesOf plain n) in omega (arith, w, free, some-needed (chipOf plain n img) k)
+    some-page = let w = count-most (chipOf plain n img .er) (pagesOf plain n) in
+        omega (arith, w, free, some-needed (chipOf plain n img) k)
 
     narrow : rootMost plain (suc (chipOf plain n img .level)) ≡ 2 * half plain (suc (chipOf plain n img .level))
     narrow = plain-single .narrow (suc (chipOf plain n img .level)) (omega arith) (height-most plain plain-core n img some-page held)
@@ -55,22 +58,27 @@ plain-insert-same n img k a held k-low free =
     some-half : 1 ≤ half plain (suc (chipOf plain n img .level))
     some-half = let w = plain-single .two (suc (chipOf plain n img .level)) in omega (arith, w, narrow)
 
-pub plain-delete-same : (n : ℕ) (img : List ℕ) (k : ℕ) → Held plain n img → k < 4294967296 → isNone (sought (chipOf plain n img) k) ≡ false
+pub plain-delete-same : (n : ℕ) (img : List ℕ) (k : ℕ) → Held plain n img → k < fourBytes
+    → isNone (sought (chipOf plain n img) k) ≡ false
     → plainLeaves (chipOf plain n img) k ≤ count (pagesOf plain n) (chipOf plain n img .er)
     → plainDeleteStores plain n img k
-    ≡ deleteStoresAt plain (chipOf plain n img) k (pagesBy plain n img) (maxSeq plain n img) (emptied (chipOf plain n img) k)
+    ≡ deleteStoresAt plain (chipOf plain n img) k (pagesBy plain n img) (maxSeq plain n img)
+    (emptied (chipOf plain n img) k)
 unfolding plainDeleteStores
-plain-delete-same n img k held k-low present free = delete-same plain plain-core n k k-low (chipOf plain n img) (held .whole) present
+plain-delete-same n img k held k-low present free =
+    delete-same plain plain-core n k k-low (chipOf plain n img) (held .whole) present
     (pagesBy plain n img) (maxSeq plain n img) (λ i b. pages-right plain plain-core n img held i (omega (arith, b, free)))
 
 -- ---- the calls
 -- stores that program erased pages alone are all made, as far as the allowance goes
-made-same : (g : Geometry) (ss : List Store) (al : ℕ) (img : List ℕ) → Cautious g ss img → madeWith g ss al img ≡ made g ss al img
+made-same : (g : Geometry) (ss : List Store) (al : ℕ) (img : List ℕ) → Cautious g ss img
+    → madeWith g ss al img ≡ made g ss al img
 unfolding madeWith made
 made-same g ss al img h = rw (made-is g ss al img h, all-made ss al) refl
 
 -- stores each of which is legal program erased pages alone
-updated-cautious : (g : Geometry) (n : ℕ) (old new : List Entry) (img : List ℕ) (ss : List Store) → PlainUpdated g n old new img ss → Cautious g ss img
+updated-cautious : (g : Geometry) (n : ℕ) (old new : List Entry) (img : List ℕ) (ss : List Store)
+    → PlainUpdated g n old new img ss → Cautious g ss img
 updated-cautious g n old new img ss u = subst (λ (x : List Store). Cautious g x img) (sym (u .list-is))
     (along-cautious g n (PlainKeeps g n old) img (u .init) (u .last) (u .along) (u .legal))
 
@@ -82,14 +90,15 @@ tested false true z a b d e f h = refl
 tested false false true a b d e f h = refl
 tested false false false a b d e f h = h refl refl refl
 
-module _ (n : ℕ) (some : 1 ≤ n) (few : n ≤ 1024) (img : List ℕ) (held : Held plain n img) (k al : ℕ) (k-low : k < 4294967296) where
+module _ (n : ℕ) (some : 1 ≤ n) (few : n ≤ 1024) (img : List ℕ) (held : Held plain n img)
+    (k al : ℕ) (k-low : k < fourBytes) where
   abbrev c : Chip
   c = chipOf plain n img
 
   abbrev free : ℕ
   free = erasedPages (pagesOf plain n) c
 
-  pub plain-insert-by : (a : ℕ) → a < 4294967296 → plainInsertBy plain n img k a al ≡ plainInsertRest plain n img k a al
+  pub plain-insert-by : (a : ℕ) → a < fourBytes → plainInsertBy plain n img k a al ≡ plainInsertRest plain n img k a al
   unfolding plainInsertBy plainInsertRest
   plain-insert-by a a-low = tested (worn plain n img) (plainHigh plain c k) (plainRoomless plain n c (plainNeeds plain c k)) (refused 3 img) (refused 5 img)
       (refused 6 img) _ _ (λ x y z.

@@ -1,4 +1,5 @@
--- A deletion's stores plan by plan are those level by level, over any pages to come that agree where they are named. Assumes nothing.
+-- A deletion's stores plan by plan are those level by level, over any pages to come that agree where they are named.
+-- Assumes nothing.
 use mathlib.Core.Path.{_≡_, refl, ap, sym, _∙_}
 use mathlib.Core.List.{List, [], _∷_, _++_}
 use mathlib.Core.Bool.{false}
@@ -11,19 +12,20 @@ use Rattle.geometry.specs.declared.Geometry.{Geometry}
 use Rattle.geometry.specs.declared.Entry.{Entry}
 use Rattle.geometry.specs.Shape.{Core}
 use Rattle.geometry.specs.Tests.{pick}
+use Rattle.geometry.specs.Bounds.{fourBytes}
 use Rattle.model.specs.Image.{Chip, theRoot}
 use Rattle.model.specs.Tree.{sought}
 use Rattle.model.specs.Stores.{Store}
 use Rattle.model.specs.Edit.{removeIn, Top, collapse}
 use Rattle.model.specs.Update.{isNone}
 use Rattle.model.specs.Plain.{Plan, laid, emptied, keptPage, plainLess, plainTop, keptPlans, deletePlans, plainLeaves}
-use Rattle.chips.specs.Whole.{Whole}
-use Rattle.chips.specs.PlainDeletion.{emptied-low, all-emptied, top-stays, top-falls, stay-plans, fall-plans, empties, kept-count, stay-count, by-root, plans-count}
+use Rattle.theory_chips.specs.Whole.{Whole}
+use Rattle.theory_chips.specs.PlainDeletion.{emptied-low, all-emptied, top-stays, top-falls, stay-plans, fall-plans, empties, kept-count, stay-count, by-root, plans-count}
 use Rattle.plain_levels.specs.Levels.{nodeStore, keptStores, lessAt, topAt, deleteStoresAt}
 use Rattle.plain_updates.specs.Levels.{coming, below, rootStore, node-same, below-same, laid-last, kept-to}
 use Rattle.plain_updates.specs.Pages.{kept-same}
 
-module _ (g : Geometry) (core : Core g) (n k : ℕ) (k-low : k < 4294967296) (c : Chip) (good : Whole g n c)
+module _ (g : Geometry) (core : Core g) (n k : ℕ) (k-low : k < fourBytes) (c : Chip) (good : Whole g n c)
     (present : isNone (sought c k) ≡ false) (page : ℕ → ℕ) (seq : ℕ)
     (agree : (i : ℕ) → i < plainLeaves c k → page i ≡ coming g n c i) where
   abbrev v : ℕ
@@ -60,7 +62,8 @@ module _ (g : Geometry) (core : Core g) (n k : ℕ) (k-low : k < 4294967296) (c 
 
   kept-needed : (j : ℕ) → 1 ≤ j → j ≤ c .level → j - 1 - v < plainLeaves c k
   kept-needed j b d = by-root g core n k k-low c good present (λ s. let w = stay-leaves s in omega (arith, w, b, d))
-      (λ i one. let w = fall-leaves i one in let x = all-emptied g core n k k-low c good present i one in omega (arith, w, x, b, d))
+      (λ i one. let w = fall-leaves i one in let x = all-emptied g core n k k-low c good present i one in
+      omega (arith, w, x, b, d))
 
   lists-same : lessAt c k page v ≡ lists
   unfolding lessAt plainLess keptPage
@@ -78,9 +81,11 @@ module _ (g : Geometry) (core : Core g) (n k : ℕ) (k-low : k < 4294967296) (c 
   last-place : last ≡ c .level - v
   last-place = let w = kept-count g core n k k-low c good present in omega (arith, w)
 
-  levels-same : Stays → keptStores g page seq v lists (c .level) ≡ below g (coming g n c) seq 0 (keptPlans lists (c .level))
+  levels-same : Stays → keptStores g page seq v lists (c .level) ≡ below g (coming g n c) seq 0
+      (keptPlans lists (c .level))
   levels-same s = kept-to g page seq v lists (c .level) (empties g core n k k-low c good present)
-      ∙ below-same g page (coming g n c) seq (plainLeaves c k) agree 0 (keptPlans lists (c .level)) (let w = stay-leaves s in omega (arith, w, last-place))
+      ∙ below-same g page (coming g n c) seq (plainLeaves c k) agree 0 (keptPlans lists (c .level)) (let w =
+      stay-leaves s in omega (arith, w, last-place))
 
   root-same : Stays → nodeStore g page seq (c .level - v) h h (lists h) ≡ rootStore g (coming g n c) seq last root
   root-same s = node-same g page (coming g n c) seq (c .level - v) last h h (lists h)

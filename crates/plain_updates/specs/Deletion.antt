@@ -1,4 +1,5 @@
--- A deletion from the plain tree on bytes (request 12): each page but the last leaves the map, after the last one it is without K. Assumes nothing.
+-- A deletion from the plain tree on bytes (request 12): each page but the last leaves the map, after the last one it is
+-- without K. Assumes nothing.
 use mathlib.Core.Path.{_≡_, sym, subst, _∙_}
 use mathlib.Core.List.{List, [], _∷_}
 use mathlib.Core.Bool.{Bool, true, false}
@@ -11,6 +12,7 @@ use Rattle.geometry.specs.declared.Entry.{Entry}
 use Rattle.geometry.specs.Tests.{pick}
 use Rattle.geometry.specs.Geometry.{half, rootMost, plain}
 use Rattle.geometry.specs.Shape.{Core, plain-core}
+use Rattle.geometry.specs.Bounds.{fourBytes}
 use Rattle.model.specs.Count.{count}
 use Rattle.model.specs.Image.{Chip, chipOf, pagesOf, theRoot, maxSeq}
 use Rattle.model.specs.Tree.{mapOf, sought}
@@ -20,25 +22,26 @@ use Rattle.model.specs.Update.{isNone}
 use Rattle.model.specs.Plain.{keptOn, Plan, noneLeft, emptied, keptPage, plainLess, plainTop, plainShrinks, plainLeaves}
 use Rattle.model.specs.Plain.{keptPlans, deletePlans, plainDeleteStores}
 use Rattle.model.specs.Calls.{worn}
-use Rattle.trees.specs.Lists.{All, all-append}
-use Rattle.trees.specs.Nodes.{fitOf}
-use Rattle.trees.specs.Lengths.{path-all, path-top, path-most}
-use Rattle.chips.specs.Whole.{Whole}
-use Rattle.chips.specs.Pages.{side-most}
-use Rattle.chips.specs.Deletion.{collapse-low}
-use Rattle.chips.specs.PlainDeletion.{top-stays, by-root, plans-count, fall-most, planned-last}
-use Rattle.chips.specs.PlainPresent.{laid-programs}
-use Rattle.images.specs.Bytes.{Fits}
-use Rattle.images.specs.Small.{node-fits}
-use Rattle.images.specs.Held.{Held, height-most}
-use Rattle.images.specs.Lengths.{few-pages}
-use Rattle.updates.specs.Deletion.{remove-fits, remove-most, kept-fits, kept-most, collapse-all}
-use Rattle.updates.specs.Lists.{not-worn}
+use Rattle.theory_lists.specs.All.{All, all-append}
+use Rattle.theory_nodes.specs.Nodes.{fitOf}
+use Rattle.theory_trees.specs.Lengths.{path-all, path-top, path-most}
+use Rattle.theory_chips.specs.Whole.{Whole}
+use Rattle.theory_chips.specs.Pages.{side-most}
+use Rattle.theory_chips.specs.Deletion.{collapse-low}
+use Rattle.theory_chips.specs.PlainDeletion.{top-stays, by-root, plans-count, fall-most, planned-last}
+use Rattle.theory_chips.specs.PlainPresent.{laid-programs}
+use Rattle.theory_images.specs.Bytes.{Fits}
+use Rattle.theory_images.specs.Small.{node-fits}
+use Rattle.theory_images.specs.Held.{Held, height-most}
+use Rattle.theory_images.specs.Lengths.{few-pages}
+use Rattle.theory_updates.specs.Deletion.{remove-fits, remove-most, kept-fits, kept-most, collapse-all}
+use Rattle.theory_updates.specs.Lists.{not-worn}
 use Rattle.plain_updates.specs.Single.{Single, plain-single, plain-pages, Buildable, buildable, all-at}
 use Rattle.plain_updates.specs.Laid.{PlainUpdated, Finishes, laid-updated, none-placed, laid-length, laid-erases}
 
-module _ (g : Geometry) (core : Core g) (single : Single g) (n : ℕ) (few : pagesOf g n + g .pages < 4294967296) (some-pages : 1 ≤ pagesOf g n) (img : List ℕ)
-    (held : Held g n img) (k : ℕ) (k-low : k < 4294967296) (present : isNone (sought (chipOf g n img) k) ≡ false) where
+module _ (g : Geometry) (core : Core g) (single : Single g)
+    (n : ℕ) (few : pagesOf g n + g .pages < fourBytes) (some-pages : 1 ≤ pagesOf g n) (img : List ℕ)
+    (held : Held g n img) (k : ℕ) (k-low : k < fourBytes) (present : isNone (sought (chipOf g n img) k) ≡ false) where
   abbrev c : Chip
   c = chipOf g n img
 
@@ -60,7 +63,7 @@ module _ (g : Geometry) (core : Core g) (single : Single g) (n : ℕ) (few : pag
   high : suc (c .level) ≤ g .top
   high = height-most g core n img some-pages held
 
-  page-low : (l : ℕ) → P l < 4294967296
+  page-low : (l : ℕ) → P l < fourBytes
   unfolding keptPage
   page-low l = let z = side-most g n c (suc (l - 1 - emptied c k)) in omega (arith, z, few)
 
@@ -76,7 +79,8 @@ module _ (g : Geometry) (core : Core g) (single : Single g) (n : ℕ) (few : pag
   unfolding plainLess
   lists-most j b d =
       let w = path-most (c .nodes) k (removeIn k) (keptOn P) 0 (remove-most k) (λ l. kept-most (P l) l) (fitOf (pagesOf g n) (c .er)) (λ l. 2 * half g l)
-      (c .level) 4294967296 (theRoot c) (λ i. let z = whole .sound .rooted .least i in omega (arith, z)) (whole .sound .rooted .rises) j b d in
+      (c .level) fourBytes (theRoot c) (λ i. let z = whole .sound .rooted .least i in
+      omega (arith, z)) (whole .sound .rooted .rises) j b d in
       let e = single .narrow j b (omega (arith, d, high)) in
       omega (arith, w, e)
 
@@ -131,12 +135,14 @@ module _ (g : Geometry) (core : Core g) (single : Single g) (n : ℕ) (few : pag
   unfolding plainLeaves
   leaves-low = go (plainShrinks c k)
     where
-      go : (t : Bool) → (1 ≤ suc (pick t 0 (c .level - emptied c k))) × (suc (pick t 0 (c .level - emptied c k)) ≤ g .top)
+      go : (t : Bool) → (1 ≤ suc (pick t 0 (c .level - emptied c k))) ×
+          (suc (pick t 0 (c .level - emptied c k)) ≤ g .top)
       go true = (omega arith, omega (arith, high))
       go false = (omega arith, omega (arith, high))
 
   -- the chip after the last of m + 1 pages
-  after-last : (m : ℕ) → length plans ≡ suc m → length plans ≤ count (pagesOf g n) (c .er) → Finishes g n c plans (remove k (mapOf c)) m
+  after-last : (m : ℕ) → length plans ≡ suc m → length plans ≤ count (pagesOf g n) (c .er) → Finishes g n c plans
+      (remove k (mapOf c)) m
   after-last m e room s numbers h = planned-last g core n k k-low c whole present room s (λ i b. h .placed i (omega (arith, b, e))) (h .stays) numbers m e
 
   pub deleted : maxSeq g n img ≤ g .worn → plainLeaves c k ≤ count (pagesOf g n) (c .er)
@@ -157,10 +163,13 @@ module _ (g : Geometry) (core : Core g) (single : Single g) (n : ℕ) (few : pag
   delete-length = laid-length g n c (maxSeq g n img) 0 plans ∙ count-is
 
 -- ---- the plain tree
-module _ (n : ℕ) (some : 1 ≤ n) (few : n ≤ 1024) (img : List ℕ) (held : Held plain n img) (k : ℕ) (k-low : k < 4294967296)
+module _ (n : ℕ) (some : 1 ≤ n) (few : n ≤ 1024) (img : List ℕ) (held : Held plain n img)
+    (k : ℕ) (k-low : k < fourBytes)
     (present : isNone (sought (chipOf plain n img) k) ≡ false) where
-  pub plain-deleted : worn plain n img ≡ false → plainLeaves (chipOf plain n img) k ≤ count (pagesOf plain n) (chipOf plain n img .er)
-      → PlainUpdated plain n (mapOf (chipOf plain n img)) (remove k (mapOf (chipOf plain n img))) img (plainDeleteStores plain n img k)
+  pub plain-deleted : worn plain n img ≡ false → plainLeaves (chipOf plain n img) k ≤ count (pagesOf plain n)
+      (chipOf plain n img .er)
+      → PlainUpdated plain n (mapOf (chipOf plain n img)) (remove k (mapOf (chipOf plain n img))) img
+      (plainDeleteStores plain n img k)
   plain-deleted fresh room = deleted plain plain-core plain-single n (few-pages plain plain-core n few) (plain-pages n some) img held k k-low present
       (not-worn plain n img fresh) room
 

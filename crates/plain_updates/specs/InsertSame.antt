@@ -1,4 +1,5 @@
--- An insertion's stores plan by plan are those level by level, over any pages to come that agree where they are named. Assumes nothing.
+-- An insertion's stores plan by plan are those level by level, over any pages to come that agree where they are named.
+-- Assumes nothing.
 use mathlib.Core.Path.{_≡_, refl, ap, sym, _∙_}
 use mathlib.Core.List.{List, [], _∷_, _++_, append-assoc, append-nil}
 use mathlib.Core.Bool.{true, false}
@@ -11,20 +12,21 @@ use Rattle.geometry.specs.declared.Entry.{Entry}
 use Rattle.geometry.specs.Geometry.{half, rootMost}
 use Rattle.geometry.specs.Shape.{Core}
 use Rattle.geometry.specs.Tests.{bit}
+use Rattle.geometry.specs.Bounds.{fourBytes}
 use Rattle.model.specs.Image.{Chip, theRoot}
-use Rattle.model.specs.Tree.{next}
+use Rattle.model.specs.Tree.{following}
 use Rattle.model.specs.Stores.{Store}
 use Rattle.model.specs.Edit.{putIn}
 use Rattle.model.specs.Plain.{both, Plan, laid, plainCuts, plainGrows, plainNeeds, leftPage, rightPage, plainList, plansTo, crownPlans, insertPlans}
-use Rattle.trees.specs.Tests.{by-test}
-use Rattle.chips.specs.Whole.{Whole}
-use Rattle.chips.specs.PlainPlans.{Cut, plans-length, whole-plan}
-use Rattle.chips.specs.PlainInsertion.{root-list, grow-long, stay-short, cut-levels}
+use Rattle.theory_counts.specs.Cases.{by-test}
+use Rattle.theory_chips.specs.Whole.{Whole}
+use Rattle.theory_chips.specs.PlainPlans.{Cut, plans-length, whole-plan}
+use Rattle.theory_chips.specs.PlainInsertion.{root-list, grow-long, stay-short, cut-levels}
 use Rattle.plain_levels.specs.Levels.{nodeStore, leftPlace, rightPlace, levelStores, storesTo, crownList, rootStores, listAt, insertStoresAt}
 use Rattle.plain_updates.specs.Levels.{coming, below, rootStore, node-same, below-same, laid-last, stores-to}
 use Rattle.plain_updates.specs.Pages.{renewed-same}
 
-module _ (g : Geometry) (core : Core g) (n k a : ℕ) (k-low : k < 4294967296) (c : Chip) (good : Whole g n c)
+module _ (g : Geometry) (core : Core g) (n k a : ℕ) (k-low : k < fourBytes) (c : Chip) (good : Whole g n c)
     (narrow : rootMost g (suc (c .level)) ≡ 2 * half g (suc (c .level))) (some-half : 1 ≤ half g (suc (c .level)))
     (two-most : 2 ≤ rootMost g (suc (suc (c .level)))) (page : ℕ → ℕ) (seq : ℕ)
     (agree : (i : ℕ) → i < plainNeeds g c k → page i ≡ coming g n c i) where
@@ -77,13 +79,14 @@ module _ (g : Geometry) (core : Core g) (n k a : ℕ) (k-low : k < 4294967296) (
 
   levels-same : (l : ℕ) → l ≤ h → storesTo g page seq cuts lists l ≡ below g (coming g n c) seq 0 (plansTo g lists l)
   levels-same l b = stores-to g page seq cuts lists l (cut l b)
-      ∙ below-same g page (coming g n c) seq (plainNeeds g c k) agree 0 (plansTo g lists l) (let w = levels-count l b in omega (arith, w, b, enough))
+      ∙ below-same g page (coming g n c) seq (plainNeeds g c k) agree 0 (plansTo g lists l) (let w = levels-count l b in
+      omega (arith, w, b, enough))
 
   abbrev whole : Plan
   whole = record { level = h; list = lists h }
 
   abbrev crown : Plan
-  crown = record { level = suc h; list = both (leftPage g n c cuts h) (rightPage g n c cuts h) (half g h) (next (lists h) 0) (lists h) }
+  crown = record { level = suc h; list = both (leftPage g n c cuts h) (rightPage g n c cuts h) (half g h) (following (lists h) 0) (lists h) }
 
   abbrev stores : List Store
   stores = storesTo g page seq cuts lists (c .level) ++ rootStores g page seq cuts h (lists h)
@@ -101,7 +104,8 @@ module _ (g : Geometry) (core : Core g) (n k a : ℕ) (k-low : k < 4294967296) (
   abbrev last : ℕ → ℕ
   last l = 0 + length (plansTo g lists l)
 
-  stay-root : plainGrows g c k ≡ false → rootStores g page seq cuts h (lists h) ≡ rootStore g (coming g n c) seq (last (c .level)) whole ∷ []
+  stay-root : plainGrows g c k ≡ false → rootStores g page seq cuts h (lists h) ≡ rootStore g (coming g n c) seq
+      (last (c .level)) whole ∷ []
   unfolding rootStores leftPage
   stay-root t = rw (le-leb (length (lists h)) (2 * half g h) (short t)) (ap (λ s. s ∷ [])
       (node-same g page (coming g n c) seq (leftPlace cuts h) (last (c .level)) h h (lists h) (left-same h (omega arith) (omega arith))
@@ -111,7 +115,8 @@ module _ (g : Geometry) (core : Core g) (n k a : ℕ) (k-low : k < 4294967296) (
   crown-same = rw (left-same h (omega arith) (omega arith), right-same h (omega arith) (omega arith)) refl
 
   grow-root : plainGrows g c k ≡ true
-      → rootStores g page seq cuts h (lists h) ≡ levelStores g page seq cuts h (lists h) ++ (rootStore g (coming g n c) seq (last h) crown ∷ [])
+      → rootStores g page seq cuts h (lists h) ≡ levelStores g page seq cuts h
+      (lists h) ++ (rootStore g (coming g n c) seq (last h) crown ∷ [])
   unfolding rootStores
   grow-root t = rw (lt-leb (length (lists h)) (2 * half g h) (long t)) (ap (λ s. levelStores g page seq cuts h (lists h) ++ (s ∷ []))
       (ap (nodeStore g page seq (leftPlace cuts (suc h)) (suc h) (suc h)) crown-same
@@ -119,11 +124,13 @@ module _ (g : Geometry) (core : Core g) (n k a : ℕ) (k-low : k < 4294967296) (
       (let w = levels-count h (omega arith) in omega (arith, w))))
 
   stay-stores : plainGrows g c k ≡ false
-      → stores ≡ below g (coming g n c) seq 0 (plansTo g lists (c .level)) ++ (rootStore g (coming g n c) seq (last (c .level)) whole ∷ [])
+      → stores ≡ below g (coming g n c) seq 0 (plansTo g lists (c .level)) ++ (rootStore g (coming g n c) seq
+      (last (c .level)) whole ∷ [])
   stay-stores t = ap (λ ss. ss ++ rootStores g page seq cuts h (lists h)) (levels-same (c .level) (omega arith))
       ∙ ap (λ ss. below g (coming g n c) seq 0 (plansTo g lists (c .level)) ++ ss) (stay-root t)
 
-  grow-stores : plainGrows g c k ≡ true → stores ≡ below g (coming g n c) seq 0 (plansTo g lists h) ++ (rootStore g (coming g n c) seq (last h) crown ∷ [])
+  grow-stores : plainGrows g c k ≡ true → stores ≡ below g (coming g n c) seq 0 (plansTo g lists h) ++ (rootStore g
+      (coming g n c) seq (last h) crown ∷ [])
   unfolding storesTo
   grow-stores t =
       ap (λ ss. storesTo g page seq cuts lists (c .level) ++ ss) (grow-root t)
@@ -134,6 +141,8 @@ module _ (g : Geometry) (core : Core g) (n k a : ℕ) (k-low : k < 4294967296) (
   pub insert-same : laid g n c seq 0 (insertPlans g n c k a) ≡ insertStoresAt g c k a page seq cuts
   unfolding insertStoresAt
   insert-same = by-test (plainGrows g c k)
-      (λ t. ap (laid g n c seq 0) (grow-plans t) ∙ laid-last g n c seq 0 (plansTo g lists h) crown ∙ sym (grow-stores t))
-      (λ t. ap (laid g n c seq 0) (stay-plans t) ∙ laid-last g n c seq 0 (plansTo g lists (c .level)) whole ∙ sym (stay-stores t))
+      (λ t. ap (laid g n c seq 0) (grow-plans t) ∙ laid-last g n c seq 0 (plansTo g lists h) crown
+      ∙ sym (grow-stores t))
+      (λ t. ap (laid g n c seq 0) (stay-plans t) ∙ laid-last g n c seq 0 (plansTo g lists (c .level)) whole
+      ∙ sym (stay-stores t))
       ∙ ap (λ (ls : ℕ → List Entry). storesTo g page seq cuts ls (c .level) ++ rootStores g page seq cuts h (ls h)) (sym lists-same)

@@ -1,5 +1,5 @@
--- The plain tree's pages on bytes (request 12): every plan's page but the last leaves the map as it is, the last one carries the root.
--- Assumes nothing.
+-- The plain tree's pages on bytes (request 12): every plan's page but the last leaves the map as it is, the last one
+-- carries the root. Assumes nothing.
 use mathlib.Core.Path.{_≡_, refl, ap, sym, subst, _∙_}
 use mathlib.Core.List.{List, [], _∷_, _++_}
 use Prim.Native.Nat.{ℕ, suc, _+_, _-_, _*_, _<_, _≤_}
@@ -19,17 +19,18 @@ use Rattle.model.specs.Page.{built, only}
 use Rattle.model.specs.Stores.{Store, program, applyStore, applyAll, erases}
 use Rattle.model.specs.Legal.{Legal}
 use Rattle.model.specs.Plain.{Plan, laid}
-use Rattle.trees.specs.Tests.{by-eq}
-use Rattle.trees.specs.Nodes.{fitOf}
-use Rattle.chips.specs.Next.{R2, step, nth-erased}
-use Rattle.chips.specs.Whole.{some-page, Whole}
-use Rattle.chips.specs.Pages.{side-inj, new-side}
-use Rattle.chips.specs.PlainPlans.{planAt}
-use Rattle.images.specs.Views.{rooted, beside}
-use Rattle.images.specs.Page.{in-table, Parts, builtView}
-use Rattle.images.specs.Held.{Held}
-use Rattle.images.specs.Writes.{nextStore, ahead-beside, put-legal, put-max, root-chip, root-held, side-chip, side-held, side-map}
-use Rattle.updates.specs.Along.{Along}
+use Rattle.theory_counts.specs.Cases.{by-eq}
+use Rattle.theory_nodes.specs.Nodes.{fitOf}
+use Rattle.theory_chips.specs.Next.{R2, step, nth-erased}
+use Rattle.theory_chips.specs.Whole.{some-page, Whole}
+use Rattle.theory_chips.specs.Pages.{side-inj, new-side}
+use Rattle.theory_chips.specs.PlainPlans.{planAt}
+use Rattle.theory_images.specs.Views.{rooted, beside}
+use Rattle.theory_images.specs.Page.{in-table}
+use Rattle.theory_images.specs.Built.{Parts, builtView}
+use Rattle.theory_images.specs.Held.{Held}
+use Rattle.theory_images.specs.Writes.{nextStore, ahead-beside, put-legal, put-max, root-chip, root-held, side-chip, side-held, side-map}
+use Rattle.theory_updates.specs.Along.{Along}
 use Rattle.plain_updates.specs.Single.{Buildable}
 
 -- what holds of every image on the way, the map being base
@@ -52,7 +53,8 @@ pub record Standing (g : Geometry) (n : ℕ) (c : Chip) (ps : List Plan) (i : �
   pub stays : (q l : ℕ) → fitOf (g .pages * n) (c .er) (suc l) q → s q (suc l) ≡ c .nodes q (suc l)
 
 -- the image x after the first i plans: what comes next, the largest number, the nodes
-pub record Placed (g : Geometry) (n : ℕ) (c : Chip) (seq : ℕ) (old : List Entry) (ps : List Plan) (i : ℕ) (x : List ℕ) : Type 0 where
+pub record Placed (g : Geometry) (n : ℕ) (c : Chip) (seq : ℕ) (old : List Entry) (ps : List Plan)
+    (i : ℕ) (x : List ℕ) : Type 0 where
   pub keeps : PlainKeeps g n old x
   pub ahead-is : ahead g n (chipOf g n x) ≡ taken (g .pages) n (ahead g n c) i
   pub max-is : maxSeq g n x ≡ seq + i
@@ -73,7 +75,8 @@ abbrev pub Finishes : Geometry → ℕ → Chip → List Plan → List Entry →
 Finishes g n c ps new m = (s : Nodes) (numbers : ℕ → ℕ) → Standing g n c ps (suc m) s
     → Whole g n (chipAfter g n c ps m s numbers) × (mapOf (chipAfter g n c ps m s numbers) ≡ new)
 
-module _ (g : Geometry) (core : Core g) (n : ℕ) (c : Chip) (r2 : R2 (g .pages) n (c .er)) (seq : ℕ) (old : List Entry) (ps : List Plan)
+module _ (g : Geometry) (core : Core g) (n : ℕ) (c : Chip) (r2 : R2 (g .pages) n (c .er)) (seq : ℕ) (old : List Entry)
+    (ps : List Plan)
     (free : length ps ≤ count (pagesOf g n) (c .er)) (low : seq + length ps < 4294967295)
     (fine : (j : ℕ) → j < length ps → Buildable g (planAt ps j)) where
   abbrev t : ℕ
@@ -126,7 +129,8 @@ module _ (g : Geometry) (core : Core g) (n : ℕ) (c : Chip) (r2 : R2 (g .pages)
 
     store-is : (h : ℕ) → storeOf h i ≡ nextStore g n h parts x
     unfolding nextStore
-    store-is h = ap (λ q. program q (built g (seq + suc i) h parts)) (sym page-is) ∙ ap (λ s. program P (built g s h parts)) (sym number-is)
+    store-is h = ap (λ q. program q (built g (seq + suc i) h parts)) (sym page-is)
+        ∙ ap (λ s. program P (built g s h parts)) (sym number-is)
 
     number : suc (maxSeq g n x) ≡ suc (peak t (d .seq))
     unfolding maxSeq
@@ -136,7 +140,8 @@ module _ (g : Geometry) (core : Core g) (n : ℕ) (c : Chip) (r2 : R2 (g .pages)
     legal-now h b = subst (Legal g n x) (sym (store-is h)) (put-legal g core n x held some-left parts ok low-now h b)
 
     page-in : P < t
-    page-in = let z = nth-erased (g .pages) n (ahead g n c) (some-page g core) r2 i (omega (arith, lt, free)) .1 in omega (arith, z, page-is)
+    page-in = let z = nth-erased (g .pages) n (ahead g n c) (some-page g core) r2 i (omega (arith, lt, free)) .1 in
+        omega (arith, z, page-is)
 
     -- the nodes with the page on P
     abbrev withPage : ℕ → Nodes
@@ -152,7 +157,8 @@ module _ (g : Geometry) (core : Core g) (n : ℕ) (c : Chip) (r2 : R2 (g .pages)
     more h = record {
       placed = λ j b. by-eq j i (λ e. subst (λ k. withPage h (pageOf k) (planAt ps k .level) ≡ planAt ps k .list) (sym e) (here h (pageOf i) refl))
           (λ e. there h (pageOf j) (planAt ps j .level) (λ z. e (let w = side-inj g core n c r2 (length ps) free (suc j) (suc i) (omega arith)
-          (omega (arith, b, lt)) (omega arith) (omega (arith, lt)) z in omega (arith, w))) ∙ at .standing .placed j (omega (arith, b, e)));
+          (omega (arith, b, lt)) (omega arith) (omega (arith, lt)) z in omega (arith, w)))
+          ∙ at .standing .placed j (omega (arith, b, e)));
       stays = λ q l f. there h q (suc l) (λ z. new-side g core n c r2 (length ps) free (suc i) l (omega arith) (omega (arith, lt))
           (subst (fitOf (g .pages * n) (c .er) (suc l)) z f)) ∙ at .standing .stays q l f;
     }
@@ -194,14 +200,16 @@ module _ (g : Geometry) (core : Core g) (n : ℕ) (c : Chip) (r2 : R2 (g .pages)
     chip-crowned : chipOf g n crowned ≡ rooted d P (builtView g (suc (maxSeq g n x)) (p .level) parts)
     chip-crowned = root-chip g core n x held some-left parts ok low-now (p .level) (fine i lt .1) (fine i lt .0)
 
-    crowned-is : rooted d P (builtView g (suc (maxSeq g n x)) (p .level) parts) ≡ chipAfter g n c ps i (withPage (p .level)) numbersAfter
+    crowned-is : rooted d P (builtView g (suc (maxSeq g n x)) (p .level) parts) ≡ chipAfter g n c ps i
+        (withPage (p .level)) numbersAfter
     unfolding rooted taken
     crowned-is = λ k. record { er = er-is k; seq = numbersAfter; nodes = withPage (p .level); level = p .level - 1; root = page-is k }
       where
         er-is : after P (d .er) ≡ after (pageOf i) (taken (g .pages) n (ahead g n c) i .er)
         er-is = ap (λ (w : Ahead). after (nextPage (g .pages) n w) (w .er)) (at .ahead-is)
 
-    pub last-placed : (new : List Entry) → Finishes g n c ps new i → PlainKeeps g n new (applyStore g (storeOf (p .level) i) x)
+    pub last-placed : (new : List Entry) → Finishes g n c ps new i → PlainKeeps g n new
+        (applyStore g (storeOf (p .level) i) x)
     last-placed new good =
         let w = good (withPage (p .level)) numbersAfter (more (p .level)) in
         subst (λ (s : Store). PlainKeeps g n new (applyStore g s x)) (sym (store-is (p .level))) (record {
@@ -242,8 +250,10 @@ module _ (g : Geometry) (core : Core g) (n : ℕ) (c : Chip) (r2 : R2 (g .pages)
         going lt (from-here (suc i) (z ∷ qs) (applyStore g (storeOf 0 i) x) (next-placed i lt x at) (omega (arith, e)) (omega arith)
         (λ j b. rest (suc j) (omega (arith, b)) ∙ ap (planAt ps) (let w : i + suc j ≡ suc i + j = omega arith in w)))
       where
-        going : i < length ps → PlainUpdated g n old new (applyStore g (storeOf 0 i) x) (laid g n c seq (suc i) (z ∷ qs))
-            → PlainUpdated g n old new x (program (pageOf i) (built g (seq + suc i) 0 (only (y .level) (y .list))) ∷ laid g n c seq (suc i) (z ∷ qs))
+        going : i < length ps → PlainUpdated g n old new (applyStore g (storeOf 0 i) x)
+            (laid g n c seq (suc i) (z ∷ qs))
+            → PlainUpdated g n old new x (program (pageOf i)
+            (built g (seq + suc i) 0 (only (y .level) (y .list))) ∷ laid g n c seq (suc i) (z ∷ qs))
         going lt u = subst (λ (w : Plan). PlainUpdated g n old new x
             (program (pageOf i) (built g (seq + suc i) 0 (only (w .level) (w .list))) ∷ laid g n c seq (suc i) (z ∷ qs))) (sym (first-plan i y (z ∷ qs) rest))
             (record {
@@ -270,7 +280,8 @@ none-placed g n img ps held = record {
 }
 
 -- a list of plans is as long as its pages
-pub laid-length : (g : Geometry) (n : ℕ) (c : Chip) (seq i : ℕ) (ps : List Plan) → length (laid g n c seq i ps) ≡ length ps
+pub laid-length : (g : Geometry) (n : ℕ) (c : Chip) (seq i : ℕ) (ps : List Plan) → length (laid g n c seq i ps)
+    ≡ length ps
 unfolding laid
 laid-length g n c seq i [] = refl
 laid-length g n c seq i (x ∷ []) = refl

@@ -1,4 +1,5 @@
--- An update of the plain tree, plan by plan and level by level: the same stores, over any pages to come. Assumes nothing.
+-- An update of the plain tree, plan by plan and level by level: the same stores, over any pages to come. Assumes
+-- nothing.
 use mathlib.Core.Path.{_≡_, refl, ap, sym, _∙_}
 use mathlib.Core.List.{List, [], _∷_, _++_}
 use Prim.Native.Nat.{ℕ, zero, suc, _+_, _-_, _*_, min, _<_, _≤_}
@@ -13,8 +14,8 @@ use Rattle.model.specs.Image.{Chip}
 use Rattle.model.specs.Next.{ahead, nth}
 use Rattle.model.specs.Stores.{Store}
 use Rattle.model.specs.Plain.{Plan, noneLeft, laid, levelPlans, plansTo, keptPlans}
-use Rattle.trees.specs.Tests.{by-le, by-test}
-use Rattle.chips.specs.PlainPlans.{Cut, Empty, plans-length, kept-length}
+use Rattle.theory_counts.specs.Cases.{by-le, by-test}
+use Rattle.theory_chips.specs.PlainPlans.{Cut, Empty, plans-length, kept-length}
 use Rattle.plain_levels.specs.Levels.{nodeStore, leftPlace, rightPlace, levelStores, storesTo, keptStores}
 
 -- the pages to come, by the rule
@@ -31,19 +32,22 @@ abbrev pub rootStore : Geometry → (ℕ → ℕ) → ℕ → ℕ → Plan → S
 rootStore g page seq i x = nodeStore g page seq i (x .level) (x .level) (x .list)
 
 module _ (g : Geometry) (page : ℕ → ℕ) (seq : ℕ) where
-  below-append : (i : ℕ) (ps qs : List Plan) → below g page seq i (ps ++ qs) ≡ below g page seq i ps ++ below g page seq (i + length ps) qs
+  below-append : (i : ℕ) (ps qs : List Plan) → below g page seq i (ps ++ qs) ≡ below g page seq i ps ++ below g page seq
+      (i + length ps) qs
   unfolding below
   below-append i [] qs = ap (λ j. below g page seq j qs) (let z : i ≡ i + 0 = omega arith in z)
   below-append i (p ∷ ps) qs = ap (λ ss. nodeStore g page seq i 0 (p .level) (p .list) ∷ ss) (below-append (suc i) ps qs
       ∙ ap (λ j. below g page seq (suc i) ps ++ below g page seq j qs) (let z : suc i + length ps ≡ i + suc (length ps) = omega arith in z))
 
 -- one place, and the same page there
-pub node-same : (g : Geometry) (page page′ : ℕ → ℕ) (seq i i′ height l : ℕ) (es : List Entry) → page i ≡ page′ i → i ≡ i′
+pub node-same : (g : Geometry) (page page′ : ℕ → ℕ) (seq i i′ height l : ℕ) (es : List Entry) → page i ≡ page′ i
+    → i ≡ i′
     → nodeStore g page seq i height l es ≡ nodeStore g page′ seq i′ height l es
 node-same g page page′ seq i i′ height l es p e = rw p (ap (λ j. nodeStore g page′ seq j height l es) e)
 
 -- pages that are the same below m
-pub below-same : (g : Geometry) (page page′ : ℕ → ℕ) (seq m : ℕ) → ((i : ℕ) → i < m → page i ≡ page′ i) → (i : ℕ) (ps : List Plan) → i + length ps ≤ m
+pub below-same : (g : Geometry) (page page′ : ℕ → ℕ) (seq m : ℕ) → ((i : ℕ) → i < m → page i ≡ page′ i)
+    → (i : ℕ) (ps : List Plan) → i + length ps ≤ m
     → below g page seq i ps ≡ below g page′ seq i ps
 unfolding below
 below-same g page page′ seq m h i [] b = refl
@@ -66,7 +70,8 @@ laid-last g n c seq i (p ∷ q ∷ ps) x = ap (λ ss. nodeStore g (coming g n c)
 -- ---- insert: the levels that split are 1 to cuts
 module _ (g : Geometry) (page : ℕ → ℕ) (seq cuts : ℕ) (lists : ℕ → List Entry) where
   level-stores : (l : ℕ) → Cut g lists cuts (suc l)
-      → levelStores g page seq cuts (suc l) (lists (suc l)) ≡ below g page seq (l + min l cuts) (levelPlans g (suc l) (lists (suc l)))
+      → levelStores g page seq cuts (suc l) (lists (suc l)) ≡ below g page seq (l + min l cuts)
+      (levelPlans g (suc l) (lists (suc l)))
   unfolding levelStores levelPlans below
   level-stores l h = by-le (length (lists (suc l))) (2 * half g (suc l))
       (λ q. rw (le-leb (length (lists (suc l))) (2 * half g (suc l)) q, left) refl)
@@ -92,13 +97,16 @@ module _ (g : Geometry) (page : ℕ → ℕ) (seq cuts : ℕ) (lists : ℕ → L
 
 -- ---- delete: the emptied levels are 1 to v
 module _ (g : Geometry) (page : ℕ → ℕ) (seq v : ℕ) (lists : ℕ → List Entry) where
-  kept-level : (l : ℕ) → pick (noneLeft (lists (suc l))) [] (nodeStore g page seq (l - v) 0 (suc l) (lists (suc l)) ∷ [])
-      ≡ below g page seq (l - v) (pick (noneLeft (lists (suc l))) [] (record { level = suc l; list = lists (suc l) } ∷ []))
+  kept-level : (l : ℕ) → pick (noneLeft (lists (suc l))) [] (nodeStore g page seq (l - v) 0 (suc l)
+      (lists (suc l)) ∷ [])
+      ≡ below g page seq (l - v) (pick (noneLeft (lists (suc l)))
+      [] (record { level = suc l; list = lists (suc l) } ∷ []))
   unfolding below
   kept-level l = by-test (noneLeft (lists (suc l))) (λ t. rw t refl) (λ t. rw t refl)
 
   -- the levels up to l
-  pub kept-to : (l : ℕ) → ((j : ℕ) → 1 ≤ j → j ≤ l → Empty lists v j) → keptStores g page seq v lists l ≡ below g page seq 0 (keptPlans lists l)
+  pub kept-to : (l : ℕ) → ((j : ℕ) → 1 ≤ j → j ≤ l → Empty lists v j) → keptStores g page seq v lists l ≡ below g page
+      seq 0 (keptPlans lists l)
   unfolding keptStores keptPlans below
   kept-to zero h = refl
   kept-to (suc l) h =

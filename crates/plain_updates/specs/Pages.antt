@@ -29,10 +29,12 @@ module _ (r : Nodes) (k : ℕ) (leaf : List Entry → List Entry) (name name′ 
       (path-same l (chosen k (r (e .addr) (suc (suc l)))) (λ j a b. h j a (omega (arith, b))) i j)
 
 -- ---- insert: the pages of a level's node or left half, and of its right half
-pub renewed-same : (r : Nodes) (k : ℕ) (leaf : List Entry → List Entry) (left left′ right right′ half : ℕ → ℕ) (l : ℕ) (e : Entry)
+pub renewed-same : (r : Nodes) (k : ℕ) (leaf : List Entry → List Entry) (left left′ right right′ half : ℕ
+    → ℕ) (l : ℕ) (e : Entry)
     → ((j : ℕ) → 1 ≤ j → j ≤ l → left j ≡ left′ j) → ((j : ℕ) → 1 ≤ j → j ≤ l → right j ≡ right′ j)
     → onPath r k leaf (renewed k left right half) l e ≡ onPath r k leaf (renewed k left′ right′ half) l e
-renewed-same r k leaf left left′ right right′ half l e p q = path-same r k leaf (renewed k left right half) (renewed k left′ right′ half) l e
+renewed-same r k leaf left left′ right right′ half l e p q =
+    path-same r k leaf (renewed k left right half) (renewed k left′ right′ half) l e
     (λ j a b i x c. renewed k (λ _. p j a b i) (λ _. q j a b i) half j x c)
 
 -- ---- delete: the page of a level's node

@@ -1,4 +1,5 @@
--- What the plain tree's geometry has beside `Core`: one node to a page, from slot 0 on, within the slots that a root has too. Assumes nothing.
+-- What the plain tree's geometry has beside `Core`: one node to a page, from slot 0 on, within the slots that a root
+-- has too. Assumes nothing.
 use mathlib.Core.Path.{_≡_}
 use mathlib.Core.List.{List, [], _∷_}
 use Prim.Native.Nat.{ℕ, zero, suc, _*_, _<_, _≤_}
@@ -12,12 +13,12 @@ use Rattle.geometry.specs.Shape.{Core, plain-core, plain-most}
 use Rattle.model.specs.Image.{pagesOf}
 use Rattle.model.specs.Page.{only}
 use Rattle.model.specs.Plain.{Plan}
-use Rattle.trees.specs.Lists.{All}
-use Rattle.chips.specs.Next.{block-in}
-use Rattle.chips.specs.Whole.{some-page}
-use Rattle.chips.specs.PlainPlans.{planAt}
-use Rattle.images.specs.Bytes.{Fits}
-use Rattle.images.specs.Page.{Parts, parts-only}
+use Rattle.theory_lists.specs.All.{All}
+use Rattle.theory_chips.specs.Next.{block-in}
+use Rattle.theory_chips.specs.Whole.{some-page}
+use Rattle.theory_chips.specs.PlainPlans.{planAt}
+use Rattle.theory_images.specs.Bytes.{Fits}
+use Rattle.theory_images.specs.Built.{Parts, parts-only}
 
 pub record Single (g : Geometry) : Type 0 where
   pub narrow : (l : ℕ) → 1 ≤ l → l ≤ g .top → rootMost g l ≡ 2 * half g l
@@ -36,7 +37,8 @@ abbrev pub Buildable : Geometry → Plan → Type 0
 Buildable g p = (1 ≤ p .level) × (p .level ≤ g .top) × Parts g (only (p .level) (p .list))
 
 -- a list within the level's slots
-pub buildable : (g : Geometry) → Core g → Single g → (l : ℕ) (es : List Entry) → 1 ≤ l → l ≤ g .top → All Fits es → length es ≤ rootMost g l
+pub buildable : (g : Geometry) → Core g → Single g → (l : ℕ) (es : List Entry) → 1 ≤ l → l ≤ g .top → All Fits es
+    → length es ≤ rootMost g l
     → Buildable g (record { level = l; list = es })
 buildable g core single l es a b fit most = (a, b, parts-only g core l es a b fit most (λ j _. single .flat j l))
 

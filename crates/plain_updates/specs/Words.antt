@@ -1,5 +1,6 @@
--- The plain tree's calls (request 12) in the demands' words: Ready, mapAt, Holds, Kept, Began (crate demands). The definitions `plainInsert`, `plainDelete`,
--- `lookup` and `format` with the geometry `plain`; k, the key, and a, the address, are below 2^32; al is the store allowance. Assumes nothing.
+-- The plain tree's calls (request 12) in the demands' words: Ready, mapAt, Holds, Kept, Began (crate theory_demands). The
+-- definitions `plainInsert`, `plainDelete`, `lookup` and `format` with the geometry `plain`; k, the key, and a, the
+-- address, are below 2^32; al is the store allowance. Assumes nothing.
 use mathlib.Core.Path.{_≡_, refl, ap, sym, subst, _∙_}
 use mathlib.Core.List.{List, [], _∷_}
 use mathlib.Core.Bool.{true, false}
@@ -13,6 +14,7 @@ use borrow.Author.Tests.{ltb-false}
 use Rattle.geometry.specs.declared.Entry.{Entry}
 use Rattle.geometry.specs.Geometry.{plain}
 use Rattle.geometry.specs.Shape.{plain-core}
+use Rattle.geometry.specs.Bounds.{fourBytes}
 use Rattle.model.specs.Bytes.{byteAt}
 use Rattle.model.specs.Image.{blocksOf, goodLength, pagesOf, Chip, chipOf}
 use Rattle.model.specs.Tree.{mapOf, find, sought, erasedPages}
@@ -23,17 +25,17 @@ use Rattle.model.specs.Update.{isNone, formatStores}
 use Rattle.model.specs.Calls.{Outcome, made, answered, lookup, worn, format}
 use Rattle.model.specs.Plain.{plainHigh, plainInsertStores, plainNeeds, plainRoomless, plainInsertRest, plainInsert}
 use Rattle.model.specs.Plain.{plainDeleteStores, plainLeaves, plainDeleteRest, plainDelete}
-use Rattle.trees.specs.Lists.{All}
-use Rattle.chips.specs.Whole.{sought-map}
-use Rattle.images.specs.Held.{Held, plain-held, held-plain}
-use Rattle.images.specs.Lengths.{Blocks, good-blocks, blocks-same, length-same, length-all}
-use Rattle.updates.specs.Along.{along-take}
-use Rattle.updates.specs.Format.{formatted-keeps}
-use Rattle.demands.specs.Words.{Ready, mapAt, Holds, Lawful, programmedMost, erasedMost, Kept, Began}
-use Rattle.demands.specs.Bridges.{along-lawful}
-use Rattle.demands.specs.Tests.{Test, tested, Untouched, Unmet, tested-untouched, tested-passed}
-use Rattle.demands.specs.Calls.{judged-ready, judged-untouched, made-untouched, made-all, made-done, made-counts, made-stopped, made-image}
-use Rattle.demands.specs.Refusals.{format-image}
+use Rattle.theory_lists.specs.All.{All}
+use Rattle.theory_chips.specs.Whole.{sought-map}
+use Rattle.theory_images.specs.Held.{Held, plain-held, held-plain}
+use Rattle.theory_images.specs.Lengths.{Blocks, good-blocks, blocks-same, length-same, length-all}
+use Rattle.theory_updates.specs.Along.{along-take}
+use Rattle.theory_updates.specs.Format.{formatted-keeps}
+use Rattle.theory_demands.specs.Words.{Ready, mapAt, Holds, Lawful, programmedMost, erasedMost, Kept, Began}
+use Rattle.theory_demands.specs.Bridges.{along-lawful}
+use Rattle.theory_demands.specs.Tests.{Test, tested, Untouched, Unmet, tested-untouched, tested-passed}
+use Rattle.theory_demands.specs.Calls.{judged-ready, judged-untouched, made-untouched, made-all, made-done, made-counts, made-stopped, made-image}
+use Rattle.theory_demands.specs.Refusals.{format-image}
 use Rattle.plain_updates.specs.Laid.{PlainKeeps, PlainUpdated}
 use Rattle.plain_updates.specs.Insertion.{plain-inserted, plain-insert-programs, plain-insert-erases, plain-insert-most, plain-present-programs}
 use Rattle.plain_updates.specs.Deletion.{plain-deleted, plain-delete-programs, plain-delete-erases, plain-delete-most}
@@ -97,13 +99,15 @@ module _ (img : List ℕ) (k a al : ℕ) where
     plain-delete-is = judged-ready plain img (plainDeleteRest plain n img k al) ready ∙ plain-delete-rest
 
     -- a call that has begun has met none of its tests
-    pub plain-insert-passed : Began (plainInsert plain img k a al) → All Unmet plainInsertTests × (plainInsert plain img k a al ≡ ins)
+    pub plain-insert-passed : Began (plainInsert plain img k a al) → All Unmet plainInsertTests ×
+        (plainInsert plain img k a al ≡ ins)
     plain-insert-passed b =
         let p = tested-passed img plainInsertTests ins ((omega arith, omega arith), ((omega arith, omega arith), ((omega arith, omega arith), tt)))
         (subst Began plain-insert-is b) in
         (p .0, plain-insert-is ∙ p .1)
 
-    pub plain-delete-passed : Began (plainDelete plain img k al) → All Unmet plainDeleteTests × (plainDelete plain img k al ≡ del)
+    pub plain-delete-passed : Began (plainDelete plain img k al) → All Unmet plainDeleteTests ×
+        (plainDelete plain img k al ≡ del)
     plain-delete-passed b =
         let p = tested-passed img plainDeleteTests del ((omega arith, omega arith), ((omega arith, omega arith), ((omega arith, omega arith), tt)))
         (subst Began plain-delete-is b) in
@@ -111,7 +115,8 @@ module _ (img : List ℕ) (k a al : ℕ) where
 
 -- ---- a sound image of n blocks, and one of the same length
 module _ (img : List ℕ) (length-good : goodLength plain img ≡ true) where
-  keeps-holds : (map : List Entry) (x : List ℕ) → length x ≡ length img → PlainKeeps plain (blocksOf plain img) map x → Holds plain map x
+  keeps-holds : (map : List Entry) (x : List ℕ) → length x ≡ length img → PlainKeeps plain (blocksOf plain img) map x
+      → Holds plain map x
   keeps-holds map x e h =
       let b = blocks-same plain img x e in
       record {
@@ -124,7 +129,8 @@ module _ (img : List ℕ) (length-good : goodLength plain img ≡ true) where
       }
 
 -- a formatted image: sound, its map empty
-pub plain-format-holds : (img : List ℕ) → goodLength plain img ≡ true → ((i : ℕ) → byteAt img i < 256) → Holds plain [] (format plain img .image)
+pub plain-format-holds : (img : List ℕ) → goodLength plain img ≡ true → ((i : ℕ) → byteAt img i < 256)
+    → Holds plain [] (format plain img .image)
 plain-format-holds img good bytes =
     let b = good-blocks plain img good in
     let w = formatted-keeps plain plain-core (blocksOf plain img) (b .least) img (b .image) bytes in
@@ -148,14 +154,16 @@ module _ (img : List ℕ) (ready : Ready plain img) where
   ready-held = plain-held plain plain-core m img some-blocks (blocks .image) (ready .bytes) (ready .is-sound)
 
   -- an update's list meets demand 3
-  updated-kept : (new : List Entry) (ss : List Store) → PlainUpdated plain m (mapAt plain img) new img ss → programs ss ≤ programmedMost plain
+  updated-kept : (new : List Entry) (ss : List Store) → PlainUpdated plain m (mapAt plain img) new img ss
+      → programs ss ≤ programmedMost plain
       → erases ss ≤ erasedMost plain → Kept plain (mapAt plain img) new img ss
   updated-kept new ss u most none =
       let e = u .list-is in
       let len = ap length e ∙ length-append (u .init) (u .last ∷ []) in
       record {
         lawful = subst (Lawful plain m img) (sym e) (along-lawful plain m (PlainKeeps plain m (mapAt plain img)) img (u .init) (u .last) (u .along) (u .legal));
-        before = λ j q. let f : take j ss ≡ take j (u .init) = ap (take j) e ∙ take-append-le j (u .init) (u .last ∷ []) (omega (arith, q, len)) in
+        before = λ j q. let f : take j ss ≡ take j (u .init) =
+            ap (take j) e ∙ take-append-le j (u .init) (u .last ∷ []) (omega (arith, q, len)) in
             keeps-holds img (ready .length-good) (mapAt plain img) (applyAll plain (take j ss) img) (length-all plain (take j ss) img)
             (subst (λ (x : List Store). PlainKeeps plain m (mapAt plain img) (applyAll plain x img)) (sym f)
             (along-take plain m (PlainKeeps plain m (mapAt plain img)) img (u .init) j (u .along)));
@@ -164,35 +172,40 @@ module _ (img : List ℕ) (ready : Ready plain img) where
         wiped = none;
       }
 
-  module _ (k : ℕ) (k-low : k < 4294967296) where
+  module _ (k : ℕ) (k-low : k < fourBytes) where
     pub plain-found : sought d k ≡ find k (mapAt plain img)
     plain-found = sought-map plain m d (ready-held .whole) k k-low
 
     -- lookup answers as the map does
     pub plain-reads : lookup plain img k ≡ answered (find k (mapAt plain img)) img
     unfolding lookup
-    plain-reads = judged-ready plain img (answered (sought d k) img) ready ∙ ap (λ (o : Option ℕ). answered o img) plain-found
+    plain-reads = judged-ready plain img (answered (sought d k) img) ready
+        ∙ ap (λ (o : Option ℕ). answered o img) plain-found
 
     -- ---- insert
-    module _ (a al : ℕ) (a-low : a < 4294967296) where
+    module _ (a al : ℕ) (a-low : a < fourBytes) where
       abbrev ss : List Store
       ss = plainInsertStores plain m img k a
 
-      pub plain-insert-kept : Began (plainInsert plain img k a al) → Kept plain (mapAt plain img) (put k a (mapAt plain img)) img ss
+      pub plain-insert-kept : Began (plainInsert plain img k a al) → Kept plain (mapAt plain img)
+          (put k a (mapAt plain img)) img ss
       plain-insert-kept b =
           let p = plain-insert-passed img k a al ready b .0 in
           updated-kept (put k a (mapAt plain img)) ss
           (plain-inserted m some-blocks (blocks .most) img ready-held k a k-low a-low (p .0) (p .1 .0)
           (ltb-false (erasedPages (pagesOf plain m) d) (plainNeeds plain d k) (p .1 .1 .0)))
           (let x = plain-insert-programs m some-blocks (blocks .most) img ready-held k a k-low a-low in
-          let y = plain-insert-most m some-blocks (blocks .most) img ready-held k a k-low a-low (p .1 .0) in omega (arith, x, y))
+          let y = plain-insert-most m some-blocks (blocks .most) img ready-held k a k-low a-low (p .1 .0) in
+          omega (arith, x, y))
           (let x = plain-insert-erases m some-blocks (blocks .most) img ready-held k a k-low a-low in omega (arith, x))
 
       -- an insert that answers 0 leaves a sound image, its map with K put in
-      pub plain-insert-done : plainInsert plain img k a al .answer ≡ 0 → Holds plain (put k a (mapAt plain img)) (plainInsert plain img k a al .image)
+      pub plain-insert-done : plainInsert plain img k a al .answer ≡ 0 → Holds plain (put k a (mapAt plain img))
+          (plainInsert plain img k a al .image)
       plain-insert-done h =
           let p = plain-insert-passed img k a al ready (inl h) .1 in
-          let e = ap (λ (o : Outcome). o .image) p ∙ made-done plain ss al img (sym (ap (λ (o : Outcome). o .answer) p) ∙ h) in
+          let e = ap (λ (o : Outcome). o .image) p ∙ made-done plain ss al img (sym (ap (λ (o : Outcome). o .answer) p)
+          ∙ h) in
           subst (Holds plain (put k a (mapAt plain img))) (sym e) (plain-insert-kept (inl h) .end)
 
       -- a stopped one a sound image with the old map
@@ -221,7 +234,8 @@ module _ (img : List ℕ) (ready : Ready plain img) where
       abbrev ts : List Store
       ts = plainDeleteStores plain m img k
 
-      pub plain-delete-kept : Began (plainDelete plain img k al) → Kept plain (mapAt plain img) (remove k (mapAt plain img)) img ts
+      pub plain-delete-kept : Began (plainDelete plain img k al) → Kept plain (mapAt plain img)
+          (remove k (mapAt plain img)) img ts
       plain-delete-kept b =
           let p = plain-delete-passed img k 0 al ready b .0 in
           let there = p .1 .0 in
@@ -232,13 +246,16 @@ module _ (img : List ℕ) (ready : Ready plain img) where
           let y = plain-delete-most m some-blocks (blocks .most) img ready-held k k-low there in omega (arith, x, y))
           (let x = plain-delete-erases m some-blocks (blocks .most) img ready-held k k-low there in omega (arith, x))
 
-      pub plain-delete-done : plainDelete plain img k al .answer ≡ 0 → Holds plain (remove k (mapAt plain img)) (plainDelete plain img k al .image)
+      pub plain-delete-done : plainDelete plain img k al .answer ≡ 0 → Holds plain (remove k (mapAt plain img))
+          (plainDelete plain img k al .image)
       plain-delete-done h =
           let p = plain-delete-passed img k 0 al ready (inl h) .1 in
-          let e = ap (λ (o : Outcome). o .image) p ∙ made-done plain ts al img (sym (ap (λ (o : Outcome). o .answer) p) ∙ h) in
+          let e = ap (λ (o : Outcome). o .image) p ∙ made-done plain ts al img (sym (ap (λ (o : Outcome). o .answer) p)
+          ∙ h) in
           subst (Holds plain (remove k (mapAt plain img))) (sym e) (plain-delete-kept (inl h) .end)
 
-      pub plain-delete-stopped : plainDelete plain img k al .answer ≡ 7 → Holds plain (mapAt plain img) (plainDelete plain img k al .image)
+      pub plain-delete-stopped : plainDelete plain img k al .answer ≡ 7 → Holds plain (mapAt plain img)
+          (plainDelete plain img k al .image)
       plain-delete-stopped h =
           let p = plain-delete-passed img k 0 al ready (inr h) .1 in
           let e = ap (λ (o : Outcome). o .image) p ∙ made-image plain ts al img in

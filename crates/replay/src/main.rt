@@ -1,4 +1,4 @@
 // Request 3's program: replays a day's log.
 fn main() {
-    day::replay();
+    log_day::replay();
 }

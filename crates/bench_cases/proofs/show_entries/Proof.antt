@@ -6,7 +6,7 @@ use Rattle.bench_cases.proofs.show_entries.Reads as reads
 use Rattle.bench_cases.proofs.show_entries.Lts as lts
 use Rattle.bench_cases.proofs.entry.Reads as entry-reads
 use Rattle.bench_cases.proofs.line.Reads as line-reads
-use Rattle.chip.proofs.entry_at.Reads as entry-at-reads
+use Rattle.chip_read.proofs.entry_at.Reads as entry-at-reads
 use Rattle.io.proofs.print_decimal.Reads as print-decimal-reads
 use Rattle.io.proofs.write_all.Reads as write-all-reads
 

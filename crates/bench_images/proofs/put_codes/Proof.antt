@@ -5,7 +5,7 @@ use Rattle.bench_images.proofs.put_codes.Tie as tie
 use Rattle.bench_images.proofs.put_codes.Reads as reads
 use Rattle.bench_images.proofs.put_codes.Lts as lts
 use Rattle.bench_images.proofs.put_code.Reads as put-code-reads
-use Rattle.chip.proofs.page_erased.Reads as page-erased-reads
+use Rattle.chip_read.proofs.page_erased.Reads as page-erased-reads
 use Rattle.geometry.proofs.Geometry.small.Reads as small-reads
 
 abbrev Inv-loop : tie.InvT-loop

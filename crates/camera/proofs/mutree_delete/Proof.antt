@@ -1,5 +1,5 @@
 use borrow.Author.Needs.{needs}
-use Rattle.camera.specs.Laws.{short-answer, short-image, short-live, short-result, lent-laws}
+use Rattle.camera.specs.Results.{short-answer, short-image, short-live, short-result, lent-laws}
 use Rattle.camera.proofs.mutree_delete.Statement.{statement}
 use Rattle.camera.proofs.mutree_delete.Tie as tie
 use Rattle.camera.proofs.mutree_delete.Reads as reads

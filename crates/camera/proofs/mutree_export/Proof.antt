@@ -1,5 +1,5 @@
 use borrow.Author.Needs.{needs}
-use Rattle.camera.specs.Laws.{row-laws}
+use Rattle.camera.specs.Results.{row-laws}
 use Rattle.camera.proofs.mutree_export.Statement.{statement}
 use Rattle.camera.proofs.mutree_export.Tie as tie
 use Rattle.camera.proofs.mutree_export.Reads as reads

@@ -1,5 +1,5 @@
 use borrow.Author.Needs.{needs}
-use Rattle.camera.specs.Laws.{short-answer, short-image, short-live, short-result, lent-laws}
+use Rattle.camera.specs.Results.{short-answer, short-image, short-live, short-result, lent-laws}
 use Rattle.camera.proofs.mutree_insert.Statement.{statement}
 use Rattle.camera.proofs.mutree_insert.Tie as tie
 use Rattle.camera.proofs.mutree_insert.Reads as reads

@@ -1,6 +1,6 @@
 use borrow.Author.Needs.{needs}
 use Rattle.camera.specs.Opened.{call-laws, kept-short}
-use Rattle.camera.specs.Laws.{short-answer, short-image, short-result}
+use Rattle.camera.specs.Results.{short-answer, short-image, short-result}
 use Rattle.camera.proofs.mutree_insert_opened.Statement.{statement}
 use Rattle.camera.proofs.mutree_insert_opened.Tie as tie
 use Rattle.camera.proofs.mutree_insert_opened.Reads as reads

@@ -1,5 +1,5 @@
 use borrow.Author.Needs.{needs}
-use Rattle.camera.specs.Laws.{camera-laws, put-go}
+use Rattle.camera.specs.Results.{camera-laws, put-go}
 use mathlib.Core.Path.{_≡_}
 use Prim.Native.Nat.{_-_, _*_, _≤_}
 use lib.ListN.{drop}
@@ -9,7 +9,7 @@ use Rattle.camera.proofs.put_numbers.Tie as tie
 use Rattle.camera.proofs.put_numbers.Reads as reads
 use Rattle.camera.proofs.put_numbers.Lts as lts
 use Rattle.camera.proofs.long.Reads as long-reads
-use Rattle.page.proofs.put_u32.Reads as put-u32-reads
+use Rattle.chip_page.proofs.put_u32.Reads as put-u32-reads
 
 ruleset all = (needs, camera-laws)
 

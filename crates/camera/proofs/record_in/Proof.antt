@@ -4,7 +4,7 @@ use Rattle.camera.proofs.record_in.Statement.{statement}
 use Rattle.camera.proofs.record_in.Tie as tie
 use Rattle.camera.proofs.record_in.Reads as reads
 use Rattle.camera.proofs.record_in.Lts as lts
-use Rattle.chip.proofs.read_u32.Reads as read-u32-reads
+use Rattle.chip_read.proofs.read_u32.Reads as read-u32-reads
 
 ruleset all = (needs, bytes-laws)
 

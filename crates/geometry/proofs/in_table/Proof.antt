@@ -1,5 +1,5 @@
 use borrow.Author.Needs.{needs}
-use Rattle.geometry.specs.Laws.{geometry-laws}
+use Rattle.geometry.specs.Answering.{geometry-laws}
 use Rattle.geometry.proofs.in_table.Statement.{statement}
 use Rattle.geometry.proofs.in_table.Tie as tie
 use Rattle.geometry.proofs.in_table.Reads as reads

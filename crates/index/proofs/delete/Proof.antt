@@ -1,10 +1,10 @@
 use borrow.Author.Needs.{needs}
-use Rattle.index.specs.Laws.{index-laws}
+use Rattle.index.specs.ByNumber.{index-laws}
 use Rattle.index.proofs.delete.Statement.{statement}
 use Rattle.index.proofs.delete.Tie as tie
 use Rattle.index.proofs.delete.Reads as reads
 use Rattle.index.proofs.delete.Lts as lts
-use Rattle.delete.proofs.delete_on.Reads as delete-on-reads
+use Rattle.call_delete.proofs.delete_on.Reads as delete-on-reads
 use Rattle.geometry.proofs.choose.Reads as choose-reads
 
 ruleset all = (needs, index-laws)

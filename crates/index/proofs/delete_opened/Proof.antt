@@ -4,7 +4,7 @@ use Rattle.index.proofs.delete_opened.Statement.{statement}
 use Rattle.index.proofs.delete_opened.Tie as tie
 use Rattle.index.proofs.delete_opened.Reads as reads
 use Rattle.index.proofs.delete_opened.Lts as lts
-use Rattle.delete.proofs.delete_opened_on.Reads as delete-opened-on-reads
+use Rattle.call_delete.proofs.delete_opened_on.Reads as delete-opened-on-reads
 use Rattle.geometry.proofs.choose.Reads as choose-reads
 
 ruleset all = (needs, opened-laws)

@@ -1,10 +1,10 @@
 use borrow.Author.Needs.{needs}
-use Rattle.index.specs.Laws.{index-laws}
+use Rattle.index.specs.ByNumber.{index-laws}
 use Rattle.index.proofs.format.Statement.{statement}
 use Rattle.index.proofs.format.Tie as tie
 use Rattle.index.proofs.format.Reads as reads
 use Rattle.index.proofs.format.Lts as lts
-use Rattle.format.proofs.format.Reads as format-reads
+use Rattle.call_format.proofs.format.Reads as format-reads
 use Rattle.geometry.proofs.choose.Reads as choose-reads
 
 ruleset all = (needs, index-laws)

@@ -5,7 +5,7 @@ use Rattle.index.proofs.insert_opened.Tie as tie
 use Rattle.index.proofs.insert_opened.Reads as reads
 use Rattle.index.proofs.insert_opened.Lts as lts
 use Rattle.geometry.proofs.choose.Reads as choose-reads
-use Rattle.insert.proofs.insert_opened_on.Reads as insert-opened-on-reads
+use Rattle.call_insert.proofs.insert_opened_on.Reads as insert-opened-on-reads
 
 ruleset all = (needs, opened-laws)
 

@@ -1,11 +1,11 @@
 use borrow.Author.Needs.{needs}
-use Rattle.index.specs.Laws.{index-laws}
+use Rattle.index.specs.ByNumber.{index-laws}
 use Rattle.index.proofs.list.Statement.{statement}
 use Rattle.index.proofs.list.Tie as tie
 use Rattle.index.proofs.list.Reads as reads
 use Rattle.index.proofs.list.Lts as lts
 use Rattle.geometry.proofs.choose.Reads as choose-reads
-use Rattle.listing.proofs.list_on.Reads as list-on-reads
+use Rattle.call_list.proofs.list_on.Reads as list-on-reads
 
 ruleset all = (needs, index-laws)
 

@@ -5,7 +5,7 @@ use Rattle.index.proofs.list_opened.Tie as tie
 use Rattle.index.proofs.list_opened.Reads as reads
 use Rattle.index.proofs.list_opened.Lts as lts
 use Rattle.geometry.proofs.choose.Reads as choose-reads
-use Rattle.opening.proofs.list_opened_on.Reads as list-opened-on-reads
+use Rattle.open_calls.proofs.list_opened_on.Reads as list-opened-on-reads
 
 ruleset all = (needs, opened-laws)
 

@@ -1,11 +1,11 @@
 use borrow.Author.Needs.{needs}
-use Rattle.index.specs.Laws.{index-laws}
+use Rattle.index.specs.ByNumber.{index-laws}
 use Rattle.index.proofs.lookup.Statement.{statement}
 use Rattle.index.proofs.lookup.Tie as tie
 use Rattle.index.proofs.lookup.Reads as reads
 use Rattle.index.proofs.lookup.Lts as lts
 use Rattle.geometry.proofs.choose.Reads as choose-reads
-use Rattle.lookup.proofs.lookup_on.Reads as lookup-on-reads
+use Rattle.call_lookup.proofs.lookup_on.Reads as lookup-on-reads
 
 ruleset all = (needs, index-laws)
 

@@ -5,7 +5,7 @@ use Rattle.index.proofs.lookup_opened.Tie as tie
 use Rattle.index.proofs.lookup_opened.Reads as reads
 use Rattle.index.proofs.lookup_opened.Lts as lts
 use Rattle.geometry.proofs.choose.Reads as choose-reads
-use Rattle.opening.proofs.lookup_opened_on.Reads as lookup-opened-on-reads
+use Rattle.open_calls.proofs.lookup_opened_on.Reads as lookup-opened-on-reads
 
 ruleset all = (needs, opened-laws)
 

@@ -5,8 +5,8 @@ use Rattle.index.proofs.open.Tie as tie
 use Rattle.index.proofs.open.Reads as reads
 use Rattle.index.proofs.open.Lts as lts
 use Rattle.geometry.proofs.choose.Reads as choose-reads
-use Rattle.opening.proofs.open_on.Reads as open-on-reads
-use Rattle.opening.proofs.refused.Reads as refused-reads
+use Rattle.open_calls.proofs.open_on.Reads as open-on-reads
+use Rattle.open_calls.proofs.refused.Reads as refused-reads
 
 ruleset all = (needs, opened-laws)
 

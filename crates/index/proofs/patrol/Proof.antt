@@ -1,10 +1,10 @@
 use borrow.Author.Needs.{needs}
-use Rattle.index.specs.Laws.{index-laws}
+use Rattle.index.specs.ByNumber.{index-laws}
 use Rattle.index.proofs.patrol.Statement.{statement}
 use Rattle.index.proofs.patrol.Tie as tie
 use Rattle.index.proofs.patrol.Reads as reads
 use Rattle.index.proofs.patrol.Lts as lts
-use Rattle.patrols.proofs.patrol_on.Reads as patrol-on-reads
+use Rattle.call_patrol.proofs.patrol_on.Reads as patrol-on-reads
 use Rattle.geometry.proofs.choose.Reads as choose-reads
 
 ruleset all = (needs, index-laws)

@@ -6,10 +6,10 @@ use borrow.Fn.PlainCycle.{Measures, is, falls, and}
 use Rattle.plain_calls.proofs.count_loss.Reads as count-loss
 use Rattle.plain_calls.proofs.count_loss.Kinds as count-loss-kinds
 use Rattle.plain_calls.proofs.+count_loss.Lts-count_loss as count-loss-lts
-use Rattle.chip.proofs.node_count.Reads as node-count-reads
+use Rattle.chip_read.proofs.node_count.Reads as node-count-reads
 use Rattle.plain_calls.proofs.leaf_loss.Reads as leaf-loss-reads
 use Rattle.plain_calls.proofs.one_less.Reads as one-less-reads
-use Rattle.search.proofs.chosen_entry.Reads as chosen-entry-reads
+use Rattle.tree_search.proofs.chosen_entry.Reads as chosen-entry-reads
 use Rattle.plain_calls.proofs.+count_loss.{statement}
 use Rattle.plain_calls.proofs.+count_loss.Tie.{close}
 

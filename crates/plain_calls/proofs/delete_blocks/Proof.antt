@@ -1,11 +1,11 @@
 use borrow.Author.Needs.{needs}
-use Rattle.plain_calls.specs.Laws.{call-laws}
+use Rattle.plain_calls.specs.Judged.{call-laws}
 use Rattle.plain_calls.proofs.delete_blocks.Statement.{statement}
 use Rattle.plain_calls.proofs.delete_blocks.Tie as tie
 use Rattle.plain_calls.proofs.delete_blocks.Reads as reads
 use Rattle.plain_calls.proofs.delete_blocks.Lts as lts
 use Rattle.plain_calls.proofs.delete_judged.Reads as delete-judged-reads
-use Rattle.verdict.proofs.judge_image.Reads as judge-image-reads
+use Rattle.sound_verdict.proofs.judge_image.Reads as judge-image-reads
 
 ruleset all = (needs, call-laws)
 

@@ -1,13 +1,13 @@
 use borrow.Author.Needs.{needs}
-use Rattle.plain_calls.specs.Laws.{made-laws}
+use Rattle.plain_calls.specs.Judged.{made-laws}
 use Rattle.plain_calls.proofs.delete_made.Statement.{statement}
 use Rattle.plain_calls.proofs.delete_made.Tie as tie
 use Rattle.plain_calls.proofs.delete_made.Reads as reads
 use Rattle.plain_calls.proofs.delete_made.Lts as lts
-use Rattle.account.proofs.answer_of.Reads as answer-of-reads
-use Rattle.account.proofs.fresh.Reads as fresh-reads
+use Rattle.call_account.proofs.answer_of.Reads as answer-of-reads
+use Rattle.call_account.proofs.fresh.Reads as fresh-reads
 use Rattle.plain_levels.proofs.delete_pages.Reads as delete-pages-reads
-use Rattle.recording.proofs.record_of.Reads as record-of-reads
+use Rattle.open_renew.proofs.record_of.Reads as record-of-reads
 
 ruleset all = (needs, made-laws)
 

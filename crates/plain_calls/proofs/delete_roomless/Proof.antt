@@ -1,5 +1,5 @@
 use borrow.Author.Needs.{needs}
-use Rattle.plain_calls.specs.Laws.{count-laws}
+use Rattle.plain_calls.specs.Judged.{count-laws}
 use Rattle.plain_calls.proofs.delete_roomless.Statement.{statement}
 use Rattle.plain_calls.proofs.delete_roomless.Tie as tie
 use Rattle.plain_calls.proofs.delete_roomless.Reads as reads

@@ -1,10 +1,10 @@
 use borrow.Author.Needs.{needs}
-use Rattle.plain_calls.specs.Laws.{call-laws}
+use Rattle.plain_calls.specs.Judged.{call-laws}
 use Rattle.plain_calls.proofs.format.Statement.{statement}
 use Rattle.plain_calls.proofs.format.Tie as tie
 use Rattle.plain_calls.proofs.format.Reads as reads
 use Rattle.plain_calls.proofs.format.Lts as lts
-use Rattle.format.proofs.format.Reads as format-reads
+use Rattle.call_format.proofs.format.Reads as format-reads
 use Rattle.geometry.proofs.Geometry.plain.Reads as plain-reads
 
 ruleset all = (needs, call-laws)

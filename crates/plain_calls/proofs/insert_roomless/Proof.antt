@@ -1,10 +1,10 @@
 use borrow.Author.Needs.{needs}
-use Rattle.plain_calls.specs.Laws.{count-laws}
+use Rattle.plain_calls.specs.Judged.{count-laws}
 use Rattle.plain_calls.proofs.insert_roomless.Statement.{statement}
 use Rattle.plain_calls.proofs.insert_roomless.Tie as tie
 use Rattle.plain_calls.proofs.insert_roomless.Reads as reads
 use Rattle.plain_calls.proofs.insert_roomless.Lts as lts
-use Rattle.plan.proofs.count_pages.Reads as count-pages-reads
+use Rattle.tree_plan.proofs.count_pages.Reads as count-pages-reads
 
 ruleset all = (needs, count-laws)
 

@@ -1,12 +1,12 @@
 use borrow.Author.Needs.{needs}
-use Rattle.plain_levels.specs.Laws.{level-laws}
+use Rattle.plain_levels.specs.WayUp.{level-laws}
 use Prim.Native.Nat.{ℕ, _<_}
 use borrow.Fn.Kinds.{In}
 use borrow.Fn.PlainCycle.{Measures, is, falls, and}
 use Rattle.plain_levels.proofs.climb.Reads as climb
 use Rattle.plain_levels.proofs.climb.Kinds as climb-kinds
 use Rattle.plain_levels.proofs.+climb.Lts-climb as climb-lts
-use Rattle.load.proofs.take_node.Reads as take-node-reads
+use Rattle.tree_load.proofs.take_node.Reads as take-node-reads
 use Rattle.plain_levels.proofs.leaf.Reads as leaf-reads
 use Rattle.plain_levels.proofs.rejoin.Reads as rejoin-reads
 use Rattle.plain_levels.proofs.+climb.{statement}

@@ -1,10 +1,10 @@
 use borrow.Author.Needs.{needs}
-use Rattle.plain_levels.specs.Laws.{level-laws}
+use Rattle.plain_levels.specs.WayUp.{level-laws}
 use Rattle.plain_levels.proofs.delete_with.Statement.{statement}
 use Rattle.plain_levels.proofs.delete_with.Tie as tie
 use Rattle.plain_levels.proofs.delete_with.Reads as reads
 use Rattle.plain_levels.proofs.delete_with.Lts as lts
-use Rattle.load.proofs.collapse.Reads as collapse-reads
+use Rattle.tree_load.proofs.collapse.Reads as collapse-reads
 use Rattle.plain_levels.proofs.look.Reads as look-reads
 use Rattle.plain_levels.proofs.store_node.Reads as store-node-reads
 use Rattle.plain_levels.proofs.store_path.Reads as store-path-reads

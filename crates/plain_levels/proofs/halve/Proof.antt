@@ -1,13 +1,13 @@
 use borrow.Author.Needs.{needs}
-use Rattle.plain_levels.specs.Laws.{level-laws}
+use Rattle.plain_levels.specs.WayUp.{level-laws}
 use Rattle.plain_levels.proofs.halve.Statement.{statement}
 use Rattle.plain_levels.proofs.halve.Tie as tie
 use Rattle.plain_levels.proofs.halve.Reads as reads
 use Rattle.plain_levels.proofs.halve.Lts as lts
 use Rattle.geometry.proofs.half.Reads as half-reads
-use Rattle.node.proofs.first_key.Reads as first-key-reads
-use Rattle.node.proofs.left_half.Reads as left-half-reads
-use Rattle.node.proofs.right_half.Reads as right-half-reads
+use Rattle.tree_node.proofs.first_key.Reads as first-key-reads
+use Rattle.tree_node.proofs.left_half.Reads as left-half-reads
+use Rattle.tree_node.proofs.right_half.Reads as right-half-reads
 use Rattle.plain_levels.proofs.pair.Reads as pair-reads
 
 ruleset all = (needs, level-laws)

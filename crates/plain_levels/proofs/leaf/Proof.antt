@@ -1,11 +1,11 @@
 use borrow.Author.Needs.{needs}
-use Rattle.plain_levels.specs.Laws.{level-laws}
+use Rattle.plain_levels.specs.WayUp.{level-laws}
 use Rattle.plain_levels.proofs.leaf.Statement.{statement}
 use Rattle.plain_levels.proofs.leaf.Tie as tie
 use Rattle.plain_levels.proofs.leaf.Reads as reads
 use Rattle.plain_levels.proofs.leaf.Lts as lts
-use Rattle.load.proofs.put_leaf.Reads as put-leaf-reads
-use Rattle.load.proofs.remove_leaf.Reads as remove-leaf-reads
+use Rattle.tree_load.proofs.put_leaf.Reads as put-leaf-reads
+use Rattle.tree_load.proofs.remove_leaf.Reads as remove-leaf-reads
 
 ruleset all = (needs, level-laws)
 

@@ -1,5 +1,5 @@
 use borrow.Author.Needs.{needs}
-use Rattle.plain_levels.specs.Laws.{level-laws}
+use Rattle.plain_levels.specs.WayUp.{level-laws}
 use Rattle.plain_levels.proofs.store_path.Statement.{statement}
 use Rattle.plain_levels.proofs.store_path.Tie as tie
 use Rattle.plain_levels.proofs.store_path.Reads as reads

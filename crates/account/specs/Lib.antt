@@ -1,7 +1,0 @@
--- The account of an update, and its laws.
-pub mod Account
-pub mod Laws
-pub mod Rest
-pub mod Lent
-pub mod Low
-pub mod Opened

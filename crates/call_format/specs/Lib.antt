@@ -1,0 +1,2 @@
+-- Laws by which format is proved.
+pub mod Formats

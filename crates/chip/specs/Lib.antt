@@ -1,7 +1,0 @@
--- What is read of an image, law by law.
-pub mod Chip
-pub mod Reads
-pub mod Blank
-pub mod Node
-pub mod Blocks
-pub mod Laws

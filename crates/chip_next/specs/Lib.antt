@@ -1,0 +1,3 @@
+-- The pages to come, and their laws.
+pub mod Coming
+pub mod PagesToCome

@@ -1,3 +1,0 @@
--- Collection as the code makes it, and its laws.
-pub mod Collect
-pub mod Laws

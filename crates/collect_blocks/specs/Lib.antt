@@ -1,0 +1,3 @@
+-- Collection as the code makes it, and its laws.
+pub mod Collect
+pub mod Collecting

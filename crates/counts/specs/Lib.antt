@@ -1,6 +1,0 @@
--- Counting and searching over the numbers below n: the laws of the model's `least`, `any`, `count`, `peak` and `arg`.
-pub mod Least
-pub mod Tally
-pub mod Peak
-pub mod Lowest
-pub mod Blocks

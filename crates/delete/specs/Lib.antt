@@ -1,4 +1,0 @@
--- Delete, and its laws.
-pub mod Delete
-pub mod Laws
-pub mod With

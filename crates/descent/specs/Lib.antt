@@ -1,2 +1,0 @@
--- Descent from the root to a leaf.
-pub mod Laws

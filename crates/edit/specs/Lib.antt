@@ -1,4 +1,0 @@
--- An update's path, changed from the leaf up, and its laws.
-pub mod Edit
-pub mod Paths
-pub mod Laws

@@ -1,3 +1,0 @@
--- The export of request 13, as the code does it, and its laws.
-pub mod Exporter
-pub mod Laws

@@ -1,2 +1,0 @@
--- Laws by which format is proved.
-pub mod Laws

@@ -1,4 +1,0 @@
--- The import of request 13, as the code does it, and its laws.
-pub mod Importer
-pub mod Laws
-pub mod Whole

@@ -1,4 +1,0 @@
--- Insert, and its laws.
-pub mod Insert
-pub mod Laws
-pub mod With

@@ -1,4 +1,0 @@
--- Insert's own stores, as the code makes them, and why they are the definition's.
-pub mod Own
-pub mod Laws
-pub mod Tie

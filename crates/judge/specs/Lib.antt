@@ -1,6 +1,0 @@
--- R5, in the form in which the code has the premises.
-pub mod Programmed
-pub mod Noted
-pub mod Laws
-pub mod Levels
-pub mod All

@@ -1,0 +1,2 @@
+-- The lent words of live pages: the laws of the code.
+pub mod LentWords

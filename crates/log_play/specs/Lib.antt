@@ -1,0 +1,2 @@
+-- Laws for one order of a log on the image.
+pub mod SmallCalls

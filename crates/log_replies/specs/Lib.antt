@@ -1,0 +1,2 @@
+-- Laws for the lines that answer a log.
+pub mod Written

@@ -1,3 +1,0 @@
--- The pages to come, and their laws.
-pub mod Coming
-pub mod Laws

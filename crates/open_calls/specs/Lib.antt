@@ -1,0 +1,3 @@
+-- Opening, and lookup and listing with a record.
+pub mod Opening
+pub mod Openings

@@ -1,3 +1,0 @@
--- Opening, and lookup and listing with a record.
-pub mod Opening
-pub mod Laws

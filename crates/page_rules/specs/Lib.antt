@@ -1,5 +1,0 @@
--- R1 and R2, in the form in which the code has the premises.
-pub mod Codes
-pub mod Formed
-pub mod Blocks
-pub mod Laws

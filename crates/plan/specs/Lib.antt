@@ -1,3 +1,0 @@
--- What an update will need, and its laws.
-pub mod Plan
-pub mod Laws

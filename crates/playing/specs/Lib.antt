@@ -1,2 +1,0 @@
--- Laws for one order of a log on the image.
-pub mod Laws

@@ -1,2 +1,0 @@
--- Laws for the lines that answer a log.
-pub mod Laws

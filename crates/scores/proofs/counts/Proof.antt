@@ -1,9 +1,0 @@
-use borrow.Author.Needs.{needs}
-use Rattle.scores.specs.Laws.{score-laws}
-use Rattle.scores.proofs.counts.Statement.{statement}
-use Rattle.scores.proofs.counts.Tie as tie
-
-ruleset all = (needs, score-laws)
-
-pub counts-spec : {M : Type 1} → statement M
-counts-spec = tie.close (tie.spec (λ c κs. search all) (λ c. search all) (λ c. search all) (λ c. search all))

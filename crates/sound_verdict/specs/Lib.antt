@@ -1,0 +1,4 @@
+-- The verdict rule by rule.
+pub mod Verdict
+pub mod SpareRoom
+pub mod InOrder

@@ -1,3 +1,0 @@
--- One step of an update's way up, and its laws.
-pub mod Step
-pub mod Laws

@@ -1,6 +1,0 @@
--- Runs of stores under an allowance, and the laws of stores and runs.
-pub mod Careful
-pub mod Cautious
-pub mod Run
-pub mod Laws
-pub mod Runs

@@ -1,9 +1,0 @@
-use borrow.Author.Needs.{needs}
-use Rattle.texts.specs.Laws.{text-laws}
-use Rattle.texts.proofs.put_byte.Statement.{statement}
-use Rattle.texts.proofs.put_byte.Tie as tie
-
-ruleset all = (needs, text-laws)
-
-pub put-byte-spec : {M : Type 1} → statement M
-put-byte-spec = tie.close (tie.spec (λ c. search all) (λ c. search all) (λ c. search all) (λ c. search all))

@@ -1,0 +1,26 @@
+-- Theorems about trees of nodes: what an insertion, a deletion and a move make of them. No bytes, no chip.
+pub mod Edit
+pub mod Above
+pub mod Insert
+pub mod Delete
+pub mod Move
+pub mod Tied
+pub mod InsertPages
+pub mod DeletePages
+pub mod Proper
+pub mod Plain
+pub mod PlainTied
+pub mod PlainInsert
+pub mod PlainDelete
+pub mod Frame
+pub mod Seek
+pub mod Path
+pub mod Lengths
+pub mod Cuts
+pub mod Splits
+pub mod Like
+pub mod Leaf
+pub mod Swap
+pub mod OnPath
+pub mod Lows
+pub mod Fill

@@ -1,0 +1,2 @@
+-- Descent from the root to a leaf.
+pub mod Descents

@@ -1,0 +1,25 @@
+use borrow.Author.Needs.{needs}
+use Rattle.tree_path.specs.WayUp.{edit-laws}
+use Rattle.tree_path.proofs.leaf.Statement.{statement}
+use Rattle.tree_path.proofs.leaf.Tie as tie
+use Rattle.tree_path.proofs.leaf.Reads as reads
+use Rattle.tree_path.proofs.leaf.Lts as lts
+use Rattle.tree_load.proofs.load_node.Reads as load-node-reads
+use Rattle.tree_load.proofs.put_leaf.Reads as put-leaf-reads
+use Rattle.tree_load.proofs.remove_leaf.Reads as remove-leaf-reads
+
+ruleset all = (needs, edit-laws)
+
+pub leaf-spec : {M : Type 1} → statement M
+leaf-spec =
+    tie.close
+    (tie.spec
+    (λ c. search all)
+    (λ c κs. search all)
+    (λ c. search all)
+    (λ c κs. search all)
+    (λ c. search all)
+    (λ c κs. search all)
+    (λ c. search all)
+    (λ c. search all)
+    (λ c. search all))

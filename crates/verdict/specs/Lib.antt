@@ -1,3 +1,0 @@
--- The verdict rule by rule.
-pub mod Verdict
-pub mod Laws

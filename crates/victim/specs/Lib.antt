@@ -1,3 +1,0 @@
--- What collection looks at, and its laws.
-pub mod Victim
-pub mod Laws

@@ -1,2 +1,0 @@
--- The lent words of live pages: the laws of the code.
-pub mod Laws
