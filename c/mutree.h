@@ -80,7 +80,7 @@
  *                     ARM64, large    5,568  112,256  112,288  112,352  185,648  176,448     760
  *               The calls with a record; the last column is an insert or a delete with another record than opening gives:
  *                                      open   lookup     list   insert   delete   another record
- *                     x86-64, small  112,272     384    1,584  145,000  142,784   144,600
+ *                     x86-64, small  112,272     384    1,584  145,000  142,784   145,000
  *                     x86-64, large  112,632     384    2,032  169,568  167,552   159,512
  *                     ARM64, small   112,016     368    1,536  144,640  141,104         -
  *               ARM64 was measured with version 0.8.0; the small chip's insert and delete and its calls with a record with 0.9.0,
