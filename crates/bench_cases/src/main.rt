@@ -10,7 +10,7 @@ use call_answers::Answer;
 use geometry::{Entry, Geometry};
 
 // A chip by its number and geometry, and the entries that its root of level 1 stores.
-#[derive(Drop)]
+#[derive(Clone, Copy)]
 struct Bench {
     kind: u32,
     geometry: Geometry,

@@ -17,14 +17,14 @@ use open_record::Opened;
 use tree_root::Own;
 
 // What an update's stores leave: what its own stores did, and the record before those.
-#[derive(Drop)]
+#[derive(Clone, Copy)]
 pub struct Made {
     pub own: Own,
     pub opened: Opened,
 }
 
 // What a call with the record hands back: the answer, and the record of the image that is left.
-#[derive(Drop)]
+#[derive(Clone, Copy)]
 pub struct Renewed {
     pub answer: Answer,
     pub opened: Opened,

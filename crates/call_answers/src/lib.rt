@@ -2,7 +2,7 @@
 ghost use Rattle.std.specs.Prelude.{◌≡◌};
 ghost use Rattle.call_answers.specs.Answers.{plain, row_of};
 
-#[derive(Drop)]
+#[derive(Clone, Copy)]
 pub enum Answer {
     // the address (lookup), pages programmed, blocks erased
     Done(u32, u32, u32),
@@ -20,7 +20,7 @@ pub enum Answer {
 }
 
 // An answer in numbers: a row of the table.
-#[derive(Drop)]
+#[derive(Clone, Copy)]
 pub struct Row {
     pub answer: u32,
     pub address: u32,

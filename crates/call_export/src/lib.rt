@@ -15,7 +15,7 @@ use call_answers::{Answer, Row};
 use geometry::{Entry, Geometry, Verdict};
 
 // How far the writer has come: records so far, and the place of the next line.
-#[derive(Drop)]
+#[derive(Clone, Copy)]
 pub struct Written {
     pub records: usize,
     pub at: usize,

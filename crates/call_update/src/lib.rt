@@ -27,14 +27,14 @@ use tree_root::Own;
 use tree_search::Found;
 
 // The insert of a key and an address, or the delete of a key.
-#[derive(Drop)]
+#[derive(Clone, Copy)]
 pub enum Update {
     Insert(u32, u32),
     Delete(u32),
 }
 
 // What an update asks before its stores: whether it is refused and with which answer, and for how many pages it is.
-#[derive(Drop)]
+#[derive(Clone, Copy)]
 pub struct Asks {
     pub refused: bool,
     pub answer: Answer,

@@ -110,7 +110,7 @@ fn seal(rows: u64, all: u64) -> u32
 }
 
 // Some words by exclusive or: all of them, and those whose number has bit 0, bit 1, .. bit 4.
-#[derive(Drop)]
+#[derive(Clone, Copy)]
 struct Sums {
     all: u64,
     first: u64,

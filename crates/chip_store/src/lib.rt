@@ -138,7 +138,7 @@ pub fn erase_block(g: Geometry, img: &mut [u8], block: u16)
 }
 
 // What is left of an allowance, what was made of it, and whether a store was asked for that was not made.
-#[derive(Drop)]
+#[derive(Clone, Copy)]
 pub struct Budget {
     pub left: u32,
     pub programmed: u32,

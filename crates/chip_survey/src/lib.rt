@@ -9,7 +9,7 @@ ghost use Rattle.chip_survey.specs.Survey.{seen_to, survey_of};
 use geometry::{Finding, Geometry};
 
 // What the pages below some page say: the root's page and number, the largest number and its page, the erased pages.
-#[derive(Drop)]
+#[derive(Clone, Copy)]
 pub struct Seen {
     pub root: u32,
     pub score: u32,
@@ -20,7 +20,7 @@ pub struct Seen {
 
 // An image in numbers: the root's page, its height byte and the levels below it, the largest number and
 // its page, the erased pages.
-#[derive(Drop)]
+#[derive(Clone, Copy)]
 pub struct Survey {
     pub root: u32,
     pub height: u32,

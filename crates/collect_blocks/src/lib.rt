@@ -16,7 +16,7 @@ use geometry::Geometry;
 use open_record::Opened;
 
 // What changes beside the image while pages move: the root's page, the largest number, the next page.
-#[derive(Drop)]
+#[derive(Clone, Copy)]
 pub struct Kept {
     pub root: u32,
     pub most: u64,
@@ -24,14 +24,14 @@ pub struct Kept {
 }
 
 // What is left of the allowance, and what is kept.
-#[derive(Drop)]
+#[derive(Clone, Copy)]
 pub struct Carried {
     pub budget: Budget,
     pub kept: Kept,
 }
 
 // What is left of the allowance, and the record of the image as it then stands.
-#[derive(Drop)]
+#[derive(Clone, Copy)]
 pub struct Swept {
     pub budget: Budget,
     pub opened: Opened,

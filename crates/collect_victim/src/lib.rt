@@ -5,7 +5,7 @@ ghost use Rattle.collect_victim.specs.Victim.{Bests, full_in, ones_by};
 use geometry::Geometry;
 
 // The best block so far, if there is one, and its live pages.
-#[derive(Drop)]
+#[derive(Clone, Copy)]
 pub struct Best {
     pub found: bool,
     pub block: u16,

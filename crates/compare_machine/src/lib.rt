@@ -17,7 +17,7 @@ use log_lines::{Line, Order};
 use log_play::LARGEST_ALLOWANCE;
 
 // How a run stands.
-#[derive(Drop)]
+#[derive(Clone, Copy)]
 pub enum Course {
     // lines are played
     Going,
@@ -27,7 +27,7 @@ pub enum Course {
     Refused,
 }
 
-#[derive(Drop)]
+#[derive(Clone, Copy)]
 pub struct Run {
     // bytes of the line that has begun
     pub filled: usize,

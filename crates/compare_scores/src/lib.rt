@@ -8,7 +8,7 @@ use call_answers::Row;
 use log_lines::Order;
 
 // Lines met, updates that both answered by 0, and the pages that these programmed in each tree.
-#[derive(Drop)]
+#[derive(Clone, Copy)]
 pub struct Score {
     pub lines: u64,
     pub updates: u64,
@@ -17,7 +17,7 @@ pub struct Score {
 }
 
 // Two whole numbers in lowest terms, or 0 and 0.
-#[derive(Drop)]
+#[derive(Clone, Copy)]
 pub struct Ratio {
     pub upper: u64,
     pub lower: u64,

@@ -5,7 +5,7 @@ ghost use Rattle.geometry.specs.Bounds.{four_bytes};
 
 // A block's pages, a page's main and spare bytes, the greatest height, the number above which the chip is WORN, and the
 // number of its table of levels: 0 the small chip's, 1 the large one's, 2 the plain tree's on the small chip.
-#[derive(Drop)]
+#[derive(Clone, Copy)]
 pub struct Geometry {
     pub pages: u16,
     pub main: u16,
@@ -86,7 +86,7 @@ impl Geometry {
 }
 
 // A geometry by its number.
-#[derive(Drop)]
+#[derive(Clone, Copy)]
 pub enum Chosen {
     Of(Geometry),
     Unknown,
@@ -106,21 +106,21 @@ pub fn choose(kind: u32) -> Chosen
 }
 
 // One slot: a key, and the caller's address (in a leaf) or a page number (above).
-#[derive(Drop)]
+#[derive(Clone, Copy)]
 pub struct Entry {
     pub key: u32,
     pub addr: u32,
 }
 
 // What one rule finds: nothing, or the page that breaks it.
-#[derive(Drop)]
+#[derive(Clone, Copy)]
 pub enum Finding {
     Good,
     Bad(u32),
 }
 
 // What all rules find: nothing, or the first broken rule and its page.
-#[derive(Drop)]
+#[derive(Clone, Copy)]
 pub enum Verdict {
     Sound,
     Broken(u32, u32),
@@ -128,7 +128,7 @@ pub enum Verdict {
 
 // What a patrol of one half finds: nothing, the number of the data bit or of the code's bit that it mended, or more
 // than it can mend.
-#[derive(Drop)]
+#[derive(Clone, Copy)]
 pub enum Patrol {
     Clean,
     DataMended(u32),

@@ -129,7 +129,7 @@ fn counts_below(g: Geometry, img: &[u8], at: usize, n: usize, level: u32) -> [u8
 }
 
 // A page, and the count of its node at a level.
-#[derive(Drop)]
+#[derive(Clone, Copy)]
 struct Below {
     page: u32,
     count: usize,

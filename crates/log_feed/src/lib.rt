@@ -8,7 +8,7 @@ ghost use Rattle.log_feed.specs.Left.{left};
 
 use log_machine::Run;
 
-#[derive(Drop)]
+#[derive(Clone, Copy)]
 pub struct Played {
     pub run: Run,
     // the first byte of the part that was not fed

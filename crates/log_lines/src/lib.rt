@@ -7,7 +7,7 @@ ghost use Rattle.log_lines.specs.FieldByField.{form_alone, form_one, form_two, f
 
 use text_decimals::Number;
 
-#[derive(Drop)]
+#[derive(Clone, Copy)]
 pub enum Order {
     // F
     Format,
@@ -21,7 +21,7 @@ pub enum Order {
     Limited(u32, u32, u32),
 }
 
-#[derive(Drop)]
+#[derive(Clone, Copy)]
 pub enum Line {
     Of(Order),
     // a line of any other form

@@ -12,7 +12,7 @@ ghost use Rattle.log_machine.specs.Run.{start_of, state_of, run_of, refused_run,
 use log_lines::{Line, Order};
 use log_tally::Tally;
 
-#[derive(Drop)]
+#[derive(Clone, Copy)]
 pub struct Run {
     // bytes of the line that has begun
     pub filled: usize,

@@ -3,7 +3,7 @@ ghost use Rattle.std.specs.Prelude.{◌≡◌, ◌+◌, ◌≤◌};
 ghost use Rattle.log_tally.specs.Counted.{none_yet, counted, Within};
 
 // Lines answered, pages programmed, blocks erased.
-#[derive(Drop)]
+#[derive(Clone, Copy)]
 pub struct Tally {
     pub lines: u64,
     pub programmed: u64,

@@ -15,7 +15,7 @@ use geometry::{Geometry, Verdict};
 use open_record::Opened;
 
 // What opening answers, and the record: zeros where it is refused.
-#[derive(Drop)]
+#[derive(Clone, Copy)]
 pub struct Opening {
     pub answer: Answer,
     pub opened: Opened,

@@ -22,7 +22,7 @@ use tree_search::Found;
 
 // What a delete does to the node that an entry names: whether its key is absent, how many levels below are emptied, the
 // entries left.
-#[derive(Drop)]
+#[derive(Clone, Copy)]
 pub struct Loss {
     pub absent: bool,
     pub emptied: u32,

@@ -22,7 +22,7 @@ use tree_path::Changed;
 use tree_split::Climbed;
 
 // What an update does: put the key at an address, or remove it.
-#[derive(Drop)]
+#[derive(Clone, Copy)]
 pub enum Change {
     Put(u32),
     Remove,
@@ -30,7 +30,7 @@ pub enum Change {
 
 // An update: its key, the largest sequence number, the pages to come, the levels from 1 on that split or are emptied,
 // what it does.
-#[derive(Drop)]
+#[derive(Clone, Copy)]
 pub struct Job {
     pub key: u32,
     pub seq: u64,
@@ -40,7 +40,7 @@ pub struct Job {
 }
 
 // The halves of a node, and what stands above them.
-#[derive(Drop)]
+#[derive(Clone, Copy)]
 pub struct Halves {
     pub left: Node,
     pub right: Node,

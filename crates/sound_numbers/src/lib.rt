@@ -10,7 +10,7 @@ ghost use Rattle.sound_repeats.specs.Repeats.{Differ};
 use geometry::{Finding, Geometry};
 
 // The lowest and highest number of some programmed pages, 0 and 0 of none, and whether they rise.
-#[derive(Drop)]
+#[derive(Clone, Copy)]
 pub struct Range {
     pub rising: bool,
     pub low: u32,
@@ -19,7 +19,7 @@ pub struct Range {
 
 // Whether the ranges of some blocks lie apart, and a space, above floor and below ceiling, that none of them reaches
 // into.
-#[derive(Drop)]
+#[derive(Clone, Copy)]
 struct Space {
     apart: bool,
     floor: u32,

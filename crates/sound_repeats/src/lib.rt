@@ -100,7 +100,7 @@ fn keep(keys: &mut [u64], count: usize, bound: u64) -> usize
 }
 
 // A part: how many keys it has, the number that it ends before, and the page up to which all pages were looked at.
-#[derive(Drop)]
+#[derive(Clone, Copy)]
 struct Part {
     count: usize,
     high: u64,

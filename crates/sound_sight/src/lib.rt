@@ -9,7 +9,7 @@ use geometry::Geometry;
 use sound_numbers::Range;
 
 // A block in numbers: whether it is as R1 and R2 want it, its programmed pages, what is seen up to its end, its range.
-#[derive(Drop)]
+#[derive(Clone, Copy)]
 pub struct Block {
     pub fine: bool,
     pub programmed: u16,
@@ -18,7 +18,7 @@ pub struct Block {
 }
 
 // All blocks: whether they are as R1 and R2 want them, what is seen, whether the numbers of each rise.
-#[derive(Drop)]
+#[derive(Clone, Copy)]
 pub struct Scan {
     pub fine: bool,
     pub rising: bool,
@@ -26,7 +26,7 @@ pub struct Scan {
 }
 
 // An image: whether R1 and R2 pass it, whether the numbers of each block rise, and the survey.
-#[derive(Drop)]
+#[derive(Clone, Copy)]
 pub struct Sight {
     pub fine: bool,
     pub rising: bool,

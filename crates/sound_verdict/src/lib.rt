@@ -17,7 +17,7 @@ use geometry::{Finding, Geometry, Verdict};
 use sound_sight::Sight;
 
 // A verdict, and the survey that came with it.
-#[derive(Drop)]
+#[derive(Clone, Copy)]
 pub struct Judgement {
     pub verdict: Verdict,
     pub survey: Survey,

@@ -4,7 +4,7 @@ ghost use Rattle.std.proofs.lemmas.List.Edits.{sets};
 ghost use Rattle.text_decimals.specs.Decimals.{number_of, decimal};
 ghost use Rattle.text_decimals.specs.Reading.{number_is, number_from};
 
-#[derive(Drop)]
+#[derive(Clone, Copy)]
 pub enum Number {
     Value(u32),
     Nothing,

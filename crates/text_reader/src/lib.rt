@@ -10,7 +10,7 @@ use text_decimals::Number;
 
 // How far the reader has come: the place of the next line, the records so far, the least key that the next one may
 // have, and the number of the line that is refused, 0 if none is.
-#[derive(Drop)]
+#[derive(Clone, Copy)]
 pub struct Spot {
     pub at: usize,
     pub count: u32,
@@ -19,14 +19,14 @@ pub struct Spot {
 }
 
 // A turn of the reader: the pair that was read, and how far the reader has come then.
-#[derive(Drop)]
+#[derive(Clone, Copy)]
 pub struct Turn {
     pub entry: Entry,
     pub spot: Spot,
 }
 
 // What a line is read as.
-#[derive(Drop)]
+#[derive(Clone, Copy)]
 pub enum Line {
     Pair(Entry),
     Nothing,

@@ -11,7 +11,7 @@ use geometry::{Entry, Geometry};
 use tree_node::Node;
 
 // A node with the place and the entry that descent takes.
-#[derive(Drop)]
+#[derive(Clone, Copy)]
 pub struct Taken {
     pub node: Node,
     pub at: usize,
@@ -19,7 +19,7 @@ pub struct Taken {
 }
 
 // The root that is left, and the levels below it.
-#[derive(Drop)]
+#[derive(Clone, Copy)]
 pub struct Top {
     pub level: u32,
     pub node: Node,

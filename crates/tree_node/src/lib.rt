@@ -7,14 +7,14 @@ ghost use Rattle.tree_node.specs.Node.{entries, carried, replace_by};
 use geometry::Entry;
 
 // The entries of a node are the first `count` of its array.
-#[derive(Drop)]
+#[derive(Clone, Copy)]
 pub struct Node {
     pub e: [Entry; 256],
     pub count: usize,
 }
 
 // What stands for an entry once the node below it has changed.
-#[derive(Drop)]
+#[derive(Clone, Copy)]
 pub enum Carry {
     Nothing,
     One(Entry),

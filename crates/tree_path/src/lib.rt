@@ -16,7 +16,7 @@ use tree_node::Node;
 use tree_split::{Change, Job};
 
 // The changed node, and what is left of the allowance.
-#[derive(Drop)]
+#[derive(Clone, Copy)]
 pub struct Changed {
     pub node: Node,
     pub budget: Budget,

@@ -14,14 +14,14 @@ use geometry::{Entry, Geometry};
 use tree_search::Found;
 
 // How many nodes of a path split, and whether the entry above it gives way to two.
-#[derive(Drop)]
+#[derive(Clone, Copy)]
 pub struct Run {
     pub splits: u32,
     pub gains: bool,
 }
 
 // Whether the key is absent, the pages that putting it needs, whether it would be too high.
-#[derive(Drop)]
+#[derive(Clone, Copy)]
 pub struct Plan {
     pub absent: bool,
     pub needs: u32,

@@ -16,7 +16,7 @@ use tree_node::{Carry, Node};
 use tree_split::Job;
 
 // The root's part on page N, the root above it if it grows, and the other half.
-#[derive(Drop)]
+#[derive(Clone, Copy)]
 pub struct Crown {
     pub path: Node,
     pub above: Node,
@@ -25,7 +25,7 @@ pub struct Crown {
 }
 
 // The height afterwards, and what is left of the allowance.
-#[derive(Drop)]
+#[derive(Clone, Copy)]
 pub struct Summit {
     pub height: u32,
     pub budget: Budget,
@@ -33,7 +33,7 @@ pub struct Summit {
 
 // What an update's own stores leave: the allowance, and where the root stands if all were made: its page, and the
 // levels below it.
-#[derive(Drop)]
+#[derive(Clone, Copy)]
 pub struct Own {
     pub budget: Budget,
     pub page: u32,

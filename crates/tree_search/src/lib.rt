@@ -7,14 +7,14 @@ ghost use Rattle.tree_search.specs.Search.{ahead, holds, found};
 use geometry::{Entry, Geometry};
 
 // What stands under a key: an address, or nothing.
-#[derive(Drop)]
+#[derive(Clone, Copy)]
 pub enum Found {
     At(u32),
     Nothing,
 }
 
 // Where a key stands in a node, or the place at which it would enter.
-#[derive(Drop)]
+#[derive(Clone, Copy)]
 pub struct Stand {
     pub at: usize,
     pub here: bool,

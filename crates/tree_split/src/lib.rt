@@ -13,7 +13,7 @@ use geometry::{Entry, Geometry};
 use tree_node::{Carry, Node};
 
 // What an update does: put the key at an address, remove it, or rename from a lowest level up.
-#[derive(Drop)]
+#[derive(Clone, Copy)]
 pub enum Change {
     Put(u32),
     Remove,
@@ -22,7 +22,7 @@ pub enum Change {
 
 // An update: its key, the page N, the largest sequence number, the pages of the other halves from level 1 on, what it
 // does.
-#[derive(Drop)]
+#[derive(Clone, Copy)]
 pub struct Job {
     pub key: u32,
     pub page: u32,
@@ -32,7 +32,7 @@ pub struct Job {
 }
 
 // A changed node cut up: what goes on page N, what on a page alone if it is split, what stands above.
-#[derive(Drop)]
+#[derive(Clone, Copy)]
 pub struct Cut {
     pub path: Node,
     pub side: Node,
@@ -40,7 +40,7 @@ pub struct Cut {
     pub carry: Carry,
 }
 
-#[derive(Drop)]
+#[derive(Clone, Copy)]
 pub struct Climbed {
     pub carry: Carry,
     pub budget: Budget,
