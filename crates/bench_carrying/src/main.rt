@@ -2,6 +2,8 @@
 // records stored or the line that is refused, pages programmed, blocks erased, rule and page. Each export gives answer,
 // records, bytes of the text, bytes written, rule and page, then the 64 bytes of the buffer, each a full stop before;
 // as many of them are lent as the case says.
+#![tactic(auto)]
+
 ghost use Rattle.std.specs.Prelude.{◌≡◌, ◌*◌, ◌≤◌, length};
 
 use call_answers::Row;

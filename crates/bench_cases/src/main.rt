@@ -4,6 +4,8 @@
 // gives a line: answer, address (of a patrol what it found), programmed (of a patrol the bit), erased. A page gives a
 // line for each level that it counts: page, sequence number, height, level, entries, then key and address, of a leaf's
 // first and last entry and of each entry above.
+#![tactic(auto)]
+
 ghost use Rattle.std.specs.Prelude.{◌<◌, ◌≤◌};
 
 use call_answers::Answer;

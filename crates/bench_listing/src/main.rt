@@ -2,6 +2,8 @@
 // index without a pair, then keys 10, 20, .. with addresses 11, 21, .., more than a root of level 1 stores. Each
 // listing gives a line: answer, pairs that exist, pairs written, 0, rule and page, then the nine numbers of the buffer,
 // each 7 before; as many of them are lent as the case says.
+#![tactic(auto)]
+
 ghost use Rattle.std.specs.Prelude.{◌≡◌, ◌≤◌, length};
 
 use call_answers::Answer;

@@ -1,4 +1,6 @@
 // The same program on a longer log.
+#![tactic(auto)]
+
 fn main() {
     log_day::replay();
 }

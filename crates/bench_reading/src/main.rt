@@ -1,5 +1,7 @@
 // Document 01's reading bench cases and request 5's: lengths, an image of all 255, and damaged trees, for each rule and
 // each clause that names a page. For each image a line: its name, lookup's answer, the rule and the page.
+#![tactic(auto)]
+
 fn number(n: u32) {
     io::write_all(1, b" ");
     io::print_decimal(1, n as u64);

@@ -1,5 +1,7 @@
 // A log from standard input on both trees, reported on standard output. Each image is three blocks of the small chip,
 // all 255 at first.
+#![tactic(auto)]
+
 ghost use Rattle.std.specs.Prelude.{◌≡◌, List, ◌++◌, ℕ, ◌-◌, ◌≤◌, length};
 ghost use Rattle.compare_machine.specs.Machine.{ran};
 ghost use Rattle.compare_machine.specs.Run.{state_of, Steady};

@@ -1,5 +1,7 @@
 // A day's log from standard input, answered on standard output. The image is three blocks of the small chip, all 255 at
 // first.
+#![tactic(auto)]
+
 ghost use Rattle.std.specs.Prelude.{◌≡◌, ◌-◌, ◌≤◌, length};
 ghost use Rattle.log_feed.specs.Left.{left};
 ghost use Rattle.log_day.specs.Emptied.{emptied, Drained};

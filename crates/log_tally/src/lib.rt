@@ -1,4 +1,6 @@
 // The tally record of a replayed log, changed in place after every line.
+#![tactic(auto)]
+
 ghost use Rattle.std.specs.Prelude.{◌≡◌, ◌+◌, ◌≤◌};
 ghost use Rattle.log_tally.specs.Counted.{none_yet, counted, Within};
 

@@ -1,4 +1,6 @@
 // The reader of request 13: lines of a text into a lent slice of key and address pairs, until one does not fit.
+#![tactic(auto)]
+
 ghost use Rattle.std.specs.Prelude.{◌≡◌, ◌+◌, ◌≤◌, ◌<◌, length};
 ghost use Rattle.geometry.specs.Bounds.{four_bytes};
 ghost use Rattle.text_lines.specs.Lines.{fields};
