@@ -17,25 +17,25 @@ use Rattle.sound_repeats.proofs.key_of.Reads as key-of-reads
 
 ruleset all = (rules, part_laws)
 
-abbrev invariant-loop : tie.invariant-loop
-invariant-loop g img keys₀ low best room count₀ high₀ page₀ keys count high page = (count ≤ room) × (room ≡ length keys₀) × (1 ≤ room) × (length keys ≡ length keys₀) × (low < high) × (high ≤ 4294967296) × (page ≤ best) × Held (erased g img) (seq_at g img) low high page count keys
+abbrev invariant-loop-page : tie.invariant-loop-page
+invariant-loop-page g img keys₀ low best room count₀ high₀ page₀ keys count high page = (count ≤ room) × (room ≡ length keys₀) × (1 ≤ room) × (length keys ≡ length keys₀) × (low < high) × (high ≤ 4294967296) × (page ≤ best) × Held (erased g img) (seq_at g img) low high page count keys
 
-abbrev decreases-loop : tie.decreases-loop
-decreases-loop g img keys₀ low best room count₀ high₀ page₀ keys count high page = best - page + high
+abbrev decreases-loop-page : tie.decreases-loop-page
+decreases-loop-page g img keys₀ low best room count₀ high₀ page₀ keys count high page = best - page + high
 
 pub gather_spec : {M : Type 1} → statement M
 gather_spec =
     tie.close
     (tie.spec
-    invariant-loop
-    decreases-loop
+    invariant-loop-page
+    decreases-loop-page
     (λ c. search all)
     (λ c κs. search all)
     (λ c. search all)
     (λ c. search all)
     (λ c.
     let at_loop = c.before.before.before in
-    (search all, search all, search all, search all, search all, search all, search all, held_skip _ _ _ _ _ _ _ at_loop.loop.invariant.7 _ c.before.is_Within.ensures.0 c.before.is_Within.ensures.1 c.if1.true))
+    (search all, search all, search all, search all, search all, search all, search all, held_skip _ _ _ _ _ _ _ at_loop.loop-page.invariant.7 _ c.before.is_within.ensures.0 c.before.is_within.ensures.1 c.if1.true))
     (λ c κs. search all)
     (λ c. search all)
     (λ c. search all)
