@@ -81,8 +81,8 @@ judge_entries_inv_loop g img table₀ pages below at n hi programmed i₀ table 
 abbrev judge-entries-μ-loop : judge-entries-lts.decreases-loop
 judge-entries-μ-loop g img table₀ pages below at n hi programmed i₀ table i = n - i
 
-pub +judge-entries-judge-node-node-under-spec : {M : Type 1} → statement M
-+judge-entries-judge-node-node-under-spec =
+pub +judge_entries_judge_node_node_under_spec : {M : Type 1} → statement M
++judge_entries_judge_node_node_under_spec =
     close μ-judge-entries μ-judge-node μ-node-under (λ t. judge-entries-lts.spec (
       judge-ahead-reads.Asked,
       judge-ahead-reads.Learnt,
