@@ -32,8 +32,8 @@ patrol_half_spec =
     let at_difference = at_if1.before in
     let at_code_at = at_difference.before in
     let at_fresh_code = at_code_at.before.before in (
-      found_data _ _ _ _ _ _ at_difference.difference.ensures.0 at_code_at.code_at.ensures.0 at_fresh_code.fresh-code.ensures.0 _ at_in_pairs.in_pairs.ensures at_if2.if2.true at_if1.if1.false,
-      after_data _ _ _ _ _ _ at_difference.difference.ensures.0 at_code_at.code_at.ensures.0 at_fresh_code.fresh-code.ensures.0 _ _ at_in_pairs.in_pairs.ensures at_if2.if2.true at_if1.if1.false c.before.before.flip-bit.ensures,
+      found_data _ _ _ _ _ _ at_difference.difference-d.ensures.0 at_code_at.code_at.ensures.0 at_fresh_code.fresh-code.ensures.0 _ at_in_pairs.in_pairs.ensures at_if2.if2.true at_if1.if1.false,
+      after_data _ _ _ _ _ _ at_difference.difference-d.ensures.0 at_code_at.code_at.ensures.0 at_fresh_code.fresh-code.ensures.0 _ _ at_in_pairs.in_pairs.ensures at_if2.if2.true at_if1.if1.false c.before.before.flip-bit.ensures,
     ))
     (λ c κs. search all)
     (λ c. search all)
