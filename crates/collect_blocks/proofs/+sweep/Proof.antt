@@ -23,8 +23,8 @@ sweep_at t = and 3 sweep-kinds.ps (is 3 sweep-kinds.ps μ-sweep t) sweep.Pre
 abbrev sweep_below : ℕ → In 3 sweep-kinds.ps
 sweep_below t = and 3 sweep-kinds.ps (falls 3 sweep-kinds.ps ◌<◌ μ-sweep t) sweep.Pre
 
-pub +sweep-spec : {M : Type 1} → statement M
-+sweep-spec = close μ-sweep λ t. sweep-lts.spec (
+pub +sweep_spec : {M : Type 1} → statement M
++sweep_spec = close μ-sweep λ t. sweep-lts.spec (
   page-of-reads.Asked,
   page-of-reads.Learnt,
   sweep-page-reads.Asked,
