@@ -33,6 +33,6 @@ part_at_spec =
     (λ c. (
       omega arith,
       search all,
-      copied_more _ _ _ _ _ c.before.before.loop.invariant.2 c.byte_at.ensures (omega arith),
+      copied_more _ _ _ _ _ c.before.before.loop-i.invariant.2 c.byte_at.ensures (omega arith),
     ))
     (λ c. search all))
