@@ -1,6 +1,8 @@
 // The same program on a longer log.
 #![tactic(auto)]
 
-fn main() {
-    log_day::replay();
+use std::io;
+
+fn main(rt: HostRuntime) -> io::Result<()> {
+    log_day::replay(&mut rt.stdin(), &mut rt.stdout())
 }

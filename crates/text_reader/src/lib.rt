@@ -146,7 +146,7 @@ pub fn read_turn(text: &[u8], s: Spot) -> Turn
     read_line(text, s)
 }
 
-// Fills the slice, a pair a turn. By hand, over `read_turn`.
+// Fills the slice, a pair a turn.
 pub fn read_pairs(text: &[u8], pairs: &mut [Entry], n: usize, s: Spot) -> Spot
     requires { n ≤ length pairs.old }
     ensures { (result, pairs.new) ≡ filled text.now n s pairs.old }
