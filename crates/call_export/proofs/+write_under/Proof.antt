@@ -72,10 +72,10 @@ pub +write_under_spec : {M : Type 1} → statement M
     (λ c. search all)
     (λ c. search all)
     (λ c.
-    let inv = c.loop.invariant in
-    let here = c.loop-test.true in
-    let found = c.entry_at.ensures in
-    let more = c.write-under.ensures in (
+    let inv = c.loop-i.invariant in
+    let here = c.loop-i-test.true in
+    let found = c.entry_at-below.ensures in
+    let more = c.write_under-so_far.ensures in (
       search rules,
       search all,
       search rules,
