@@ -20,10 +20,17 @@ unfolding store_all
 none_left g s ys i k e = rw e refl
 
 pub loop-i-init : goal.loop-i-init
-loop-i-init c = ?
+loop-i-init c = record {
+  within = omega arith;
+  left = all_left c.args.g _ c.args.pairs.now (c.args.n - 0) c.args.n (omega arith);
+}
 
 pub loop-i-preserved : goal.loop-i-preserved
-loop-i-preserved c = ?
+loop-i-preserved c = record {
+  within = omega arith;
+  left = one_turn c.args.g c.args.pairs.now c.loop-i.i (c.args.n - c.loop-i.i) (c.args.n - (c.loop-i.i + 1)) _ _
+      (omega arith) (omega arith) c.store_one-t.ensures ∙ c.loop-i.invariant.left;
+}
 
 pub returns : goal.returns
-returns c = ?
+returns c = none_left c.args.g _ c.args.pairs.now c.loop-i.i (c.args.n - c.loop-i.i) (omega arith) ∙ c.loop-i.invariant.left

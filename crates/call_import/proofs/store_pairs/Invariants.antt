@@ -8,7 +8,7 @@ abbrev pub invariant-loop-i : goal.invariant-loop-i
 invariant-loop-i l = record {
   within : l.i ≤ l.n;
   left : store_all l.g (told_by l.t l.img) (take (l.n - l.i) (drop l.i l.pairs))
-      ≡ store_all l.g (told_by l.s l.fn.img) (take l.n l.pairs);
+      ≡ store_all l.g (told_by l.fn.s l.fn.img) (take l.n l.pairs);
 }
 
 abbrev pub decreases-loop-i : goal.decreases-loop-i
