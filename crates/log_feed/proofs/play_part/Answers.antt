@@ -26,7 +26,7 @@ returns-then-out-state-lt86-clause-room c = c.loop-at.invariant.room
 pub returns-then-out-state-lt86-clause-goes : goal.returns-then-out-state-lt86-clause-goes
 returns-then-out-state-lt86-clause-goes c =
     λ h k. went _ c.loop-at.state c.loop-at.out c.args.out.now _ _ c.loop-at.invariant.begun c.loop-at.invariant.first
-        c.loop-at.auto.out c.if-out-state-lt86.true k
+    c.loop-at.auto.out c.if-out-state-lt86.true k
 
 pub returns-then-out-state-lt86-clause-left : goal.returns-then-out-state-lt86-clause-left
 returns-then-out-state-lt86-clause-left c = c.loop-at.invariant.fewer
