@@ -1,4 +1,8 @@
 // The same program on a longer log.
-fn main() {
-    log_day::replay();
+#![tactic(auto)]
+
+use std::io;
+
+fn main(rt: HostRuntime) -> io::Result<()> {
+    log_day::replay(&mut rt.stdin(), &mut rt.stdout())
 }

@@ -1,4 +1,8 @@
 // Request 12's program: replays a log through both trees and reports their pages.
-fn main() {
-    compare_input::compare();
+#![tactic(auto)]
+
+use std::io;
+
+fn main(rt: HostRuntime) -> io::Result<()> {
+    compare_input::compare(&mut rt.stdin(), &mut rt.stdout())
 }

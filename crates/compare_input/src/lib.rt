@@ -1,12 +1,15 @@
-// A log from standard input on both trees, reported on standard output. Each image is three blocks of the small chip,
-// all 255 at first.
-ghost use Rattle.std.specs.Prelude.{◌≡◌, List, ◌++◌, ℕ, ◌-◌, ◌≤◌, length};
+// A log from a reader on both trees, reported to a writer. Each image is three blocks of the small chip, all 255 at
+// first.
+#![tactic(auto)]
+
+ghost use Rattle.std.specs.Prelude.{◌≡◌, List, ◌++◌, ℕ, ◌-◌, ◌≤◌, length, IfOk};
 ghost use Rattle.compare_machine.specs.Machine.{ran};
 ghost use Rattle.compare_machine.specs.Run.{state_of, Steady};
 ghost use Rattle.compare_input.specs.Left.{left};
 
 use compare_machine::Run;
-use libc::{STDIN_FILENO, STDOUT_FILENO};
+use std::io;
+use std::io::{Read, Write};
 
 // A part that was read is fed.
 fn play_part(mu: &mut [u8], plain: &mut [u8], line: &mut [u8], part: &[u8], run: Run) -> Run
@@ -26,35 +29,42 @@ fn play_part(mu: &mut [u8], plain: &mut [u8], line: &mut [u8], part: &[u8], run:
 }
 
 // All of the input, part by part, until it ends or the run is over.
-fn play_input(mu: &mut [u8], plain: &mut [u8], line: &mut [u8], part: &mut [u8], run: Run) -> Run
+fn play_input<R: Read>(
+    from: &mut R,
+    mu: &mut [u8],
+    plain: &mut [u8],
+    line: &mut [u8],
+    part: &mut [u8],
+    run: Run,
+) -> io::Result<Run>
     requires { Steady run line.old × (length part.old ≡ 65536) }
-    ensures { Steady result line.new }
+    ensures { IfOk result (λ r. Steady r line.new) }
 {
     let mut state = run;
     while compare_machine::is_going(state) {
-        let got = libc::read(STDIN_FILENO, &mut *part);
-        let n = io::count(got, &*part);
+        let n = from.read(&mut *part)?;
         if n == 0 {
-            return state;
+            return Ok(state);
         }
         state = play_part(&mut *mu, &mut *plain, &mut *line, &part[..n], state);
     }
-    state
+    Ok(state)
 }
 
-pub fn compare() {
+pub fn compare<R: Read, W: Write>(from: &mut R, to: &mut W) -> io::Result<()> {
     let mut mu: [u8; 50688] = [255; 50688];
     let mut plain: [u8; 50688] = [255; 50688];
     let mut line: [u8; 34] = [0; 34];
     let mut out: [u8; 105] = [0; 105];
-    let mut part = io::large_buffer();
+    let mut part: [u8; 65536] = [0; 65536];
     let run = play_input(
+        &mut *from,
         &mut mu,
         &mut plain,
         &mut line,
         &mut part,
         compare_machine::start(),
-    );
+    )?;
     let n = compare_machine::finish(&mut out, &line, run);
-    io::write_all(STDOUT_FILENO, &out[..n]);
+    to.write_all(&out[..n])
 }

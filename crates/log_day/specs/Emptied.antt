@@ -1,5 +1,5 @@
 -- Between two parts of the input nothing waits to be written. Assumes nothing.
-use Rattle.std.specs.Prelude.{◌≡◌, refl, false, List, ℕ, ◌-◌, ◌≤◌, length, take}
+use Rattle.std.specs.Prelude.{◌≡◌, refl, false, List, ℕ, ◌≤◌, length, take}
 use Rattle.std.proofs.Common.{ap, sym, subst, arith, length-take-le}
 use Rattle.log_machine.specs.declared.Run.{Run}
 use Rattle.log_machine.specs.Run.{start_of, Steady}

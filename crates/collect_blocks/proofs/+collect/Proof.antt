@@ -23,8 +23,8 @@ collect_at t = and 3 collect-kinds.ps (is 3 collect-kinds.ps μ-collect t) colle
 abbrev collect_below : ℕ → In 3 collect-kinds.ps
 collect_below t = and 3 collect-kinds.ps (falls 3 collect-kinds.ps ◌<◌ μ-collect t) collect.Pre
 
-pub +collect-spec : {M : Type 1} → statement M
-+collect-spec = close μ-collect λ t. collect-lts.spec (
+pub +collect_spec : {M : Type 1} → statement M
++collect_spec = close μ-collect λ t. collect-lts.spec (
   enough-reads.Asked,
   enough-reads.Learnt,
   clear_reads.Asked,

@@ -23,8 +23,8 @@ sweep_at t = and 3 sweep-kinds.ps (is 3 sweep-kinds.ps μ-sweep t) sweep.Pre
 abbrev sweep_below : ℕ → In 3 sweep-kinds.ps
 sweep_below t = and 3 sweep-kinds.ps (falls 3 sweep-kinds.ps ◌<◌ μ-sweep t) sweep.Pre
 
-pub +sweep-spec : {M : Type 1} → statement M
-+sweep-spec = close μ-sweep λ t. sweep-lts.spec (
+pub +sweep_spec : {M : Type 1} → statement M
++sweep_spec = close μ-sweep λ t. sweep-lts.spec (
   page-of-reads.Asked,
   page-of-reads.Learnt,
   sweep-page-reads.Asked,
@@ -50,7 +50,7 @@ pub +sweep-spec : {M : Type 1} → statement M
     let at_page_of = at_sweep_page.before.before.before.before in
     let at_if1 = at_page_of.before.before in
     let at_pre = at_if1.before.before.before.before in
-    sweep_halt _ _ _ _ _ _ _ _ _ _ _ _ _ _ _ at_sweep_page.sweep-page.ensures.0 _ at_page_of.page_of_lem.ensures at_if1.if1.false at_pre.requires.1.6 c.if2.true)
+    sweep_halt _ _ _ _ _ _ _ _ _ _ _ _ _ _ _ at_sweep_page.sweep-page.ensures.0 _ at_page_of.page_of.ensures at_if1.if1.false at_pre.requires.1.6 c.if2.true)
     (λ c. search all)
     (λ c κs.
     let at_if2 = c.before.before.before in
@@ -70,4 +70,4 @@ pub +sweep-spec : {M : Type 1} → statement M
     let at_sweep_page = at_if2.before.before.before.before.before.before.before.before.before in
     let at_page_of = at_sweep_page.before.before.before.before in
     let at_if1 = at_page_of.before.before in
-    sweep_on _ _ _ _ _ _ _ _ _ _ _ _ _ _ _ at_sweep_page.sweep-page.ensures.0 _ _ _ _ _ _ at_sweep.sweep.ensures at_page_of.page_of_lem.ensures at_if1.if1.false at_if2.if2.false)
+    sweep_on _ _ _ _ _ _ _ _ _ _ _ _ _ _ _ at_sweep_page.sweep-page.ensures.0 _ _ _ _ _ _ at_sweep.sweep.ensures at_page_of.page_of.ensures at_if1.if1.false at_if2.if2.false)

@@ -1,0 +1,14 @@
+use Rattle.std.proofs.Common.{length, ◌-◌, ◌≤◌}
+use Rattle.log_feed.specs.Left.{left}
+use Rattle.log_day.specs.Emptied.{Drained}
+use Rattle.log_day.proofs.play_read.Given as goal
+
+abbrev pub invariant-loop-at : goal.invariant-loop-at
+invariant-loop-at g l = record {
+  within : l.at ≤ length l.part;
+  drained : Drained l.state l.line;
+  fewer : left l.state ≤ left l.fn.run - l.at;
+}
+
+abbrev pub decreases-loop-at : goal.decreases-loop-at
+decreases-loop-at g l = length l.part - l.at
