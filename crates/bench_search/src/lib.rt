@@ -1,8 +1,4 @@
-<<<<<<< HEAD
 // The search in a node alone, for the benchmark to time. No part of the library. Crate bench_search_c exports it.
-=======
-// The search in a node alone, for the benchmark to time. No part of the library.
->>>>>>> ebc34a4b552afc47f22952e7e0a92e5ef81b2afd
 #![tactic(auto)]
 
 ghost use Rattle.std.specs.Prelude.{◌≡◌};
