@@ -9,18 +9,18 @@ use Rattle.bench_cases.proofs.fill.Lts as lts
 use Rattle.bench_cases.proofs.insert.Reads as insert-reads
 use Rattle.bench_cases.proofs.show_root.Reads as show-root-reads
 
-abbrev invariant-loop : tie.invariant-loop
-invariant-loop bench img₀ key₀ img key = (key ≤ bench.full) × (length img ≡ length img₀)
+abbrev invariant-loop-key : tie.invariant-loop-key
+invariant-loop-key bench img₀ key₀ img key = (key ≤ bench.full) × (length img ≡ length img₀)
 
-abbrev decreases-loop : tie.decreases-loop
-decreases-loop bench img₀ key₀ img key = bench.full - key
+abbrev decreases-loop-key : tie.decreases-loop-key
+decreases-loop-key bench img₀ key₀ img key = bench.full - key
 
 pub fill_spec : {M : Type 1} → statement M
 fill_spec =
     tie.close
     (tie.spec
-    invariant-loop
-    decreases-loop
+    invariant-loop-key
+    decreases-loop-key
     (λ c. search rules)
     (λ c. search rules)
     (λ c κs. search rules)
