@@ -1,4 +1,6 @@
 // Images of three blocks for the bench: trees written by hand, whole and damaged; their codes are put last.
+#![tactic(auto)]
+
 ghost use Rattle.std.specs.Prelude.{◌<◌};
 
 use geometry::Geometry;

@@ -1,4 +1,6 @@
 // The search in a node alone, for the benchmark to time. No part of the library.
+#![tactic(auto)]
+
 ghost use Rattle.std.specs.Prelude.{◌≡◌};
 ghost use Rattle.model.specs.Bytes.{entries_at};
 ghost use Rattle.model.specs.Tree.{place};

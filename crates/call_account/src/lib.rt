@@ -1,5 +1,7 @@
 // The account of an update: its fresh allowance, ROOM, the record and the lent words that it leaves, and the answer
 // that its stores give.
+#![tactic(auto)]
+
 ghost use Rattle.std.specs.Prelude.{◌≡◌, false, ◌+◌, ◌*◌, ◌-◌, ◌≤◌, ◌<◌, ltb, length};
 ghost use Rattle.geometry.specs.Tests.{◌&◌};
 ghost use Rattle.chip_store.specs.Run.{Countable};

@@ -1,4 +1,6 @@
 // What a call answers, by name, and document 01's numbers for it.
+#![tactic(auto)]
+
 ghost use Rattle.std.specs.Prelude.{◌≡◌};
 ghost use Rattle.call_answers.specs.Answers.{plain, row_of};
 

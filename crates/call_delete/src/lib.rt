@@ -1,5 +1,7 @@
 // Delete on an image, with lent words of live pages: the update that removes a key. Judged first, or by the record of
 // request 8.
+#![tactic(auto)]
+
 ghost use Rattle.std.specs.Prelude.{◌≡◌};
 ghost use Rattle.geometry.specs.Shape.{Known};
 ghost use Rattle.call_answers.specs.Answers.{told};

@@ -1,5 +1,7 @@
 // Import of request 13: LENGTH first, then the text to its end, then format and an insert for each pair of a lent
 // slice.
+#![tactic(auto)]
+
 ghost use Rattle.std.specs.Prelude.{◌≡◌, ◌+◌, ◌≤◌, min, eqb, length, take};
 ghost use Rattle.geometry.specs.Tests.{bit};
 ghost use Rattle.geometry.specs.Geometry.{page_bytes};

@@ -1,5 +1,7 @@
 // The pairs between two keys, in a lent buffer: judged first, then one walk that goes down nothing but what may hold
 // such pairs.
+#![tactic(auto)]
+
 ghost use Rattle.std.specs.Prelude.{◌≡◌, ◌+◌, ◌/◌, min, ◌≤◌, ◌<◌, length, take};
 ghost use Rattle.geometry.specs.Shape.{Known};
 ghost use Rattle.geometry.specs.Bounds.{four_bytes};

@@ -1,4 +1,6 @@
 // Lookup on an image: judged first, then sought.
+#![tactic(auto)]
+
 ghost use Rattle.std.specs.Prelude.{◌≡◌, ◌≤◌};
 ghost use Rattle.model.specs.Image.{chip_of};
 ghost use Rattle.model.specs.Tree.{sought};

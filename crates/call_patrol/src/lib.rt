@@ -1,4 +1,6 @@
 // The patrol of one half of a page.
+#![tactic(auto)]
+
 ghost use Rattle.std.specs.Prelude.{◌≡◌, ◌+◌, ◌*◌, ◌-◌, ◌^◌, ◌≤◌, ◌<◌, length};
 ghost use Rattle.model.specs.Calls.{finding_of, bit_of, patrol};
 ghost use Rattle.model.specs.Codes.{◌⊕◌, flip_bit, in_pairs, found, mended};

@@ -1,4 +1,6 @@
 // An update (insert or delete) with lent words of live pages: refused, or made under its allowance. Judged first.
+#![tactic(auto)]
+
 ghost use Rattle.std.specs.Prelude.{◌≡◌, ◌+◌, ◌≤◌, ◌<◌, length};
 ghost use Rattle.geometry.specs.Shape.{Known};
 ghost use Rattle.chip_store.specs.Run.{Countable};

@@ -1,5 +1,7 @@
 // The calls as a camera service in C makes them: the geometry's number, numbers, the lent image, and a lent result
 // buffer.
+#![tactic(auto)]
+
 ghost use Rattle.std.specs.Prelude.{◌≡◌};
 ghost use Rattle.model.specs.Calls.{format_of, lookup_of, patrol_of};
 ghost use Rattle.model.specs.Listing.{list_of, as_outcome};

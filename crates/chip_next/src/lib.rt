@@ -1,5 +1,7 @@
 // Which page next, and the pages to come. A page counts as erased if it is so on the image and is not among the pages
 // already chosen, the first i of `taken`.
+#![tactic(auto)]
+
 ghost use Rattle.std.specs.Prelude.{◌≡◌, suc, ◌+◌, ◌/◌, ◌%◌, ◌≤◌, ◌<◌, max, min, eqb, length};
 ghost use Rattle.geometry.specs.Bounds.{four_bytes};
 ghost use Rattle.model.specs.Bytes.{erased};

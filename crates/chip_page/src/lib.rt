@@ -1,5 +1,7 @@
 // A page as it is built, in a buffer of 2112 bytes whose first bytes are the page. A put outside the buffer changes
 // nothing.
+#![tactic(auto)]
+
 ghost use Rattle.std.specs.Prelude.{◌≡◌, [], ◌+◌, ◌*◌, ◌-◌, ◌/◌, ◌%◌, ◌≤◌, ◌<◌, take, set};
 ghost use Rattle.geometry.specs.Geometry.{page_bytes, halves};
 ghost use Rattle.geometry.specs.Bounds.{longest_page};

@@ -1,4 +1,6 @@
 // What is read of an image. Every read is total: a byte outside the image reads as 0.
+#![tactic(auto)]
+
 ghost use Rattle.std.specs.Prelude.{◌≡◌, ◌+◌, ◌*◌, ◌-◌, ◌≤◌, ◌<◌, eqb, length};
 ghost use Rattle.geometry.specs.Tests.{◌&◌};
 ghost use Rattle.model.specs.Bytes.{byte_at, u32_at, blank, erased, seq_at, height_at, count_at, tail_at, node_place, node_count};

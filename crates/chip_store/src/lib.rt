@@ -1,4 +1,6 @@
 // The two stores, and stores under an allowance. Only `program_page` and `erase_block` write an image.
+#![tactic(auto)]
+
 ghost use Rattle.std.specs.Prelude.{◌≡◌, [], ◌∷◌, ◌+◌, ◌*◌, ◌<◌, ◌≤◌, length, set, take};
 ghost use Rattle.geometry.specs.Geometry.{page_bytes, page_base};
 ghost use Rattle.model.specs.Bytes.{byte_at};

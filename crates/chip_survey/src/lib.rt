@@ -1,4 +1,6 @@
 // One pass over the pages of an image: the root, the largest number, the erased pages. And R4.
+#![tactic(auto)]
+
 ghost use Rattle.std.specs.Prelude.{◌≡◌, ◌+◌, ◌-◌, ◌≤◌, ◌<◌, max, min, false, ltb};
 ghost use Rattle.geometry.specs.Tests.{pick};
 ghost use Rattle.model.specs.Bytes.{erased, seq_at, height_at};

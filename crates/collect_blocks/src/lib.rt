@@ -1,6 +1,8 @@
 // Collection: the victim's live pages moved, lowest first, then the victim erased, while too few pages are erased.
 // Each store on the image as it then stands. The lent tables follow each move, and the record each erase: no tree is
 // walked, and the image is surveyed anew only where the block erased may have held the largest number.
+#![tactic(auto)]
+
 ghost use Rattle.std.specs.Prelude.{◌≡◌, false, ◌+◌, ◌≤◌, ◌<◌, max, get_or};
 ghost use Rattle.std.proofs.Math.Option.{some};
 ghost use Rattle.geometry.specs.Geometry.{page_bytes};

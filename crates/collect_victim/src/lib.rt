@@ -1,4 +1,6 @@
 // What collection looks at: the live pages of each block in the lent words, and the victim.
+#![tactic(auto)]
+
 ghost use Rattle.std.specs.Prelude.{◌+◌};
 ghost use Rattle.collect_victim.specs.Victim.{Bests, full_in, ones_by};
 

@@ -1,5 +1,7 @@
 // A log on both trees, fed byte by byte. The line that has begun stands in a lent buffer of 34 bytes, which is as long
 // as a line with a form can be. Nothing is written before the end.
+#![tactic(auto)]
+
 ghost use Rattle.std.specs.Prelude.{◌≡◌, true, false, ◌+◌, ◌<◌, ◌≤◌, length, take};
 ghost use Rattle.std.proofs.lemmas.List.Edits.{sets};
 ghost use Rattle.call_answers.specs.Answers.{told};

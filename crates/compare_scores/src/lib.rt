@@ -1,4 +1,6 @@
 // The score of a log that both trees are played on, and the ratio that is reported (request 12).
+#![tactic(auto)]
+
 ghost use Rattle.std.specs.Prelude.{◌≡◌};
 ghost use Rattle.compare_scores.specs.Ratio.{greatest, ratio};
 ghost use Rattle.compare_scores.specs.Scores.{stops, is_update, none_yet, counts, scored};

@@ -1,4 +1,6 @@
 // The geometry of a chip as a value, what is read off it, and the types that every layer shares.
+#![tactic(auto)]
+
 ghost use Rattle.std.specs.Prelude.{◌≡◌, ◌<◌, ◌≤◌};
 ghost use Rattle.geometry.specs.Geometry.{small, large, plain, chosen_of, page_bytes, halves, code_place, page_base, slots, first_slot, slots_of, half, root_slots, root_most, in_table};
 ghost use Rattle.geometry.specs.Bounds.{four_bytes};

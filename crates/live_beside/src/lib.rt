@@ -1,1 +1,2 @@
 // What an update keeps beside the image: definitions alone.
+#![tactic(auto)]

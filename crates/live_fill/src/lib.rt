@@ -1,4 +1,6 @@
 // The lent words of request 7: one for each 32 pages, a bit for each page, set when it is live.
+#![tactic(auto)]
+
 ghost use Rattle.std.specs.Prelude.{◌≡◌, not, ◌+◌, ◌*◌, ◌≤◌, ◌<◌, eqb, length, get_or, set};
 ghost use Rattle.std.specs.Int.Count.{ones};
 ghost use Rattle.geometry.specs.Tests.{bit};

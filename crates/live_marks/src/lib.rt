@@ -1,4 +1,6 @@
 // What a move changes in the table of lowest live levels and in the lent words of live pages.
+#![tactic(auto)]
+
 ghost use Rattle.std.specs.Prelude.{◌≡◌, ◌<◌, length, set};
 ghost use Rattle.model.specs.Bytes.{node_at};
 ghost use Rattle.live_words.specs.Words.{Past};

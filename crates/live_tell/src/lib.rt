@@ -1,5 +1,7 @@
 // The lent words of request 7 by one walk from a root: the image's words are cleared, then each page that the walk
 // meets sets its bit.
+#![tactic(auto)]
+
 ghost use Rattle.std.specs.Prelude.{◌≡◌, ◌+◌, ◌*◌, ◌^◌, ◌≤◌, ◌<◌, min, length, take};
 ghost use Rattle.std.specs.Int.Bits.{bit_or};
 ghost use Rattle.model.specs.Bytes.{u32_at};

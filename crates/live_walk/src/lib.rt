@@ -1,4 +1,6 @@
 // The live-page walk: from the root to all nodes it reaches. A lent table takes each page's lowest live level.
+#![tactic(auto)]
+
 ghost use Rattle.std.specs.Prelude.{◌≡◌, ◌+◌, ◌*◌, ◌-◌, ◌≤◌, ◌<◌, min, length, get_or, take};
 ghost use Rattle.geometry.specs.Tests.{bit};
 ghost use Rattle.model.specs.Count.{count};

@@ -1,1 +1,2 @@
 // Request 7: definitions alone.
+#![tactic(auto)]

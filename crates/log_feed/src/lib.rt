@@ -1,5 +1,7 @@
 // A part of a day's log that was read, fed to the machine until it is used up or the output has no room for another
 // line.
+#![tactic(auto)]
+
 ghost use Rattle.std.specs.Prelude.{◌≡◌, List, ◌++◌, ℕ, ◌+◌, ◌-◌, ◌<◌, ◌≤◌, length, take, drop};
 ghost use Rattle.geometry.specs.Geometry.{small};
 ghost use Rattle.log_machine.specs.Machine.{ran};

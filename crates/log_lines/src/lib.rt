@@ -1,4 +1,6 @@
 // A line of a day's log as an order.
+#![tactic(auto)]
+
 ghost use Rattle.std.specs.Prelude.{◌≡◌, ◌≤◌, length, drop};
 ghost use Rattle.text_lines.specs.Lines.{fields};
 ghost use Rattle.log_lines.specs.Forms.{parsed};

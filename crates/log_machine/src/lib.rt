@@ -1,5 +1,7 @@
 // A day's log, fed byte by byte. What waits to be written stands at the start of a lent buffer; the line that has begun
 // stands in another one of 34 bytes, which is as long as a line with a form can be.
+#![tactic(auto)]
+
 ghost use Rattle.std.specs.Prelude.{◌≡◌, [], ◌+◌, ◌<◌, ◌≤◌, length, take};
 ghost use Rattle.std.proofs.lemmas.List.Edits.{sets};
 ghost use Rattle.geometry.specs.Geometry.{small};

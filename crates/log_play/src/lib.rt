@@ -1,4 +1,6 @@
 // One order of a log on the image of a small chip, through the index's calls.
+#![tactic(auto)]
+
 ghost use Rattle.std.specs.Prelude.{◌≡◌};
 ghost use Rattle.geometry.specs.Geometry.{small};
 ghost use Rattle.model.specs.Calls.{insert_of, delete_of};

@@ -1,4 +1,6 @@
 // Lines that answer a log, put into a lent buffer. A put outside the buffer changes nothing.
+#![tactic(auto)]
+
 ghost use Rattle.std.specs.Prelude.{◌≡◌, ◌∷◌, ◌+◌, ◌≤◌, length, take};
 ghost use Rattle.std.proofs.lemmas.List.Edits.{sets};
 ghost use Rattle.text_decimals.specs.Decimals.{decimal};

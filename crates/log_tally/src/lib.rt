@@ -1,4 +1,6 @@
 // The tally record of a replayed log, changed in place after every line.
+#![tactic(auto)]
+
 ghost use Rattle.std.specs.Prelude.{◌≡◌, ◌+◌, ◌≤◌};
 ghost use Rattle.log_tally.specs.Counted.{none_yet, counted, Within};
 
@@ -28,7 +30,7 @@ pub fn plus(sum: u64, more: u32) -> u64
     sum + more as u64
 }
 
-// One line more: the record is changed in place. Proved by hand.
+// One line more: the record is changed in place.
 pub fn add(t: &mut Tally, programmed: u32, erased: u32)
     requires { Within t.old }
     ensures { t.new ≡ counted t.old programmed erased }
@@ -38,7 +40,7 @@ pub fn add(t: &mut Tally, programmed: u32, erased: u32)
     t.erased = plus(t.erased, erased);
 }
 
-// The record after a line: it is lent to `add` and handed back. Proved by hand; its callers need no such proof.
+// The record after a line: it is lent to `add` and handed back.
 pub fn after_line(t: Tally, programmed: u32, erased: u32) -> Tally
     requires { Within t }
     ensures { result ≡ counted t programmed erased }

@@ -1,5 +1,7 @@
 // The record that opening an image hands back (request 8), by value: the root's page, its sequence number, the largest
 // one on the image, the height, the next page (T if none), the erased pages.
+#![tactic(auto)]
+
 #[derive(Clone, Copy)]
 pub struct Opened {
     pub root: u32,

@@ -1,4 +1,6 @@
 // The record of request 8: taken from a survey, carried on by an update, and when it is STALE.
+#![tactic(auto)]
+
 ghost use Rattle.std.specs.Prelude.{◌≡◌, ◌+◌, ◌-◌, ◌%◌, ◌≤◌, ◌<◌};
 ghost use Rattle.geometry.specs.Bounds.{four_bytes};
 ghost use Rattle.model.specs.Image.{seq_of};

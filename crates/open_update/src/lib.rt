@@ -1,5 +1,7 @@
 // An update (insert or delete) by the record of request 8: nothing is judged but that the record stands. Words are told
 // and blocks collected only where the erased pages leave something in question.
+#![tactic(auto)]
+
 ghost use Rattle.std.specs.Prelude.{◌≡◌, ◌≤◌, ◌<◌, length};
 ghost use Rattle.geometry.specs.Shape.{Known};
 ghost use Rattle.call_answers.specs.Answers.{told};

@@ -1,6 +1,8 @@
 // The plain tree of request 12 as Rattle calls: format, lookup, insert, delete. No call asks anything of its caller,
 // and each contract is one equation: the answer, its numbers and the image afterwards are those of the definition, for
 // every image.
+#![tactic(auto)]
+
 ghost use Rattle.std.specs.Prelude.{◌≡◌, suc, ◌+◌, ◌-◌, ◌≤◌, ◌<◌, eqb, leb, ltb, length};
 ghost use Rattle.geometry.specs.Geometry.{plain, page_bytes};
 ghost use Rattle.geometry.specs.Tests.{pick, bit, ◌&◌};

@@ -1,5 +1,7 @@
 // The plain tree's calls (request 12) in C, for tests and measurements: no part of the library. Numbers, the lent
 // image, and a lent result buffer of 24 bytes as crate camera has it; a shorter one gives 1, and nothing changes.
+#![tactic(auto)]
+
 ghost use Rattle.std.specs.Prelude.{◌≡◌};
 ghost use Rattle.geometry.specs.Geometry.{plain};
 ghost use Rattle.model.specs.Calls.{format, lookup};

@@ -1,5 +1,7 @@
 // An update of the plain tree (request 12), level by level. All is read on the way down; on the way up each changed
 // node is stored alone on its page among the pages to come.
+#![tactic(auto)]
+
 ghost use Rattle.std.specs.Prelude.{◌≡◌, [], ◌∷◌, suc, ◌+◌, ◌*◌, ◌-◌, ◌≤◌, ◌<◌};
 ghost use Rattle.geometry.specs.Geometry.{page_bytes};
 ghost use Rattle.geometry.specs.Bounds.{four_bytes, longest_page};

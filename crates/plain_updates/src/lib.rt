@@ -1,1 +1,2 @@
 // Theorems about an update of the plain tree on bytes: definitions and proofs alone.
+#![tactic(auto)]

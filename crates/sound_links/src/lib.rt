@@ -1,4 +1,6 @@
 // R6: where a page has live nodes at several levels, each upper one names the page.
+#![tactic(auto)]
+
 ghost use Rattle.std.specs.Prelude.{◌≡◌, ◌+◌, ◌*◌, ◌-◌, ◌<◌, length};
 ghost use Rattle.model.specs.Bytes.{entries_at, node_at};
 ghost use Rattle.model.specs.Tree.{places};

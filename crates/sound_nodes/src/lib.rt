@@ -1,4 +1,6 @@
 // R5: the nodes from the root down, and the first bad page. The levels met are noted in a lent table.
+#![tactic(auto)]
+
 ghost use Rattle.std.specs.Prelude.{◌≡◌, ◌+◌, ◌*◌, ◌-◌, ◌/◌, ◌%◌, ◌≤◌, ◌<◌, leb, length, get_or};
 ghost use Rattle.model.specs.Bytes.{erased, entries_at, node_at};
 ghost use Rattle.model.specs.Tree.{following, places, places_of};

@@ -1,5 +1,7 @@
 // R3: the sequence numbers of programmed pages differ. They do where the numbers of each block rise and the blocks'
 // ranges lie apart; where not, the crate sound_repeats looks at all of them.
+#![tactic(auto)]
+
 ghost use Rattle.std.specs.Prelude.{◌≡◌, ◌+◌, ◌*◌, ◌-◌, ◌≤◌, ◌<◌, false, length, get_or};
 ghost use Rattle.geometry.specs.Bounds.{four_bytes};
 ghost use Rattle.model.specs.Bytes.{erased, seq_at};

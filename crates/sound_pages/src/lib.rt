@@ -1,4 +1,6 @@
 // R1 and R2: what each page and each block must look like.
+#![tactic(auto)]
+
 ghost use Rattle.std.specs.Prelude.{◌≡◌, ◌+◌, ◌*◌, ◌-◌, ◌≤◌, ◌<◌, false};
 ghost use Rattle.geometry.specs.Geometry.{halves};
 ghost use Rattle.model.specs.Bytes.{erased, seq_at, height_at};

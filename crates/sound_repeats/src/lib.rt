@@ -1,5 +1,7 @@
 // R3 on any image: the lowest page whose number a lower one has. The numbers are looked at in parts, from the lowest
 // up, each as large as a table of keys holds; a part is one pass over the pages.
+#![tactic(auto)]
+
 ghost use Rattle.std.specs.Prelude.{◌≡◌, ◌+◌, ◌*◌, ◌-◌, ◌≤◌, ◌<◌, length};
 ghost use Rattle.geometry.specs.Bounds.{four_bytes};
 ghost use Rattle.model.specs.Bytes.{erased, seq_at};

@@ -1,4 +1,6 @@
 // One pass over the blocks of an image: the programmed pages, the numbers' range, the survey, R1 and R2 at once.
+#![tactic(auto)]
+
 ghost use Rattle.std.specs.Prelude.{◌≡◌, ◌+◌, ◌*◌, ◌-◌, ◌≤◌, ◌<◌, length};
 ghost use Rattle.geometry.specs.Tests.{◌&◌};
 ghost use Rattle.chip_survey.specs.Survey.{seen_to};

@@ -1,4 +1,6 @@
 // R7, R8, and the verdict: R1 to R8 in their order.
+#![tactic(auto)]
+
 ghost use Rattle.std.specs.Prelude.{◌≡◌, ◌+◌, ◌*◌, ◌-◌, ◌≤◌, ◌<◌, length};
 ghost use Rattle.geometry.specs.declared.Finding.{Finding};
 ghost use Rattle.model.specs.Bytes.{erased, seq_at};

@@ -1,4 +1,6 @@
 // Numbers in decimal: read from the bytes of a slice, and put into a lent buffer.
+#![tactic(auto)]
+
 ghost use Rattle.std.specs.Prelude.{◌≡◌, ◌+◌, ◌%◌, ◌<◌, ◌≤◌, length};
 ghost use Rattle.std.proofs.lemmas.List.Edits.{sets};
 ghost use Rattle.text_decimals.specs.Decimals.{number_of, decimal};

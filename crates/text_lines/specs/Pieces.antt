@@ -1,5 +1,5 @@
 -- Laws of pieces, and of bytes put into a buffer. Assumes nothing.
-use Rattle.std.specs.Prelude.{ℕ, suc, ◌+◌, ◌-◌, ◌<◌, ◌≤◌, Bool, true, false, ◌≡◌, refl, List, [], ◌∷◌, ◌++◌, eqb, length, take, drop, get_or, set}
+use Rattle.std.specs.Prelude.{ℕ, suc, ◌+◌, ◌<◌, ◌≤◌, Bool, true, false, ◌≡◌, refl, List, [], ◌∷◌, ◌++◌, eqb, length, take, drop, get_or, set}
 use Rattle.std.proofs.Common.{ap, sym, ◌∙◌, add-zero, add-one, arith, length-append, drop-cons, length-take-le, take_at, eq-eqb, ne_eqb, eqb-true}
 use Rattle.std.proofs.Math.Seq.{drop-length, set_out}
 use Rattle.std.proofs.lemmas.List.Edits.{sets, sets-eq}

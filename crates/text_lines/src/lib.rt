@@ -1,4 +1,6 @@
 // Bytes of a text: where a piece ends, and bytes put into a lent buffer.
+#![tactic(auto)]
+
 ghost use Rattle.std.specs.Prelude.{◌≡◌, ◌+◌, ◌≤◌, length, drop, set};
 ghost use Rattle.text_lines.specs.Lines.{reach};
 

@@ -1,3 +1,2 @@
--- What the walks over a slice of pairs share.
-pub mod Pairs
+-- What the proof of `read_pairs` leans on.
 pub mod Lists

@@ -1,25 +1,9 @@
--- Laws on lists of pairs for the walks: `holds` and `fails`, a truth value that is known; `one_more`, i + 1 is suc i; `put_from i es zs`, es stored into zs
--- one after the other from place i on, which is what `read_pairs` does, and `put_over`, that from place 0 on it is `overlay`. Assumes nothing.
-use mathlib.Core.Path.{◌≡◌, refl, ◌∙◌, ap}
-use Prim.Native.Nat.{ℕ, suc, ◌+◌}
-use native.Mathlib.Omega.{arith}
-use mathlib.Core.Bool.{Bool, true, false}
-use mathlib.Core.List.{List, [], ◌∷◌}
-use lib.Dec.{T}
-use lib.ListN.{set}
+-- Laws on lists of pairs: `put_from i es zs`, es stored into zs one after the other from place i on, which is what `read_pairs` does, and `put_over`,
+-- that from place 0 on it is `overlay`. Assumes nothing.
+use Rattle.std.specs.Prelude.{ℕ, suc, ◌≡◌, List, [], ◌∷◌, set}
+use Rattle.std.proofs.Common.{refl, ◌∙◌, ap}
 use Rattle.geometry.specs.declared.Entry.{Entry}
 use Rattle.text_reader.specs.Reader.{overlay}
-
-pub holds : (t : Bool) → T t → t ≡ true
-holds true _ = refl
-holds false a = absurd a
-
-pub fails : (t : Bool) → (T t → ⊥) → t ≡ false
-fails true f = absurd (f tt)
-fails false _ = refl
-
-pub one_more : (i : ℕ) → i + 1 ≡ suc i
-one_more i = omega arith
 
 abbrev pub put_from : ℕ → List Entry → List Entry → List Entry
 put_from i [] zs = zs

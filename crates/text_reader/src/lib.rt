@@ -1,4 +1,6 @@
 // The reader of request 13: lines of a text into a lent slice of key and address pairs, until one does not fit.
+#![tactic(auto)]
+
 ghost use Rattle.std.specs.Prelude.{◌≡◌, ◌+◌, ◌≤◌, ◌<◌, length};
 ghost use Rattle.geometry.specs.Bounds.{four_bytes};
 ghost use Rattle.text_lines.specs.Lines.{fields};
@@ -144,7 +146,7 @@ pub fn read_turn(text: &[u8], s: Spot) -> Turn
     read_line(text, s)
 }
 
-// Fills the slice, a pair a turn. By hand, over `read_turn`.
+// Fills the slice, a pair a turn.
 pub fn read_pairs(text: &[u8], pairs: &mut [Entry], n: usize, s: Spot) -> Spot
     requires { n ≤ length pairs.old }
     ensures { (result, pairs.new) ≡ filled text.now n s pairs.old }

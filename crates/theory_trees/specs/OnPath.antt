@@ -113,9 +113,15 @@ module _ (k a q m : ℕ) (half : ℕ → ℕ) (r : Nodes) (fit : ℕ → ℕ →
       → Mem (spot q m) (path_places r k a (suc l) (the p₀)) → All (OnIt q (path_places r k a (suc l) (the p₀)))
       (places r (suc l) (the p₀))
   unfolding places path_places
-  root_on most top zero p₀ h c b i = rw (le-leb a 1 b) ((λ _. inl refl), no_places (OnIt q (spot p₀ 1 ∷ [])) r (r p₀ 1))
+  root_on most top zero p₀ h c b i =
+      let e : path_places r k a 1 (the p₀) ≡ spot p₀ 1 ∷ [] = rw (le-leb a 1 b) refl in
+      subst (λ (P : List Place). All (OnIt q P) (places r 1 (the p₀))) (sym e)
+      ((λ _. inl refl), no_places (OnIt q (spot p₀ 1 ∷ [])) r (r p₀ 1))
   root_on most top (suc l) p₀ h c b i =
       let es = r p₀ (suc (suc l)) in
       let z = h.least (omega arith) in
-      rw (le-leb a (suc (suc l)) b) (list_on (suc l) top p₀ es (omega (arith, z)) (c (omega (arith, z))) h.rises
-      (rw (le-leb a (suc (suc l)) b) at i) (λ y kh ok j. entry_on (suc l) y (chosen k es) kh ok j))
+      let P = spot p₀ (suc (suc l)) ∷ path_places r k a (suc l) (chosen k es) in
+      let e : path_places r k a (suc (suc l)) (the p₀) ≡ P = rw (le-leb a (suc (suc l)) b) refl in
+      subst (λ (P : List Place). All (OnIt q P) (places r (suc (suc l)) (the p₀))) (sym e)
+      (list_on (suc l) top p₀ es (omega (arith, z)) (c (omega (arith, z))) h.rises
+      (subst (λ (P : List Place). Mem (spot q m) P) e i) (λ y kh ok j. entry_on (suc l) y (chosen k es) kh ok j))

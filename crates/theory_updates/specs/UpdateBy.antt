@@ -25,7 +25,7 @@ use Rattle.theory_images.specs.Held.{height_most}
 use Rattle.theory_images.specs.Few.{Few}
 use Rattle.live_words.specs.Words.{block_words, words_of}
 use Rattle.live_words.specs.Live.{live_words}
-use Rattle.live_words.specs.Ones.{all_ones}
+use Rattle.live_words.specs.Ones.{all_ones_lem}
 use Rattle.live_words.specs.Filled.{told_filled}
 use Rattle.open_record.specs.declared.Opened.{Opened}
 use Rattle.open_record.specs.Opened.{opened_in, chip_by}
@@ -121,7 +121,7 @@ module _ (g : Geometry) (shape : Shape g) (n : ℕ) (few : pages_of g n + g.page
     unfolding opened_in
     room_is =
         let f : free_by g n h.table ≡ free_pages g n c =
-        ap (λ l. pages_of g n - l) (all_ones g (live (places_of c)) n words whole tells.right.told) in
+        ap (λ l. pages_of g n - l) (all_ones_lem g (live (places_of c)) n words whole tells.right.told) in
         (λ i. ltb 1 m & roomless g (tells.at_is i).erased m & roomless g (f i) m)
         ∙ room_same g n c keeps.held.whole (some_page g (shape_core g shape)) keeps.r8 m
 

@@ -1,4 +1,6 @@
 // Delete's own store: page N with the root and the path's nodes left below it.
+#![tactic(auto)]
+
 ghost use Rattle.std.specs.Prelude.{◌≡◌, [], ◌∷◌, ◌+◌, ◌≤◌, ◌<◌};
 ghost use Rattle.geometry.specs.Geometry.{page_bytes};
 ghost use Rattle.geometry.specs.Bounds.{four_bytes, longest_page};

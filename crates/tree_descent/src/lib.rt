@@ -1,4 +1,6 @@
 // Descent with a key, and what stands under it.
+#![tactic(auto)]
+
 ghost use Rattle.std.specs.Prelude.{◌≡◌, ◌+◌, ◌-◌, ◌<◌};
 ghost use Rattle.model.specs.Bytes.{node_at};
 ghost use Rattle.model.specs.Tree.{leaf, sought};

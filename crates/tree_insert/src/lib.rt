@@ -1,4 +1,6 @@
 // Insert's own stores: other halves, lower level first, then page N.
+#![tactic(auto)]
+
 ghost use Rattle.std.specs.Prelude.{◌≡◌, ◌+◌, ◌≤◌, ◌<◌, max};
 ghost use Rattle.geometry.specs.Geometry.{page_bytes};
 ghost use Rattle.geometry.specs.Bounds.{four_bytes, longest_page};

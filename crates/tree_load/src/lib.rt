@@ -1,5 +1,7 @@
 // Nodes of an image, by value: as they stand, with a key put in or taken out, and with the place that descent takes;
 // and the root that is left.
+#![tactic(auto)]
+
 ghost use Rattle.std.specs.Prelude.{◌≡◌, ◌+◌, ◌*◌, ◌-◌, ◌≤◌, ◌<◌};
 ghost use Rattle.model.specs.Bytes.{entries_at, node_at};
 ghost use Rattle.model.specs.Edit.{put_in, remove_in};

@@ -1,4 +1,6 @@
 // A node by value, and its changes by place.
+#![tactic(auto)]
+
 ghost use Rattle.std.specs.Prelude.{◌≡◌, [], ◌∷◌, ◌+◌, ◌-◌, ◌≤◌, ◌<◌, length, take, drop, set};
 ghost use Rattle.model.specs.Tree.{following};
 ghost use Rattle.theory_lists.specs.Places.{insert_at, remove_at};

@@ -1,5 +1,7 @@
 // What an update will need, read before it begins: whether the key is there, how many pages, whether the tree is too
 // high.
+#![tactic(auto)]
+
 ghost use Rattle.std.specs.Prelude.{◌≡◌, suc, ◌+◌, ◌*◌, ◌-◌, ◌≤◌, ◌<◌, eqb, length};
 ghost use Rattle.geometry.specs.Geometry.{half};
 ghost use Rattle.model.specs.Bytes.{node_at};

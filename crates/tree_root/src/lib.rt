@@ -1,4 +1,6 @@
 // The top of an update: the changed root, as it is or halved under a new one, and page N programmed last.
+#![tactic(auto)]
+
 ghost use Rattle.std.specs.Prelude.{◌≡◌, false, [], ◌∷◌, suc, ◌+◌, ◌*◌, ◌-◌, ◌≤◌, ◌<◌, take};
 ghost use Rattle.geometry.specs.Geometry.{page_bytes};
 ghost use Rattle.geometry.specs.Tests.{pick};

@@ -1,4 +1,6 @@
 // Searching inside a node. The only place that compares a key with the keys of a node.
+#![tactic(auto)]
+
 ghost use Rattle.std.specs.Prelude.{◌≡◌, ◌+◌, ◌*◌, ◌-◌, ◌≤◌, ◌<◌};
 ghost use Rattle.model.specs.Bytes.{entries_at, node_at};
 ghost use Rattle.model.specs.Tree.{place, chosen, find_in};

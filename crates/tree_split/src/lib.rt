@@ -1,5 +1,7 @@
 // One step of an update's way up: a changed node goes on page N, its other half on a page alone, and what names them
 // stands above.
+#![tactic(auto)]
+
 ghost use Rattle.std.specs.Prelude.{◌≡◌, ◌+◌, ◌*◌, ◌-◌, ◌≤◌, ◌<◌, min, false};
 ghost use Rattle.geometry.specs.Geometry.{page_bytes};
 ghost use Rattle.geometry.specs.Bounds.{longest_page};

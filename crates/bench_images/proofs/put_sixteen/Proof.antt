@@ -9,18 +9,18 @@ use Rattle.bench_images.proofs.put_entry.Reads as put-entry-reads
 use Rattle.bench_images.proofs.put_one.Reads as put-one-reads
 use Rattle.bench_images.proofs.put_page.Reads as put-page-reads
 
-abbrev invariant-loop : tie.invariant-loop
-invariant-loop img₀ from page i₀ img i = i ≤ 16
+abbrev invariant-loop-i : tie.invariant-loop-i
+invariant-loop-i img₀ from page i₀ img i = i ≤ 16
 
-abbrev decreases-loop : tie.decreases-loop
-decreases-loop img₀ from page i₀ img i = 16 - i
+abbrev decreases-loop-i : tie.decreases-loop-i
+decreases-loop-i img₀ from page i₀ img i = 16 - i
 
 pub put_sixteen_spec : {M : Type 1} → statement M
 put_sixteen_spec =
     tie.close
     (tie.spec
-    invariant-loop
-    decreases-loop
+    invariant-loop-i
+    decreases-loop-i
     (λ c κs. search rules)
     (λ c. search rules)
     (λ c. search rules)

@@ -12,18 +12,18 @@ use Rattle.chip_store.proofs.erase_block.Reads as erase-block-reads
 
 ruleset all = (rules, format_laws)
 
-abbrev invariant-loop : tie.invariant-loop
-invariant-loop g img₀ n b₀ img b = (b ≤ n) × (img ≡ apply_all g (erasures b) img₀)
+abbrev invariant-loop-b : tie.invariant-loop-b
+invariant-loop-b g img₀ n b₀ img b = (b ≤ n) × (img ≡ apply_all g (erasures b) img₀)
 
-abbrev decreases-loop : tie.decreases-loop
-decreases-loop g img₀ n b₀ img b = n - b
+abbrev decreases-loop-b : tie.decreases-loop-b
+decreases-loop-b g img₀ n b₀ img b = n - b
 
 pub erase_all_spec : {M : Type 1} → statement M
 erase_all_spec =
     tie.close
     (tie.spec
-    invariant-loop
-    decreases-loop
+    invariant-loop-b
+    decreases-loop-b
     (λ c. search all)
     (λ c κs. search all)
     (λ c. search all)

@@ -30,15 +30,15 @@ abbrev list_under_below : ℕ → In 2 list-under-kinds.ps
 list_under_below t =
     and 2 list-under-kinds.ps (falls 2 list-under-kinds.ps ◌<◌ μ-list-under t) list-under.Pre
 
-abbrev list_under_inv_loop : list-under-lts.invariant-loop
+abbrev list_under_inv_loop : list-under-lts.invariant-loop-i
 list_under_inv_loop g img pairs₀ exist level low high at n count₀ i₀ pairs count i =
     (i ≤ n) × (length pairs ≡ length pairs₀) × Goes g img low high level at n i₀ exist pairs₀ i count pairs
 
-abbrev list-under-μ-loop : list-under-lts.decreases-loop
+abbrev list-under-μ-loop : list-under-lts.decreases-loop-i
 list-under-μ-loop g img pairs₀ exist level low high at n count₀ i₀ pairs count i = n - i
 
-pub +list-under-spec : {M : Type 1} → statement M
-+list-under-spec = close μ-list-under λ t. list-under-lts.spec (
+pub +list_under_spec : {M : Type 1} → statement M
++list_under_spec = close μ-list-under λ t. list-under-lts.spec (
   list-pair-reads.Asked,
   list-pair-reads.Learnt,
   node-place-reads.Asked,
@@ -74,15 +74,11 @@ pub +list-under-spec : {M : Type 1} → statement M
     (λ c. search all)
     (λ c. search all)
     (λ c.
-    let at_if3 = c.before.before.before.before in
-    let at_entry_at = at_if3.before.before in
-    let at_loop_test = at_entry_at.before in
-    let at_loop = at_loop_test.before in
-    let inv = at_loop.loop.invariant in
-    let found = at_entry_at.entry_at.ensures in
-    let taken = at_loop_test.loop-test.true in
-    let goes = at_if3.if3.false in
-    let more = c.before.before.list-under.ensures in
+    let inv = c.loop-i.invariant in
+    let found = c.entry_at-below.ensures in
+    let taken = c.loop-i-test.true in
+    let goes = c.if-high-below.false in
+    let more = c.list_under-count.ensures in
     (search all, search all, goes_turn _ _ _ _ _ _ _ _ _ _ _ _ _ _ _ _ inv.2 found taken goes more))
     (λ c. search all)
     (λ c. search all)

@@ -22,4 +22,4 @@ flip_bit_spec =
     (λ c. search all)
     (λ c.
     let at_args = c.before.before.before.before in
-    flip_is _ at_args.args.at at_args.args.n _ _ c.before.before.bit.ensures c.before.index.ensures.0))
+    flip_is _ at_args.args.at at_args.args.n _ _ c.before.before.bit-b.ensures c.before.index-i.ensures.0))

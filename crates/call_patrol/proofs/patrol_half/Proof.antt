@@ -31,9 +31,9 @@ patrol_half_spec =
     let at_if1 = at_in_pairs.before in
     let at_difference = at_if1.before in
     let at_code_at = at_difference.before in
-    let at_fresh_code = at_code_at.before.before in (
-      found_data _ _ _ _ _ _ at_difference.difference.ensures.0 at_code_at.code_at.ensures.0 at_fresh_code.fresh-code.ensures.0 _ at_in_pairs.in_pairs.ensures at_if2.if2.true at_if1.if1.false,
-      after_data _ _ _ _ _ _ at_difference.difference.ensures.0 at_code_at.code_at.ensures.0 at_fresh_code.fresh-code.ensures.0 _ _ at_in_pairs.in_pairs.ensures at_if2.if2.true at_if1.if1.false c.before.before.flip-bit.ensures,
+    let at_fresh_code = at_code_at.before in (
+      found_data _ _ _ _ _ _ at_difference.difference-d.ensures.0 at_code_at.code_at.ensures.0 at_fresh_code.fresh_code-fresh.ensures.0 _ at_in_pairs.in_pairs.ensures at_if2.if-in_pairs.true at_if1.if-d-eq0.false,
+      after_data _ _ _ _ _ _ at_difference.difference-d.ensures.0 at_code_at.code_at.ensures.0 at_fresh_code.fresh_code-fresh.ensures.0 _ _ at_in_pairs.in_pairs.ensures at_if2.if-in_pairs.true at_if1.if-d-eq0.false c.before.before.flip_bit.ensures,
     ))
     (λ c κs. search all)
     (λ c. search all)
@@ -44,16 +44,16 @@ patrol_half_spec =
     let at_if1 = at_in_pairs.before in
     let at_difference = at_if1.before in
     let at_code_at = at_difference.before in
-    let at_fresh_code = at_code_at.before.before in (
-      found_code _ _ _ _ _ _ at_difference.difference.ensures.0 at_code_at.code_at.ensures.0 at_fresh_code.fresh-code.ensures.0 _ at_in_pairs.in_pairs.ensures at_if2.if2.false at_if1.if1.false at_difference.difference.ensures.1 at_if3.if3.true,
-      after_code _ _ _ _ _ _ at_difference.difference.ensures.0 at_code_at.code_at.ensures.0 at_fresh_code.fresh-code.ensures.0 _ _ at_in_pairs.in_pairs.ensures at_if2.if2.false at_if1.if1.false at_difference.difference.ensures.1 at_if3.if3.true c.before.before.put-code.ensures,
+    let at_fresh_code = at_code_at.before in (
+      found_code _ _ _ _ _ _ at_difference.difference-d.ensures.0 at_code_at.code_at.ensures.0 at_fresh_code.fresh_code-fresh.ensures.0 _ at_in_pairs.in_pairs.ensures at_if2.if-in_pairs.false at_if1.if-d-eq0.false at_difference.difference-d.ensures.1 at_if3.if-d-eq1.true,
+      after_code _ _ _ _ _ _ at_difference.difference-d.ensures.0 at_code_at.code_at.ensures.0 at_fresh_code.fresh_code-fresh.ensures.0 _ _ at_in_pairs.in_pairs.ensures at_if2.if-in_pairs.false at_if1.if-d-eq0.false at_difference.difference-d.ensures.1 at_if3.if-d-eq1.true c.before.before.put_code.ensures,
     ))
     (λ c. search all)
     (λ c.
     let at_if1 = c.before.before.before in
     let at_difference = at_if1.before in
     let at_code_at = at_difference.before in
-    let at_fresh_code = at_code_at.before.before in (
-      found_beyond _ _ _ _ _ _ at_difference.difference.ensures.0 at_code_at.code_at.ensures.0 at_fresh_code.fresh-code.ensures.0 _ c.before.before.in_pairs.ensures c.before.if2.false at_if1.if1.false at_difference.difference.ensures.1 c.if3.false,
-      after_beyond _ _ _ _ _ _ at_difference.difference.ensures.0 at_code_at.code_at.ensures.0 at_fresh_code.fresh-code.ensures.0 _ c.before.before.in_pairs.ensures c.before.if2.false at_if1.if1.false at_difference.difference.ensures.1 c.if3.false,
+    let at_fresh_code = at_code_at.before in (
+      found_beyond _ _ _ _ _ _ at_difference.difference-d.ensures.0 at_code_at.code_at.ensures.0 at_fresh_code.fresh_code-fresh.ensures.0 _ c.before.before.in_pairs.ensures c.before.if-in_pairs.false at_if1.if-d-eq0.false at_difference.difference-d.ensures.1 c.if-d-eq1.false,
+      after_beyond _ _ _ _ _ _ at_difference.difference-d.ensures.0 at_code_at.code_at.ensures.0 at_fresh_code.fresh_code-fresh.ensures.0 _ c.before.before.in_pairs.ensures c.before.if-in_pairs.false at_if1.if-d-eq0.false at_difference.difference-d.ensures.1 c.if-d-eq1.false,
     )))

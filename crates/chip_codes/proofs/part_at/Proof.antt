@@ -12,18 +12,18 @@ use Rattle.chip_codes.proofs.byte_at.Reads as byte-at-reads
 
 ruleset all = (rules, part_laws)
 
-abbrev invariant-loop : tie.invariant-loop
-invariant-loop img at part₀ i₀ part i = (i ≤ 256) × (length part ≡ 256) × Copied img at part i
+abbrev invariant-loop-i : tie.invariant-loop-i
+invariant-loop-i img at part₀ i₀ part i = (i ≤ 256) × (length part ≡ 256) × Copied img at part i
 
-abbrev decreases-loop : tie.decreases-loop
-decreases-loop img at part₀ i₀ part i = 256 - i
+abbrev decreases-loop-i : tie.decreases-loop-i
+decreases-loop-i img at part₀ i₀ part i = 256 - i
 
 pub part_at_spec : {M : Type 1} → statement M
 part_at_spec =
     tie.close
     (tie.spec
-    invariant-loop
-    decreases-loop
+    invariant-loop-i
+    decreases-loop-i
     (λ c. search all)
     (λ c. search all)
     (λ c κs. search all)
@@ -33,6 +33,6 @@ part_at_spec =
     (λ c. (
       omega arith,
       search all,
-      copied_more _ _ _ _ _ c.before.before.loop.invariant.2 c.byte_at.ensures (omega arith),
+      copied_more _ _ _ _ _ c.before.before.loop-i.invariant.2 c.byte_at.ensures (omega arith),
     ))
     (λ c. search all))

@@ -16,20 +16,20 @@ use Rattle.chip_next.proofs.page_after.Reads as page-after-reads
 
 ruleset all = (rules, next_laws)
 
-abbrev invariant-loop : tie.invariant-loop
-invariant-loop g img n next count taken₀ page₀ i₀ taken page i =
+abbrev invariant-loop-i : tie.invariant-loop-i
+invariant-loop-i g img n next count taken₀ page₀ i₀ taken page i =
     (1 ≤ i) × (i ≤ 256) × (page ≤ 4294836225 + i) × (length taken ≡ 256) × Coming g.pages n (erased g img) next i taken
     × (page ≡ page_from g.pages n (erased g img) next (i - 1))
 
-abbrev decreases-loop : tie.decreases-loop
-decreases-loop g img n next count taken₀ page₀ i₀ taken page i = count - i
+abbrev decreases-loop-i : tie.decreases-loop-i
+decreases-loop-i g img n next count taken₀ page₀ i₀ taken page i = count - i
 
 pub coming_from_spec : {M : Type 1} → statement M
 coming_from_spec =
     tie.close
     (tie.spec
-    invariant-loop
-    decreases-loop
+    invariant-loop-i
+    decreases-loop-i
     (λ c κs. search all)
     (λ c. search all)
     (λ c. (search all, search all, search all, search set_length, search coming_one, search all))
@@ -40,5 +40,5 @@ coming_from_spec =
     (λ c. search all)
     (λ c.
     let at_loop = c.before.before.before in
-    (search all, search all, search all, search set_length, (let h : at_loop.loop.i < 256 = omega arith in search (coming_more, h)), search page_more))
+    (search all, search all, search all, search set_length, (let h : at_loop.loop-i.i < 256 = omega arith in search (coming_more, h)), search page_more))
     (λ c. search all))

@@ -13,18 +13,18 @@ use Rattle.chip_next.proofs.is_whole.Reads as is-whole-reads
 
 ruleset all = (rules, next_laws)
 
-abbrev invariant-loop : tie.invariant-loop
-invariant-loop g img taken i from n block₀ block = (block ≤ n) × (least block (whole g.pages (free (erased g img) taken i) from) ≡ block)
+abbrev invariant-loop-block : tie.invariant-loop-block
+invariant-loop-block g img taken i from n block₀ block = (block ≤ n) × (least block (whole g.pages (free (erased g img) taken i) from) ≡ block)
 
-abbrev decreases-loop : tie.decreases-loop
-decreases-loop g img taken i from n block₀ block = n - block
+abbrev decreases-loop-block : tie.decreases-loop-block
+decreases-loop-block g img taken i from n block₀ block = n - block
 
 pub first_whole_spec : {M : Type 1} → statement M
 first_whole_spec =
     tie.close
     (tie.spec
-    invariant-loop
-    decreases-loop
+    invariant-loop-block
+    decreases-loop-block
     (λ c. search all)
     (λ c κs. search all)
     (λ c. search all)

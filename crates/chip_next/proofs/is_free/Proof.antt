@@ -12,18 +12,18 @@ use Rattle.chip_read.proofs.page_erased.Reads as page-erased-reads
 
 ruleset all = (rules, next_laws)
 
-abbrev invariant-loop : tie.invariant-loop
-invariant-loop g img taken i page k₀ k = (k ≤ i) × (free (erased g img) taken i page ≡ free (erased g img) taken k page)
+abbrev invariant-loop-k : tie.invariant-loop-k
+invariant-loop-k g img taken i page k₀ k = (k ≤ i) × (free (erased g img) taken i page ≡ free (erased g img) taken k page)
 
-abbrev decreases-loop : tie.decreases-loop
-decreases-loop g img taken i page k₀ k = k
+abbrev decreases-loop-k : tie.decreases-loop-k
+decreases-loop-k g img taken i page k₀ k = k
 
 pub is_free_spec : {M : Type 1} → statement M
 is_free_spec =
     tie.close
     (tie.spec
-    invariant-loop
-    decreases-loop
+    invariant-loop-k
+    decreases-loop-k
     (λ c. search all)
     (λ c. search all)
     (λ c. search all)

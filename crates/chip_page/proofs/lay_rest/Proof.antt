@@ -14,18 +14,18 @@ use Rattle.chip_page.proofs.put_none.Reads as put-none-reads
 
 ruleset all = (rules, page_laws, level_laws)
 
-abbrev invariant-loop : tie.invariant-loop
-invariant-loop g buf₀ from top low n k₀ buf k = (k ≤ n) × (buf ≡ bare g from k buf₀)
+abbrev invariant-loop-g : tie.invariant-loop-g
+invariant-loop-g g buf₀ from top low n k₀ buf k = (k ≤ n) × (buf ≡ bare g from k buf₀)
 
-abbrev decreases-loop : tie.decreases-loop
-decreases-loop g buf₀ from top low n k₀ buf k = n - k
+abbrev decreases-loop-g : tie.decreases-loop-g
+decreases-loop-g g buf₀ from top low n k₀ buf k = n - k
 
 pub lay_rest_spec : {M : Type 1} → statement M
 lay_rest_spec =
     tie.close
     (tie.spec
-    invariant-loop
-    decreases-loop
+    invariant-loop-g
+    decreases-loop-g
     (λ c κs. search all)
     (λ c κs. search all)
     (λ c. search all)

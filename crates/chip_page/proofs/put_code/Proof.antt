@@ -24,4 +24,4 @@ put_code_spec =
     let at_put_low2 = c.before.before.before.before.before.before in
     let at_put_low = at_put_low2.before.before.before.before in
     let at_long = at_put_low.before.before in
-    code_is _ _ _ _ _ _ _ c.before.before.put-low3.ensures at_put_low2.put-low2.ensures at_put_low.put_low.ensures at_long.long.ensures))
+    code_is _ _ _ _ _ _ _ c.before.before.put_low-3.ensures at_put_low2.put_low-2.ensures at_put_low.put_low.ensures at_long.long-w.ensures))

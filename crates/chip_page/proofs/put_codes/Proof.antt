@@ -14,18 +14,18 @@ use Rattle.chip_codes.proofs.fresh_code.Reads as fresh-code-reads
 
 ruleset all = (rules, page_laws)
 
-abbrev invariant-loop : tie.invariant-loop
-invariant-loop g buf₀ n k₀ buf k = (k ≤ n) × (buf ≡ coded g k buf₀)
+abbrev invariant-loop-k : tie.invariant-loop-k
+invariant-loop-k g buf₀ n k₀ buf k = (k ≤ n) × (buf ≡ coded g k buf₀)
 
-abbrev decreases-loop : tie.decreases-loop
-decreases-loop g buf₀ n k₀ buf k = n - k
+abbrev decreases-loop-k : tie.decreases-loop-k
+decreases-loop-k g buf₀ n k₀ buf k = n - k
 
 pub put_codes_spec : {M : Type 1} → statement M
 put_codes_spec =
     tie.close
     (tie.spec
-    invariant-loop
-    decreases-loop
+    invariant-loop-k
+    decreases-loop-k
     (λ c κs. search all)
     (λ c. search all)
     (λ c. search all)

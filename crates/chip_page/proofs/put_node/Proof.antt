@@ -13,18 +13,18 @@ use Rattle.chip_page.proofs.put_entry.Reads as put-entry-reads
 
 ruleset all = (rules, page_laws, level_laws)
 
-abbrev invariant-loop : tie.invariant-loop
-invariant-loop buf₀ at n c k₀ buf k = (k ≤ c) × (buf ≡ put_entries buf₀ at (take k n.e))
+abbrev invariant-loop-k : tie.invariant-loop-k
+invariant-loop-k buf₀ at n c k₀ buf k = (k ≤ c) × (buf ≡ put_entries buf₀ at (take k n.e))
 
-abbrev decreases-loop : tie.decreases-loop
-decreases-loop buf₀ at n c k₀ buf k = c - k
+abbrev decreases-loop-k : tie.decreases-loop-k
+decreases-loop-k buf₀ at n c k₀ buf k = c - k
 
 pub put_node_spec : {M : Type 1} → statement M
 put_node_spec =
     tie.close
     (tie.spec
-    invariant-loop
-    decreases-loop
+    invariant-loop-k
+    decreases-loop-k
     (λ c. search all)
     (λ c. search all)
     (λ c. search all)

@@ -26,4 +26,4 @@ put_u32_spec =
     let at_put_low3 = c.before.before.before.before.before.before in
     let at_put_low2 = at_put_low3.before.before.before.before in
     let at_put_low = at_put_low2.before.before.before.before in
-    word_is _ _ _ _ _ _ _ c.before.before.put-low4.ensures at_put_low3.put-low3.ensures at_put_low2.put-low2.ensures at_put_low.put_low.ensures))
+    word_is _ _ _ _ _ _ _ c.before.before.put_low-4.ensures at_put_low3.put_low-3.ensures at_put_low2.put_low-2.ensures at_put_low.put_low.ensures))

@@ -14,18 +14,18 @@ use Rattle.chip_read.proofs.lines_blank.Reads as lines-blank-reads
 
 ruleset all = (rules, chip_laws)
 
-abbrev invariant-loop : tie.invariant-loop
-invariant-loop img at n k₀ k = (k ≤ n) × (at + n ≤ length img) × (blank img at n ≡ blank img at k)
+abbrev invariant-loop-k : tie.invariant-loop-k
+invariant-loop-k img at n k₀ k = (k ≤ n) × (at + n ≤ length img) × (blank img at n ≡ blank img at k)
 
-abbrev decreases-loop : tie.decreases-loop
-decreases-loop img at n k₀ k = k
+abbrev decreases-loop-k : tie.decreases-loop-k
+decreases-loop-k img at n k₀ k = k
 
 pub all_blank_spec : {M : Type 1} → statement M
 all_blank_spec =
     tie.close
     (tie.spec
-    invariant-loop
-    decreases-loop
+    invariant-loop-k
+    decreases-loop-k
     (λ c. search all)
     (λ c κs. search all)
     (λ c. search all)

@@ -12,18 +12,18 @@ use Rattle.chip_store.proofs.put.Reads as put_reads
 
 ruleset all = (rules, store_laws, run_laws)
 
-abbrev invariant-loop : tie.invariant-loop
-invariant-loop img₀ at n j₀ img j = (j ≤ n) × (img ≡ written img₀ at (λ k. 255) j)
+abbrev invariant-loop-j : tie.invariant-loop-j
+invariant-loop-j img₀ at n j₀ img j = (j ≤ n) × (img ≡ written img₀ at (λ k. 255) j)
 
-abbrev decreases-loop : tie.decreases-loop
-decreases-loop img₀ at n j₀ img j = n - j
+abbrev decreases-loop-j : tie.decreases-loop-j
+decreases-loop-j img₀ at n j₀ img j = n - j
 
 pub blank_bytes_spec : {M : Type 1} → statement M
 blank_bytes_spec =
     tie.close
     (tie.spec
-    invariant-loop
-    decreases-loop
+    invariant-loop-j
+    decreases-loop-j
     (λ c. search all)
     (λ c. search all)
     (λ c κs. search all)

@@ -13,18 +13,18 @@ use Rattle.chip_store.proofs.copy_part.Lts as lts
 
 ruleset all = (rules, store_laws, run_laws)
 
-abbrev invariant-loop : tie.invariant-loop
-invariant-loop part₀ bytes n j₀ part j = (j ≤ n) × (n ≡ length part₀) × (part ≡ written part₀ 0 (byte_at bytes) j) × (length part ≡ length part₀)
+abbrev invariant-loop-j : tie.invariant-loop-j
+invariant-loop-j part₀ bytes n j₀ part j = (j ≤ n) × (n ≡ length part₀) × (part ≡ written part₀ 0 (byte_at bytes) j) × (length part ≡ length part₀)
 
-abbrev decreases-loop : tie.decreases-loop
-decreases-loop part₀ bytes n j₀ part j = n - j
+abbrev decreases-loop-j : tie.decreases-loop-j
+decreases-loop-j part₀ bytes n j₀ part j = n - j
 
 pub copy_part_spec : {M : Type 1} → statement M
 copy_part_spec =
     tie.close
     (tie.spec
-    invariant-loop
-    decreases-loop
+    invariant-loop-j
+    decreases-loop-j
     (λ c. search all)
     (λ c. search all)
     (λ c. search all)

@@ -11,14 +11,14 @@ use Rattle.chip_survey.proofs.see.Reads as see-reads
 
 ruleset all = (rules, survey_laws)
 
-abbrev invariant-loop : tie.invariant-loop
-invariant-loop g img pages seen₀ page₀ seen page =
+abbrev invariant-loop-page : tie.invariant-loop-page
+invariant-loop-page g img pages seen₀ page₀ seen page =
     (page ≤ pages) × (seen.erased ≤ page) × (seen ≡ seen_to g img page)
 
-abbrev decreases-loop : tie.decreases-loop
-decreases-loop g img pages seen₀ page₀ seen page = pages - page
+abbrev decreases-loop-page : tie.decreases-loop-page
+decreases-loop-page g img pages seen₀ page₀ seen page = pages - page
 
 pub see_all_spec : {M : Type 1} → statement M
 see_all_spec =
     tie.close
-    (tie.spec invariant-loop decreases-loop (λ c. search all) (λ c κs. search all) (λ c. search all) (λ c. search all) (λ c. search all) (λ c. search all))
+    (tie.spec invariant-loop-page decreases-loop-page (λ c. search all) (λ c κs. search all) (λ c. search all) (λ c. search all) (λ c. search all) (λ c. search all))

@@ -10,13 +10,13 @@ use Rattle.collect_victim.proofs.better.Reads as better-reads
 
 ruleset all = (rules, victim_laws)
 
-abbrev invariant-loop : tie.invariant-loop
-invariant-loop g img words n best₀ block₀ best block = (block ≤ n) × Bests (full_in g img) (ones_by g words) block best
+abbrev invariant-loop-block : tie.invariant-loop-block
+invariant-loop-block g img words n best₀ block₀ best block = (block ≤ n) × Bests (full_in g img) (ones_by g words) block best
 
-abbrev decreases-loop : tie.decreases-loop
-decreases-loop g img words n best₀ block₀ best block = n - block
+abbrev decreases-loop-block : tie.decreases-loop-block
+decreases-loop-block g img words n best₀ block₀ best block = n - block
 
 pub find_victim_spec : {M : Type 1} → statement M
 find_victim_spec =
     tie.close
-    (tie.spec invariant-loop decreases-loop (λ c. search all) (λ c κs. search all) (λ c. search all) (λ c. search all) (λ c. search all) (λ c. search all))
+    (tie.spec invariant-loop-block decreases-loop-block (λ c. search all) (λ c κs. search all) (λ c. search all) (λ c. search all) (λ c. search all) (λ c. search all))

@@ -9,11 +9,10 @@ ruleset all = (rules, step_laws)
 
 returns : tie.Need-returns
 returns c =
-    let at_before = c.before.before.before.before.before in
-    let start = at_before.before in
+    let start = c.before in
     let a = start.args in
     let h = start.requires in
-    let e = sym c.before.is-going.ensures ∙ not-true _ c.if1.true in (
+    let e = sym c.is-going.ensures ∙ not-true _ c.if1.true in (
       over_run a.run a.run a.line.now a.mu.now a.plain.now a.b h e,
       (
         over_line a.run a.run a.line.now a.mu.now a.plain.now a.b h e,
@@ -26,17 +25,12 @@ returns c =
 
 returns_2 : tie.Need-returns-2
 returns_2 c =
-    let at_close_line = c.before.before.before.before in
-    let at_if2 = at_close_line.before.before.before.before in
-    let at_if1 = at_if2.before in
-    let at_is_going = at_if1.before in
-    let at_before = at_is_going.before.before.before.before in
-    let start = at_before.before in
+    let start = c.before in
     let a = start.args in
     let h = start.requires in
-    let e = sym at_is_going.is-going.ensures ∙ not-false _ at_if1.if1.false in
-    let q = at_if2.if2.true in
-    let r = at_close_line.close-line in
+    let e = sym c.is-going.ensures ∙ not-false _ c.if1.false in
+    let q = c.if2.true in
+    let r = c.close-line in
     let f = r.ensures in (
       end_run a.run r.result a.line.now a.mu.now a.plain.now a.b h e q f.0,
       (
@@ -53,16 +47,12 @@ returns_2 c =
 
 returns_3 : tie.Need-returns-3
 returns_3 c =
-    let at_if2 = c.before.before.before.before in
-    let at_if1 = at_if2.before in
-    let at_is_going = at_if1.before in
-    let at_before = at_is_going.before.before.before.before in
-    let start = at_before.before in
+    let start = c.before in
     let a = start.args in
     let h = start.requires in
-    let e = sym at_is_going.is-going.ensures ∙ not-false _ at_if1.if1.false in
-    let q = at_if2.if2.false in
-    let r = c.before.before.lengthen in
+    let e = sym c.is-going.ensures ∙ not-false _ c.if1.false in
+    let q = c.if2.false in
+    let r = c.lengthen in
     let f = r.ensures in (
       more_run a.run r.result a.line.now a.mu.now a.plain.now a.b h e q f.0,
       (

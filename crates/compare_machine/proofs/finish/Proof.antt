@@ -15,10 +15,9 @@ same_length c = search rules
 
 returns : tie.Need-returns
 returns c =
-    let at_args = c.before.before.before.before.before.before.before.before.before.before.before in
-    let a = at_args.args in
+    let a = c.args in
     let e = finish_last a.run.course a.run.score a.line.now a.run.filled (search rules) (search rules) in
-    let f = c.before.before.put-report.ensures in
+    let f = c.put-report.ensures in
     (rw e f.0, (f.1.0, rw e f.1.1))
 
 put_error_requires : tie.Need-put-error-requires
@@ -41,11 +40,10 @@ same_length_2 c = search rules
 
 returns_2 : tie.Need-returns-2
 returns_2 c =
-    let at_before = c.before.before.before.before.before.before.before.before.before.before in
-    let start = at_before.before in
+    let start = c.before in
     let a = start.args in
     let e = finish_begun a.run.course a.run.score a.line.now a.run.filled start.requires.room (search rules) (search rules) in
-    let f = c.before.before.put-error.ensures in
+    let f = c.put-error.ensures in
     (rw e f.0, (f.1.0, rw e f.1.1))
 
 same_length_3 : tie.Need-same-length-3
@@ -53,10 +51,9 @@ same_length_3 c = search rules
 
 returns_3 : tie.Need-returns-3
 returns_3 c =
-    let at_args = c.before.before.before.before.before.before.before.before.before in
-    let a = at_args.args in
+    let a = c.args in
     let e = finish_stopped a.run.course a.run.score (take a.run.filled a.line.now) (search rules) in
-    let f = c.before.before.put-report2.ensures in
+    let f = c.put-report2.ensures in
     (rw e f.0, (f.1.0, rw e f.1.1))
 
 same_length_4 : tie.Need-same-length-4
@@ -64,10 +61,9 @@ same_length_4 c = search rules
 
 returns_4 : tie.Need-returns-4
 returns_4 c =
-    let at_args = c.before.before.before.before.before.before.before.before.before in
-    let a = at_args.args in
+    let a = c.args in
     let e = finish_refused a.run.course a.run.score (take a.run.filled a.line.now) (search rules) in
-    let f = c.before.before.put-error2.ensures in
+    let f = c.put-error2.ensures in
     (rw e f.0, (f.1.0, rw e f.1.1))
 
 pub finish_spec : {M : Type 1} → statement M

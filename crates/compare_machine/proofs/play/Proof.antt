@@ -8,15 +8,11 @@ use Rattle.compare_machine.proofs.play.Tie as tie
 
 returns : tie.Need-returns
 returns c =
-    let at_obey_plain = c.before.before.before.before in
-    let at_row_of = at_obey_plain.before.before in
-    let at_obey = at_row_of.before.before.before in
-    let at_before = at_obey.before.before.before in
-    let start = at_before.before in
-    let own = at_obey.obey in
-    let first = at_row_of.row_of in
-    let other = at_obey_plain.obey-plain in
-    let second = c.before.row-of2 in
+    let start = c.before in
+    let own = c.obey in
+    let first = c.row_of in
+    let other = c.obey-plain in
+    let second = c.row-of2 in
     let e =
     close_both start.args.s start.args.order first.result second.result start.args.mu.now start.args.plain.now own.new.0 other.new.0 own.result other.result
     own.ensures other.ensures first.ensures second.ensures in

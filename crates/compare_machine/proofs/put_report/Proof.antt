@@ -18,11 +18,9 @@ same_length c = search rules
 
 returns : tie.Need-returns
 returns c =
-    let at_ratio_of = c.before.before.before.before in
-    let at_args = at_ratio_of.before.before in
-    let f = c.before.before.put-numbers.ensures in
-    let a = at_args.args in
-    let ratio = at_ratio_of.ratio-of in
+    let f = c.put-numbers.ensures in
+    let a = c.args in
+    let ratio = c.ratio-of in
     let e = report_is a.s ratio.result ratio.ensures in
     (omega (arith, f.0, ap length e), (omega (arith, f.1.0), f.1.1 ∙ ap (sets a.out.now 0) e))
 

@@ -13,18 +13,18 @@ use Rattle.live_fill.proofs.with_bit.Reads as with-bit-reads
 
 ruleset all = (rules, words_laws)
 
-abbrev invariant-loop : tie.invariant-loop
-invariant-loop table at w₀ j₀ w j = (j ≤ 32) × (w ≡ word_of (live_in table) (32 - j) (at + j))
+abbrev invariant-loop-j : tie.invariant-loop-j
+invariant-loop-j table at w₀ j₀ w j = (j ≤ 32) × (w ≡ word_of (live_in table) (32 - j) (at + j))
 
-abbrev decreases-loop : tie.decreases-loop
-decreases-loop table at w₀ j₀ w j = j
+abbrev decreases-loop-j : tie.decreases-loop-j
+decreases-loop-j table at w₀ j₀ w j = j
 
 pub edge_word_spec : {M : Type 1} → statement M
 edge_word_spec =
     tie.close
     (tie.spec
-    invariant-loop
-    decreases-loop
+    invariant-loop-j
+    decreases-loop-j
     (λ c. search all)
     (λ c. search all)
     (λ c. search all)

@@ -12,18 +12,18 @@ use Rattle.live_fill.proofs.refresh.Reads as refresh-reads
 
 ruleset all = (rules, words_laws)
 
-abbrev invariant-loop : tie.invariant-loop
-invariant-loop words₀ table m i₀ words i = (i ≤ m) × (words ≡ filled (live_in table) i words₀)
+abbrev invariant-loop-i : tie.invariant-loop-i
+invariant-loop-i words₀ table m i₀ words i = (i ≤ m) × (words ≡ filled (live_in table) i words₀)
 
-abbrev decreases-loop : tie.decreases-loop
-decreases-loop words₀ table m i₀ words i = m - i
+abbrev decreases-loop-i : tie.decreases-loop-i
+decreases-loop-i words₀ table m i₀ words i = m - i
 
 pub fill_spec : {M : Type 1} → statement M
 fill_spec =
     tie.close
     (tie.spec
-    invariant-loop
-    decreases-loop
+    invariant-loop-i
+    decreases-loop-i
     (λ c. search all)
     (λ c κs. search all)
     (λ c. search all)

@@ -16,21 +16,21 @@ use Rattle.tree_search.proofs.chosen_entry.Reads as chosen-entry-reads
 
 ruleset all = (rules, marks_laws)
 
-abbrev invariant-loop : tie.invariant-loop
-invariant-loop g img table₀ words₀ m key low level root page₀ below₀ table words page below =
+abbrev invariant-loop-below : tie.invariant-loop-below
+invariant-loop-below g img table₀ words₀ m key low level root page₀ below₀ table words page below =
     (below ≤ level) × (length table ≡ length table₀) × Past m words₀ words
     × (off_path m (node_at g img) key low level (naming root) (table_in table₀ words₀)
     ≡ off_path m (node_at g img) key low below (naming page) (table_in table words))
 
-abbrev decreases-loop : tie.decreases-loop
-decreases-loop g img table₀ words₀ m key low level root page₀ below₀ table words page below = below
+abbrev decreases-loop-below : tie.decreases-loop-below
+decreases-loop-below g img table₀ words₀ m key low level root page₀ below₀ table words page below = below
 
 pub off_path_spec : {M : Type 1} → statement M
 off_path_spec =
     tie.close
     (tie.spec
-    invariant-loop
-    decreases-loop
+    invariant-loop-below
+    decreases-loop-below
     (λ c. search all)
     (λ c. search all)
     (λ c. search all)
@@ -48,7 +48,7 @@ off_path_spec =
       search all,
       search all,
       search all,
-      off_go _ _ _ _ _ _ _ _ _ _ _ at_loop.loop.invariant.3 c.chosen-entry.ensures
+      off_go _ _ _ _ _ _ _ _ _ _ _ at_loop.loop-below.invariant.3 c.chosen_entry-entry.ensures
           at_unmark.unmark.ensures.0 (search rules) (search rules),
     ))
     (λ c κs. search all)

@@ -31,15 +31,15 @@ abbrev mark_nodes_below : ℕ → In 2 mark-nodes-kinds.ps
 mark_nodes_below t =
     and 2 mark-nodes-kinds.ps (falls 2 mark-nodes-kinds.ps ◌<◌ μ-mark-nodes t) mark-nodes.Pre
 
-abbrev mark_nodes_inv_loop : mark-nodes-lts.invariant-loop
+abbrev mark_nodes_inv_loop : mark-nodes-lts.invariant-loop-i
 mark_nodes_inv_loop g img lent₀ m level page left n at counts more₀ i₀ lent more i =
     (i ≤ n) × (n < 256) × (length lent ≡ length lent₀) × Going (mark_all m) g img level at n more₀ lent₀ i more lent
 
-abbrev mark-nodes-μ-loop : mark-nodes-lts.decreases-loop
+abbrev mark-nodes-μ-loop : mark-nodes-lts.decreases-loop-i
 mark-nodes-μ-loop g img lent₀ m level page left n at counts more₀ i₀ lent more i = n - i
 
-pub +mark-nodes-spec : {M : Type 1} → statement M
-+mark-nodes-spec = close μ-mark-nodes λ t. mark-nodes-lts.spec (
+pub +mark_nodes_spec : {M : Type 1} → statement M
++mark_nodes_spec = close μ-mark-nodes λ t. mark-nodes-lts.spec (
   mark-leaves-reads.Asked,
   mark-leaves-reads.Learnt,
   mark-page-reads.Asked,

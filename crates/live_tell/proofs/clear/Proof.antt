@@ -12,19 +12,19 @@ use Rattle.live_tell.proofs.clear.Lts as lts
 
 ruleset all = (rules, telling_laws)
 
-abbrev invariant-loop : tie.invariant-loop
-invariant-loop lent₀ m i₀ lent i =
+abbrev invariant-loop-i : tie.invariant-loop-i
+invariant-loop-i lent₀ m i₀ lent i =
     (i ≤ m) × (length lent ≡ length lent₀) × (lent ≡ filled nowhere i lent₀)
 
-abbrev decreases-loop : tie.decreases-loop
-decreases-loop lent₀ m i₀ lent i = m - i
+abbrev decreases-loop-i : tie.decreases-loop-i
+decreases-loop-i lent₀ m i₀ lent i = m - i
 
 pub clear_spec : {M : Type 1} → statement M
 clear_spec =
     tie.close
     (tie.spec
-    invariant-loop
-    decreases-loop
+    invariant-loop-i
+    decreases-loop-i
     (λ c. search all)
     (λ c. search all)
     (λ c. search all)

@@ -14,19 +14,19 @@ use Rattle.live_tell.proofs.narrow.Reads as narrow-reads
 
 ruleset all = (rules, telling_laws)
 
-abbrev invariant-loop : tie.invariant-loop
-invariant-loop g img at n level counts₀ i₀ counts i =
+abbrev invariant-loop-i : tie.invariant-loop-i
+invariant-loop-i g img at n level counts₀ i₀ counts i =
     (i ≤ n) × (length counts ≡ 256) × Counts g img level at i counts
 
-abbrev decreases-loop : tie.decreases-loop
-decreases-loop g img at n level counts₀ i₀ counts i = n - i
+abbrev decreases-loop-i : tie.decreases-loop-i
+decreases-loop-i g img at n level counts₀ i₀ counts i = n - i
 
 pub counts_below_spec : {M : Type 1} → statement M
 counts_below_spec =
     tie.close
     (tie.spec
-    invariant-loop
-    decreases-loop
+    invariant-loop-i
+    decreases-loop-i
     (λ c. search all)
     (λ c. search all)
     (λ c. search all)

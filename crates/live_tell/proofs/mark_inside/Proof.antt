@@ -14,19 +14,19 @@ use Rattle.live_tell.proofs.mark_page.Reads as mark-page-reads
 
 ruleset all = (rules, telling_laws)
 
-abbrev invariant-loop : tie.invariant-loop
-invariant-loop img lent₀ m at k i₀ lent i =
+abbrev invariant-loop-i : tie.invariant-loop-i
+invariant-loop-i img lent₀ m at k i₀ lent i =
     (i ≤ k) × (length lent ≡ length lent₀) × (lent ≡ mark_all m (leaves_at img at i) lent₀)
 
-abbrev decreases-loop : tie.decreases-loop
-decreases-loop img lent₀ m at k i₀ lent i = k - i
+abbrev decreases-loop-i : tie.decreases-loop-i
+decreases-loop-i img lent₀ m at k i₀ lent i = k - i
 
 pub mark_inside_spec : {M : Type 1} → statement M
 mark_inside_spec =
     tie.close
     (tie.spec
-    invariant-loop
-    decreases-loop
+    invariant-loop-i
+    decreases-loop-i
     (λ c. search all)
     (λ c. search all)
     (λ c. search all)

@@ -31,15 +31,15 @@ abbrev note_nodes_below : ℕ → In 2 note-nodes-kinds.ps
 note_nodes_below t =
     and 2 note-nodes-kinds.ps (falls 2 note-nodes-kinds.ps ◌<◌ μ-note-nodes t) note-nodes.Pre
 
-abbrev note_nodes_inv_loop : note-nodes-lts.invariant-loop
+abbrev note_nodes_inv_loop : note-nodes-lts.invariant-loop-i
 note_nodes_inv_loop g img table₀ level page left at n more₀ i₀ table more i =
     (i ≤ n) × (length table ≡ length table₀) × Going note_all g img level at n more₀ table₀ i more table
 
-abbrev note-nodes-μ-loop : note-nodes-lts.decreases-loop
+abbrev note-nodes-μ-loop : note-nodes-lts.decreases-loop-i
 note-nodes-μ-loop g img table₀ level page left at n more₀ i₀ table more i = n - i
 
-pub +note-nodes-spec : {M : Type 1} → statement M
-+note-nodes-spec = close μ-note-nodes λ t. note-nodes-lts.spec (
+pub +note_nodes_spec : {M : Type 1} → statement M
++note_nodes_spec = close μ-note-nodes λ t. note-nodes-lts.spec (
   note-leaves-reads.Asked,
   note-leaves-reads.Learnt,
   note-reads.Asked,

@@ -11,19 +11,19 @@ use Rattle.live_walk.proofs.clear.Lts as lts
 
 ruleset all = (rules, walk_laws)
 
-abbrev invariant-loop : tie.invariant-loop
-invariant-loop table₀ n i₀ table i =
+abbrev invariant-loop-i : tie.invariant-loop-i
+invariant-loop-i table₀ n i₀ table i =
     (i ≤ n) × (n ≡ length table₀) × (length table ≡ length table₀) × Zeros table i
 
-abbrev decreases-loop : tie.decreases-loop
-decreases-loop table₀ n i₀ table i = n - i
+abbrev decreases-loop-i : tie.decreases-loop-i
+decreases-loop-i table₀ n i₀ table i = n - i
 
 pub clear_spec : {M : Type 1} → statement M
 clear_spec =
     tie.close
     (tie.spec
-    invariant-loop
-    decreases-loop
+    invariant-loop-i
+    decreases-loop-i
     (λ c. search all)
     (λ c. search all)
     (λ c. search all)

@@ -12,19 +12,19 @@ use Rattle.live_walk.proofs.live_bit.Reads as live-bit-reads
 
 ruleset all = (rules, walk_laws)
 
-abbrev invariant-loop : tie.invariant-loop
-invariant-loop table pages lives₀ page₀ lives page =
+abbrev invariant-loop-page : tie.invariant-loop-page
+invariant-loop-page table pages lives₀ page₀ lives page =
     (page ≤ pages) × (lives ≤ page) × (lives ≡ count page (live_in table))
 
-abbrev decreases-loop : tie.decreases-loop
-decreases-loop table pages lives₀ page₀ lives page = pages - page
+abbrev decreases-loop-page : tie.decreases-loop-page
+decreases-loop-page table pages lives₀ page₀ lives page = pages - page
 
 pub live_pages_spec : {M : Type 1} → statement M
 live_pages_spec =
     tie.close
     (tie.spec
-    invariant-loop
-    decreases-loop
+    invariant-loop-page
+    decreases-loop-page
     (λ c. search all)
     (λ c κs. search all)
     (λ c. search all)

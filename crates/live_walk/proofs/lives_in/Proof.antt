@@ -14,19 +14,19 @@ use Rattle.live_walk.proofs.live_bit.Reads as live-bit-reads
 
 ruleset all = (rules, walk_laws)
 
-abbrev invariant-loop : tie.invariant-loop
-invariant-loop g table block lives₀ j₀ lives j =
+abbrev invariant-loop-j : tie.invariant-loop-j
+invariant-loop-j g table block lives₀ j₀ lives j =
     (j ≤ g.pages) × (lives ≤ j) × (lives ≡ count j (within g.pages (live_in table) block))
 
-abbrev decreases-loop : tie.decreases-loop
-decreases-loop g table block lives₀ j₀ lives j = g.pages - j
+abbrev decreases-loop-j : tie.decreases-loop-j
+decreases-loop-j g table block lives₀ j₀ lives j = g.pages - j
 
 pub lives_in_spec : {M : Type 1} → statement M
 lives_in_spec =
     tie.close
     (tie.spec
-    invariant-loop
-    decreases-loop
+    invariant-loop-j
+    decreases-loop-j
     (λ c. search all)
     (λ c κs. search all)
     (λ c κs. search all)

@@ -13,19 +13,19 @@ use Rattle.live_walk.proofs.note.Reads as note-reads
 
 ruleset all = (rules, walk_laws, note_laws)
 
-abbrev invariant-loop : tie.invariant-loop
-invariant-loop img table₀ at k i₀ table i =
+abbrev invariant-loop-i : tie.invariant-loop-i
+invariant-loop-i img table₀ at k i₀ table i =
     (i ≤ k) × (table ≡ note_all (leaves_at img at i) table₀)
 
-abbrev decreases-loop : tie.decreases-loop
-decreases-loop img table₀ at k i₀ table i = k - i
+abbrev decreases-loop-i : tie.decreases-loop-i
+decreases-loop-i img table₀ at k i₀ table i = k - i
 
 pub note_inside_spec : {M : Type 1} → statement M
 note_inside_spec =
     tie.close
     (tie.spec
-    invariant-loop
-    decreases-loop
+    invariant-loop-i
+    decreases-loop-i
     (λ c. search all)
     (λ c. search all)
     (λ c. search all)

@@ -8,8 +8,7 @@ ruleset all = (rules, step_laws)
 
 returns : tie.Need-returns
 returns c =
-    let at_before = c.before.before.before.before in
-    let start = at_before.before in
+    let start = c.before in
     let a = start.args in
     let h = start.requires.0 in
     let e = c.if1.true in (
@@ -46,16 +45,12 @@ same_length_3 c = search all
 
 returns_2 : tie.Need-returns-2
 returns_2 c =
-    let at_close_line = c.before.before.before.before in
-    let at_if2 = at_close_line.before.before.before.before in
-    let at_if1 = at_if2.before in
-    let at_before = at_if1.before.before.before.before in
-    let start = at_before.before in
+    let start = c.before in
     let a = start.args in
     let h = start.requires.0 in
-    let e = at_if1.if1.false in
-    let q = at_if2.if2.true in
-    let r = at_close_line.close-line in
+    let e = c.if1.false in
+    let q = c.if2.true in
+    let r = c.close-line in
     let f = r.ensures in (
       end_run a.run r.result a.line.now a.img.now a.b h e q f.0,
       (
@@ -81,16 +76,12 @@ same_length_5 c = search all
 
 returns_3 : tie.Need-returns-3
 returns_3 c =
-    let at_lengthen = c.before.before.before.before in
-    let at_if2 = at_lengthen.before.before.before in
-    let at_if1 = at_if2.before in
-    let at_before = at_if1.before.before.before.before in
-    let start = at_before.before in
+    let start = c.before in
     let a = start.args in
     let h = start.requires.0 in
-    let e = at_if1.if1.false in
-    let q = at_if2.if2.false in
-    let r = at_lengthen.lengthen in
+    let e = c.if1.false in
+    let q = c.if2.false in
+    let r = c.lengthen in
     let f = r.ensures in (
       more_run a.run r.result a.line.now a.img.now a.b h e q f.0,
       (

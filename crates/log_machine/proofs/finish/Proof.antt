@@ -10,8 +10,7 @@ ruleset all = (rules)
 
 returns : tie.Need-returns
 returns c =
-    let at_args = c.before.before.before.before in
-    let a = at_args.args in
+    let a = c.args in
     let e = finish_over a.run a.line.now c.if1.true in
     (rw (e, add-zero) refl, (omega arith, rw e refl))
 
@@ -23,12 +22,9 @@ same_length c = search all
 
 returns_2 : tie.Need-returns-2
 returns_2 c =
-    let at_if2 = c.before.before.before.before in
-    let at_if1 = at_if2.before.before in
-    let at_args = at_if1.before.before.before.before in
-    let a = at_args.args in
-    let e = finish_last a.run a.line.now at_if1.if1.false at_if2.if2.true in
-    let f = c.before.before.put-line.ensures in
+    let a = c.args in
+    let e = finish_last a.run a.line.now c.if1.false c.if2.true in
+    let f = c.put-line.ensures in
     (rw e f.0, (f.1.0, rw e f.1.1))
 
 add_t11 : tie.Need-overflow-add-t11
@@ -42,13 +38,10 @@ same_length_2 c = search all
 
 returns_3 : tie.Need-returns-3
 returns_3 c =
-    let at_if2 = c.before.before.before.before.before in
-    let at_if1 = at_if2.before.before in
-    let at_before = at_if1.before.before.before in
-    let start = at_before.before in
+    let start = c.before in
     let a = start.args in
-    let e = finish_error a.run a.line.now start.requires.0 at_if1.if1.false at_if2.if2.false in
-    let f = c.before.before.put-line2.ensures in
+    let e = finish_error a.run a.line.now start.requires.0 c.if1.false c.if2.false in
+    let f = c.put-line2.ensures in
     (rw e f.0, (f.1.0, rw e f.1.1))
 
 pub finish_spec : {M : Type 1} → statement M

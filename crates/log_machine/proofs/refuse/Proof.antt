@@ -17,9 +17,8 @@ same_length c = search all
 
 returns : tie.Need-returns
 returns c =
-    let at_args = c.before.before.before.before.before.before in
-    let line = c.before.before.put-line.ensures in
-    (ap (over_at at_args.args.t) line.0, (line.1.0, line.1.1))
+    let line = c.put-line.ensures in
+    (ap (over_at c.args.t) line.0, (line.1.0, line.1.1))
 
 pub refuse_spec : {M : Type 1} → statement M
 refuse_spec = tie.close (tie.spec add_t7 put_line_requires same_length returns)

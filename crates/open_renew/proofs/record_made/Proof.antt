@@ -30,4 +30,4 @@ record_made_spec =
     let at_short = at_next_after.before in
     let at_long2 = at_short.before in
     let at_long = at_long2.before in
-    made_is _ _ _ _ _ _ _ _ _ _ _ _ _ _ at_short.short.ensures at_long.long.ensures.0 at_long2.long2.ensures.0 c.before.before.next-by.ensures.0 at_next_after.next_after_lem.ensures.0 c.less.ensures.0 c.before.long3.ensures.0))
+    made_is _ _ _ _ _ _ _ _ _ _ _ _ _ _ at_short.short-number.ensures at_long.long.ensures.0 at_long2.long-2.ensures.0 c.before.before.next_by-coming.ensures.0 at_next_after.next_after.ensures.0 c.less-left.ensures.0 c.before.long-3.ensures.0))

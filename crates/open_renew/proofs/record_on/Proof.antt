@@ -21,4 +21,4 @@ record_on_spec =
     (λ c κs. search all)
     (λ c.
     let at_erased_after = c.before.before.before in
-    record_on _ _ _ _ _ _ _ _ _ _ _ at_erased_after.erased-after.ensures c.before.next-by.ensures.0 c.before.before.next_erased_lem.ensures c.short.ensures))
+    record_on _ _ _ _ _ _ _ _ _ _ _ at_erased_after.erased_after-left.ensures c.before.next_by-after.ensures.0 c.before.before.next_erased.ensures c.short-newest.ensures))

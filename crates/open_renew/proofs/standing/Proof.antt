@@ -28,4 +28,4 @@ standing_spec =
     let at_page_erased = at_if2.before in
     let at_if1 = at_page_erased.before in
     let at_first_page = at_if1.before.before in
-    stale_height _ _ _ _ _ at_first_page.first_page.ensures.0 at_if1.if1.false _ at_page_erased.page-erased.ensures at_if2.if2.false _ at_seq_at.seq_at_lem.ensures _ c.before.height-at.ensures.0 c.before.before.if3.false))
+    stale_height _ _ _ _ _ at_first_page.first_page.ensures.0 at_if1.if-first_page-o.false _ at_page_erased.page_erased.ensures at_if2.if-page_erased.false _ at_seq_at.seq_at.ensures _ c.before.height_at.ensures.0 c.before.before.if-seq_at-o.false))

@@ -23,8 +23,8 @@ climb_at t = and 1 climb-kinds.ps (is 1 climb-kinds.ps μ-climb t) climb.Pre
 abbrev climb_below : ℕ → In 1 climb-kinds.ps
 climb_below t = and 1 climb-kinds.ps (falls 1 climb-kinds.ps ◌<◌ μ-climb t) climb.Pre
 
-pub +climb-spec : {M : Type 1} → statement M
-+climb-spec = close μ-climb λ t. climb-lts.spec (
+pub +climb_spec : {M : Type 1} → statement M
++climb_spec = close μ-climb λ t. climb-lts.spec (
   leaf-reads.Asked,
   leaf-reads.Learnt,
   take-node-reads.Asked,

@@ -13,19 +13,19 @@ use Rattle.sound_leaves.proofs.key_at.Reads as key-at-reads
 
 ruleset all = (rules, leaf_laws)
 
-abbrev invariant-loop : tie.invariant-loop
-invariant-loop img at n lo hi low₀ i₀ low i =
+abbrev invariant-loop-i : tie.invariant-loop-i
+invariant-loop-i img at n lo hi low₀ i₀ low i =
     (i ≤ n) × (rising any_page (entries_at img at n) lo hi ≡ rising any_page (entries_at img (at + 8 * i) (n - i)) low hi)
 
-abbrev decreases-loop : tie.decreases-loop
-decreases-loop img at n lo hi low₀ i₀ low i = n - i
+abbrev decreases-loop-i : tie.decreases-loop-i
+decreases-loop-i img at n lo hi low₀ i₀ low i = n - i
 
 pub each_rises_spec : {M : Type 1} → statement M
 each_rises_spec =
     tie.close
     (tie.spec
-    invariant-loop
-    decreases-loop
+    invariant-loop-i
+    decreases-loop-i
     (λ c. search all)
     (λ c. search all)
     (λ c. search all)

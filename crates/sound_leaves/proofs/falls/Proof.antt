@@ -15,19 +15,19 @@ use Rattle.sound_leaves.proofs.fall.Reads as fall-reads
 
 ruleset all = (rules, leaf_laws)
 
-abbrev invariant-loop : tie.invariant-loop
-invariant-loop img at n before₀ count₀ i₀ before count i =
+abbrev invariant-loop-i : tie.invariant-loop-i
+invariant-loop-i img at n before₀ count₀ i₀ before count i =
     (1 ≤ i) × (i ≤ n) × (count < i) × (after img at n 1 (u32_at img at) ≡ (eqb count 0 & after img at n i before))
 
-abbrev decreases-loop : tie.decreases-loop
-decreases-loop img at n before₀ count₀ i₀ before count i = n - i
+abbrev decreases-loop-i : tie.decreases-loop-i
+decreases-loop-i img at n before₀ count₀ i₀ before count i = n - i
 
 pub falls_spec : {M : Type 1} → statement M
 falls_spec =
     tie.close
     (tie.spec
-    invariant-loop
-    decreases-loop
+    invariant-loop-i
+    decreases-loop-i
     (λ c κs. search all)
     (λ c. search all)
     (λ c. search all)

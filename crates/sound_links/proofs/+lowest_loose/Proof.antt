@@ -36,15 +36,15 @@ lowest_loose_below t =
     (falls 2 lowest-loose-kinds.ps ◌<◌ μ-lowest-loose t)
     lowest-loose.Pre
 
-abbrev lowest_loose_inv_loop : lowest-loose-lts.invariant-loop
+abbrev lowest_loose_inv_loop : lowest-loose-lts.invariant-loop-i
 lowest_loose_inv_loop g img table level page lowest low₀ at n i₀ low i =
     (i ≤ n) × (lowest_page (loose_at (node_at g img) table) (rest g img level at n 0) low₀ ≡ lowest_page (loose_at (node_at g img) table) (rest g img level at n i) low)
 
-abbrev lowest-loose-μ-loop : lowest-loose-lts.decreases-loop
+abbrev lowest-loose-μ-loop : lowest-loose-lts.decreases-loop-i
 lowest-loose-μ-loop g img table level page lowest low₀ at n i₀ low i = n - i
 
-pub +lowest-loose-spec : {M : Type 1} → statement M
-+lowest-loose-spec = close μ-lowest-loose λ t. lowest-loose-lts.spec (
+pub +lowest_loose_spec : {M : Type 1} → statement M
++lowest_loose_spec = close μ-lowest-loose λ t. lowest-loose-lts.spec (
   lower-loose-reads.Asked,
   lower-loose-reads.Learnt,
   node-place-reads.Asked,

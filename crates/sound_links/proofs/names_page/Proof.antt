@@ -12,19 +12,19 @@ use Rattle.chip_read.proofs.read_u32.Reads as read-u32-reads
 
 ruleset all = (rules, loose_laws)
 
-abbrev invariant-loop : tie.invariant-loop
-invariant-loop img at n page i₀ i =
+abbrev invariant-loop-i : tie.invariant-loop-i
+invariant-loop-i img at n page i₀ i =
     (i ≤ n) × (names_page page (entries_at img at n) ≡ names_page page (entries_at img (at + 8 * i) (n - i)))
 
-abbrev decreases-loop : tie.decreases-loop
-decreases-loop img at n page i₀ i = n - i
+abbrev decreases-loop-i : tie.decreases-loop-i
+decreases-loop-i img at n page i₀ i = n - i
 
 pub names_page_spec : {M : Type 1} → statement M
 names_page_spec =
     tie.close
     (tie.spec
-    invariant-loop
-    decreases-loop
+    invariant-loop-i
+    decreases-loop-i
     (λ c. search all)
     (λ c. search all)
     (λ c. search all)

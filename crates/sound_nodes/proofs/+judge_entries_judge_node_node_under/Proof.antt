@@ -71,18 +71,18 @@ abbrev node_under_below : ℕ → In 3 node-under-kinds.ps
 node_under_below t =
     and 3 node-under-kinds.ps (falls 3 node-under-kinds.ps ◌<◌ μ-node-under t) node_under.Pre
 
-abbrev judge_entries_inv_loop : judge-entries-lts.invariant-loop
+abbrev judge_entries_inv_loop : judge-entries-lts.invariant-loop-i
 judge_entries_inv_loop g img table₀ pages below at n hi programmed i₀ table i =
     (i ≤ n) × (length table ≡ length table₀)
     × (judge_entries (judge_node g (erased g img) (node_at g img) pages below) (entries_at img at n) hi
     ≡ judged_from (judge_node g (erased g img) (node_at g img) pages below) img at n hi i)
     × (note_all (left g img below at n 0) table₀ ≡ note_all (left g img below at n i) table)
 
-abbrev judge-entries-μ-loop : judge-entries-lts.decreases-loop
+abbrev judge-entries-μ-loop : judge-entries-lts.decreases-loop-i
 judge-entries-μ-loop g img table₀ pages below at n hi programmed i₀ table i = n - i
 
-pub +judge-entries-judge-node-node-under-spec : {M : Type 1} → statement M
-+judge-entries-judge-node-node-under-spec =
+pub +judge_entries_judge_node_node_under_spec : {M : Type 1} → statement M
++judge_entries_judge_node_node_under_spec =
     close μ-judge-entries μ-judge-node μ-node-under (λ t. judge-entries-lts.spec (
       judge-ahead-reads.Asked,
       judge-ahead-reads.Learnt,

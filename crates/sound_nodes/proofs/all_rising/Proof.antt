@@ -15,19 +15,19 @@ use Rattle.sound_nodes.proofs.may_name.Reads as may-name-reads
 
 ruleset all = (rules, judge_laws)
 
-abbrev invariant-loop : tie.invariant-loop
-invariant-loop g img pages level at n lo hi programmed low₀ i₀ low i =
+abbrev invariant-loop-i : tie.invariant-loop-i
+invariant-loop-i g img pages level at n lo hi programmed low₀ i₀ low i =
     (i ≤ n) × (rising (names (erased g img) pages level) (entries_at img at n) lo hi ≡ rising (names (erased g img) pages level) (entries_at img (at + 8 * i) (n - i)) low hi)
 
-abbrev decreases-loop : tie.decreases-loop
-decreases-loop g img pages level at n lo hi programmed low₀ i₀ low i = n - i
+abbrev decreases-loop-i : tie.decreases-loop-i
+decreases-loop-i g img pages level at n lo hi programmed low₀ i₀ low i = n - i
 
 pub all_rising_spec : {M : Type 1} → statement M
 all_rising_spec =
     tie.close
     (tie.spec
-    invariant-loop
-    decreases-loop
+    invariant-loop-i
+    decreases-loop-i
     (λ c. search all)
     (λ c. search all)
     (λ c. search all)

@@ -17,22 +17,22 @@ use Rattle.sound_nodes.proofs.leaf_at.Reads as leaf-at-reads
 
 ruleset all = (rules, all_laws)
 
-abbrev invariant-loop : tie.invariant-loop
-invariant-loop g img table₀ pages at n hi i₀ table i =
+abbrev invariant-loop-i : tie.invariant-loop-i
+invariant-loop-i g img table₀ pages at n hi i₀ table i =
     (i ≤ n) × (length table ≡ length table₀)
     × (judge_entries (judge_node g (erased g img) (node_at g img) pages 1) (entries_at img at n) hi
     ≡ judged_from (judge_node g (erased g img) (node_at g img) pages 1) img at n hi i)
     × (note_all (left g img 1 at n 0) table₀ ≡ note_all (left g img 1 at n i) table)
 
-abbrev decreases-loop : tie.decreases-loop
-decreases-loop g img table₀ pages at n hi i₀ table i = n - i
+abbrev decreases-loop-i : tie.decreases-loop-i
+decreases-loop-i g img table₀ pages at n hi i₀ table i = n - i
 
 pub judge_leaves_spec : {M : Type 1} → statement M
 judge_leaves_spec =
     tie.close
     (tie.spec
-    invariant-loop
-    decreases-loop
+    invariant-loop-i
+    decreases-loop-i
     (λ c. search all)
     (λ c κs. search all)
     (λ c. search all)

@@ -9,18 +9,18 @@ use Rattle.sound_leaves.proofs.key_at.Reads as key-at-reads
 
 ruleset all = (rules, ahead_laws)
 
-abbrev invariant-loop : tie.invariant-loop
-invariant-loop img at k sum₀ i₀ sum i = (i ≤ k) × (sum ≤ 4294967296 * i)
+abbrev invariant-loop-i : tie.invariant-loop-i
+invariant-loop-i img at k sum₀ i₀ sum i = (i ≤ k) × (sum ≤ 4294967296 * i)
 
-abbrev decreases-loop : tie.decreases-loop
-decreases-loop img at k sum₀ i₀ sum i = k - i
+abbrev decreases-loop-i : tie.decreases-loop-i
+decreases-loop-i img at k sum₀ i₀ sum i = k - i
 
 pub line_keys_spec : {M : Type 1} → statement M
 line_keys_spec =
     tie.close
     (tie.spec
-    invariant-loop
-    decreases-loop
+    invariant-loop-i
+    decreases-loop-i
     (λ c. search all)
     (λ c. search all)
     (λ c. search all)

@@ -10,18 +10,18 @@ use Rattle.sound_nodes.proofs.leaf_keys.Reads as leaf-keys-reads
 
 ruleset all = (rules, ahead_laws)
 
-abbrev invariant-loop : tie.invariant-loop
-invariant-loop g img at n hi sum₀ i₀ sum i = (i ≤ n) × (sum ≤ 2199023255552 * i)
+abbrev invariant-loop-i : tie.invariant-loop-i
+invariant-loop-i g img at n hi sum₀ i₀ sum i = (i ≤ n) × (sum ≤ 2199023255552 * i)
 
-abbrev decreases-loop : tie.decreases-loop
-decreases-loop g img at n hi sum₀ i₀ sum i = n - i
+abbrev decreases-loop-i : tie.decreases-loop-i
+decreases-loop-i g img at n hi sum₀ i₀ sum i = n - i
 
 pub read_ahead_spec : {M : Type 1} → statement M
 read_ahead_spec =
     tie.close
     (tie.spec
-    invariant-loop
-    decreases-loop
+    invariant-loop-i
+    decreases-loop-i
     (λ c. search all)
     (λ c. search all)
     (λ c. search all)

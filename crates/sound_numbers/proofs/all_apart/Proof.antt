@@ -11,19 +11,19 @@ use Rattle.sound_numbers.proofs.next_space.Reads as next-space-reads
 
 ruleset all = (rules, number_laws)
 
-abbrev invariant-loop : tie.invariant-loop
-invariant-loop lows highs n floor₀ ceiling₀ block₀ floor ceiling block =
+abbrev invariant-loop-block : tie.invariant-loop-block
+invariant-loop-block lows highs n floor₀ ceiling₀ block₀ floor ceiling block =
     (block ≤ n) × Spaced lows highs block floor ceiling
 
-abbrev decreases-loop : tie.decreases-loop
-decreases-loop lows highs n floor₀ ceiling₀ block₀ floor ceiling block = n - block
+abbrev decreases-loop-block : tie.decreases-loop-block
+decreases-loop-block lows highs n floor₀ ceiling₀ block₀ floor ceiling block = n - block
 
 pub all_apart_spec : {M : Type 1} → statement M
 all_apart_spec =
     tie.close
     (tie.spec
-    invariant-loop
-    decreases-loop
+    invariant-loop-block
+    decreases-loop-block
     (λ c. search all)
     (λ c κs. search all)
     (λ c. search all)

@@ -10,18 +10,18 @@ use Rattle.sound_numbers.proofs.overlap.Reads as overlap-reads
 
 ruleset all = (rules, number_laws)
 
-abbrev invariant-loop : tie.invariant-loop
-invariant-loop lows highs block low high k₀ i₀ k i = (i ≤ block) × (k ≤ i) × Counts lows highs block i k
+abbrev invariant-loop-i : tie.invariant-loop-i
+invariant-loop-i lows highs block low high k₀ i₀ k i = (i ≤ block) × (k ≤ i) × Counts lows highs block i k
 
-abbrev decreases-loop : tie.decreases-loop
-decreases-loop lows highs block low high k₀ i₀ k i = block - i
+abbrev decreases-loop-i : tie.decreases-loop-i
+decreases-loop-i lows highs block low high k₀ i₀ k i = block - i
 
 pub apart_below_spec : {M : Type 1} → statement M
 apart_below_spec =
     tie.close
     (tie.spec
-    invariant-loop
-    decreases-loop
+    invariant-loop-i
+    decreases-loop-i
     (λ c. search all)
     (λ c. search all)
     (λ c. search all)

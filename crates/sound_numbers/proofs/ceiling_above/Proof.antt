@@ -10,18 +10,18 @@ use Rattle.sound_numbers.proofs.nearer.Reads as nearer-reads
 
 ruleset all = (rules, number_laws)
 
-abbrev invariant-loop : tie.invariant-loop
-invariant-loop lows block high ceiling₀ i₀ ceiling i = (i ≤ block) × Over lows i high ceiling
+abbrev invariant-loop-i : tie.invariant-loop-i
+invariant-loop-i lows block high ceiling₀ i₀ ceiling i = (i ≤ block) × Over lows i high ceiling
 
-abbrev decreases-loop : tie.decreases-loop
-decreases-loop lows block high ceiling₀ i₀ ceiling i = block - i
+abbrev decreases-loop-i : tie.decreases-loop-i
+decreases-loop-i lows block high ceiling₀ i₀ ceiling i = block - i
 
 pub ceiling_above_spec : {M : Type 1} → statement M
 ceiling_above_spec =
     tie.close
     (tie.spec
-    invariant-loop
-    decreases-loop
+    invariant-loop-i
+    decreases-loop-i
     (λ c. search all)
     (λ c. search all)
     (λ c. search all)

@@ -15,18 +15,18 @@ use Rattle.chip_codes.proofs.fresh_code.Reads as fresh-code-reads
 
 ruleset all = (rules, page_laws)
 
-abbrev invariant-loop : tie.invariant-loop
-invariant-loop g img b n k₀ k = (k ≤ n) × (codes_fit g img b k ≡ true)
+abbrev invariant-loop-k : tie.invariant-loop-k
+invariant-loop-k g img b n k₀ k = (k ≤ n) × (codes_fit g img b k ≡ true)
 
-abbrev decreases-loop : tie.decreases-loop
-decreases-loop g img b n k₀ k = n - k
+abbrev decreases-loop-k : tie.decreases-loop-k
+decreases-loop-k g img b n k₀ k = n - k
 
 pub codes_fit_spec : {M : Type 1} → statement M
 codes_fit_spec =
     tie.close
     (tie.spec
-    invariant-loop
-    decreases-loop
+    invariant-loop-k
+    decreases-loop-k
     (λ c κs. search all)
     (λ c. search all)
     (λ c. search all)

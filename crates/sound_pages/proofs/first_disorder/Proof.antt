@@ -13,19 +13,19 @@ use Rattle.sound_pages.proofs.in_order.Reads as in-order-reads
 
 ruleset all = (rules, page_laws)
 
-abbrev invariant-loop : tie.invariant-loop
-invariant-loop g img n block₀ block =
+abbrev invariant-loop-block : tie.invariant-loop-block
+invariant-loop-block g img n block₀ block =
     (block ≤ n) × (least block (disorder g.pages (erased g img)) ≡ block)
 
-abbrev decreases-loop : tie.decreases-loop
-decreases-loop g img n block₀ block = n - block
+abbrev decreases-loop-block : tie.decreases-loop-block
+decreases-loop-block g img n block₀ block = n - block
 
 pub first_disorder_spec : {M : Type 1} → statement M
 first_disorder_spec =
     tie.close
     (tie.spec
-    invariant-loop
-    decreases-loop
+    invariant-loop-block
+    decreases-loop-block
     (λ c. search all)
     (λ c κs. search all)
     (λ c. search all)

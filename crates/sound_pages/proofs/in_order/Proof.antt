@@ -15,19 +15,19 @@ use Rattle.sound_pages.proofs.first_in.Reads as first-in-reads
 
 ruleset all = (rules, page_laws)
 
-abbrev invariant-loop : tie.invariant-loop
-invariant-loop g img block first j₀ j =
+abbrev invariant-loop-j : tie.invariant-loop-j
+invariant-loop-j g img block first j₀ j =
     (first < j) × (j ≤ g.pages) × (least j (late g.pages (erased g img) block first) ≡ j)
 
-abbrev decreases-loop : tie.decreases-loop
-decreases-loop g img block first j₀ j = g.pages - j
+abbrev decreases-loop-j : tie.decreases-loop-j
+decreases-loop-j g img block first j₀ j = g.pages - j
 
 pub in_order_spec : {M : Type 1} → statement M
 in_order_spec =
     tie.close
     (tie.spec
-    invariant-loop
-    decreases-loop
+    invariant-loop-j
+    decreases-loop-j
     (λ c κs. search all)
     (λ c. search all)
     (λ c. search all)

@@ -13,18 +13,18 @@ use Rattle.sound_pages.proofs.well_formed.Reads as well-formed-reads
 
 ruleset all = (rules, page_laws)
 
-abbrev invariant-loop : tie.invariant-loop
-invariant-loop g img n pages page₀ page = (page ≤ pages) × (least page (malformed g img) ≡ page)
+abbrev invariant-loop-page : tie.invariant-loop-page
+invariant-loop-page g img n pages page₀ page = (page ≤ pages) × (least page (malformed g img) ≡ page)
 
-abbrev decreases-loop : tie.decreases-loop
-decreases-loop g img n pages page₀ page = pages - page
+abbrev decreases-loop-page : tie.decreases-loop-page
+decreases-loop-page g img n pages page₀ page = pages - page
 
 pub rule_1_spec : {M : Type 1} → statement M
 rule_1_spec =
     tie.close
     (tie.spec
-    invariant-loop
-    decreases-loop
+    invariant-loop-page
+    decreases-loop-page
     (λ c κs. search all)
     (λ c. search all)
     (λ c κs. search all)

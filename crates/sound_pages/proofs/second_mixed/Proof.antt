@@ -14,19 +14,19 @@ use Rattle.sound_pages.proofs.other_mixed.Reads as other-mixed-reads
 
 ruleset all = (rules, page_laws)
 
-abbrev invariant-loop : tie.invariant-loop
-invariant-loop g img n first block₀ block =
+abbrev invariant-loop-block : tie.invariant-loop-block
+invariant-loop-block g img n first block₀ block =
     (block ≤ n) × (least block (other g.pages (erased g img) first) ≡ block)
 
-abbrev decreases-loop : tie.decreases-loop
-decreases-loop g img n first block₀ block = n - block
+abbrev decreases-loop-block : tie.decreases-loop-block
+decreases-loop-block g img n first block₀ block = n - block
 
 pub second_mixed_spec : {M : Type 1} → statement M
 second_mixed_spec =
     tie.close
     (tie.spec
-    invariant-loop
-    decreases-loop
+    invariant-loop-block
+    decreases-loop-block
     (λ c κs. search all)
     (λ c. search all)
     (λ c κs. search all)

@@ -11,18 +11,18 @@ use Rattle.sound_repeats.proofs.is_below.Reads as is-below-reads
 
 ruleset all = (rules, part_laws)
 
-abbrev invariant-loop : tie.invariant-loop
-invariant-loop keys bound n count₀ k₀ count k = (count ≤ k) × (k ≤ n) × (n ≡ length keys)
+abbrev invariant-loop-k : tie.invariant-loop-k
+invariant-loop-k keys bound n count₀ k₀ count k = (count ≤ k) × (k ≤ n) × (n ≡ length keys)
 
-abbrev decreases-loop : tie.decreases-loop
-decreases-loop keys bound n count₀ k₀ count k = n - k
+abbrev decreases-loop-k : tie.decreases-loop-k
+decreases-loop-k keys bound n count₀ k₀ count k = n - k
 
 pub below_spec : {M : Type 1} → statement M
 below_spec =
     tie.close
     (tie.spec
-    invariant-loop
-    decreases-loop
+    invariant-loop-k
+    decreases-loop-k
     (λ c. search all)
     (λ c. search all)
     (λ c. search all)

@@ -9,18 +9,18 @@ use Rattle.sound_repeats.proofs.below.Reads as below-reads
 
 ruleset all = (rules, part_laws)
 
-abbrev invariant-loop : tie.invariant-loop
-invariant-loop keys low high most from₀ to₀ from to = (low < from) × (from ≤ to) × (to < high)
+abbrev invariant-loop-from : tie.invariant-loop-from
+invariant-loop-from keys low high most from₀ to₀ from to = (low < from) × (from ≤ to) × (to < high)
 
-abbrev decreases-loop : tie.decreases-loop
-decreases-loop keys low high most from₀ to₀ from to = to - from
+abbrev decreases-loop-from : tie.decreases-loop-from
+decreases-loop-from keys low high most from₀ to₀ from to = to - from
 
 pub bound_for_spec : {M : Type 1} → statement M
 bound_for_spec =
     tie.close
     (tie.spec
-    invariant-loop
-    decreases-loop
+    invariant-loop-from
+    decreases-loop-from
     (λ c. search all)
     (λ c. search all)
     (λ c. search all)

@@ -14,18 +14,18 @@ use Rattle.sound_twins.proofs.lowest.Reads as lowest-reads
 
 ruleset all = (rules, part_laws)
 
-abbrev invariant-loop : tie.invariant-loop
-invariant-loop g img pages keys₀ low₀ best₀ keys low best = (length keys ≡ 4096) × Swept (erased g img) (seq_at g img) pages low best
+abbrev invariant-loop-low : tie.invariant-loop-low
+invariant-loop-low g img pages keys₀ low₀ best₀ keys low best = (length keys ≡ 4096) × Swept (erased g img) (seq_at g img) pages low best
 
-abbrev decreases-loop : tie.decreases-loop
-decreases-loop g img pages keys₀ low₀ best₀ keys low best = 4294967296 - low
+abbrev decreases-loop-low : tie.decreases-loop-low
+decreases-loop-low g img pages keys₀ low₀ best₀ keys low best = 4294967296 - low
 
 pub lowest_page_spec : {M : Type 1} → statement M
 lowest_page_spec =
     tie.close
     (tie.spec
-    invariant-loop
-    decreases-loop
+    invariant-loop-low
+    decreases-loop-low
     (λ c. search all)
     (λ c. search all)
     (λ c κs. search all)

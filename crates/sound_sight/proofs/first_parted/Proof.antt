@@ -11,19 +11,19 @@ use Rattle.sound_sight.proofs.is_parted.Reads as is-parted-reads
 
 ruleset all = (rules, sight_laws)
 
-abbrev invariant-loop : tie.invariant-loop
-invariant-loop pages programmed from n block₀ block =
+abbrev invariant-loop-block : tie.invariant-loop-block
+invariant-loop-block pages programmed from n block₀ block =
     (from ≤ block) × (block ≤ n) × Bare pages programmed from block
 
-abbrev decreases-loop : tie.decreases-loop
-decreases-loop pages programmed from n block₀ block = n - block
+abbrev decreases-loop-block : tie.decreases-loop-block
+decreases-loop-block pages programmed from n block₀ block = n - block
 
 pub first_parted_spec : {M : Type 1} → statement M
 first_parted_spec =
     tie.close
     (tie.spec
-    invariant-loop
-    decreases-loop
+    invariant-loop-block
+    decreases-loop-block
     (λ c. search all)
     (λ c κs. search all)
     (λ c. search all)

@@ -20,19 +20,19 @@ use Rattle.chip_survey.proofs.see_page.Reads as see-page-reads
 
 ruleset all = (rules, sight_laws)
 
-abbrev invariant-loop : tie.invariant-loop
-invariant-loop g img block seen₀ range₀ j₀ seen range j =
+abbrev invariant-loop-j : tie.invariant-loop-j
+invariant-loop-j g img block seen₀ range₀ j₀ seen range j =
     (j ≤ g.pages) × Front g img block j × (seen ≡ seen_to g img (g.pages * block + j)) × (range ≡ range_to (erased g img) (seq_at g img) (g.pages * block) j)
 
-abbrev decreases-loop : tie.decreases-loop
-decreases-loop g img block seen₀ range₀ j₀ seen range j = g.pages - j
+abbrev decreases-loop-j : tie.decreases-loop-j
+decreases-loop-j g img block seen₀ range₀ j₀ seen range j = g.pages - j
 
 pub front_spec : {M : Type 1} → statement M
 front_spec =
     tie.close
     (tie.spec
-    invariant-loop
-    decreases-loop
+    invariant-loop-j
+    decreases-loop-j
     (λ c. search all)
     (λ c κs. search all)
     (λ c κs. search all)

@@ -11,19 +11,19 @@ use Rattle.chip_read.proofs.page_of.Reads as page-of-reads
 
 ruleset all = (rules, sight_laws)
 
-abbrev invariant-loop : tie.invariant-loop
-invariant-loop g img block from j₀ j =
+abbrev invariant-loop-j : tie.invariant-loop-j
+invariant-loop-j g img block from j₀ j =
     (from ≤ j) × (j ≤ g.pages) × Back g img block from j
 
-abbrev decreases-loop : tie.decreases-loop
-decreases-loop g img block from j₀ j = g.pages - j
+abbrev decreases-loop-j : tie.decreases-loop-j
+decreases-loop-j g img block from j₀ j = g.pages - j
 
 pub rest_blank_spec : {M : Type 1} → statement M
 rest_blank_spec =
     tie.close
     (tie.spec
-    invariant-loop
-    decreases-loop
+    invariant-loop-j
+    decreases-loop-j
     (λ c. search all)
     (λ c κs. search all)
     (λ c κs. search all)

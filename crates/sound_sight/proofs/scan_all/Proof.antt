@@ -15,19 +15,19 @@ use Rattle.sound_sight.proofs.scan_block.Reads as scan-block-reads
 
 ruleset all = (rules, sight_laws)
 
-abbrev invariant-loop : tie.invariant-loop
-invariant-loop g img n programmed₀ lows₀ highs₀ seen₀ rising₀ block₀ programmed lows highs seen rising block =
+abbrev invariant-loop-block : tie.invariant-loop-block
+invariant-loop-block g img n programmed₀ lows₀ highs₀ seen₀ rising₀ block₀ programmed lows highs seen rising block =
     (block ≤ n) × (length programmed ≡ length programmed₀) × (length lows ≡ length lows₀) × (length highs ≡ length highs₀) × Strips g img block seen rising programmed lows highs
 
-abbrev decreases-loop : tie.decreases-loop
-decreases-loop g img n programmed₀ lows₀ highs₀ seen₀ rising₀ block₀ programmed lows highs seen rising block = n - block
+abbrev decreases-loop-block : tie.decreases-loop-block
+decreases-loop-block g img n programmed₀ lows₀ highs₀ seen₀ rising₀ block₀ programmed lows highs seen rising block = n - block
 
 pub scan_all_spec : {M : Type 1} → statement M
 scan_all_spec =
     tie.close
     (tie.spec
-    invariant-loop
-    decreases-loop
+    invariant-loop-block
+    decreases-loop-block
     (λ c. search all)
     (λ c κs. search all)
     (λ c. search all)

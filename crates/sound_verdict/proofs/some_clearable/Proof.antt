@@ -13,19 +13,19 @@ use Rattle.sound_verdict.proofs.is_clearable.Reads as is-clearable-reads
 
 ruleset all = (rules, verdict_laws)
 
-abbrev invariant-loop : tie.invariant-loop
-invariant-loop g img table n free block₀ block =
+abbrev invariant-loop-block : tie.invariant-loop-block
+invariant-loop-block g img table n free block₀ block =
     (block ≤ n) × (least block (clearable g.pages (erased g img) table free) ≡ block)
 
-abbrev decreases-loop : tie.decreases-loop
-decreases-loop g img table n free block₀ block = n - block
+abbrev decreases-loop-block : tie.decreases-loop-block
+decreases-loop-block g img table n free block₀ block = n - block
 
 pub some_clearable_spec : {M : Type 1} → statement M
 some_clearable_spec =
     tie.close
     (tie.spec
-    invariant-loop
-    decreases-loop
+    invariant-loop-block
+    decreases-loop-block
     (λ c. search all)
     (λ c κs. search all)
     (λ c. search all)

@@ -2,10 +2,6 @@ use borrow.Author.Rules.{rules}
 use Rattle.text_reader.specs.Reading.{reader_laws}
 use Rattle.text_reader.proofs.read_turn.Statement.{statement}
 use Rattle.text_reader.proofs.read_turn.Tie as tie
-use Rattle.text_reader.proofs.read_turn.Reads as reads
-use Rattle.text_reader.proofs.read_turn.Lts as lts
-use Rattle.text_reader.proofs.read_line.Reads as read-line-reads
-use Rattle.text_reader.proofs.stay.Reads as stay-reads
 
 ruleset all = (rules, reader_laws)
 

@@ -2,10 +2,6 @@ use borrow.Author.Rules.{rules}
 use Rattle.text_reader.specs.Reading.{reader_laws}
 use Rattle.text_reader.proofs.take_record.Statement.{statement}
 use Rattle.text_reader.proofs.take_record.Tie as tie
-use Rattle.text_reader.proofs.take_record.Reads as reads
-use Rattle.text_reader.proofs.take_record.Lts as lts
-use Rattle.text_reader.proofs.refuse.Reads as refuse-reads
-use Rattle.text_reader.proofs.wide.Reads as wide-reads
 
 ruleset all = (rules, reader_laws)
 

@@ -13,19 +13,19 @@ use Rattle.tree_search.proofs.chosen_entry.Reads as chosen-entry-reads
 
 ruleset all = (rules, descent_laws)
 
-abbrev invariant-loop : tie.invariant-loop
-invariant-loop g img level root key page₀ below₀ page below =
+abbrev invariant-loop-below : tie.invariant-loop-below
+invariant-loop-below g img level root key page₀ below₀ page below =
     (below ≤ level) × (leaf (node_at g img) key level (naming root) ≡ leaf (node_at g img) key below (naming page))
 
-abbrev decreases-loop : tie.decreases-loop
-decreases-loop g img level root key page₀ below₀ page below = below
+abbrev decreases-loop-below : tie.decreases-loop-below
+decreases-loop-below g img level root key page₀ below₀ page below = below
 
 pub leaf_page_spec : {M : Type 1} → statement M
 leaf_page_spec =
     tie.close
     (tie.spec
-    invariant-loop
-    decreases-loop
+    invariant-loop-below
+    decreases-loop-below
     (λ c. search all)
     (λ c. search all)
     (λ c κs. search all)

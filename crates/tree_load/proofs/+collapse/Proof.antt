@@ -24,8 +24,8 @@ abbrev collapse_below : ℕ → In 1 collapse-kinds.ps
 collapse_below t =
     and 1 collapse-kinds.ps (falls 1 collapse-kinds.ps ◌<◌ μ-collapse t) collapse.Pre
 
-pub +collapse-spec : {M : Type 1} → statement M
-+collapse-spec = close μ-collapse λ t. collapse-lts.spec (
+pub +collapse_spec : {M : Type 1} → statement M
++collapse_spec = close μ-collapse λ t. collapse-lts.spec (
   size-reads.Asked,
   size-reads.Learnt,
   first-entry-reads.Asked,

@@ -14,18 +14,18 @@ use Rattle.tree_node.proofs.zeros.Reads as zeros-reads
 
 ruleset all = (rules, load_laws)
 
-abbrev invariant-loop : tie.invariant-loop
-invariant-loop img at n m₀ k₀ m k = (k ≤ n) × (m.e ≡ written m₀.e 0 (λ j. entry_at img (at + 8 * j)) k) × (m.count ≡ n)
+abbrev invariant-loop-k : tie.invariant-loop-k
+invariant-loop-k img at n m₀ k₀ m k = (k ≤ n) × (m.e ≡ written m₀.e 0 (λ j. entry_at img (at + 8 * j)) k) × (m.count ≡ n)
 
-abbrev decreases-loop : tie.decreases-loop
-decreases-loop img at n m₀ k₀ m k = n - k
+abbrev decreases-loop-k : tie.decreases-loop-k
+decreases-loop-k img at n m₀ k₀ m k = n - k
 
 pub load_spec : {M : Type 1} → statement M
 load_spec =
     tie.close
     (tie.spec
-    invariant-loop
-    decreases-loop
+    invariant-loop-k
+    decreases-loop-k
     (λ c κs. search all)
     (λ c. search all)
     (λ c. search all)
@@ -35,5 +35,5 @@ load_spec =
     (λ c. search all)
     (λ c. search all)
     (λ c. search all)
-    (λ c. (search all, load_go _ _ _ _ _ _ c.before.before.loop.invariant.1 c.entry_at.ensures, search all))
+    (λ c. (search all, load_go _ _ _ _ _ _ c.before.before.loop-k.invariant.1 c.entry_at-x.ensures, search all))
     (λ c. search all))

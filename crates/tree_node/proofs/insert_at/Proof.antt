@@ -12,18 +12,18 @@ use Rattle.tree_node.proofs.insert_at.Lts as lts
 
 ruleset all = (rules, node_laws)
 
-abbrev invariant-loop : tie.invariant-loop
-invariant-loop i x n c left m₀ j₀ m j = (j ≤ left) × (m.e ≡ written n.e (i + 1) (λ k. get_or n.e (i + k) no_entry) j)
+abbrev invariant-loop-j : tie.invariant-loop-j
+invariant-loop-j i x n c left m₀ j₀ m j = (j ≤ left) × (m.e ≡ written n.e (i + 1) (λ k. get_or n.e (i + k) no_entry) j)
 
-abbrev decreases-loop : tie.decreases-loop
-decreases-loop i x n c left m₀ j₀ m j = left - j
+abbrev decreases-loop-j : tie.decreases-loop-j
+decreases-loop-j i x n c left m₀ j₀ m j = left - j
 
 pub insert_at_spec : {M : Type 1} → statement M
 insert_at_spec =
     tie.close
     (tie.spec
-    invariant-loop
-    decreases-loop
+    invariant-loop-j
+    decreases-loop-j
     (λ c. search all)
     (λ c. search all)
     (λ c. search all)

@@ -13,18 +13,18 @@ use Rattle.tree_node.proofs.remove_at.Lts as lts
 
 ruleset all = (rules, node_laws)
 
-abbrev invariant-loop : tie.invariant-loop
-invariant-loop i n c left m₀ j₀ m j = (j ≤ left) × (m.e ≡ written n.e i (λ k. get_or n.e (i + 1 + k) no_entry) j)
+abbrev invariant-loop-j : tie.invariant-loop-j
+invariant-loop-j i n c left m₀ j₀ m j = (j ≤ left) × (m.e ≡ written n.e i (λ k. get_or n.e (i + 1 + k) no_entry) j)
 
-abbrev decreases-loop : tie.decreases-loop
-decreases-loop i n c left m₀ j₀ m j = left - j
+abbrev decreases-loop-j : tie.decreases-loop-j
+decreases-loop-j i n c left m₀ j₀ m j = left - j
 
 pub remove_at_spec : {M : Type 1} → statement M
 remove_at_spec =
     tie.close
     (tie.spec
-    invariant-loop
-    decreases-loop
+    invariant-loop-j
+    decreases-loop-j
     (λ c. search all)
     (λ c. search all)
     (λ c. search all)

@@ -15,19 +15,19 @@ use Rattle.tree_node.proofs.empty.Reads as empty-reads
 
 ruleset all = (rules, node_laws)
 
-abbrev invariant-loop : tie.invariant-loop
-invariant-loop h n c left m₀ j₀ m j = (j ≤ left) × (m.e ≡ written n.e 0 (λ k. get_or n.e (h + k) no_entry) j)
+abbrev invariant-loop-j : tie.invariant-loop-j
+invariant-loop-j h n c left m₀ j₀ m j = (j ≤ left) × (m.e ≡ written n.e 0 (λ k. get_or n.e (h + k) no_entry) j)
 
-abbrev decreases-loop : tie.decreases-loop
-decreases-loop h n c left m₀ j₀ m j = left - j
+abbrev decreases-loop-j : tie.decreases-loop-j
+decreases-loop-j h n c left m₀ j₀ m j = left - j
 
 pub right_half_spec : {M : Type 1} → statement M
 unfolding entries
 right_half_spec =
     tie.close
     (tie.spec
-    invariant-loop
-    decreases-loop
+    invariant-loop-j
+    decreases-loop-j
     (λ c κs. search all)
     (λ c. (search rights_none, search all))
     (λ c. search all)

@@ -23,8 +23,8 @@ change_at t = and 2 change-kinds.ps (is 2 change-kinds.ps μ-change t) change.Pr
 abbrev change_below : ℕ → In 2 change-kinds.ps
 change_below t = and 2 change-kinds.ps (falls 2 change-kinds.ps ◌<◌ μ-change t) change.Pre
 
-pub +change-spec : {M : Type 1} → statement M
-+change-spec = close μ-change λ t. change-lts.spec (
+pub +change_spec : {M : Type 1} → statement M
++change_spec = close μ-change λ t. change-lts.spec (
   leaf-reads.Asked,
   leaf-reads.Learnt,
   take-node-reads.Asked,

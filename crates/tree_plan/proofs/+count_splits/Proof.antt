@@ -28,8 +28,8 @@ count_splits_below t =
     (falls 1 count-splits-kinds.ps ◌<◌ μ-count-splits t)
     count-splits.Pre
 
-pub +count-splits-spec : {M : Type 1} → statement M
-+count-splits-spec = close μ-count-splits λ t. count-splits-lts.spec (
+pub +count_splits_spec : {M : Type 1} → statement M
++count_splits_spec = close μ-count-splits λ t. count-splits-lts.spec (
   chosen-entry-reads.Asked,
   chosen-entry-reads.Learnt,
   count_splits_below t,

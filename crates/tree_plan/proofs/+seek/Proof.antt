@@ -22,8 +22,8 @@ seek_at t = and 1 seek-kinds.ps (is 1 seek-kinds.ps μ-seek t) seek.Pre
 abbrev seek_below : ℕ → In 1 seek-kinds.ps
 seek_below t = and 1 seek-kinds.ps (falls 1 seek-kinds.ps ◌<◌ μ-seek t) seek.Pre
 
-pub +seek-spec : {M : Type 1} → statement M
-+seek-spec = close μ-seek λ t. seek-lts.spec (
+pub +seek_spec : {M : Type 1} → statement M
++seek_spec = close μ-seek λ t. seek-lts.spec (
   find-key-reads.Asked,
   find-key-reads.Learnt,
   chosen-entry-reads.Asked,

@@ -13,19 +13,19 @@ use Rattle.chip_read.proofs.read_u32.Reads as read-u32-reads
 
 ruleset all = (rules, search_laws)
 
-abbrev invariant-loop : tie.invariant-loop
-invariant-loop img at n key low₀ high₀ low high =
+abbrev invariant-loop-low : tie.invariant-loop-low
+invariant-loop-low img at n key low₀ high₀ low high =
     (low ≤ n - 1) × (high ≤ n) × (place key (entries_at img at n) ≡ halve (high - low) key (entries_at img at n) low high)
 
-abbrev decreases-loop : tie.decreases-loop
-decreases-loop img at n key low₀ high₀ low high = high - low
+abbrev decreases-loop-low : tie.decreases-loop-low
+decreases-loop-low img at n key low₀ high₀ low high = high - low
 
 pub chosen_index_spec : {M : Type 1} → statement M
 chosen_index_spec =
     tie.close
     (tie.spec
-    invariant-loop
-    decreases-loop
+    invariant-loop-low
+    decreases-loop-low
     (λ c. search all)
     (λ c. search all)
     (λ c. search all)
