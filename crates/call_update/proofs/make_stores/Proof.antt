@@ -26,4 +26,4 @@ make_stores_spec =
     (λ c. search all)
     (λ c. search all)
     (λ c.
-    stores_both _ _ _ _ _ _ _ _ _ _ _ _ _ c.fresh.ensures.0 _ _ _ c.own-stores.ensures c.collect.ensures c.if1.false c.requires.0 c.requires.2))
+    stores_both _ _ _ _ _ _ _ _ _ _ _ _ _ c.fresh-b.ensures.0 _ _ _ c.own_stores-own.ensures c.collect-w.ensures c.if-r.false c.requires.0 c.requires.2))

@@ -20,7 +20,7 @@ update_blocks_spec =
     (λ c. search all)
     (λ c κs.
     (let p = c.requires in
-    let j = c.judge-in.ensures in (known_sized _ _ p.0.0 p.1.1, j.survey, j.level)))
+    let j = c.judge_in-judgement.ensures in (known_sized _ _ p.0.0 p.1.1, j.survey, j.level)))
     (λ c. search all)
     (λ c. search all)
     (λ c. search all)
@@ -28,4 +28,4 @@ update_blocks_spec =
     (λ c. search all)
     (λ c. search all)
     (λ c.
-    (let p = c.requires in update_sound _ _ _ _ _ _ p.1.0 p.1.2 p.1.4 _ _ _ c.judge-in.ensures _ c.update-judged.ensures (search rules) p.0.0 p.1.3 (search rules) p.0.1)))
+    (let p = c.requires in update_sound _ _ _ _ _ _ p.1.0 p.1.2 p.1.4 _ _ _ c.judge_in-judgement.ensures _ c.update_judged.ensures (search rules) p.0.0 p.1.3 (search rules) p.0.1)))

@@ -18,9 +18,9 @@ update_judged_spec =
     (λ c κs. search all)
     (λ c κs. search all)
     (λ c κs.
-    (c.requires.0, height_low _ _ _ _ _ c.record_of.ensures c.requires.1 c.requires.2))
+    (c.requires.0, height_low _ _ _ _ _ c.record_of-o.ensures c.requires.1 c.requires.2))
     (λ c. search all)
     (λ c. search all)
     (λ c. search all)
     (λ c.
-    judged_is _ _ _ _ c.update-rest.result.answer _ _ _ _ _ _ _ _ c.update-rest.ensures c.record_of.ensures c.fill-words.ensures))
+    judged_is _ _ _ _ c.update_rest-r.result.answer _ _ _ _ _ _ _ _ c.update_rest-r.ensures c.record_of-o.ensures c.fill_words.ensures))

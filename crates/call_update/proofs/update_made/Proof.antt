@@ -19,4 +19,4 @@ update_made_spec =
     (λ c. search all)
     (λ c. search all)
     (λ c.
-    made_is _ _ _ _ _ _ _ _ _ _ _ _ c.finish.ensures c.make-stores.ensures))
+    made_is _ _ _ _ _ _ _ _ _ _ _ _ c.finish.ensures c.make_stores-s.ensures))

@@ -20,4 +20,4 @@ update_direct_spec =
     (λ c. search all)
     (λ c. search all)
     (λ c.
-    direct_is _ _ _ _ _ _ _ _ _ c.own-stores.ensures _ _ _ _ c.finish.ensures c.fresh.ensures.0 c.requires.3 c.requires.0 c.requires.2))
+    direct_is _ _ _ _ _ _ _ _ _ c.own_stores-own.ensures _ _ _ _ c.finish.ensures c.fresh-b.ensures.0 c.requires.3 c.requires.0 c.requires.2))

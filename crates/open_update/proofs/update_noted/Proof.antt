@@ -19,4 +19,4 @@ update_noted_spec =
     (λ c. search all)
     (λ c. search all)
     (λ c.
-    collected_is _ _ _ _ _ _ _ _ _ _ c.update-made.ensures c.note-levels.ensures))
+    collected_is _ _ _ _ _ _ _ _ _ _ c.update_made.ensures c.note_levels.ensures))

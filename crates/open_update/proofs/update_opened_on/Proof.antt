@@ -1,3 +1,5 @@
+use mathlib.Core.Path.{ap}
+use mathlib.Core.Bool.{not}
 use Rattle.call_account.specs.Low.{known_sized}
 use borrow.Author.Rules.{rules}
 use Rattle.open_update.specs.With.{with_laws, with_length, with_short, with_stale, with_rest, stands_low}
@@ -18,18 +20,18 @@ update_opened_on_spec =
     (tie.spec
     (λ c κs. search all)
     (λ c. search all)
-    (λ c. with_length _ _ _ _ _ _ _ c.good_blocks.ensures.0 c.if1.true)
+    (λ c. with_length _ _ _ _ _ _ _ c.good_blocks-n.ensures.0 c.if-n-eq0.true)
     (λ c κs. search all)
     (λ c. search all)
     (λ c.
-    with_short _ _ _ _ _ _ _ c.good_blocks.ensures.0 c.if1.false _ c.words_of.ensures.0 c.if2.true)
+    with_short _ _ _ _ _ _ _ c.good_blocks-n.ensures.0 c.if-n-eq0.false _ c.words_of-enough.ensures.0 c.if-lent-enough.true)
     (λ c κs. search all)
     (λ c. search all)
     (λ c.
-    with_stale _ _ _ _ _ _ _ c.good_blocks.ensures.0 c.if1.false _ c.words_of.ensures.0 c.if2.false _ c.standing.ensures c.if3.true)
+    with_stale _ _ _ _ _ _ _ c.good_blocks-n.ensures.0 c.if-n-eq0.false _ c.words_of-enough.ensures.0 c.if-lent-enough.false _ c.standing.ensures (ap not c.if-not-standing.true))
     (λ c κs.
-    (known_sized _ _ c.requires c.good_blocks.ensures.1, stands_low _ _ _ _ _ c.standing.ensures c.if3.false (search rules)))
+    (known_sized _ _ c.requires c.good_blocks-n.ensures.1, stands_low _ _ _ _ _ c.standing.ensures (ap not c.if-not-standing.false) (search rules)))
     (λ c. search all)
     (λ c. search all)
     (λ c.
-    with_rest _ _ _ _ _ _ _ c.good_blocks.ensures.0 c.if1.false _ c.words_of.ensures.0 c.if2.false _ c.standing.ensures _ c.update-by.ensures c.if3.false))
+    with_rest _ _ _ _ _ _ _ c.good_blocks-n.ensures.0 c.if-n-eq0.false _ c.words_of-enough.ensures.0 c.if-lent-enough.false _ c.standing.ensures _ c.update_by.ensures (ap not c.if-not-standing.false)))

@@ -19,7 +19,7 @@ update_planned_spec =
     (λ c. search all)
     (λ c. search all)
     (λ c.
-    planned_direct _ _ _ _ _ _ _ _ _ _ c.update-direct.ensures c.plenty.ensures c.if1.true)
+    planned_direct _ _ _ _ _ _ _ _ _ _ c.update_direct.ensures c.plenty.ensures c.if-plenty-o.true)
     (λ c κs. search all)
     (λ c. search all)
     (λ c. search all)

@@ -19,7 +19,7 @@ update_roomy_spec =
     (λ c. search all)
     (λ c. search all)
     (λ c.
-    roomy_direct _ _ _ _ _ _ _ _ _ _ c.update-direct.ensures c.enough.ensures c.if1.true)
+    roomy_direct _ _ _ _ _ _ _ _ _ _ c.update_direct.ensures c.enough.ensures c.if-enough-o.true)
     (λ c κs. search all)
     (λ c. search all)
     (λ c. search all)

@@ -19,9 +19,9 @@ update_told_spec =
     (λ c. search all)
     (λ c. search all)
     (λ c.
-    told_room _ _ _ _ _ _ _ _ _ c.tell.ensures _ c.is-roomless.ensures c.if1.true)
+    told_room _ _ _ _ _ _ _ _ _ c.tell.ensures _ c.is_roomless.ensures c.if-is_roomless.true)
     (λ c κs. search all)
     (λ c. search all)
     (λ c. search all)
     (λ c.
-    told_made _ _ _ _ _ _ _ _ _ c.tell.ensures _ c.is-roomless.ensures _ c.update-roomy.ensures c.if1.false))
+    told_made _ _ _ _ _ _ _ _ _ c.tell.ensures _ c.is_roomless.ensures _ c.update_roomy.ensures c.if-is_roomless.false))
