@@ -131,10 +131,8 @@ fn put_line(text: &mut [u8], i: usize)
 }
 
 fn put_lines(text: &mut [u8]) {
-    let mut i: usize = 0;
-    while i < 4097 {
+    for i in 0..4097 {
         put_line(&mut *text, i);
-        i += 1;
     }
 }
 

@@ -70,10 +70,8 @@ fn show_entries(rt: &impl Print, img: &[u8], at: usize, n: usize) -> io::Result<
     requires { (n < 256) × (at < 1152921504606846976) }
 {
     print!(rt; " {n}")?;
-    let mut i: usize = 0;
-    while i < n {
+    for i in 0..n {
         entry(rt, chip_read::entry_at(img, at + 8 * i))?;
-        i += 1;
     }
     line(rt)
 }
@@ -110,11 +108,9 @@ fn holds(bench: Bench, img: &[u8], key: u32) -> bool {
 
 // How many of the keys 1 to n are found.
 fn found(rt: &impl Print, bench: Bench, img: &[u8], n: u32) -> io::Result<()> {
-    let mut key: u32 = 0;
     let mut held: u32 = 0;
-    while key < n {
-        key += 1;
-        if holds(bench, img, key) {
+    for key in 0..n {
+        if holds(bench, img, key + 1) {
             if held < n {
                 held += 1;
             }
@@ -152,10 +148,8 @@ fn show_root(rt: &impl Print, bench: Bench, img: &[u8]) -> io::Result<()> {
 
 // As many keys as a root of level 1 stores, from 1 on: a page each.
 fn fill(rt: &impl Print, bench: Bench, img: &mut [u8]) -> io::Result<()> {
-    let mut key: u32 = 0;
-    while key < bench.full {
-        key += 1;
-        insert(rt, bench, &mut *img, key)?;
+    for key in 0..bench.full {
+        insert(rt, bench, &mut *img, key + 1)?;
         show_root(rt, bench, &*img)?;
     }
     Ok(())

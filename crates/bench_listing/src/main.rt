@@ -15,10 +15,8 @@ fn number(rt: &impl Print, n: u32) -> io::Result<()> {
 
 // The numbers of a buffer.
 fn numbers(rt: &impl Print, buffer: &[u32]) -> io::Result<()> {
-    let mut i: usize = 0;
-    while i < buffer.len() {
-        number(rt, buffer[i])?;
-        i += 1;
+    for n in buffer {
+        number(rt, *n)?;
     }
     println!(rt)
 }
@@ -71,9 +69,7 @@ fn put(kind: u32, img: &mut [u8], key: u32, addr: u32) {
 fn fill(kind: u32, img: &mut [u8], n: u32)
     requires { n ≤ 1000 }
 {
-    let mut i: u32 = 0;
-    while i < n {
-        i += 1;
+    for i in 1..n + 1 {
         put(kind, &mut *img, 10 * i, 10 * i + 1);
     }
 }

@@ -2,10 +2,13 @@
 // first.
 #![tactic(auto)]
 
-ghost use Rattle.std.specs.Prelude.{◌≡◌, List, ◌++◌, ℕ, ◌-◌, ◌≤◌, length, IfOk};
-ghost use Rattle.compare_machine.specs.Machine.{ran};
+ghost use Rattle.std.specs.Prelude.{◌≡◌, true, List, ◌++◌, ℕ, ◌-◌, ◌≤◌, length, IfOk, OnOk, IfSome};
+ghost use Rattle.std.specs.Io.KnownBytes.{Appends, IsAtEnd};
+ghost use Rattle.compare_scores.specs.Compare.{compared};
+ghost use Rattle.compare_machine.specs.Machine.{goes, ran};
 ghost use Rattle.compare_machine.specs.Run.{state_of, Steady};
 ghost use Rattle.compare_input.specs.Left.{left};
+ghost use Rattle.compare_input.specs.Taken.{Takes};
 
 use compare_machine::Run;
 use std::io;
@@ -38,7 +41,10 @@ fn play_input<R: Read>(
     run: Run,
 ) -> io::Result<Run>
     requires { Steady run line.old × (length part.old ≡ 65536) }
-    ensures { IfOk result (λ r. Steady r line.new) }
+    ensures steady { IfOk result (λ r. Steady r line.new) }
+    ensures ended { IfOk result (λ r. goes r.course ≡ true → IsAtEnd (R.remaining from.new)) }
+    ensures takes { IfOk result (λ r. Takes (R.remaining from.old) (R.remaining from.new)
+        (state_of run line.old mu.old plain.old) (state_of r line.new mu.new plain.new)) }
 {
     let mut state = run;
     while compare_machine::is_going(state) {
@@ -51,7 +57,11 @@ fn play_input<R: Read>(
     Ok(state)
 }
 
-pub fn compare<R: Read, W: Write>(from: &mut R, to: &mut W) -> io::Result<()> {
+// Where the bytes are known, what is written is `compared` of all that there is to read.
+pub fn compare<R: Read, W: Write>(from: &mut R, to: &mut W) -> io::Result<()>
+    ensures { OnOk result (IfSome (R.remaining from.old)
+        (λ input. Appends (W.contents to.old) (W.contents to.new) (compared input))) }
+{
     let mut mu: [u8; 50688] = [255; 50688];
     let mut plain: [u8; 50688] = [255; 50688];
     let mut line: [u8; 34] = [0; 34];

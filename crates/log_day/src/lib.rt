@@ -1,9 +1,14 @@
 // A day's log from a reader, answered to a writer. The image is three blocks of the small chip, all 255 at first.
 #![tactic(auto)]
 
-ghost use Rattle.std.specs.Prelude.{◌≡◌, ◌-◌, ◌≤◌, length, IfOk};
+ghost use Rattle.std.specs.Prelude.{◌≡◌, false, [], ◌-◌, ◌≤◌, length, take, IfOk, OnOk, IfSome};
+ghost use Rattle.std.specs.Io.KnownBytes.{Appends, IsAtEnd};
+ghost use Rattle.geometry.specs.Geometry.{small};
+ghost use Rattle.log_lines.specs.Replay.{replayed};
+ghost use Rattle.log_machine.specs.Run.{state_of};
 ghost use Rattle.log_feed.specs.Left.{left};
 ghost use Rattle.log_day.specs.Emptied.{emptied, Drained};
+ghost use Rattle.log_day.specs.Answered.{Answers, Passes};
 
 use log_machine::Run;
 use std::io;
@@ -12,7 +17,9 @@ use std::io::{Read, Write};
 // What waits to be written is written.
 fn write_out<W: Write>(to: &mut W, out: &[u8], run: Run) -> io::Result<Run>
     requires { run.wrote ≤ length out.now }
-    ensures { IfOk result (λ r. r ≡ emptied run) }
+    ensures run { IfOk result (λ r. r ≡ emptied run) }
+    ensures bytes { OnOk result (Appends (W.contents to.old) (W.contents to.new)
+        (take run.wrote out.now)) }
 {
     to.write_all(&out[..run.wrote])?;
     Ok(Run {
@@ -35,6 +42,8 @@ fn play_read<W: Write>(
     requires { Drained run line.old × (length out.old ≡ 65536) × (length part.now ≤ 65536) }
     ensures ready { IfOk result (λ r. Drained r line.new) }
     ensures left { IfOk result (λ r. left r ≤ left run - length part.now) }
+    ensures answers { IfOk result (λ r. Answers (W.contents to.old) (W.contents to.new)
+        (state_of run line.old img.old) (state_of r line.new img.new) part.now []) }
 {
     let mut at: usize = 0;
     let mut state = run;
@@ -57,7 +66,11 @@ fn play_input<R: Read, W: Write>(
     run: Run,
 ) -> io::Result<Run>
     requires { Drained run line.old × (length out.old ≡ 65536) × (length part.old ≡ 65536) }
-    ensures { IfOk result (λ r. Drained r line.new) }
+    ensures ready { IfOk result (λ r. Drained r line.new) }
+    ensures ended { IfOk result (λ r. r.over ≡ false → IsAtEnd (R.remaining from.new)) }
+    ensures passes { IfOk result (λ r. Passes (R.remaining from.old) (R.remaining from.new)
+        (W.contents to.old) (W.contents to.new)
+        (state_of run line.old img.old) (state_of r line.new img.new)) }
 {
     let mut state = run;
     while !state.over {
@@ -77,7 +90,11 @@ fn play_input<R: Read, W: Write>(
     Ok(state)
 }
 
-pub fn replay<R: Read, W: Write>(from: &mut R, to: &mut W) -> io::Result<()> {
+// Where the bytes are known, what is written is `replayed` of all that there is to read.
+pub fn replay<R: Read, W: Write>(from: &mut R, to: &mut W) -> io::Result<()>
+    ensures { OnOk result (IfSome (R.remaining from.old)
+        (λ input. Appends (W.contents to.old) (W.contents to.new) (replayed small input))) }
+{
     let mut image: [u8; 50688] = [255; 50688];
     let mut line: [u8; 34] = [0; 34];
     let mut out: [u8; 65536] = [0; 65536];

@@ -1,0 +1,2 @@
+-- Laws of what is taken and reported.
+mod Taking

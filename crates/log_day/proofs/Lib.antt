@@ -1,0 +1,2 @@
+-- Laws of what is written for what is read.
+mod Answering
