@@ -2,10 +2,6 @@ use borrow.Author.Rules.{rules}
 use Rattle.index.specs.ByNumber.{index_laws}
 use Rattle.index.proofs.delete.Statement.{statement}
 use Rattle.index.proofs.delete.Tie as tie
-use Rattle.index.proofs.delete.Reads as reads
-use Rattle.index.proofs.delete.Lts as lts
-use Rattle.call_delete.proofs.delete_on.Reads as delete-on-reads
-use Rattle.geometry.proofs.choose.Reads as choose-reads
 
 ruleset all = (rules, index_laws)
 

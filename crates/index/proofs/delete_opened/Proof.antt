@@ -2,10 +2,6 @@ use borrow.Author.Rules.{rules}
 use Rattle.index.specs.Opened.{opened_laws}
 use Rattle.index.proofs.delete_opened.Statement.{statement}
 use Rattle.index.proofs.delete_opened.Tie as tie
-use Rattle.index.proofs.delete_opened.Reads as reads
-use Rattle.index.proofs.delete_opened.Lts as lts
-use Rattle.call_delete.proofs.delete_opened_on.Reads as delete-opened-on-reads
-use Rattle.geometry.proofs.choose.Reads as choose-reads
 
 ruleset all = (rules, opened_laws)
 

@@ -2,10 +2,6 @@ use borrow.Author.Rules.{rules}
 use Rattle.index.specs.Opened.{opened_laws}
 use Rattle.index.proofs.insert_opened.Statement.{statement}
 use Rattle.index.proofs.insert_opened.Tie as tie
-use Rattle.index.proofs.insert_opened.Reads as reads
-use Rattle.index.proofs.insert_opened.Lts as lts
-use Rattle.geometry.proofs.choose.Reads as choose-reads
-use Rattle.call_insert.proofs.insert_opened_on.Reads as insert-opened-on-reads
 
 ruleset all = (rules, opened_laws)
 

@@ -2,10 +2,6 @@ use borrow.Author.Rules.{rules}
 use Rattle.index.specs.ByNumber.{index_laws}
 use Rattle.index.proofs.list.Statement.{statement}
 use Rattle.index.proofs.list.Tie as tie
-use Rattle.index.proofs.list.Reads as reads
-use Rattle.index.proofs.list.Lts as lts
-use Rattle.geometry.proofs.choose.Reads as choose-reads
-use Rattle.call_list.proofs.list_on.Reads as list-on-reads
 
 ruleset all = (rules, index_laws)
 

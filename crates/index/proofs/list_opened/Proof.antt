@@ -2,10 +2,6 @@ use borrow.Author.Rules.{rules}
 use Rattle.index.specs.Opened.{opened_laws}
 use Rattle.index.proofs.list_opened.Statement.{statement}
 use Rattle.index.proofs.list_opened.Tie as tie
-use Rattle.index.proofs.list_opened.Reads as reads
-use Rattle.index.proofs.list_opened.Lts as lts
-use Rattle.geometry.proofs.choose.Reads as choose-reads
-use Rattle.open_calls.proofs.list_opened_on.Reads as list-opened-on-reads
 
 ruleset all = (rules, opened_laws)
 

@@ -2,10 +2,6 @@ use borrow.Author.Rules.{rules}
 use Rattle.index.specs.Opened.{opened_laws}
 use Rattle.index.proofs.lookup_opened.Statement.{statement}
 use Rattle.index.proofs.lookup_opened.Tie as tie
-use Rattle.index.proofs.lookup_opened.Reads as reads
-use Rattle.index.proofs.lookup_opened.Lts as lts
-use Rattle.geometry.proofs.choose.Reads as choose-reads
-use Rattle.open_calls.proofs.lookup_opened_on.Reads as lookup-opened-on-reads
 
 ruleset all = (rules, opened_laws)
 

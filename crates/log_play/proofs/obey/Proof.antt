@@ -2,12 +2,6 @@ use borrow.Author.Rules.{rules}
 use Rattle.log_play.specs.SmallCalls.{playing_laws}
 use Rattle.log_play.proofs.obey.Statement.{statement}
 use Rattle.log_play.proofs.obey.Tie as tie
-use Rattle.log_play.proofs.obey.Reads as reads
-use Rattle.log_play.proofs.obey.Lts as lts
-use Rattle.index.proofs.format.Reads as format-reads
-use Rattle.index.proofs.lookup.Reads as lookup_reads
-use Rattle.log_play.proofs.put.Reads as put_reads
-use Rattle.log_play.proofs.remove.Reads as remove-reads
 
 ruleset all = (rules, playing_laws)
 

@@ -2,9 +2,6 @@ use borrow.Author.Rules.{rules}
 use Rattle.log_play.specs.SmallCalls.{playing_laws}
 use Rattle.log_play.proofs.put.Statement.{statement}
 use Rattle.log_play.proofs.put.Tie as tie
-use Rattle.log_play.proofs.put.Reads as reads
-use Rattle.log_play.proofs.put.Lts as lts
-use Rattle.index.proofs.insert.Reads as insert-reads
 
 ruleset all = (rules, playing_laws)
 

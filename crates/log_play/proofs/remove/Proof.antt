@@ -2,9 +2,6 @@ use borrow.Author.Rules.{rules}
 use Rattle.log_play.specs.SmallCalls.{playing_laws}
 use Rattle.log_play.proofs.remove.Statement.{statement}
 use Rattle.log_play.proofs.remove.Tie as tie
-use Rattle.log_play.proofs.remove.Reads as reads
-use Rattle.log_play.proofs.remove.Lts as lts
-use Rattle.index.proofs.delete.Reads as delete-reads
 
 ruleset all = (rules, playing_laws)
 
