@@ -5,7 +5,8 @@ use Rattle.geometry.specs.declared.Geometry.{Geometry}
 use Rattle.geometry.specs.declared.Finding.TheVariants.{Good}
 use Rattle.geometry.specs.declared.Verdict.TheVariants.{Sound}
 use Rattle.geometry.specs.Geometry.{small, large, first_slot, slots_of, half, root_slots, root_most}
-use Rattle.geometry.specs.Shape.{Known, is_small, is_large, shape, shape_core}
+use Rattle.geometry.specs.Shape.{Known, is_small, is_large, shape_core}
+use Rattle.geometry.proofs.Shape.{shape}
 use Rattle.geometry.specs.Bounds.{four_bytes}
 use Rattle.model.specs.Image.{pages_of, chip_of}
 use Rattle.model.specs.Tree.{map_of}

@@ -9,7 +9,8 @@ use Rattle.geometry.specs.declared.Geometry.{Geometry}
 use Rattle.geometry.specs.declared.Entry.{Entry}
 use Rattle.geometry.specs.declared.Verdict.{Verdict}
 use Rattle.geometry.specs.declared.Verdict.TheVariants.{Sound, Broken}
-use Rattle.geometry.specs.Shape.{Known, Shape, shape_core, shape}
+use Rattle.geometry.specs.Shape.{Known, Shape, shape_core}
+use Rattle.geometry.proofs.Shape.{shape}
 use Rattle.geometry.specs.Tests.{pick, and_both}
 use Rattle.model.specs.Bytes.{seq_at, height_at}
 use Rattle.model.specs.Image.{pages_of, blocks_of, good_length, seq_of, height_of, root_of, Chip, chip_of}
