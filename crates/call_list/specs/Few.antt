@@ -16,7 +16,8 @@ use Rattle.open_record.specs.Opened.{pairs_most}
 use Rattle.theory_counts.specs.Lowest.{or_sound}
 use Rattle.theory_nodes.specs.Nodes.{fit_of}
 use Rattle.theory_nodes.specs.Judge.{r5_most, r5_rises}
-use Rattle.theory_nodes.specs.Between.{between_fewer, ranged_root, most_under, root_most_lem}
+use Rattle.theory_nodes.specs.Between.{between_fewer, most_under, root_most_lem}
+use Rattle.theory_nodes.proofs.Between.{ranged_root}
 
 -- the most pairs of a tree, l levels below its root
 abbrev most_of : Geometry → ℕ → ℕ

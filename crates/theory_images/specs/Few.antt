@@ -14,7 +14,8 @@ use Rattle.model.specs.Listing.{ranged_of}
 use Rattle.theory_lists.specs.All.{All}
 use Rattle.theory_nodes.specs.Entries.{Rises, rises_all}
 use Rattle.theory_nodes.specs.Nodes.{Ok, Rooted, fit_of}
-use Rattle.theory_nodes.specs.Between.{between_fewer, ranged_root, most_under, root_most_lem}
+use Rattle.theory_nodes.specs.Between.{between_fewer, most_under, root_most_lem}
+use Rattle.theory_nodes.proofs.Between.{ranged_root}
 use Rattle.theory_images.specs.Held.{Held, height_most}
 
 -- the most nodes from the one that an entry at level l names down
