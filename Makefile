@@ -4,10 +4,10 @@
 # make proofs     prove all crates: the programs, the plain tree and the bench cases too
 # make replay     build the program that replays a day's log (request 3): build/replay, or build/TARGET/replay for the other processor
 # make compare    build the program that plays a log on both trees (request 12): build/compare, or build/TARGET/compare
-# make check      pass all tests: the gate, which proves all from nothing, and the tests of the compiled code
-# make refusals   try the must-fail edits that the gate leaves out (scripts/refusals)
-# make long-check what is too long for the test command: costs, pages, the other processor under an emulator
-# make seconds    write what the last `make check` took, by crate and edit, into CONTRIBUTING.md (scripts/seconds)
+# make check      pass all tests: the gate, a plain `rt ci`, and the tests of the compiled code
+# make refusals   try the must-fail edits alone, which the gate tries too (scripts/refusals)
+# make long-check of the tests of the compiled code those that take longest: costs, pages, the other processor under an emulator
+# make seconds    write what the last `make check` and the proofs before it took into CONTRIBUTING.md (scripts/seconds)
 # make search     time the search in one node (bench/search.c)
 # make wear       play a year of a camera's life and draw how often each block is erased (bench/wear.c, docs/WEAR.md)
 # make bound      insert keys in several orders and print how many pages go beyond one a key (bench/bound.c, docs/BENCHMARKS.md)
@@ -55,7 +55,7 @@ LIBRARY = build/$(TARGET)/libmutree.a
 PLAIN = build/$(TARGET)/libplain.a
 TOOL_SOURCES = $(wildcard c/*.c)
 TOOL_HEADERS = $(wildcard c/*.h)
-PROOFS = crates.txt $(shell find crates -type f)
+PROOFS = crates.txt $(shell find crates -name out -prune -o -type f -print)
 # What is asked for before ten minutes of proving, and not after: the archive alone needs no compiler.
 NEEDS = rt $(if $(filter library plain,$(MAKECMDGOALS)),,"$(COMPILER)")
 
@@ -75,21 +75,23 @@ build: $(TOOL)
 
 library: $(LIBRARY)
 
-# What is proved for what: the library with the demands, or a crate by its name. The files stand in target/, which the gate removes: after the
-# gate all is built again from what it proved.
-CRATES_library = camera theory_service
+# What is proved for what: the library with the demands, or a crate by its name. A test run in a clean checkout builds from what the gate
+# proved (tests/run writes the files then).
+CRATES_library = camera_c theory_service
 CRATES_all =
-.PRECIOUS: target/proved/%
-target/proved/%: $(PROOFS)
+.PRECIOUS: build/proved/%
+build/proved/%: $(PROOFS)
 	@sh scripts/needs $(NEEDS)
 	@sh scripts/prove $(if $(filter undefined,$(origin CRATES_$*)),$*,$(CRATES_$*))
-	@mkdir -p target/proved
+	@mkdir -p build/proved
 	@touch $@
 
-proofs: target/proved/all
+proofs: build/proved/all
 
-ARCHIVE = scripts/archive scripts/kit scripts/arm
-$(LIBRARY): target/proved/library $(ARCHIVE)
+COMPILED = scripts/compile scripts/kit
+ARCHIVE = scripts/archive $(COMPILED)
+PROGRAM = scripts/program scripts/system.c $(COMPILED)
+$(LIBRARY): build/proved/library $(ARCHIVE)
 	sh scripts/archive $(TARGET) $@
 
 $(TOOL): $(LIBRARY) $(TOOL_SOURCES) $(TOOL_HEADERS)
@@ -101,10 +103,10 @@ replay: $(REPLAY)
 
 compare: $(COMPARE)
 
-$(REPLAY): target/proved/replay scripts/program scripts/kit scripts/arm
+$(REPLAY): build/proved/replay $(PROGRAM)
 	sh scripts/program $(TARGET) $@ "$(COMPILER)" replay
 
-$(COMPARE): target/proved/compare scripts/program scripts/kit scripts/arm
+$(COMPARE): build/proved/compare $(PROGRAM)
 	sh scripts/program $(TARGET) $@ "$(COMPILER)" compare
 
 # The one place from which the tests of the compiled code have their compiler: lines for sh to read.
@@ -124,9 +126,9 @@ long-check: build
 seconds:
 	sh scripts/seconds
 
-# The crate bench_search has the search alone.
-build/$(TARGET)/libsearch.a: target/proved/bench_search $(ARCHIVE)
-	sh scripts/archive $(TARGET) $@ bench_search
+# The crate bench_search has the search alone, bench_search_c its archive.
+build/$(TARGET)/libsearch.a: build/proved/bench_search_c $(ARCHIVE)
+	sh scripts/archive $(TARGET) $@ bench_search_c
 
 build/$(TARGET)/search: bench/search.c build/$(TARGET)/libsearch.a
 	$(COMPILER) $(STRICT) $(CFLAGS) $(LINK) $^ -o $@
@@ -147,11 +149,11 @@ build/$(TARGET)/bound: bench/bound.c tests/independent/judge.c tests/independent
 bound: build/$(TARGET)/bound
 	$(RUN) $<
 
-# Request 12: the crate plain_camera has the plain tree's calls.
+# Request 12: the crate plain_camera has the plain tree's calls, plain_camera_c their archive.
 plain: $(PLAIN)
 
-$(PLAIN): target/proved/plain_camera $(ARCHIVE)
-	sh scripts/archive $(TARGET) $@ plain_camera
+$(PLAIN): build/proved/plain_camera_c $(ARCHIVE)
+	sh scripts/archive $(TARGET) $@ plain_camera_c
 
 PAGES_SOURCES = bench/pages.c bench/life.c tests/plain/seen.c
 build/$(TARGET)/pages: $(PAGES_SOURCES) bench/life.h tests/plain/plain.h tests/plain/seen.h c/mutree.h $(PLAIN) $(LIBRARY)
@@ -181,4 +183,4 @@ uninstall:
 	rm -f $(DESTDIR)$(PREFIX)/lib/pkgconfig/mutree.pc $(DESTDIR)$(PREFIX)/bin/mutree
 
 clean:
-	rm -rf build target
+	rm -rf build crates/*/out

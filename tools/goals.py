@@ -1,6 +1,6 @@
 """The goals of holes in fewer words: paths of `.before` as a count, no module names, no (computed from ..).
 
-usage: rt dev CRATE --allow-holes 2>&1 | goals.py [LONGEST LINE]
+usage: rt check --allow-holes 2>&1 | goals.py [LONGEST LINE]      in a crate's folder
 """
 import re
 import sys
@@ -16,10 +16,13 @@ def main(longest):
         if inside and re.match(r"^ {5,}", line):
             continue
         inside = False
-        if line.startswith("fn ") and ("proved" in line or "no holes" in line) and "not proved" not in line:
+        if re.match(r"checked |statements |library |(fn|impl|struct|enum) .*: proved$", line):
             continue
-        line = re.sub(r"((?: \.before)+)", lambda found: " .before×%d" % found.group(1).count(".before"), line)
-        line = re.sub(r"\b(?:Rattle·\w+\.specs|Rattle·\w+·specs\.specs|mathlib\.Core|lib|denote|Prim\.Native|borrow\.\w+)\.\w+\.", "", line)
+        if line.lstrip().startswith("use "):
+            print(line[:longest])
+            continue
+        line = re.sub(r"((?:\.before){2,})", lambda found: ".before×%d" % found.group(1).count(".before"), line)
+        line = re.sub(r"\b(?:Rattle|mathlib|lib|denote|Prim|borrow|types|native)\.(?:[\w+-]+\.)+(?=[A-Za-z])", "", line)
         print(re.sub(r"\((?:[\w-]+-?reads?\.Asked, [\w-]+\.Learnt(?:, )?)+[^()]*\)", "(..)", line)[:longest])
 
 

@@ -6,14 +6,13 @@ import re
 import sys
 
 IMPORT = re.compile(r"^((?:ghost )?use )([^{};]+)\.\{([^}]*)\}(;?)$")
-PART_OF_A_NAME = r"[\w·\-'′₀-₉]"
+PART_OF_A_NAME = r"[\w\-'′₀-₉]"
 
 
 def is_used(name, text, words):
-    """An operator such as _+_ is used where each of its parts stands."""
-    parts = [part for part in name.split("_") if part]
-    if "_" in name:
-        return all(any(part in word for word in words) for part in parts)
+    """An operator such as ◌+◌ is used where each of its parts stands."""
+    if "◌" in name:
+        return all(any(part in word for word in words) for part in name.split("◌") if part)
     if name == "[]":
         return "[]" in text
     return re.search(r"(?<!%s)%s(?!%s)" % (PART_OF_A_NAME, re.escape(name), PART_OF_A_NAME), text) is not None

@@ -1,5 +1,5 @@
-"""Names the places of a proof: chains like `c .before .before .before .loop` become `let at-loop = c .before .before .before in` and `at-loop .loop`,
-each place counted from the one before it.
+"""Names the places of a proof that walks the code: chains like `c.before.before.before.loop` become `let at_loop = c.before.before.before in` and
+`at_loop.loop`, each place counted from the one before it.
 
 usage: places.py FILES      changes the files. A goal is a definition `NAME c = ..`, or a line that begins with `(λ c.`
 Then: `rt fmt` and `rt check`.
@@ -7,8 +7,8 @@ Then: `rt fmt` and `rt check`.
 import re
 import sys
 
-CHAIN = re.compile(r"\bc((?: \.before){3,}) \.((?!before\b)[a-z0-9-]+)")
-GOAL = re.compile(r"^( *)(\(λ c(?: κs)?\.|[a-z0-9-]+ c(?: κs)? =)[ \n]*", re.M)
+CHAIN = re.compile(r"\bc((?:\.before){3,})\.((?!before\b)[\w-]+)")
+GOAL = re.compile(r"^( *)(\(λ c(?: κs)?\.|[\w-]+ c(?: κs)? =)[ \n]*", re.M)
 
 
 def goals(text):
@@ -18,7 +18,7 @@ def goals(text):
         listed = goal.group(2).startswith("(")
         if listed:
             end = text.index("\n", goal.end())
-            while not re.match(r"\n +(\(λ|[a-z+-]+\)?$)|\n\n|\n$|\n\)", text[end:]):
+            while not re.match(r"\n +(\(λ|[\w+-]+\)?$)|\n\n|\n$|\n\)", text[end:]):
                 end = text.index("\n", end + 1)
         else:
             end = text.find("\n\n", goal.end())
@@ -35,7 +35,7 @@ def named(body):
     for depth in sorted(places):
         field = places[depth]
         seen[field] = seen.get(field, 0) + 1
-        names[depth] = "at-" + field + ("" if seen[field] == 1 else "-%d" % seen[field])
+        names[depth] = "at_" + field.replace("-", "_") + ("" if seen[field] == 1 else "_%d" % seen[field])
     return names
 
 
@@ -46,9 +46,9 @@ def with_names(goal, body):
     margin = goal.group(1) + "    "
     lines, last, count = [], "c", 0
     for depth in sorted(names):
-        lines.append("%slet %s = %s%s in" % (margin, names[depth], last, " .before" * (depth - count)))
+        lines.append("%slet %s = %s%s in" % (margin, names[depth], last, ".before" * (depth - count)))
         last, count = names[depth], depth
-    body = CHAIN.sub(lambda chain: names[chain.group(1).count(".before")] + " ." + chain.group(2), body)
+    body = CHAIN.sub(lambda chain: names[chain.group(1).count(".before")] + "." + chain.group(2), body)
     body = re.sub(r" in let ", " in\n" + margin + "let ", body)
     return goal.group(1) + goal.group(2) + "\n" + "\n".join(lines) + "\n" + margin + body.lstrip()
 

@@ -29,10 +29,9 @@ class Names:
         return self.files.get((crate, name), name)
 
     def antt(self, text):
-        """`Rattle·CRATE`, its files, and the names that the prover makes of a crate's, with hyphens: `calls-CRATE·FUNCTION`."""
-        text = re.sub(r"(Rattle·)([a-z_]+)((?:·specs)?\.specs\.)(\w+)", lambda m: m.group(1) + m.group(2) + m.group(3) + self.file(m.group(2), m.group(4)), text)
-        text = re.sub(r"(Rattle·)(%s)([.·])" % self.any_crate, self.crate, text)
-        return re.sub(r"(calls-|#)(%s)(·)" % self.any_crate, lambda m: m.group(1) + self.crates[m.group(2)].replace("_", "-") + m.group(3), text)
+        """`Rattle.CRATE` and its files."""
+        text = re.sub(r"(Rattle\.)([a-z_]+)(\.specs\.)(\w+)", lambda m: m.group(1) + m.group(2) + m.group(3) + self.file(m.group(2), m.group(4)), text)
+        return re.sub(r"(Rattle\.)(%s)(\.)" % self.any_crate, self.crate, text)
 
     def code(self, text):
         return re.sub(r"((?<![\w:]))(%s)(::)" % self.any_crate, self.crate, self.antt(text))
@@ -40,7 +39,7 @@ class Names:
     def prose(self, text):
         text = re.sub(r"((?<![\w/.-])(?:crates/)?)([a-z_]+)(/specs/)(\w+)(\.antt)", lambda m: m.group(1) + m.group(2) + m.group(3) + self.file(m.group(2), m.group(4)) + m.group(5), text)
         text = re.sub(r"(crates/)(%s)(/|\b)" % self.any_crate, self.crate, text)
-        text = re.sub(r"((?<![\w/.-]))(%s)(/(?:specs|src|proofs|must-fail|refusals)\b)" % self.any_crate, self.crate, text)
+        text = re.sub(r"((?<![\w/.-]))(%s)(/(?:specs|src|proofs|must-fail)\b)" % self.any_crate, self.crate, text)
         return re.sub(r"((?<![\w:]))(%s)(::)" % self.any_crate, self.crate, text)
 
     def list_of_crates(self, text):
@@ -48,7 +47,8 @@ class Names:
         for line in text.split("\n"):
             if ":" in line and not line.startswith("#"):
                 name, needs = line.split(":", 1)
-                line = "".join([self.crates.get(name, name), ":"] + [" " + self.crates.get(need, need) for need in needs.split()])
+                words = name.split()  # the crate, and `staticlib` of a library for C
+                line = " ".join([self.crates.get(words[0], words[0])] + words[1:]) + ":" + "".join(" " + self.crates.get(need, need) for need in needs.split())
             lines.append(line)
         return "\n".join(lines)
 

@@ -1,7 +1,8 @@
-"""Writes the frames of proof files that are missing: each function without a proof whose needs the prover can't answer alone gets the file that
-`rt dev` offers, with a hole for each fact. Files that stand are left. The prover's short lines are printed.
+"""Writes the frames of proof files that are missing: each function without a proof whose goals the prover can't answer alone gets the file that
+`rt check` offers, with a hole for each fact. Files that stand are left. The prover's short lines are printed. (`rt check --start CRATE::F` writes
+those of one function, its invariants too.)
 
-usage: skeleton.py CRATE [WORDS of rt dev]      at the repository's root
+usage: skeleton.py CRATE [WORDS of rt check]      at the repository's root
 """
 import os
 import re
@@ -19,7 +20,8 @@ def offered(lines, at):
 
 
 def main(words):
-    ran = subprocess.run(["rt", "dev"] + words, stdout=subprocess.PIPE, stderr=subprocess.STDOUT, env=dict(os.environ, RT_CUT="0"))
+    os.chdir("crates/" + words[0])
+    ran = subprocess.run(["rt", "check"] + words[1:], stdout=subprocess.PIPE, stderr=subprocess.STDOUT)
     lines, at = ran.stdout.decode().splitlines(), 0
     while at < len(lines):
         line, at = lines[at], at + 1

@@ -11,7 +11,7 @@ import sys
 import textwrap
 
 WIDTH = 120
-OPEN, CLOSE = "([{⟨⌜", ")]}⟩⌝"
+OPEN, CLOSE = "([{⟨", ")]}⟩"
 BEFORE = ("→", "∙", "≡")  # a line may well begin with these
 AFTER = ("in", "=", "×", "⊎", "$", "∵")  # and end with these
 NEVER = ("←", "λ", ":", "let", "rw", "simp", "pub", "abbrev", "record")  # and never end with these
@@ -21,7 +21,7 @@ JOINTS = BEFORE + AFTER + ("+", "-", "*", "/", "&", "++", "∷", "≤", "<", ":"
 def edits_of(path):
     """The texts of a file that must-fail edits look for."""
     crate = path.split("/")[path.split("/").index("crates") + 1] if "crates/" in path else None
-    for edit in glob.glob("crates/%s/must-fail/*.edit" % crate) + glob.glob("crates/%s/refusals/*.edit" % crate):
+    for edit in glob.glob("crates/%s/must-fail/*.edit" % crate):
         text = open(edit, encoding="utf-8").read()
         if path.endswith("/" + re.search(r"(?m)^file: (.*)$", text).group(1)):
             yield from re.findall(r"(?m)^old: (.*)$", text)
@@ -42,11 +42,11 @@ def cost(line, at, depth):
 
 
 def may_break(before, rest):
-    return before.lstrip("".join(OPEN)) not in NEVER and not rest.startswith((")", "}", "⌝", ".", ":"))
+    return before.lstrip("".join(OPEN)) not in NEVER and not rest.startswith((")", "}", ".", ":"))
 
 
 def is_type(line):
-    return bool(re.match(r" *((pub |abbrev |unfoldable )*[^ =]+ : |[→≡] |module |pub record |record [A-Z])", line)) or "⌜" in line
+    return bool(re.match(r" *((pub |abbrev |unfoldable )*[^ =]+ : |[→≡] |module |pub record |record [A-Z]|requires |ensures )", line))
 
 
 def break_at(line, start):
@@ -105,10 +105,10 @@ def main(paths):
     for path in paths:
         text = open(path, encoding="utf-8").read()
         kept = list(edits_of(path))
-        ghost_only = path.endswith(".rt")
+        in_code = path.endswith(".rt")
         lines = []
         for line in comments(text).split("\n"):
-            plain = is_left(line, kept) or (ghost_only and not re.search(r"[⌜⌝]|^ *≡", line))
+            plain = is_left(line, kept) or (in_code and not re.match(r" *(requires |ensures |[≡→] )", line))
             lines += [line] if plain else pieces(line)
         now = "\n".join(lines)
         if now != text:

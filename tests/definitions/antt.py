@@ -1,9 +1,9 @@
 """Runs the definitions of crates/geometry/specs and crates/model/specs as they stand, and those of texts (crates/text_lines, text_decimals, text_carrying).
 
 A small translator for the part of antt that these files use: clauses by patterns, records, data, `pick`, `let`, `λ`.
-Arguments are worked out only where they are needed, as in mathematics. `blank`, `written`, `least`, `arg` and `freshCode`,
-and the library's `getD`, `set`, `replicate`, `bitXor`, `ones`, `onesIn`, `trailingZeros`, are replaced by quick Python of the same
-meaning (`plainCode` is `freshCode` as it stands); a few values are kept once known.
+Arguments are worked out only where they are needed, as in mathematics. `blank`, `written`, `least`, `arg` and `fresh_code`,
+and the library's `get_or`, `set`, `replicate`, `bit_xor`, `ones`, `ones_in`, `count_trailing_zeros`, are replaced by quick Python of the same
+meaning (`plain_code` is `fresh_code` as it stands); a few values are kept once known.
 """
 import re
 import sys
@@ -12,25 +12,13 @@ from functools import lru_cache
 
 sys.setrecursionlimit(200000)
 
-TOKEN = re.compile(r"""\s*(?:(--[^\n]*)|([0-9]+)|(\.[a-z][A-Za-z0-9-]*)|([^\s(){};,=.λ∷&+*/%\[\]-][^\s(){};,.∷&\[\]]*|-(?=\s)|[λ=.(){};&+*/%∷]|\[\]|\+\+))""")
+# A comment; a number; a projection, which stands right behind a name or a bracket; a name; a sign. A sign of propositions is no
+# definition's name, so that what has one can be read and not worked out.
+TOKEN = re.compile(r"""\s*(?:(--[^\n]*)|([0-9]+|(?<=[\w')])\.[a-z]\w*|[^\W\d][\w']*|\[\]|\+\+|\S))""")
 
 
 def tokens(text):
-    out, i = [], 0
-    while i < len(text):
-        if text[i:].strip() == "":
-            break
-        m = TOKEN.match(text, i)
-        if not m:
-            raise SyntaxError("at: " + text[i:i + 40])
-        i = m.end()
-        if m.group(1):
-            continue
-        word = m.group(2) or m.group(3) or m.group(4)
-        if word == "+" and text[i:i + 1] == "+":
-            word, i = "++", i + 1
-        out.append(word)
-    return out
+    return [m.group(2) for m in TOKEN.finditer(text) if m.group(2)]
 
 
 # ---- values: numbers, bytes, tuples (lists), functions, records and constructors as Python tuples with a tag
@@ -147,16 +135,17 @@ class Parser:
         return lambda env: f(force(left(env)), force(right(env)))
 
     def application(self):
-        head, args = self.atom(), []
-        while True:
-            w = self.peek()
-            if w is not None and w.startswith(".") and len(w) > 1:
-                self.take()
-                head, args = self.field(self.apply(head, args), w[1:]), []
-            elif w is None or w in (")", "}", ";", "in", "=", ".", "&", "∷", "++", "⊕", "+", "-", "*", "/", "%", "^"):
-                return self.apply(head, args)
-            else:
-                args.append(self.atom())
+        head, args = self.projected(), []
+        while self.peek() not in (None, ")", "}", ";", "in", "=", ".", "&", "∷", "++", "⊕", "+", "-", "*", "/", "%", "^"):
+            args.append(self.projected())
+        return self.apply(head, args)
+
+    def projected(self):
+        """An atom with the fields that are taken of it."""
+        value = self.atom()
+        while (self.peek() or "").startswith(".") and self.peek() != ".":
+            value = self.field(value, self.take()[1:])
+        return value
 
     @staticmethod
     def field(value, name):
@@ -273,15 +262,15 @@ class Definitions:
         yield "ltb", number(lambda a, b: a < b)
         yield "min", number(min)
         yield "max", number(max)
-        yield "onesIn", number(lambda k, n: bin(n % 2 ** k).count("1"))
-        yield "trailingZeros", number(lambda k, n: next((i for i in range(k) if n >> i & 1), k))
+        yield "ones_in", number(lambda k, n: bin(n % 2 ** k).count("1"))
+        yield "count_trailing_zeros", number(lambda k, n: next((i for i in range(k) if n >> i & 1), k))
         yield "ones", Function(1, lambda n: bin(force(n)).count("1"))
         yield "not", Function(1, lambda b: not force(b))
         yield "length", Function(1, lambda l: len(force(l)))
         yield "take", Function(2, lambda n, l: force(l)[:force(n)])
         yield "drop", Function(2, lambda n, l: force(l)[force(n):])
         yield "replicate", Function(2, lambda n, v: bytes([force(v)]) * force(n))
-        yield "getD", Function(3, lambda l, i, d: (lambda xs, k: force(xs[k]) if k < len(xs) else force(d))(force(l), force(i)))
+        yield "get_or", Function(3, lambda l, i, d: (lambda xs, k: force(xs[k]) if k < len(xs) else force(d))(force(l), force(i)))
         yield "set", Function(3, lambda l, i, v: put(force(l), force(i), force(v)))
         yield "true", True
         yield "false", False
@@ -329,9 +318,9 @@ class Definitions:
         yield "least", Function(2, least)
         yield "arg", Function(2, arg)
         yield "taken", Function(4, taken)
-        yield "plainCode", self.names["freshCode"]
-        yield "freshCode", Function(2, fresh)
-        for name in ("erased", "seqAt", "heightAt", "nodeAt", "rootOf", "maxSeq"):
+        yield "plain_code", self.names["fresh_code"]
+        yield "fresh_code", Function(2, fresh)
+        for name in ("erased", "seq_at", "height_at", "node_at", "root_of", "max_seq"):
             yield name, self.kept(self.names[name])
 
     @staticmethod

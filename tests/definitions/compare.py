@@ -54,7 +54,7 @@ def patrols(d, m, rng, turns, met):
         img = bytearray(reference.recoded(m, bytes(img)))
         at, code = page * g.page_size + 256 * half, reference.code_place(g, page, half)
         if turn < 8:
-            same("the code of a half", (d["plainCode"](bytes(img), at),), (d["freshCode"](bytes(img), at),), bytes(img))
+            same("the code of a half", (d["plain_code"](bytes(img), at),), (d["fresh_code"](bytes(img), at),), bytes(img))
         for _ in range(rng.choice([0, 1, 1, 1, 2, 2, 3, 4])):
             n = rng.randrange(2048 + 24) if rng.random() < .5 else rng.choice([rng.randrange(2048), 2048 + rng.randrange(24)])
             i = at + n // 8 if n < 2048 else code + (n - 2048) // 8
@@ -67,12 +67,12 @@ def patrols(d, m, rng, turns, met):
         elif u < .13:
             img = img[:-1]
         theirs = reference.patrolled(m, img, page, half)
-        ours = outcome(d["patrolOf"](g.number, img, page, half))
+        ours = outcome(d["patrol_of"](g.number, img, page, half))
         same("patrol of half %d of page %d" % (half, page), ours, theirs, img)
         key = "patrol LENGTH" if theirs[0] else "patrol %d" % theirs[1]
         met[key] = met.get(key, 0) + 1
     img = b"\xff" * 50688
-    same("patrol of geometry 2", outcome(d["patrolOf"](2, img, 0, 0)), (1, 0, 0, 0, 0, 0, img), img)
+    same("patrol of geometry 2", outcome(d["patrol_of"](2, img, 0, 0)), (1, 0, 0, 0, 0, 0, img), img)
 
 
 def compare(seconds, seed, name):

@@ -54,8 +54,8 @@ def six(record):
 def opens(d, m, img, met):
     """The opening of an image, sound or not."""
     answer, record, where = m.open(img)
-    same("opening", outcome(force(d["openingOf"](m.G.number, img))), (answer, 0, 0, 0) + where + (img,), img)
-    same("the record of an image", six(d["openedOf"](m.G.number, img)), record, img)
+    same("opening", outcome(force(d["opening_of"](m.G.number, img))), (answer, 0, 0, 0) + where + (img,), img)
+    same("the record of an image", six(d["opened_of"](m.G.number, img)), record, img)
     met["opened" if answer == 0 else "refused"] = met.get("opened" if answer == 0 else "refused", 0) + 1
     return record
 
@@ -78,10 +78,10 @@ def reads(d, m, rng, img, record, settled, met):
     """A lookup and a list with the record."""
     keys = [key for key, _ in m.map_of(img)] if m.refusal(img) is None else []
     key = rng.choice(keys + [rng.randrange(2 ** 32)])
-    ours = outcome(force(d["lookupWithOf"](m.G.number, img, as_record(record), key)))
+    ours = outcome(force(d["lookup_with_of"](m.G.number, img, as_record(record), key)))
     low, high = listing.some_range(rng, keys)
     numbers_lent = tuple(rng.randrange(2 ** 32) for _ in range(rng.randrange(9)))
-    ours_listed = listed(force(d["listWithOf"](m.G.number, img, as_record(record), low, high, numbers_lent)))
+    ours_listed = listed(force(d["list_with_of"](m.G.number, img, as_record(record), low, high, numbers_lent)))
     if not settled:
         same("a lookup with another record", (ours[0] in (0, 4), ours[6]), (True, img), img)
         same("a list with another record", (ours_listed[0],), (0,), img)
@@ -106,7 +106,7 @@ def updates(d, m, rng, img, record, settled, call, met):
     sound = m.refusal(img) is None
     allowance = reference.allowances(rng, len(m.plan(img, call)[1]) if sound else 0)
     words = marking.some_words(rng, m, img)
-    reply = force(d["%sWithOf" % call[0]](m.G.number, img, numbers(words), as_record(record), *call[1:], allowance))
+    reply = force(d["%s_with_of" % call[0]](m.G.number, img, numbers(words), as_record(record), *call[1:], allowance))
     ours = outcome(force(reply.fields["outcome"])), six(reply.fields["opened"]), tuple(deep(reply.fields["words"]))
     if not m.good_length(img):
         same("%s of a bad length" % call[0], ours, ((1, 0, 0, 0, 0, 0, img), record, numbers(words)), img)

@@ -49,7 +49,7 @@ def updated(d, plain, m, rng, img, call, met):
     """One update with an allowance around what it needs, and a lookup of its key. Returns the image that is left."""
     needed = len(m.plan(img, call)[1]) if m.refusal(img) is None else 0
     allowance = reference.allowances(rng, needed)
-    name = "plainInsert" if call[0] == "insert" else "plainDelete"
+    name = "plain_insert" if call[0] == "insert" else "plain_delete"
     theirs = m.run(img, call, allowance)
     same("%s allowance %d" % (call, allowance), outcome(d[name](plain, img, *call[1:], allowance)), rest(theirs), img)
     same("lookup", outcome(d["lookup"](plain, img, call[1])), rest(m.lookup(img, call[1])), img)
@@ -87,7 +87,7 @@ def high(d, plain, m, rng, fuzz, met):
         img = tree.image(m, 9)
         call = "insert", images.absent(rng, dict(m.map_of(img)), tree.leaf_keys(True)), 5
         theirs = m.run(img, call)
-        same("%s" % (call,), outcome(d["plainInsert"](plain, img, *call[1:], 2 ** 32 - 1)), rest(theirs), img)
+        same("%s" % (call,), outcome(d["plain_insert"](plain, img, *call[1:], 2 ** 32 - 1)), rest(theirs), img)
         if theirs.numbers() != (0 if pages else 5, 0, pages, 0):
             sys.exit("definitions of request 12: an insert of %d pages at height %d is none" % (pages, height))
         add(met, "insert of %d pages" % pages if pages else "insert answer 5")
@@ -97,8 +97,8 @@ def formats(d, plain, m):
     for length in (0, 2 * m.G.block_size, 3 * m.G.block_size - 1, 3 * m.G.block_size):
         img = b"\x5a" * length
         same("format of %d" % length, outcome(d["format"](plain, img)), rest(m.format(img)), img)
-        same("insert in %d" % length, outcome(d["plainInsert"](plain, img, 1, 2, 3)), rest(m.insert(img, 1, 2, 3)), img)
-        same("delete in %d" % length, outcome(d["plainDelete"](plain, img, 1, 3)), rest(m.delete(img, 1, 3)), img)
+        same("insert in %d" % length, outcome(d["plain_insert"](plain, img, 1, 2, 3)), rest(m.insert(img, 1, 2, 3)), img)
+        same("delete in %d" % length, outcome(d["plain_delete"](plain, img, 1, 3)), rest(m.delete(img, 1, 3)), img)
 
 
 def ended_at(model, trees, text):

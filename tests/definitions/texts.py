@@ -31,14 +31,14 @@ def numbers(d, rng, turns):
             at = rng.randrange(len(word) + 1)
             word = rng.choice([b"", b"0" + word, word[:at] + bytes([rng.choice([0, 9, 32, 43, 45, 47, 48, 58, 255])]) + word[at:]])
         theirs = read(word)
-        ours = deep(d["numberOf"](word))
+        ours = deep(d["number_of"](word))
         same("number %r" % word, ours, ("none",) if theirs is None else ("some", theirs), b"")
     return 2 * turns
 
 
 def reading(d, text):
     """The definitions' reading of a text as the model gives it."""
-    kind, what = deep(d["readText"](text))
+    kind, what = deep(d["read_text"](text))
     return (None, what) if kind == "bad" else ([(e["key"], e["addr"]) for e in what], None)
 
 
@@ -52,7 +52,7 @@ def readings(d, m, rng, turns):
         same("reading of %r" % text, reading(d, text), theirs, text)
         bad += theirs[0] is None
         if theirs[0] is not None:
-            same("the text of %r" % text, (bytes(deep(d["textOf"](entries(theirs[0])))),), (text,), text)
+            same("the text of %r" % text, (bytes(deep(d["text_of"](entries(theirs[0])))),), (text,), text)
     return turns, bad
 
 
@@ -61,7 +61,7 @@ def exported(d, m, rng, img):
     lent = rng.randbytes(rng.choice([0, len(text), len(text) + 3, max(len(text) - 1, 0)]))
     want = carrying.wanted_export(m, img, lent, bytes(carrying.RESULT))
     six = tuple(int.from_bytes(want[2][4 * i:4 * i + 4], "little") for i in range(6))
-    ours = outcome(d["exportOf"](m.G.number, img, lent))
+    ours = outcome(d["export_of"](m.G.number, img, lent))
     same("export into %d bytes" % len(lent), ours[:6] + (bytes(deep(ours[6])),), six + (want[3],), img)
 
 
@@ -71,7 +71,7 @@ def imported(d, m, rng):
     img = rng.choice([b"\xff", b"\x5a"]) * (3 * m.G.block_size - (rng.random() < .1))
     want = carrying.wanted_import(m, img, text, bytes(carrying.RESULT))
     six = tuple(int.from_bytes(want[2][4 * i:4 * i + 4], "little") for i in range(6))
-    same("import of %r" % text, outcome(d["importOf"](m.G.number, img, text)), six + (want[1],), img)
+    same("import of %r" % text, outcome(d["import_of"](m.G.number, img, text)), six + (want[1],), img)
     return want[0], want[1]
 
 

@@ -42,7 +42,7 @@ def theirs(m, img, call, allowance, words):
 
 def ours(d, m, img, call, allowance, words):
     """The same by the definitions, the geometry by its number."""
-    reply = force(d["%sLiveOf" % call[0]](m.G.number, img, numbers(words), *call[1:], allowance))
+    reply = force(d["%s_live_of" % call[0]](m.G.number, img, numbers(words), *call[1:], allowance))
     return outcome(force(reply.fields["outcome"])), tuple(deep(reply.fields["words"]))
 
 
@@ -67,7 +67,7 @@ def some_image(rng, fuzz, m):
 def no_chip(d, rng):
     """A number that is no chip's leaves image and words."""
     img, words = b"\xff" * 50688, tuple(rng.randrange(2 ** 32) for _ in range(5))
-    for name, args in (("insertLiveOf", (1, 2, 3)), ("deleteLiveOf", (1, 3))):
+    for name, args in (("insert_live_of", (1, 2, 3)), ("delete_live_of", (1, 3))):
         reply = force(d[name](2, img, words, *args))
         same(name, (outcome(force(reply.fields["outcome"])), tuple(deep(reply.fields["words"]))), ((1, 0, 0, 0, 0, 0, img), words), img)
 

@@ -252,7 +252,8 @@ module _ (g : Geometry) (img : List ℕ) (l p : ℕ) where
 module _ (g : Geometry) (n : ℕ) (img : List ℕ) (j : Judgement) (t u : List ℕ) (x : Judged g n img j t u) where
   pub sound_few : Known g → j.verdict ≡ Sound
       → length (map_of (chip_with g img j.survey.level j.survey.root)) < four_bytes
-  sound_few known e = rw (chip_is g n img j.survey x.survey) (few_map g n img known (sym x.verdict ∙ e))
+  sound_few known e = subst (λ (c : Chip). length (map_of c) < four_bytes) (sym (chip_is g n img j.survey x.survey))
+      (few_map g n img known (sym x.verdict ∙ e))
 
   pub exported_broken : (r p : ℕ) (b : List ℕ) (w : Row) → j.verdict ≡ Broken r p → w ≡ row_of (Damaged r p)
       → told_by w b ≡ exported_in g n img b

@@ -1,6 +1,2 @@
--- What the import's walks share.
-pub mod Rows
-pub mod Again
+-- What the import's proofs share.
 pub mod Next
-pub mod Big
-pub mod Arrays

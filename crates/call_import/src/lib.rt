@@ -59,7 +59,7 @@ pub fn store_one(g: Geometry, img: &mut [u8], s: Row, e: Entry) -> Row
     count_row(s, call_answers::row_of(a))
 }
 
-// The first n pairs of the slice, one after the other. By hand, over `store_one`.
+// The first n pairs of the slice, one after the other.
 pub fn store_pairs(g: Geometry, img: &mut [u8], pairs: &[Entry], n: usize, s: Row) -> Row
     requires { (n ≤ length pairs.now) × Known g }
     ensures { told_by result img.new ≡ store_all g (told_by s img.old)
@@ -114,7 +114,7 @@ pub fn turns(t: Spot) -> usize
     t.count as usize
 }
 
-// The array of pairs that the reader fills and the inserter walks. By hand.
+// The array of pairs that the reader fills and the inserter walks.
 pub fn import_text(g: Geometry, img: &mut [u8], text: &[u8]) -> Row
     requires { Known g }
     ensures { told_by result img.new ≡ import_read g img.old (read_text text.now) }

@@ -1,5 +1,5 @@
 // The calls as a camera service in C makes them: the geometry's number, numbers, the lent image, and a lent result
-// buffer.
+// buffer. Crate camera_c exports them.
 #![tactic(auto)]
 
 ghost use Rattle.std.specs.Prelude.{◌≡◌};
@@ -50,8 +50,7 @@ pub fn report(res: &mut [u8], a: Answer) -> u32
     report_row(&mut *res, call_answers::row_of(a))
 }
 
-#[unsafe(no_mangle)]
-pub extern "C" fn mutree_format(kind: u32, image: &mut [u8], res: &mut [u8]) -> u32
+pub fn mutree_format(kind: u32, image: &mut [u8], res: &mut [u8]) -> u32
     ensures answer { result ≡ (returned (format_of kind image.old) image.old
         res.old).answer }
     ensures image { image.new ≡ (returned (format_of kind image.old) image.old
@@ -66,8 +65,7 @@ pub extern "C" fn mutree_format(kind: u32, image: &mut [u8], res: &mut [u8]) -> 
     report(&mut *res, a)
 }
 
-#[unsafe(no_mangle)]
-pub extern "C" fn mutree_lookup(kind: u32, image: &[u8], key: u32, res: &mut [u8]) -> u32
+pub fn mutree_lookup(kind: u32, image: &[u8], key: u32, res: &mut [u8]) -> u32
     ensures answer { result ≡ (returned (lookup_of kind image.now key) image.now
         res.old).answer }
     ensures res { res.new ≡ (returned (lookup_of kind image.now key) image.now
@@ -80,8 +78,7 @@ pub extern "C" fn mutree_lookup(kind: u32, image: &[u8], key: u32, res: &mut [u8
     report(&mut *res, a)
 }
 
-#[unsafe(no_mangle)]
-pub extern "C" fn mutree_list(
+pub fn mutree_list(
     kind: u32,
     image: &[u8],
     low: u32,
@@ -103,8 +100,7 @@ pub extern "C" fn mutree_list(
     report(&mut *res, a)
 }
 
-#[unsafe(no_mangle)]
-pub extern "C" fn mutree_insert(
+pub fn mutree_insert(
     kind: u32,
     image: &mut [u8],
     live: &mut [u32],
@@ -129,8 +125,7 @@ pub extern "C" fn mutree_insert(
     report(&mut *res, a)
 }
 
-#[unsafe(no_mangle)]
-pub extern "C" fn mutree_delete(
+pub fn mutree_delete(
     kind: u32,
     image: &mut [u8],
     live: &mut [u32],
@@ -154,14 +149,7 @@ pub extern "C" fn mutree_delete(
     report(&mut *res, a)
 }
 
-#[unsafe(no_mangle)]
-pub extern "C" fn mutree_patrol(
-    kind: u32,
-    image: &mut [u8],
-    page: u32,
-    half: u32,
-    res: &mut [u8],
-) -> u32
+pub fn mutree_patrol(kind: u32, image: &mut [u8], page: u32, half: u32, res: &mut [u8]) -> u32
     ensures answer { result ≡ (returned (patrol_of kind image.old page half) image.old
         res.old).answer }
     ensures image { image.new ≡ (returned (patrol_of kind image.old page half)
@@ -176,8 +164,7 @@ pub extern "C" fn mutree_patrol(
     report(&mut *res, a)
 }
 
-#[unsafe(no_mangle)]
-pub extern "C" fn mutree_export(kind: u32, image: &[u8], text: &mut [u8], res: &mut [u8]) -> u32
+pub fn mutree_export(kind: u32, image: &[u8], text: &mut [u8], res: &mut [u8]) -> u32
     ensures answer { result ≡ (returned (export_of kind image.now text.old) text.old
         res.old).answer }
     ensures text { text.new ≡ (returned (export_of kind image.now text.old)
@@ -192,8 +179,7 @@ pub extern "C" fn mutree_export(kind: u32, image: &[u8], text: &mut [u8], res: &
     report_row(&mut *res, w)
 }
 
-#[unsafe(no_mangle)]
-pub extern "C" fn mutree_import(kind: u32, image: &mut [u8], text: &[u8], res: &mut [u8]) -> u32
+pub fn mutree_import(kind: u32, image: &mut [u8], text: &[u8], res: &mut [u8]) -> u32
     ensures answer { result ≡ (returned (import_of kind image.old text.now) image.old
         res.old).answer }
     ensures image { image.new ≡ (returned (import_of kind image.old text.now)
@@ -323,8 +309,7 @@ fn delete_bytes(
     r.answer
 }
 
-#[unsafe(no_mangle)]
-pub extern "C" fn mutree_open(kind: u32, image: &[u8], bytes: &mut [u8], res: &mut [u8]) -> u32
+pub fn mutree_open(kind: u32, image: &[u8], bytes: &mut [u8], res: &mut [u8]) -> u32
     ensures answer { result ≡ (returned (open_bytes kind image.now bytes.old) image.now
         res.old).answer }
     ensures bytes { bytes.new ≡ kept res.old bytes.old
@@ -339,14 +324,7 @@ pub extern "C" fn mutree_open(kind: u32, image: &[u8], bytes: &mut [u8], res: &m
     report(&mut *res, a)
 }
 
-#[unsafe(no_mangle)]
-pub extern "C" fn mutree_lookup_opened(
-    kind: u32,
-    image: &[u8],
-    bytes: &[u8],
-    key: u32,
-    res: &mut [u8],
-) -> u32
+pub fn mutree_lookup_opened(kind: u32, image: &[u8], bytes: &[u8], key: u32, res: &mut [u8]) -> u32
     ensures answer { result ≡ (returned (lookup_bytes kind image.now bytes.now key)
         image.now res.old).answer }
     ensures res { res.new ≡ (returned (lookup_bytes kind image.now
@@ -359,8 +337,7 @@ pub extern "C" fn mutree_lookup_opened(
     report(&mut *res, a)
 }
 
-#[unsafe(no_mangle)]
-pub extern "C" fn mutree_list_opened(
+pub fn mutree_list_opened(
     kind: u32,
     image: &[u8],
     bytes: &[u8],
@@ -383,8 +360,7 @@ pub extern "C" fn mutree_list_opened(
     report(&mut *res, a)
 }
 
-#[unsafe(no_mangle)]
-pub extern "C" fn mutree_insert_opened(
+pub fn mutree_insert_opened(
     kind: u32,
     image: &mut [u8],
     bytes: &mut [u8],
@@ -420,8 +396,7 @@ pub extern "C" fn mutree_insert_opened(
     report(&mut *res, a)
 }
 
-#[unsafe(no_mangle)]
-pub extern "C" fn mutree_delete_opened(
+pub fn mutree_delete_opened(
     kind: u32,
     image: &mut [u8],
     bytes: &mut [u8],

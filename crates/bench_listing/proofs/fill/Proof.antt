@@ -8,18 +8,18 @@ use Rattle.bench_listing.proofs.fill.Reads as reads
 use Rattle.bench_listing.proofs.fill.Lts as lts
 use Rattle.index.proofs.insert.Reads as insert-reads
 
-abbrev invariant-loop : tie.invariant-loop
-invariant-loop kind img₀ n i₀ img i = (i ≤ n) × (length img ≡ length img₀)
+abbrev invariant-loop-i : tie.invariant-loop-i
+invariant-loop-i kind img₀ n i₀ img i = (i ≤ n) × (length img ≡ length img₀)
 
-abbrev decreases-loop : tie.decreases-loop
-decreases-loop kind img₀ n i₀ img i = n - i
+abbrev decreases-loop-i : tie.decreases-loop-i
+decreases-loop-i kind img₀ n i₀ img i = n - i
 
 pub fill_spec : {M : Type 1} → statement M
 fill_spec =
     tie.close
     (tie.spec
-    invariant-loop
-    decreases-loop
+    invariant-loop-i
+    decreases-loop-i
     (λ c. search rules)
     (λ c. search rules)
     (λ c. search rules)

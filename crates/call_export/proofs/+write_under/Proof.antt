@@ -32,17 +32,17 @@ abbrev write_under_below : ℕ → In 2 write-under-kinds.ps
 write_under_below t =
     and 2 write-under-kinds.ps (falls 2 write-under-kinds.ps ◌<◌ μ-write-under t) write-under.Pre
 
-abbrev write_under_inv_loop : write-under-lts.invariant-loop
+abbrev write_under_inv_loop : write-under-lts.invariant-loop-i
 write_under_inv_loop g img text₀ level at n so-far₀ i₀ text so_far i =
     (i ≤ n) × (length text ≡ length text₀) × (so-far₀.records + length (rest g img level at n 0) < four_bytes) × (so_far.at ≤ 22 * so_far.records) ×
     (after so-far₀ (rest g img level at n 0) ≡ after so_far (rest g img level at n i)) ×
     (sets text₀ so-far₀.at (text_of (rest g img level at n 0)) ≡ sets text so_far.at (text_of (rest g img level at n i)))
 
-abbrev write-under-μ-loop : write-under-lts.decreases-loop
+abbrev write-under-μ-loop : write-under-lts.decreases-loop-i
 write-under-μ-loop g img text₀ level at n so-far₀ i₀ text so_far i = n - i
 
-pub +write-under-spec : {M : Type 1} → statement M
-+write-under-spec = close μ-write-under λ t. write-under-lts.spec (
+pub +write_under_spec : {M : Type 1} → statement M
++write_under_spec = close μ-write-under λ t. write-under-lts.spec (
   write-record-reads.Asked,
   write-record-reads.Learnt,
   node-place-reads.Asked,
@@ -72,13 +72,10 @@ pub +write-under-spec : {M : Type 1} → statement M
     (λ c. search all)
     (λ c. search all)
     (λ c.
-    let at_entry_at = c.before.before.before.before in
-    let at_loop_test = at_entry_at.before in
-    let at_loop = at_loop_test.before in
-    let inv = at_loop.loop.invariant in
-    let here = at_loop_test.loop-test.true in
-    let found = at_entry_at.entry_at.ensures in
-    let more = c.before.before.write-under.ensures in (
+    let inv = c.loop-i.invariant in
+    let here = c.loop-i-test.true in
+    let found = c.entry_at-below.ensures in
+    let more = c.write_under-so_far.ensures in (
       search rules,
       search all,
       search rules,

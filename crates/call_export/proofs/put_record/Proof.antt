@@ -22,13 +22,10 @@ put_record_spec =
     (λ c. search all)
     (λ c. search all)
     (λ c.
-    let at_put_value2 = c.before.before.before.before.before.before in
-    let at_put_byte = at_put_value2.before.before.before.before in
-    let at_put_value = at_put_byte.before.before.before.before in
-    let one = at_put_value.put-value.ensures in
-    let tab = at_put_byte.put_byte.ensures in
-    let two = at_put_value2.put-value2.ensures in
-    let end = c.before.before.put-byte2.ensures in (
+    let one = c.put_value-tab.ensures in
+    let tab = c.put_byte.ensures in
+    let two = c.put_value-end.ensures in
+    let end = c.put_byte-2.ensures in (
       (line_place _ _ _ _ one.0.0 two.0.0, omega (arith, one.0.1, two.0.1)),
       line_bytes _ _ _ _ one.0.0 two.0.0 _ _ _ _ _ one.1 tab two.1 end,
     )))

@@ -74,15 +74,11 @@ pub +list_under_spec : {M : Type 1} → statement M
     (λ c. search all)
     (λ c. search all)
     (λ c.
-    let at_if3 = c.before.before.before.before in
-    let at_entry_at = at_if3.before.before in
-    let at_loop_test = at_entry_at.before in
-    let at_loop = at_loop_test.before in
-    let inv = at_loop.loop-i.invariant in
-    let found = at_entry_at.entry_at-below.ensures in
-    let taken = at_loop_test.loop-test.true in
-    let goes = at_if3.if3.false in
-    let more = c.before.before.list-under.ensures in
+    let inv = c.loop-i.invariant in
+    let found = c.entry_at-below.ensures in
+    let taken = c.loop-i-test.true in
+    let goes = c.if-high-below.false in
+    let more = c.list_under-count.ensures in
     (search all, search all, goes_turn _ _ _ _ _ _ _ _ _ _ _ _ _ _ _ _ inv.2 found taken goes more))
     (λ c. search all)
     (λ c. search all)

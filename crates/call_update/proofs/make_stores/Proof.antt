@@ -26,8 +26,4 @@ make_stores_spec =
     (λ c. search all)
     (λ c. search all)
     (λ c.
-    let at_if1 = c.before.before.before.before in
-    let at_collect = at_if1.before.before.before.before.before.before.before.before.before in
-    let at_fresh = at_collect.before.before.before.before in
-    let at_pre = at_fresh.before.before.before.before in
-    stores_both _ _ _ _ _ _ _ _ _ _ _ _ _ at_fresh.fresh.ensures.0 _ _ _ c.before.before.own-stores.ensures at_collect.collect.ensures at_if1.if1.false at_pre.requires.0 at_pre.requires.2))
+    stores_both _ _ _ _ _ _ _ _ _ _ _ _ _ c.fresh-b.ensures.0 _ _ _ c.own_stores-own.ensures c.collect-w.ensures c.if-r.false c.requires.0 c.requires.2))

@@ -15,15 +15,12 @@ update_blocks_spec =
     tie.close
     (tie.spec
     (λ c κs.
-    let at_pre = c.before.before.before.before.before in
-    (let p = at_pre.requires in (p.1.1, p.1.3)))
+    (let p = c.requires in (p.1.1, p.1.3)))
     (λ c. search all)
     (λ c. search all)
     (λ c κs.
-    let at_judge_in = c.before.before.before.before.before.before.before.before in
-    let at_pre = at_judge_in.before.before.before.before.before.before in
-    (let p = at_pre.requires in
-    let j = at_judge_in.judge-in.ensures in (known_sized _ _ p.0.0 p.1.1, j.survey, j.level)))
+    (let p = c.requires in
+    let j = c.judge_in-judgement.ensures in (known_sized _ _ p.0.0 p.1.1, j.survey, j.level)))
     (λ c. search all)
     (λ c. search all)
     (λ c. search all)
@@ -31,7 +28,4 @@ update_blocks_spec =
     (λ c. search all)
     (λ c. search all)
     (λ c.
-    let at_update_judged = c.before.before.before.before.before.before in
-    let at_judge_in = at_update_judged.before.before.before.before.before.before.before.before.before in
-    let at_pre = at_judge_in.before.before.before.before.before.before in
-    (let p = at_pre.requires in update_sound _ _ _ _ _ _ p.1.0 p.1.2 p.1.4 _ _ _ at_judge_in.judge-in.ensures _ at_update_judged.update-judged.ensures (search rules) p.0.0 p.1.3 (search rules) p.0.1)))
+    (let p = c.requires in update_sound _ _ _ _ _ _ p.1.0 p.1.2 p.1.4 _ _ _ c.judge_in-judgement.ensures _ c.update_judged.ensures (search rules) p.0.0 p.1.3 (search rules) p.0.1)))

@@ -18,14 +18,9 @@ update_judged_spec =
     (λ c κs. search all)
     (λ c κs. search all)
     (λ c κs.
-    let at_record_of = c.before.before.before in
-    let at_pre = at_record_of.before.before.before.before.before.before.before.before.before.before in
-    (at_pre.requires.0, height_low _ _ _ _ _ at_record_of.record_of.ensures at_pre.requires.1 at_pre.requires.2))
+    (c.requires.0, height_low _ _ _ _ _ c.record_of-o.ensures c.requires.1 c.requires.2))
     (λ c. search all)
     (λ c. search all)
     (λ c. search all)
     (λ c.
-    let at_update_rest = c.before.before.before.before.before.before in
-    let at_record_of = at_update_rest.before.before.before.before in
-    let at_fill_words = at_record_of.before.before.before.before in
-    judged_is _ _ _ _ at_update_rest.update-rest.result.answer _ _ _ _ _ _ _ _ at_update_rest.update-rest.ensures at_record_of.record_of.ensures at_fill_words.fill-words.ensures))
+    judged_is _ _ _ _ c.update_rest-r.result.answer _ _ _ _ _ _ _ _ c.update_rest-r.ensures c.record_of-o.ensures c.fill_words.ensures))

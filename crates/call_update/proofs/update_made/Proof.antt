@@ -19,5 +19,4 @@ update_made_spec =
     (λ c. search all)
     (λ c. search all)
     (λ c.
-    let at_make_stores = c.before.before.before.before.before.before.before.before.before.before.before.before.before in
-    made_is _ _ _ _ _ _ _ _ _ _ _ _ c.before.before.finish.ensures at_make_stores.make-stores.ensures))
+    made_is _ _ _ _ _ _ _ _ _ _ _ _ c.finish.ensures c.make_stores-s.ensures))

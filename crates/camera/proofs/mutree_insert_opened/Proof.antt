@@ -14,7 +14,7 @@ pub mutree_insert_opened_spec : {M : Type 1} → statement M
 mutree_insert_opened_spec =
     tie.close
     (tie.spec
-    (λ c. (let h = c.if1.true in (short_answer _ _ _ h, (short_image _ _ _ h, (kept_short _ _ _ h, (kept_short _ _ _ h, short_result _ _ _ h))))))
+    (λ c. (let h = c.if-res-lt24.true in (short_answer _ _ _ h, (short_image _ _ _ h, (kept_short _ _ _ h, (kept_short _ _ _ h, short_result _ _ _ h))))))
     (λ c κs. search all)
     (λ c κs. search all)
     (λ c. search all)

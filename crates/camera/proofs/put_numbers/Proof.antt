@@ -13,18 +13,18 @@ use Rattle.chip_page.proofs.put_u32.Reads as put-u32-reads
 
 ruleset all = (rules, camera_laws)
 
-abbrev invariant-loop : tie.invariant-loop
-invariant-loop buf₀ numbers i₀ buf i = (i ≤ 6) × (put_numbers buf₀ 0 numbers ≡ put_numbers buf (4 * i) (drop i numbers))
+abbrev invariant-loop-i : tie.invariant-loop-i
+invariant-loop-i buf₀ numbers i₀ buf i = (i ≤ 6) × (put_numbers buf₀ 0 numbers ≡ put_numbers buf (4 * i) (drop i numbers))
 
-abbrev decreases-loop : tie.decreases-loop
-decreases-loop buf₀ numbers i₀ buf i = 6 - i
+abbrev decreases-loop-i : tie.decreases-loop-i
+decreases-loop-i buf₀ numbers i₀ buf i = 6 - i
 
 pub put_numbers_spec : {M : Type 1} → statement M
 put_numbers_spec =
     tie.close
     (tie.spec
-    invariant-loop
-    decreases-loop
+    invariant-loop-i
+    decreases-loop-i
     (λ c. search all)
     (λ c. search all)
     (λ c. search all)

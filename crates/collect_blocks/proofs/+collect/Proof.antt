@@ -42,38 +42,17 @@ pub +collect_spec : {M : Type 1} → statement M
     (λ c. search all)
     (λ c. search all)
     (λ c.
-    let at_clear = c.before.before.before.before.before.before.before.before.before in
-    let at_if2 = at_clear.before.before.before.before in
-    let at_enough = at_if2.before.before in
-    let at_if1 = at_enough.before in
-    let at_pre = at_if1.before.before.before.before in
-    collect_halt _ _ _ _ _ _ _ _ _ at_enough.enough.ensures _ _ _ _ at_clear.clear.ensures at_if2.if2.false _ at_if1.if1.false at_pre.requires.1.4 c.if3.true)
+    collect_halt _ _ _ _ _ _ _ _ _ c.enough.ensures _ _ _ _ c.clear-w.ensures c.if-enough-o.false _ c.if-m-eq0.false c.requires.1.4 c.if-r.true)
     (λ c. search all)
     (λ c κs.
-    let at_if3 = c.before.before.before in
-    let at_clear = at_if3.before.before.before.before.before.before.before.before.before in
-    let at_if1 = at_clear.before.before.before.before.before.before.before in
-    let at_pre = at_if1.before.before.before.before in
-    (let p = at_pre.requires.1 in
-    let z = at_if1.if1.false in
-    let w = at_clear.clear.ensures in (omega (arith, at_pre.requires.0, z), (w.low, p.1, p.2, omega (arith, w.made.ran.total, p.3), at_if3.if3.false))))
+    (let p = c.requires.1 in
+    let z = c.if-m-eq0.false in
+    let w = c.clear-w.ensures in (omega (arith, c.requires.0, z), (w.low, p.1, p.2, omega (arith, w.made.ran.total, p.3), c.if-r.false))))
     (λ c.
-    let at_collect = c.before.before.before.before.before.before in
-    let at_clear = at_collect.before.before.before.before.before.before.before.before.before.before.before.before.before in
-    omega (arith, at_collect.collect.auto, at_clear.clear.auto))
+    omega (arith, c.collect.auto, c.clear-w.auto))
     (λ c.
-    let at_collect = c.before.before.before.before.before.before in
-    let at_clear = at_collect.before.before.before.before.before.before.before.before.before.before.before.before.before in
-    omega (arith, at_collect.collect.auto, at_clear.clear.auto))
+    omega (arith, c.collect.auto, c.clear-w.auto))
     (λ c.
-    let at_collect = c.before.before.before.before.before.before in
-    let at_clear = at_collect.before.before.before.before.before.before.before.before.before.before.before.before.before in
-    omega (arith, at_collect.collect.auto, at_clear.clear.auto))
+    omega (arith, c.collect.auto, c.clear-w.auto))
     (λ c.
-    let at_collect = c.before.before.before.before.before.before in
-    let at_if3 = at_collect.before.before.before.before in
-    let at_clear = at_if3.before.before.before.before.before.before.before.before.before in
-    let at_if2 = at_clear.before.before.before.before in
-    let at_enough = at_if2.before.before in
-    let at_if1 = at_enough.before in
-    collect_on _ _ _ _ _ _ _ _ _ at_enough.enough.ensures _ _ _ _ at_clear.clear.ensures at_if2.if2.false _ _ _ _ _ at_collect.collect.ensures at_if1.if1.false at_if3.if3.false)
+    collect_on _ _ _ _ _ _ _ _ _ c.enough.ensures _ _ _ _ c.clear-w.ensures c.if-enough-o.false _ _ _ _ _ c.collect.ensures c.if-m-eq0.false c.if-r.false)

@@ -38,36 +38,21 @@ pub +sweep_spec : {M : Type 1} → statement M
     (λ c. search all)
     (λ c κs. search all)
     (λ c κs.
-    let at_if1 = c.before.before.before.before.before in
-    let at_pre = at_if1.before.before.before.before in
-    (let p = at_pre.requires.1 in
-    let z = at_if1.if1.false in (p.1, p.2, omega (arith, p.3, z), omega (arith, p.4, z), p.5, p.6)))
+    (let p = c.requires.1 in
+    let z = c.if-left-eq0.false in (p.1, p.2, omega (arith, p.3, z), omega (arith, p.4, z), p.5, p.6)))
     (λ c. search all)
     (λ c. search all)
     (λ c. search all)
     (λ c.
-    let at_sweep_page = c.before.before.before.before.before.before.before.before.before in
-    let at_page_of = at_sweep_page.before.before.before.before in
-    let at_if1 = at_page_of.before.before in
-    let at_pre = at_if1.before.before.before.before in
-    sweep_halt _ _ _ _ _ _ _ _ _ _ _ _ _ _ _ at_sweep_page.sweep-page.ensures.0 _ at_page_of.page_of.ensures at_if1.if1.false at_pre.requires.1.6 c.if2.true)
+    sweep_halt _ _ _ _ _ _ _ _ _ _ _ _ _ _ _ c.sweep_page-w.ensures.0 _ c.page_of-page.ensures c.if-left-eq0.false c.requires.1.6 c.if-r.true)
     (λ c. search all)
     (λ c κs.
-    let at_if2 = c.before.before.before in
-    let at_sweep_page = at_if2.before.before.before.before.before.before.before.before.before in
-    let at_if1 = at_sweep_page.before.before.before.before.before.before in
-    let at_pre = at_if1.before.before.before.before in
-    (let p = at_pre.requires.1 in
-    let w = at_sweep_page.sweep-page.ensures in
-    let z = at_if1.if1.false in
-    let f = at_pre.ranges.left.fits in (omega (arith, at_pre.requires.0, z), (omega (arith, p.0), p.1, p.2, omega (arith, w.1.0, p.3, z), omega (arith, w.1.1, p.4, z, f), omega (arith, w.0.ran.total, p.5), at_if2.if2.false))))
+    (let p = c.requires.1 in
+    let w = c.sweep_page-w.ensures in
+    let z = c.if-left-eq0.false in
+    let f = c.ranges.left.fits in (omega (arith, c.requires.0, z), (omega (arith, p.0), p.1, p.2, omega (arith, w.1.0, p.3, z), omega (arith, w.1.1, p.4, z, f), omega (arith, w.0.ran.total, p.5), c.if-r.false))))
     (λ c. search all)
     (λ c. search all)
     (λ c. search all)
     (λ c.
-    let at_sweep = c.before.before.before.before.before.before in
-    let at_if2 = at_sweep.before.before.before.before in
-    let at_sweep_page = at_if2.before.before.before.before.before.before.before.before.before in
-    let at_page_of = at_sweep_page.before.before.before.before in
-    let at_if1 = at_page_of.before.before in
-    sweep_on _ _ _ _ _ _ _ _ _ _ _ _ _ _ _ at_sweep_page.sweep-page.ensures.0 _ _ _ _ _ _ at_sweep.sweep.ensures at_page_of.page_of.ensures at_if1.if1.false at_if2.if2.false)
+    sweep_on _ _ _ _ _ _ _ _ _ _ _ _ _ _ _ c.sweep_page-w.ensures.0 _ _ _ _ _ _ c.sweep.ensures c.page_of-page.ensures c.if-left-eq0.false c.if-r.false)

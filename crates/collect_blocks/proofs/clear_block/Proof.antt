@@ -27,9 +27,4 @@ clear_block_spec =
     (λ c. search all)
     (λ c. search all)
     (λ c.
-    let at_if1 = c.before.before.before.before in
-    let at_sweep = at_if1.before.before.before.before.before.before.before.before.before in
-    let at_level_by = at_sweep.before.before.before.before in
-    let at_begin = at_level_by.before in
-    let at_pre = at_begin.before.before.before.before in
-    clear_done _ _ _ _ _ _ _ _ _ _ _ _ _ _ _ at_begin.begin.ensures.0 at_sweep.sweep.ensures at_level_by.level_by.ensures at_pre.requires.1 _ _ c.before.before.wipe.ensures at_if1.if1.false))
+    clear_done _ _ _ _ _ _ _ _ _ _ _ _ _ _ _ c.begin-h.ensures.0 c.sweep-w.ensures c.level_by-level.ensures c.requires.1 _ _ c.wipe.ensures c.if-r.false))

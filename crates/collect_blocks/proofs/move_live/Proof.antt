@@ -21,16 +21,10 @@ move_live_spec =
     (λ c. search all)
     (λ c. search all)
     (λ c.
-    let at_move_page = c.before.before.before in
-    let at_move_marks = at_move_page.before.before.before.before.before.before in
-    let at_pre = at_move_marks.before.before.before.before.before.before.before in
-    (move_halt _ _ _ _ _ _ _ _ _ _ at_pre.requires.1 _ _ _ _ _ at_move_page.move-page.ensures at_move_marks.move-marks.ensures _ c.if1.true, (omega arith, omega arith)))
+    (move_halt _ _ _ _ _ _ _ _ _ _ c.requires.1 _ _ _ _ _ c.move_page-r.ensures c.move_marks-key.ensures _ c.if-r.true, (omega arith, omega arith)))
     (λ c κs. search all)
     (λ c. search all)
     (λ c. search all)
     (λ c. search all)
     (λ c.
-    let at_move_page = c.before.before.before.before.before in
-    let at_move_marks = at_move_page.before.before.before.before.before.before in
-    let at_pre = at_move_marks.before.before.before.before.before.before.before in
-    (move_done _ _ _ _ _ _ _ _ _ _ at_pre.requires.1 _ _ _ _ _ at_move_page.move-page.ensures at_move_marks.move-marks.ensures _ c.kept-after.ensures.0 at_pre.requires.0.6 c.before.before.if1.false, c.kept-after.ensures.1)))
+    (move_done _ _ _ _ _ _ _ _ _ _ c.requires.1 _ _ _ _ _ c.move_page-r.ensures c.move_marks-key.ensures _ c.kept_after-k.ensures.0 c.requires.0.6 c.if-r.false, c.kept_after-k.ensures.1)))

@@ -16,13 +16,10 @@ sweep_page_spec =
     (tie.spec
     (λ c κs. search all)
     (λ c. search all)
-    (λ c. (page_dead _ _ _ _ _ _ _ _ _ _ c.before.noted.ensures.0 c.if1.true, (omega arith, omega arith)))
+    (λ c. (page_dead _ _ _ _ _ _ _ _ _ _ c.noted-low.ensures.0 c.if-low-eq0.true, (omega arith, omega arith)))
     (λ c κs. search all)
     (λ c. search all)
     (λ c. search all)
     (λ c. search all)
     (λ c.
-    let at_move_live = c.before.before.before.before.before.before in
-    let at_if1 = at_move_live.before.before.before.before in
-    let at_noted = at_if1.before in
-    (page_live _ _ _ _ _ _ _ _ _ _ at_noted.noted.ensures.0 _ _ _ _ _ at_move_live.move_live.ensures.0 at_if1.if1.false, at_move_live.move_live.ensures.1)))
+    (page_live _ _ _ _ _ _ _ _ _ _ c.noted-low.ensures.0 _ _ _ _ _ c.move_live.ensures.0 c.if-low-eq0.false, c.move_live.ensures.1)))

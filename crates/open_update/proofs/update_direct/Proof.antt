@@ -20,7 +20,4 @@ update_direct_spec =
     (λ c. search all)
     (λ c. search all)
     (λ c.
-    let at_own_stores = c.before.before.before.before.before.before.before in
-    let at_fresh = at_own_stores.before.before in
-    let at_pre = at_fresh.before.before.before in
-    direct_is _ _ _ _ _ _ _ _ _ at_own_stores.own-stores.ensures _ _ _ _ c.before.before.finish.ensures at_fresh.fresh.ensures.0 at_pre.requires.3 at_pre.requires.0 at_pre.requires.2))
+    direct_is _ _ _ _ _ _ _ _ _ c.own_stores-own.ensures _ _ _ _ c.finish.ensures c.fresh-b.ensures.0 c.requires.3 c.requires.0 c.requires.2))

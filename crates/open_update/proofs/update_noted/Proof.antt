@@ -19,6 +19,4 @@ update_noted_spec =
     (λ c. search all)
     (λ c. search all)
     (λ c.
-    let at_update_made = c.before.before.before.before.before.before in
-    let at_note_levels = at_update_made.before.before.before.before.before.before in
-    collected_is _ _ _ _ _ _ _ _ _ _ at_update_made.update-made.ensures at_note_levels.note-levels.ensures))
+    collected_is _ _ _ _ _ _ _ _ _ _ c.update_made.ensures c.note_levels.ensures))

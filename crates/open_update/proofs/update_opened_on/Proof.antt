@@ -1,3 +1,5 @@
+use mathlib.Core.Path.{ap}
+use mathlib.Core.Bool.{not}
 use Rattle.call_account.specs.Low.{known_sized}
 use borrow.Author.Rules.{rules}
 use Rattle.open_update.specs.With.{with_laws, with_length, with_short, with_stale, with_rest, stands_low}
@@ -18,33 +20,18 @@ update_opened_on_spec =
     (tie.spec
     (λ c κs. search all)
     (λ c. search all)
-    (λ c. with_length _ _ _ _ _ _ _ c.before.good_blocks.ensures.0 c.if1.true)
+    (λ c. with_length _ _ _ _ _ _ _ c.good_blocks-n.ensures.0 c.if-n-eq0.true)
     (λ c κs. search all)
     (λ c. search all)
     (λ c.
-    let at_good_blocks = c.before.before.before in
-    with_short _ _ _ _ _ _ _ at_good_blocks.good_blocks.ensures.0 c.before.before.if1.false _ c.before.words_of.ensures.0 c.if2.true)
+    with_short _ _ _ _ _ _ _ c.good_blocks-n.ensures.0 c.if-n-eq0.false _ c.words_of-enough.ensures.0 c.if-lent-enough.true)
     (λ c κs. search all)
     (λ c. search all)
     (λ c.
-    let at_if2 = c.before.before.before in
-    let at_words_of = at_if2.before in
-    let at_if1 = at_words_of.before in
-    let at_good_blocks = at_if1.before in
-    with_stale _ _ _ _ _ _ _ at_good_blocks.good_blocks.ensures.0 at_if1.if1.false _ at_words_of.words_of.ensures.0 at_if2.if2.false _ c.before.standing.ensures c.if3.true)
+    with_stale _ _ _ _ _ _ _ c.good_blocks-n.ensures.0 c.if-n-eq0.false _ c.words_of-enough.ensures.0 c.if-lent-enough.false _ c.standing.ensures (ap not c.if-not-standing.true))
     (λ c κs.
-    let at_standing = c.before.before.before in
-    let at_good_blocks = at_standing.before.before.before.before.before in
-    let at_pre = at_good_blocks.before.before.before.before in
-    (known_sized _ _ at_pre.requires at_good_blocks.good_blocks.ensures.1, stands_low _ _ _ _ _ at_standing.standing.ensures c.before.before.if3.false (search rules)))
+    (known_sized _ _ c.requires c.good_blocks-n.ensures.1, stands_low _ _ _ _ _ c.standing.ensures (ap not c.if-not-standing.false) (search rules)))
     (λ c. search all)
     (λ c. search all)
     (λ c.
-    let at_update_by = c.before.before.before.before in
-    let at_if3 = at_update_by.before.before.before in
-    let at_standing = at_if3.before in
-    let at_if2 = at_standing.before.before in
-    let at_words_of = at_if2.before in
-    let at_if1 = at_words_of.before in
-    let at_good_blocks = at_if1.before in
-    with_rest _ _ _ _ _ _ _ at_good_blocks.good_blocks.ensures.0 at_if1.if1.false _ at_words_of.words_of.ensures.0 at_if2.if2.false _ at_standing.standing.ensures _ at_update_by.update-by.ensures at_if3.if3.false))
+    with_rest _ _ _ _ _ _ _ c.good_blocks-n.ensures.0 c.if-n-eq0.false _ c.words_of-enough.ensures.0 c.if-lent-enough.false _ c.standing.ensures _ c.update_by.ensures (ap not c.if-not-standing.false)))

@@ -19,10 +19,7 @@ update_planned_spec =
     (λ c. search all)
     (λ c. search all)
     (λ c.
-    let at_update_direct = c.before.before.before.before in
-    let at_if1 = at_update_direct.before.before.before in
-    let at_plenty = at_if1.before.before in
-    planned_direct _ _ _ _ _ _ _ _ _ _ at_update_direct.update-direct.ensures at_plenty.plenty.ensures at_if1.if1.true)
+    planned_direct _ _ _ _ _ _ _ _ _ _ c.update_direct.ensures c.plenty.ensures c.if-plenty-o.true)
     (λ c κs. search all)
     (λ c. search all)
     (λ c. search all)

@@ -19,10 +19,7 @@ update_roomy_spec =
     (λ c. search all)
     (λ c. search all)
     (λ c.
-    let at_update_direct = c.before.before.before.before in
-    let at_if1 = at_update_direct.before.before.before in
-    let at_enough = at_if1.before.before in
-    roomy_direct _ _ _ _ _ _ _ _ _ _ at_update_direct.update-direct.ensures at_enough.enough.ensures at_if1.if1.true)
+    roomy_direct _ _ _ _ _ _ _ _ _ _ c.update_direct.ensures c.enough.ensures c.if-enough-o.true)
     (λ c κs. search all)
     (λ c. search all)
     (λ c. search all)

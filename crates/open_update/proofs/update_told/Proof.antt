@@ -19,14 +19,9 @@ update_told_spec =
     (λ c. search all)
     (λ c. search all)
     (λ c.
-    let at_tell = c.before.before.before.before.before in
-    told_room _ _ _ _ _ _ _ _ _ at_tell.tell.ensures _ c.before.is-roomless.ensures c.if1.true)
+    told_room _ _ _ _ _ _ _ _ _ c.tell.ensures _ c.is_roomless.ensures c.if-is_roomless.true)
     (λ c κs. search all)
     (λ c. search all)
     (λ c. search all)
     (λ c.
-    let at_update_roomy = c.before.before.before.before in
-    let at_if1 = at_update_roomy.before.before.before in
-    let at_is_roomless = at_if1.before in
-    let at_tell = at_is_roomless.before.before.before.before in
-    told_made _ _ _ _ _ _ _ _ _ at_tell.tell.ensures _ at_is_roomless.is-roomless.ensures _ at_update_roomy.update-roomy.ensures at_if1.if1.false))
+    told_made _ _ _ _ _ _ _ _ _ c.tell.ensures _ c.is_roomless.ensures _ c.update_roomy.ensures c.if-is_roomless.false))

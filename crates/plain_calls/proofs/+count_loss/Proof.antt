@@ -26,8 +26,8 @@ abbrev count_loss_below : ℕ → In 1 count-loss-kinds.ps
 count_loss_below t =
     and 1 count-loss-kinds.ps (falls 1 count-loss-kinds.ps ◌<◌ μ-count-loss t) count-loss.Pre
 
-pub +count-loss-spec : {M : Type 1} → statement M
-+count-loss-spec = close μ-count-loss λ t. count-loss-lts.spec (
+pub +count_loss_spec : {M : Type 1} → statement M
++count_loss_spec = close μ-count-loss λ t. count-loss-lts.spec (
   leaf-loss-reads.Asked,
   leaf-loss-reads.Learnt,
   node-count-reads.Asked,
