@@ -27,7 +27,8 @@ use Rattle.theory_trees.specs.Edit.{splice_length, at_root}
 use Rattle.theory_trees.specs.Delete.{deleted, DeleteMade, none_left_lem, none_made}
 use Rattle.theory_trees.specs.Proper.{Proper, delete_stay, delete_collapse}
 use Rattle.theory_trees.specs.Path.{remove_as, root_is, on_path_top, made_from}
-use Rattle.theory_trees.specs.Leaf.{bottom, bottom_fit, less_shifted, collapse_shifted}
+use Rattle.theory_trees.specs.Leaf.{bottom, bottom_fit}
+use Rattle.theory_trees.proofs.Leaf.{less_shifted, collapse_shifted}
 use Rattle.theory_chips.specs.Count.{lives_shifted}
 use Rattle.theory_chips.specs.Next.{R2, step}
 use Rattle.theory_chips.specs.Whole.{some_page, Whole, some_entry}

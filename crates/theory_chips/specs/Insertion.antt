@@ -26,12 +26,14 @@ use Rattle.theory_counts.specs.Cases.{by_eq, by_test, true_false}
 use Rattle.theory_nodes.specs.Nodes.{the, fit_of}
 use Rattle.theory_trees.specs.Edit.{at_root}
 use Rattle.theory_trees.specs.Insert.{inserted, InsertMade}
-use Rattle.theory_trees.specs.Proper.{insert_stay, insert_grow}
+use Rattle.theory_trees.proofs.Proper.{insert_stay, insert_grow}
 use Rattle.theory_trees.specs.Path.{put_as, root_is, on_path_top, made_from}
 use Rattle.theory_trees.specs.Splits.{root_size, all_below, splits_le, splits_are}
 use Rattle.theory_lists.specs.All.{All}
-use Rattle.theory_trees.specs.Fill.{Filled, root_filled, grown_filled, two_nodes, root_nodes}
-use Rattle.theory_trees.specs.Leaf.{bottom, bottom_fit, sides, sides_length, stay_shifted, grow_shifted}
+use Rattle.theory_trees.specs.Fill.{Filled, two_nodes, root_nodes}
+use Rattle.theory_trees.proofs.Fill.{root_filled, grown_filled}
+use Rattle.theory_trees.specs.Leaf.{bottom, bottom_fit, sides, sides_length}
+use Rattle.theory_trees.proofs.Leaf.{stay_shifted, grow_shifted}
 use Rattle.theory_chips.specs.Count.{lives_shifted}
 use Rattle.theory_chips.specs.Next.{R2, step}
 use Rattle.theory_chips.specs.Whole.{some_page, Whole, sought_map, nodes_below, HalfFull}
