@@ -17,7 +17,7 @@ use Rattle.geometry.specs.Bounds.{four_bytes}
 use Rattle.model.specs.Image.{blocks_of, good_length, Chip, chip_of}
 use Rattle.model.specs.Tree.{Place, places_of, live}
 use Rattle.model.specs.Calls.{Outcome, refused, insert_rest, delete_rest, insert, delete}
-use Rattle.theory_images.specs.Few.{known_few}
+use Rattle.theory_images.proofs.Few.{known_few}
 use Rattle.theory_images.specs.Held.{Held}
 use Rattle.theory_images.specs.Lengths.{blocks_same}
 use Rattle.live_walk.specs.Table.{note_all, Zeros, Marked}
