@@ -8,7 +8,8 @@ use mathlib.Core.List.{List}
 use borrow.Author.Tests.{lt-leb, le-leb}
 use Rattle.geometry.specs.declared.Geometry.{Geometry}
 use Rattle.geometry.specs.declared.Verdict.TheVariants.{Broken}
-use Rattle.geometry.specs.Shape.{Known, is_small, is_large, shape}
+use Rattle.geometry.specs.Shape.{Known, is_small, is_large}
+use Rattle.geometry.proofs.Shape.{shape}
 use Rattle.geometry.specs.Tests.{pick}
 use Rattle.model.specs.Image.{chip_of, blocks_of, good_length}
 use Rattle.model.specs.Tree.{places_of, live}

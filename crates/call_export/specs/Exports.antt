@@ -10,7 +10,8 @@ use Rattle.std.proofs.lemmas.Bool.{lt-leb}
 use Rattle.geometry.specs.declared.Geometry.{Geometry}
 use Rattle.geometry.specs.declared.Entry.{Entry}
 use Rattle.geometry.specs.declared.Verdict.TheVariants.{Sound, Broken}
-use Rattle.geometry.specs.Shape.{Known, shape}
+use Rattle.geometry.specs.Shape.{Known}
+use Rattle.geometry.proofs.Shape.{shape}
 use Rattle.geometry.specs.Bounds.{four_bytes}
 use Rattle.model.specs.Bytes.{node_place, node_count, node_at}
 use Rattle.model.specs.Image.{Nodes, Chip}

@@ -5,7 +5,8 @@ use Rattle.geometry.specs.declared.Geometry.{Geometry}
 use Rattle.geometry.specs.declared.Finding.TheVariants.{Good}
 use Rattle.geometry.specs.declared.Verdict.TheVariants.{Sound}
 use Rattle.geometry.specs.Geometry.{small, large, first_slot, slots_of, half, root_slots, root_most}
-use Rattle.geometry.specs.Shape.{Known, is_small, is_large, shape, shape_core}
+use Rattle.geometry.specs.Shape.{Known, is_small, is_large, shape_core}
+use Rattle.geometry.proofs.Shape.{shape}
 use Rattle.geometry.specs.Bounds.{four_bytes}
 use Rattle.model.specs.Image.{pages_of, chip_of}
 use Rattle.model.specs.Tree.{map_of}
@@ -15,7 +16,8 @@ use Rattle.open_record.specs.Opened.{pairs_most}
 use Rattle.theory_counts.specs.Lowest.{or_sound}
 use Rattle.theory_nodes.specs.Nodes.{fit_of}
 use Rattle.theory_nodes.specs.Judge.{r5_most, r5_rises}
-use Rattle.theory_nodes.specs.Between.{between_fewer, ranged_root, most_under, root_most_lem}
+use Rattle.theory_nodes.specs.Between.{between_fewer, most_under, root_most_lem}
+use Rattle.theory_nodes.proofs.Between.{ranged_root}
 
 -- the most pairs of a tree, l levels below its root
 abbrev most_of : Geometry → ℕ → ℕ

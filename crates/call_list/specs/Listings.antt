@@ -9,7 +9,8 @@ use borrow.Author.Tests.{lt-leb, le-leb}
 use Rattle.geometry.specs.declared.Geometry.{Geometry}
 use Rattle.geometry.specs.declared.Entry.{Entry}
 use Rattle.geometry.specs.declared.Verdict.TheVariants.{Sound, Broken}
-use Rattle.geometry.specs.Shape.{Known, shape}
+use Rattle.geometry.specs.Shape.{Known}
+use Rattle.geometry.proofs.Shape.{shape}
 use Rattle.geometry.specs.Tests.{pick}
 use Rattle.geometry.specs.Bounds.{four_bytes}
 use Rattle.model.specs.Bytes.{entries_at, node_place, node_count, node_at}

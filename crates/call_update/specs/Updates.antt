@@ -6,7 +6,8 @@ use Rattle.std.specs.Int.{w8}
 use Rattle.geometry.specs.declared.Geometry.{Geometry}
 use Rattle.geometry.specs.declared.Verdict.TheVariants.{Sound, Broken}
 use Rattle.geometry.specs.Tests.{◌&◌}
-use Rattle.geometry.specs.Shape.{Known, shape}
+use Rattle.geometry.specs.Shape.{Known}
+use Rattle.geometry.proofs.Shape.{shape}
 use Rattle.model.specs.Bytes.{byte_at}
 use Rattle.model.specs.Image.{blocks_of}
 use Rattle.model.specs.Update.{needs}

@@ -1,6 +1,6 @@
 -- The halving rule over the table, and what theorems may know of a geometry: linear facts, proved once for each
 -- geometry. Assumes nothing.
-use Rattle.std.specs.Prelude.{ℕ, zero, suc, ◌+◌, ◌-◌, ◌*◌, ◌/◌, ◌^◌, ◌<◌, ◌≤◌, Bool, true, false, ◌≡◌, refl, List, [], ◌∷◌, T, eqb, leb, ltb, get_or, length}
+use Rattle.std.specs.Prelude.{ℕ, zero, suc, ◌+◌, ◌-◌, ◌*◌, ◌^◌, ◌<◌, ◌≤◌, Bool, true, false, ◌≡◌, refl, List, [], ◌∷◌, T, eqb, leb, ltb, get_or, length}
 use Rattle.std.proofs.Common.{ap, subst, lit<, lit≤, ne_eqb, ltb-true, ltb-false, arith, suc-mul, mul-le-mul_right}
 use Rattle.std.proofs.Math.Dec.{eqb→eq, leb→le, ltb→lt}
 use Rattle.std.proofs.Math.ListN.{get_or-eq_default}
@@ -9,29 +9,13 @@ use Rattle.geometry.specs.Table.{at, every}
 use Rattle.geometry.specs.declared.Geometry.{Geometry}
 use Rattle.geometry.specs.declared.Chosen.{Chosen}
 use Rattle.geometry.specs.declared.Chosen.TheVariants.{Of, Unknown}
-use Rattle.geometry.specs.Geometry.{small, large, plain, chosen_of, slots, page_bytes, halves, code_place, page_base, small_first, small_slots, large_first, large_slots, plain_slots, first_slot, slots_of, half, root_slots, root_most}
+use Rattle.geometry.specs.Geometry.{small, large, plain, chosen_of, slots, page_bytes, halves, code_place, page_base, plain_slots, first_slot, slots_of, half, root_slots, root_most}
 use Rattle.geometry.specs.Bounds.{longest_page}
-
--- "The first slot of level l is 64 − 64/2^(l−1)", with 256 for 64 on the large chip, over each table once
-rule : ℕ → ℕ → ℕ → Bool
-rule s l x = eqb x (s - s / 2 ^ (l - 1))
-
-halving_small : (l : ℕ) → l ≤ 5 → first_slot small l ≡ slots small - slots small / 2 ^ (l - 1)
-unfolding first_slot rule
-halving_small l h = eqb→eq _ _ (at (rule 64) small_first tt l (omega arith))
-
-halving_large : (l : ℕ) → l ≤ 7 → first_slot large l ≡ slots large - slots large / 2 ^ (l - 1)
-unfolding first_slot rule
-halving_large l h = eqb→eq _ _ (at (rule 256) large_first tt l (omega arith))
 
 -- the two geometries
 pub data Known : Geometry → Type 0 where
   is_small : Known small
   is_large : Known large
-
-pub halving : (g : Geometry) → Known g → (l : ℕ) → l ≤ g.top → first_slot g l ≡ slots g - slots g / 2 ^ (l - 1)
-halving _ is_small l h = halving_small l h
-halving _ is_large l h = halving_large l h
 
 -- what holds of a μ-Tree's geometry and its table
 pub record Shape (g : Geometry) : Type 0 where
@@ -59,7 +43,7 @@ pub record Shape (g : Geometry) : Type 0 where
   pub byte : (l : ℕ) → 1 ≤ l → l ≤ g.top → root_most g l < 256
 
 -- ---- a shape by tests that are computed at each level
-levels : ℕ → List ℕ
+unfoldable pub levels : ℕ → List ℕ
 levels zero = []
 levels (suc n) = 0 ∷ levels n
 
@@ -75,153 +59,36 @@ by_lt {C} a b f g = go (ltb a b) refl
     go true e = f (ltb-true a b e)
     go false e = g (ltb-false a b e)
 
-pred : (l : ℕ) → 1 ≤ l → suc (l - 1) ≡ l
+pub pred : (l : ℕ) → 1 ≤ l → suc (l - 1) ≡ l
 pred l h = omega arith
 
 module _ (g : Geometry) where
-  room_test : ℕ → ℕ → Bool
+  unfoldable pub room_test : ℕ → ℕ → Bool
   room_test l x = leb (first_slot g l + slots_of g l) (slots g)
 
-  steps_test : ℕ → ℕ → Bool
-  steps_test l x = leb (first_slot g l + slots_of g l) (first_slot g (suc l))
-
-  even_test : ℕ → ℕ → Bool
+  unfoldable pub even_test : ℕ → ℕ → Bool
   even_test l x = eqb (slots_of g l) (2 * half g l)
 
-  double_test : ℕ → ℕ → Bool
-  double_test l x = eqb (root_slots g (suc l)) (4 * half g (suc l))
-
-  some_test : ℕ → ℕ → Bool
-  some_test l x = leb 2 (half g (suc l))
-
-  most_test : ℕ → ℕ → Bool
+  unfoldable pub most_test : ℕ → ℕ → Bool
   most_test l x = leb (slots_of g l) (root_most g l)
 
-  byte_test : ℕ → ℕ → Bool
+  unfoldable pub byte_test : ℕ → ℕ → Bool
   byte_test l x = ltb (root_most g l) 256
 
--- the tests, each at levels 0 to top, below top, or 1 to below top
-record Tested (g : Geometry) : Type 0 where
-  room : T (every (room_test g) 0 (levels (suc g.top)))
-  steps : T (every (steps_test g) 0 (levels g.top))
-  even : T (every (even_test g) 0 (levels (suc g.top)))
-  double : T (every (double_test g) 0 (levels (g.top - 1)))
-  some : T (every (some_test g) 0 (levels (g.top - 1)))
-  most : T (every (most_test g) 0 (levels (suc g.top)))
-  byte : T (every (byte_test g) 0 (levels (suc g.top)))
-  -- no slots above the table
-  past : (l : ℕ) → suc g.top ≤ l → slots_of g l ≡ 0
-
--- the facts of the numbers
-record Numbers (g : Geometry) : Type 0 where
-  pages_low : 2 ≤ g.pages
-  pages_high : g.pages ≤ 64
-  spare_low : 4 + g.top < g.spare
-  code_room : code_place g (halves g) ≤ page_bytes g
-  top_low : 5 ≤ g.top
-  top_high : g.top ≤ 7
-  main_is : g.main ≡ 8 * slots g
-  slots_high : slots g ≤ 256
-  worn_low : g.worn + (g.top + 1) * g.pages + g.top < 4294967295
-  top_none : half g g.top ≡ 0
-  top_slots : root_slots g g.top ≡ 4
-
-here : (f : ℕ → ℕ → Bool) (n l : ℕ) → T (every f 0 (levels n)) → l < n → T (f l (get_or (levels n) l 0))
+pub here : (f : ℕ → ℕ → Bool) (n l : ℕ) → T (every f 0 (levels n)) → l < n → T (f l (get_or (levels n) l 0))
 here f n l y h = at f (levels n) y l (rw (levels_length n) h)
 
 -- at every level, where there are no slots above the table
 module _ (g : Geometry) (past : (l : ℕ) → suc g.top ≤ l → slots_of g l ≡ 0) where
-  even_all : T (every (even_test g) 0 (levels (suc g.top))) → (l : ℕ) → slots_of g l ≡ 2 * half g l
+  pub even_all : T (every (even_test g) 0 (levels (suc g.top))) → (l : ℕ) → slots_of g l ≡ 2 * half g l
   unfolding even_test
   even_all t l = by_lt l (suc g.top) (λ h. eqb→eq _ _ (here (even_test g) (suc g.top) l t h)) (λ h. let e =
       past l h in rw e refl)
 
-  most_all : T (every (most_test g) 0 (levels (suc g.top))) → (l : ℕ) → slots_of g l ≤ root_most g l
+  pub most_all : T (every (most_test g) 0 (levels (suc g.top))) → (l : ℕ) → slots_of g l ≤ root_most g l
   unfolding most_test
   most_all t l = by_lt l (suc g.top) (λ h. leb→le _ _ (here (most_test g) (suc g.top) l t h)) (λ h. let e =
       past l h in omega (arith, e))
-
-module _ (g : Geometry) (x : Numbers g) (t : Tested g) where
-  shape_by : Shape g
-  unfolding room_test steps_test double_test some_test byte_test
-  shape_by = record {
-    pages_low = x.pages_low;
-    pages_high = x.pages_high;
-    spare_low = x.spare_low;
-    code_room = x.code_room;
-    top_low = x.top_low;
-    top_high = x.top_high;
-    main_is = x.main_is;
-    slots_high = x.slots_high;
-    worn_low = x.worn_low;
-    room = λ l h. leb→le _ _ (here (room_test g) (suc g.top) l t.room (omega arith));
-    steps = λ l h. leb→le _ _ (here (steps_test g) g.top l t.steps h);
-    even = even_all g t.past t.even;
-    double = λ l i h. rw (← (pred l i)) (eqb→eq _ _ (here (double_test g) (g.top - 1) (l - 1) t.double (omega arith)));
-    some = λ l i h. rw (← (pred l i)) (leb→le _ _ (here (some_test g) (g.top - 1) (l - 1) t.some (omega arith)));
-    top_none = x.top_none;
-    top_slots = x.top_slots;
-    fits = most_all g t.past t.most;
-    byte = λ l i h. ltb→lt _ _ (here (byte_test g) (suc g.top) l t.byte (omega arith));
-  }
-
-small_numbers : Numbers small
-unfolding first_slot slots_of root_slots
-small_numbers = record {
-  pages_low = lit≤ tt;
-  pages_high = lit≤ tt;
-  spare_low = lit< tt;
-  code_room = lit≤ tt;
-  top_low = lit≤ tt;
-  top_high = lit≤ tt;
-  main_is = refl;
-  slots_high = lit≤ tt;
-  worn_low = lit< tt;
-  top_none = refl;
-  top_slots = refl;
-}
-
-small_past : (l : ℕ) → 6 ≤ l → slots_of small l ≡ 0
-unfolding slots_of
-small_past l h = get_or-eq_default small_slots 0 h
-
-small_tested : Tested small
-unfolding room_test steps_test even_test double_test some_test most_test byte_test levels first_slot slots_of root_slots root_most
-small_tested = record { room = tt; steps = tt; even = tt; double = tt; some = tt; most = tt; byte = tt; past = small_past }
-
-pub small_shape : Shape small
-small_shape = shape_by small small_numbers small_tested
-
-large_numbers : Numbers large
-unfolding first_slot slots_of root_slots
-large_numbers = record {
-  pages_low = lit≤ tt;
-  pages_high = lit≤ tt;
-  spare_low = lit< tt;
-  code_room = lit≤ tt;
-  top_low = lit≤ tt;
-  top_high = lit≤ tt;
-  main_is = refl;
-  slots_high = lit≤ tt;
-  worn_low = lit< tt;
-  top_none = refl;
-  top_slots = refl;
-}
-
-large_past : (l : ℕ) → 8 ≤ l → slots_of large l ≡ 0
-unfolding slots_of
-large_past l h = get_or-eq_default large_slots 0 h
-
-large_tested : Tested large
-unfolding room_test steps_test even_test double_test some_test most_test byte_test levels first_slot slots_of root_slots root_most
-large_tested = record { room = tt; steps = tt; even = tt; double = tt; some = tt; most = tt; byte = tt; past = large_past }
-
-pub large_shape : Shape large
-large_shape = shape_by large large_numbers large_tested
-
-pub shape : (g : Geometry) → Known g → Shape g
-shape _ is_small = small_shape
-shape _ is_large = large_shape
 
 -- what holds of the plain tree's geometry too: all that the laws of bytes, stores, next pages and R1 to R6 use. Of
 -- `Shape` those of the μ-Tree's updates use also steps, double, some, top_none and top_slots

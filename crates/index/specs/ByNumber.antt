@@ -6,7 +6,8 @@ use Rattle.geometry.specs.declared.Geometry.{Geometry}
 use Rattle.geometry.specs.declared.Chosen.{Chosen}
 use Rattle.geometry.specs.declared.Chosen.TheVariants.{Of, Unknown}
 use Rattle.geometry.specs.Geometry.{chosen_of, page_bytes}
-use Rattle.geometry.specs.Shape.{Known, shape, page_most, chosen_known}
+use Rattle.geometry.specs.Shape.{Known, page_most, chosen_known}
+use Rattle.geometry.proofs.Shape.{shape}
 use Rattle.geometry.specs.Bounds.{longest_page}
 use Rattle.model.specs.Calls.{Outcome, refused, chosen_call, format, lookup, patrol, format_of, lookup_of, patrol_of}
 use Rattle.model.specs.Listing.{lists_none, listing, list_of, as_outcome}

@@ -105,23 +105,6 @@ pub record Last (k : ℕ) (es : List Entry) (i : ℕ) : Type 0 where
   pub low : 0 < i → (entry_of es i).key ≤ k
   pub rest : (j : ℕ) → i < j → j < length es → k < (entry_of es j).key
 
-pub place_last : (k : ℕ) (es : List Entry) → 0 < length es → ((i j : ℕ) → i < j → j < length es
-    → (entry_of es i).key < (entry_of es j).key)
-    → Last k es (place k es)
-place_last k es n rise =
-    let w = place_is k es n in
-    record { inside = w.inside; low = w.low; rest = λ j h g. go j h g w.high (ltb (suc (place k es)) j) refl }
-  where
-    go : (j : ℕ) → place k es < j → j < length es
-        → (suc (place k es) < length es → k < (entry_of es (suc (place k es))).key)
-        → (t : Bool) → ltb (suc (place k es)) j ≡ t → k < (entry_of es j).key
-    go j h g high true e =
-        let later = ltb-true (suc (place k es)) j e in
-        omega (arith, high (omega (arith, later)), rise (suc (place k es)) j later g)
-    go j h g high false e =
-        let here : j ≡ suc (place k es) = omega (arith, ltb-false (suc (place k es)) j e) in
-        rw here (high (omega (arith, here)))
-
 -- the place hangs on the keys alone
 halve_keys : (k : ℕ) (xs ys : List Entry) → ((i : ℕ) → (entry_of xs i).key ≡ (entry_of ys i).key) → (s lo hi : ℕ)
     → halve s k xs lo hi ≡ halve s k ys lo hi

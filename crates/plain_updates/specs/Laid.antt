@@ -29,7 +29,8 @@ use Rattle.theory_images.specs.Views.{rooted, beside}
 use Rattle.theory_images.specs.Page.{in_table_lem}
 use Rattle.theory_images.specs.Built.{Parts, built_view}
 use Rattle.theory_images.specs.Held.{Held}
-use Rattle.theory_images.specs.Writes.{next_store, ahead_beside, put_legal, put_max, root_chip, root_held, side_chip, side_held, side_map}
+use Rattle.theory_images.specs.Writes.{next_store, ahead_beside, put_legal}
+use Rattle.theory_images.proofs.Writes.{put_max, root_chip, root_held, side_chip, side_held, side_map}
 use Rattle.theory_updates.specs.Along.{Along}
 use Rattle.plain_updates.specs.Single.{Buildable}
 

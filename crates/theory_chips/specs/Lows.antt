@@ -13,7 +13,8 @@ use Rattle.model.specs.Next.{ahead, next_page, after}
 use Rattle.model.specs.Collect.{move_key}
 use Rattle.theory_nodes.specs.Nodes.{fit_of}
 use Rattle.theory_nodes.specs.PathPlaces.{path_places}
-use Rattle.theory_trees.specs.Lows.{Lowered, lowered}
+use Rattle.theory_trees.specs.Lows.{Lowered}
+use Rattle.theory_trees.proofs.Lows.{lowered}
 use Rattle.theory_chips.specs.Whole.{Whole}
 use Rattle.theory_chips.specs.Moves.{move_to, keep, not_new, stays, low, made, at_root_lem, fit_new, k_low}
 

@@ -18,7 +18,8 @@ use Rattle.theory_counts.specs.Cases.{true_false}
 use Rattle.theory_lists.specs.All.{All, Mem, all_get}
 use Rattle.theory_nodes.specs.Nodes.{fit_of, fit_page}
 use Rattle.theory_trees.specs.Move.{moved, MoveMade}
-use Rattle.theory_trees.specs.Proper.{places_level, root_first, root_fit, Moved, move_sound}
+use Rattle.theory_trees.specs.Proper.{places_level, root_first, root_fit, Moved}
+use Rattle.theory_trees.proofs.Proper.{move_sound}
 use Rattle.theory_trees.specs.Path.{same_as, same_root, root_is, on_path_top, made_from}
 use Rattle.theory_trees.specs.Like.{Likes, Like, move_root_like}
 use Rattle.theory_nodes.specs.Live.{dead_live, within_live, low_is}

@@ -26,7 +26,7 @@ use Rattle.theory_counts.specs.Cases.{by_eq, by_le, by_test, true_false}
 use Rattle.theory_nodes.specs.Nodes.{the, fit_of}
 use Rattle.theory_trees.specs.Edit.{at_root}
 use Rattle.theory_trees.specs.Plain.{renews, RenewHeld, RenewMade}
-use Rattle.theory_trees.specs.PlainInsert.{plain_stay, plain_grow}
+use Rattle.theory_trees.proofs.PlainInsert.{plain_stay, plain_grow}
 use Rattle.theory_trees.specs.Path.{put_as, root_is, on_path_top, made_from}
 use Rattle.theory_trees.specs.Cuts.{root_size, splits_are, splits_le, all_below}
 use Rattle.theory_chips.specs.Next.{R2, step}

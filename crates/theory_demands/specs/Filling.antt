@@ -11,7 +11,8 @@ use Rattle.std.proofs.Math.ListN.{length}
 use Rattle.geometry.specs.declared.Geometry.{Geometry}
 use Rattle.geometry.specs.Tests.{bit}
 use Rattle.geometry.specs.Geometry.{small, slots_of, half}
-use Rattle.geometry.specs.Shape.{Shape, small_shape, shape_core}
+use Rattle.geometry.specs.Shape.{Shape, shape_core}
+use Rattle.geometry.proofs.Shape.{small_shape}
 use Rattle.model.specs.Bytes.{byte_at}
 use Rattle.model.specs.Image.{blocks_of, good_length, Chip, chip_of}
 use Rattle.model.specs.Tree.{under, find}

@@ -18,7 +18,7 @@ use Rattle.model.specs.Rules.{verdict}
 use Rattle.model.specs.Calls.{by_verdict, judged}
 use Rattle.model.specs.Listing.{between, ranged_of, written_of, filled, lists, lists_none, listing}
 use Rattle.theory_nodes.specs.Nodes.{fit_of}
-use Rattle.theory_nodes.specs.Between.{ranged_root}
+use Rattle.theory_nodes.proofs.Between.{ranged_root}
 use Rattle.theory_demands.specs.Words.{Ready, map_at, Rising}
 use Rattle.theory_demands.specs.Bridges.{ready_keeps}
 use Rattle.theory_demands.specs.Demands.{map_sorted}

@@ -27,9 +27,9 @@ use Rattle.live_words.specs.Filled.{past_none, filled_past, filled_told, filled_
 use Rattle.open_record.specs.Opened.{opened_in}
 use Rattle.live_beside.specs.Beside.{Held}
 use Rattle.live_beside.specs.Update.{Returned, returned, insert_by, delete_by}
-use Rattle.theory_images.specs.Few.{known_few}
+use Rattle.theory_images.proofs.Few.{known_few}
 use Rattle.theory_updates.specs.CollectBy.{Tells}
-use Rattle.theory_updates.specs.UpdateBy.{inserts, deletes}
+use Rattle.theory_updates.proofs.UpdateBy.{inserts, deletes}
 use Rattle.theory_demands.specs.Words.{Ready, map_at, OneOf}
 use Rattle.theory_demands.specs.Bridges.{few, some_pages, ready_keeps}
 use Rattle.theory_demands.specs.Calls.{judged_ready}

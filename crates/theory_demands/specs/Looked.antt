@@ -19,7 +19,8 @@ use Rattle.model.specs.Listing.{up_to, reached, ranged}
 use Rattle.theory_counts.specs.Least.{by_lt}
 use Rattle.theory_nodes.specs.Entries.{Rises, rises_right, next_le}
 use Rattle.theory_nodes.specs.Nodes.{Ok, under_in, the}
-use Rattle.theory_nodes.specs.Between.{between_all, ranged_is}
+use Rattle.theory_nodes.specs.Between.{between_all}
+use Rattle.theory_nodes.proofs.Between.{ranged_is}
 
 -- the nodes that the walk under an entry at level l looks at
 unfoldable pub looked : Nodes → ℕ → ℕ → ℕ → Entry → List Place

@@ -4,7 +4,7 @@
 use Rattle.std.specs.Prelude.{◌≡◌, List, true, ℕ, ◌+◌, ◌*◌, ◌<◌, ◌≤◌, length}
 use Rattle.std.proofs.Common.{arith}
 use Rattle.geometry.specs.Geometry.{small}
-use Rattle.geometry.specs.Shape.{small_shape}
+use Rattle.geometry.proofs.Shape.{small_shape}
 use Rattle.model.specs.Bytes.{byte_at}
 use Rattle.model.specs.Image.{good_length}
 use Rattle.model.specs.Calls.{format}

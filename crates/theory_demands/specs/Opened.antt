@@ -9,7 +9,8 @@ use Rattle.geometry.specs.declared.Geometry.{Geometry}
 use Rattle.geometry.specs.declared.Entry.{Entry}
 use Rattle.geometry.specs.declared.Verdict.{Verdict}
 use Rattle.geometry.specs.declared.Verdict.TheVariants.{Sound, Broken}
-use Rattle.geometry.specs.Shape.{Known, Shape, shape_core, shape}
+use Rattle.geometry.specs.Shape.{Known, Shape, shape_core}
+use Rattle.geometry.proofs.Shape.{shape}
 use Rattle.geometry.specs.Tests.{pick, and_both}
 use Rattle.model.specs.Bytes.{seq_at, height_at}
 use Rattle.model.specs.Image.{pages_of, blocks_of, good_length, seq_of, height_of, root_of, Chip, chip_of}
@@ -17,7 +18,8 @@ use Rattle.model.specs.Tree.{sought}
 use Rattle.model.specs.Rules.{verdict}
 use Rattle.model.specs.Calls.{gives, refused, damaged, by_verdict, judged, answered, lookup}
 use Rattle.model.specs.Listing.{ranged_of, lists, lists_none, listing}
-use Rattle.theory_images.specs.Few.{known_few, few_ranged}
+use Rattle.theory_images.proofs.Few.{known_few}
+use Rattle.theory_images.specs.Few.{few_ranged}
 use Rattle.open_record.specs.declared.Opened.{Opened}
 use Rattle.open_record.specs.Opened.{opened_in, no_record, opened, opening, standing, opened_call, chip_by, lookup_with, pairs_most, list_with}
 use Rattle.theory_updates.specs.Level.{chip_right}

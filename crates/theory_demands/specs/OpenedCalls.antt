@@ -10,13 +10,14 @@ use Rattle.std.proofs.Math.Nat.{mul-le-mul_left}
 use Rattle.std.proofs.lemmas.List.{length-replicate, get_or-replicate}
 use Rattle.std.proofs.lemmas.Bool.{lt-leb}
 use Rattle.geometry.specs.declared.Geometry.{Geometry}
-use Rattle.geometry.specs.Shape.{Known, Shape, shape}
+use Rattle.geometry.specs.Shape.{Known, Shape}
+use Rattle.geometry.proofs.Shape.{shape}
 use Rattle.geometry.specs.Tests.{and_false, and_none, and_both}
 use Rattle.geometry.specs.Bounds.{four_bytes}
 use Rattle.model.specs.Image.{blocks_of, good_length, Chip, chip_of}
 use Rattle.model.specs.Tree.{Place, places_of, live}
 use Rattle.model.specs.Calls.{Outcome, refused, insert_rest, delete_rest, insert, delete}
-use Rattle.theory_images.specs.Few.{known_few}
+use Rattle.theory_images.proofs.Few.{known_few}
 use Rattle.theory_images.specs.Held.{Held}
 use Rattle.theory_images.specs.Lengths.{blocks_same}
 use Rattle.live_walk.specs.Table.{note_all, Zeros, Marked}

@@ -25,7 +25,8 @@ use Rattle.theory_chips.specs.Whole.{sought_map}
 use Rattle.theory_chips.specs.Insertion.{Fuller}
 use Rattle.theory_images.specs.Lengths.{blocks_same, length_all}
 use Rattle.theory_updates.specs.Along.{Keeps}
-use Rattle.theory_updates.specs.Lists.{not_worn, m_top, insert_collected, insert_own, insert_programs_only, insert_updated, delete_collected, delete_updated}
+use Rattle.theory_updates.specs.Lists.{not_worn, m_top}
+use Rattle.theory_updates.proofs.Lists.{insert_collected, insert_own, insert_programs_only, insert_updated, delete_collected, delete_updated}
 use Rattle.theory_demands.specs.Words.{Ready, map_at, Holds, Kept, Began, OneOf, Own}
 use Rattle.theory_demands.specs.Bridges.{few, some_pages, ready_keeps, updated_kept}
 use Rattle.theory_demands.specs.Tests.{Met, tested_one, tested_met}

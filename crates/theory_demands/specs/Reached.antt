@@ -7,7 +7,8 @@ use mathlib.Core.List.{List, [], ◌∷◌}
 use borrow.Author.Tests.{le-ltb}
 use Rattle.geometry.specs.declared.Geometry.{Geometry}
 use Rattle.geometry.specs.Geometry.{small, large}
-use Rattle.geometry.specs.Shape.{Known, Shape, shape, shape_core}
+use Rattle.geometry.specs.Shape.{Known, Shape, shape_core}
+use Rattle.geometry.proofs.Shape.{shape}
 use Rattle.geometry.specs.Bounds.{four_bytes}
 use Rattle.model.specs.Bytes.{byte_at}
 use Rattle.model.specs.Image.{blocks_of, good_length, chip_of}

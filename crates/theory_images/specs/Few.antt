@@ -5,8 +5,8 @@ use Rattle.std.specs.Prelude.{List, [], ◌∷◌, length}
 use native.Mathlib.Omega.{arith}
 use Rattle.geometry.specs.declared.Geometry.{Geometry}
 use Rattle.geometry.specs.declared.Entry.{Entry}
-use Rattle.geometry.specs.Geometry.{small, large, first_slot, slots_of, half, root_slots, root_most}
-use Rattle.geometry.specs.Shape.{Known, is_small, is_large, Shape, shape_core}
+use Rattle.geometry.specs.Geometry.{large, first_slot, slots_of, half, root_slots, root_most}
+use Rattle.geometry.specs.Shape.{Shape, shape_core}
 use Rattle.geometry.specs.Bounds.{four_bytes}
 use Rattle.model.specs.Image.{pages_of, Nodes, Chip, chip_of}
 use Rattle.model.specs.Tree.{gather, places, map_of, places_of}
@@ -14,7 +14,8 @@ use Rattle.model.specs.Listing.{ranged_of}
 use Rattle.theory_lists.specs.All.{All}
 use Rattle.theory_nodes.specs.Entries.{Rises, rises_all}
 use Rattle.theory_nodes.specs.Nodes.{Ok, Rooted, fit_of}
-use Rattle.theory_nodes.specs.Between.{between_fewer, ranged_root, most_under, root_most_lem}
+use Rattle.theory_nodes.specs.Between.{between_fewer, most_under, root_most_lem}
+use Rattle.theory_nodes.proofs.Between.{ranged_root}
 use Rattle.theory_images.specs.Held.{Held, height_most}
 
 -- the most nodes from the one that an entry at level l names down
@@ -91,16 +92,8 @@ module _ (g : Geometry) (shape : Shape g) (few : Few g) (n : ℕ) (img : List �
       omega (arith, is, a, b, d)
 
 -- ---- the two chips
-small_nodes : (l : ℕ) → l < 5 → most_nodes small l ≤ 8388608
-unfolding nodes_under root_most root_slots first_slot slots_of
-small_nodes zero h = lit≤ tt
-small_nodes (suc zero) h = lit≤ tt
-small_nodes (suc (suc zero)) h = lit≤ tt
-small_nodes (suc (suc (suc zero))) h = lit≤ tt
-small_nodes (suc (suc (suc (suc zero)))) h = lit≤ tt
-small_nodes (suc (suc (suc (suc (suc l))))) h = absurd (omega (arith, h))
 
-large_nodes : (l : ℕ) → l < 7 → most_nodes large l ≤ 8388608
+pub large_nodes : (l : ℕ) → l < 7 → most_nodes large l ≤ 8388608
 unfolding nodes_under root_most root_slots first_slot slots_of
 large_nodes zero h = lit≤ tt
 large_nodes (suc zero) h = lit≤ tt
@@ -110,27 +103,3 @@ large_nodes (suc (suc (suc (suc zero)))) h = lit≤ tt
 large_nodes (suc (suc (suc (suc (suc zero))))) h = lit≤ tt
 large_nodes (suc (suc (suc (suc (suc (suc zero)))))) h = lit≤ tt
 large_nodes (suc (suc (suc (suc (suc (suc (suc l))))))) h = absurd (omega (arith, h))
-
-small_pairs : (l : ℕ) → l < 5 → most_pairs small l ≤ 536870912
-unfolding most_under root_most root_slots first_slot slots_of
-small_pairs zero h = lit≤ tt
-small_pairs (suc zero) h = lit≤ tt
-small_pairs (suc (suc zero)) h = lit≤ tt
-small_pairs (suc (suc (suc zero))) h = lit≤ tt
-small_pairs (suc (suc (suc (suc zero)))) h = lit≤ tt
-small_pairs (suc (suc (suc (suc (suc l))))) h = absurd (omega (arith, h))
-
-large_pairs : (l : ℕ) → l < 7 → most_pairs large l ≤ 536870912
-unfolding most_under root_most root_slots first_slot slots_of
-large_pairs zero h = lit≤ tt
-large_pairs (suc zero) h = lit≤ tt
-large_pairs (suc (suc zero)) h = lit≤ tt
-large_pairs (suc (suc (suc zero))) h = lit≤ tt
-large_pairs (suc (suc (suc (suc zero)))) h = lit≤ tt
-large_pairs (suc (suc (suc (suc (suc zero))))) h = lit≤ tt
-large_pairs (suc (suc (suc (suc (suc (suc zero)))))) h = lit≤ tt
-large_pairs (suc (suc (suc (suc (suc (suc (suc l))))))) h = absurd (omega (arith, h))
-
-pub known_few : (g : Geometry) → Known g → Few g
-known_few _ is_small = record { nodes = small_nodes; pairs = small_pairs }
-known_few _ is_large = record { nodes = large_nodes; pairs = large_pairs }

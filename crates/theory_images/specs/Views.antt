@@ -135,16 +135,16 @@ pub score_none : (w : View) → w.height ≡ 0 → score w ≡ 0
 score_none w h = rw h refl
 
 module _ (g : Geometry) (t : ℕ) (v : Views) (p : ℕ) (w : View) (written : w.er ≡ false) where
-  put_er : (q : ℕ) → (laid v p w q).er ≡ after p (λ q. (v q).er) q
+  pub put_er : (q : ℕ) → (laid v p w q).er ≡ after p (λ q. (v q).er) q
   put_er q = picked (λ (x : View). x.er) (eqb q p) w (v q) ∙ ap (λ b. pick (eqb q p) b (v q).er) written
 
-  put_node : (q l : ℕ) → (laid v p w q).node l ≡ pick (eqb q p) (w.node l) ((v q).node l)
+  pub put_node : (q l : ℕ) → (laid v p w q).node l ≡ pick (eqb q p) (w.node l) ((v q).node l)
   put_node q l = picked (λ (x : View). x.node l) (eqb q p) w (v q)
 
-  put_seq : (q : ℕ) → (laid v p w q).seq ≡ pick (eqb q p) w.seq (v q).seq
+  pub put_seq : (q : ℕ) → (laid v p w q).seq ≡ pick (eqb q p) w.seq (v q).seq
   put_seq q = picked (λ (x : View). x.seq) (eqb q p) w (v q)
 
-  put_here : laid v p w p ≡ w
+  pub put_here : laid v p w p ≡ w
   put_here = rw (eq-eqb p p refl) refl
 
   put_there : (q : ℕ) → (q ≡ p → ⊥) → laid v p w q ≡ v q
@@ -160,14 +160,6 @@ module _ (g : Geometry) (t : ℕ) (v : Views) (p : ℕ) (w : View) (written : w.
       let y = peak_le t (λ q. (v q).seq) j q in
       let z = score_root w k in
       omega (arith, a, b, x, y, z, s))
-
-  pub chip_root : p < t → 1 ≤ w.height → w.seq ≡ suc (top_of t v) → chip t (laid v p w) ≡ rooted (chip t v) p w
-  unfolding rooted
-  chip_root h k s =
-      let r = root_new h k s in
-      let e : (laid v p w (root_at t (laid v p w))).height - 1 ≡ w.height - 1 = ap (λ q. (laid v p w q).height - 1) r
-      ∙ ap (λ (x : View). x.height - 1) put_here in
-      λ i. record { er = λ q. put_er q i; seq = λ q. put_seq q i; nodes = λ q l. put_node q l i; level = e i; root = r i }
 
   -- a page without a root where nothing was
   pub root_beside : v p ≡ no_view g → w.height ≡ 0 → root_at t (laid v p w) ≡ root_at t v
@@ -276,11 +268,6 @@ R4 t v = 1 ≤ (v (root_at t v)).height
 pub root_in : (t : ℕ) (v : Views) → 1 ≤ t → root_at t v < t
 unfolding root_at
 root_in t v h = (arg_at t (λ q. score (v q)) h).inside
-
-pub r4_root : (g : Geometry) (t : ℕ) (v : Views) (p : ℕ) (w : View) → w.er ≡ false → p < t → 1 ≤ w.height
-    → w.seq ≡ suc (top_of t v)
-    → R4 t (laid v p w)
-r4_root g t v p w e h k s = rw (root_new g t v p w e h k s, eq-eqb p p refl) k
 
 pub r4_beside : (g : Geometry) (t : ℕ) (v : Views) (p : ℕ) (w : View) → w.er ≡ false → v p ≡ no_view g → w.height ≡ 0
     → R4 t v → R4 t (laid v p w)

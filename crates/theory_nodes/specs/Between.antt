@@ -7,14 +7,12 @@ use Rattle.std.proofs.Math.Bool.{true, false}
 use Prim.Native.Nat.{ℕ, zero, suc, ◌+◌, ◌*◌, ◌<◌, ◌≤◌}
 use native.Mathlib.Omega.{arith}
 use Rattle.std.proofs.Math.Dec.{leb}
-use Rattle.std.proofs.Math.Seq.{drop-nil}
 use Rattle.std.proofs.lemmas.Bool.{lt-leb}
 use Rattle.geometry.specs.declared.Entry.{Entry}
 use Rattle.geometry.specs.Tests.{pick, ◌&◌}
 use Rattle.model.specs.Image.{Nodes}
-use Rattle.model.specs.Tree.{gather, under, following, entry_of, place}
-use Rattle.model.specs.Halving.{place_is}
-use Rattle.model.specs.Listing.{between, up_to, reached, ranged}
+use Rattle.model.specs.Tree.{gather, under, following, entry_of}
+use Rattle.model.specs.Listing.{between, up_to, ranged}
 use Rattle.theory_lists.specs.All.{All}
 use Rattle.theory_nodes.specs.Entries.{In, Rises, gather_append, rises_left, rises_right, rises_all, some_before}
 use Rattle.theory_nodes.specs.Nodes.{Ok, under_in, the}
@@ -93,7 +91,7 @@ module _ (fit : ℕ → ℕ → Type 0) (room : ℕ → ℕ) (r : Nodes) (low hi
           (rises_in low (Ok fit room r l) (under r l) (keeps l) e.key top (e ∷ es) (omega arith) h))
 
   -- from entry i on, where those before it are below the low key
-  from_ranged : (l top i : ℕ) (es : List Entry) → i < length es → (0 < i → (entry_of es i).key ≤ low) → Rises (Ok fit room r l) top es → Right l
+  pub from_ranged : (l top i : ℕ) (es : List Entry) → i < length es → (0 < i → (entry_of es i).key ≤ low) → Rises (Ok fit room r l) top es → Right l
       → gather (ranged r low high l) (up_to high (drop i es)) ≡ between low high (gather (under r l) es)
   from_ranged l top i es inside before h step =
       upto_ranged l top (drop i es) (rises_right (Ok fit room r l) top (take i es) (drop i es) cut) step
@@ -113,31 +111,6 @@ module _ (fit : ℕ → ℕ → Type 0) (room : ℕ → ℕ) (r : Nodes) (low hi
           (pre_in low (Ok fit room r l) (under r l) (keeps l) (following (drop i es) top) (take i es)
           (λ some. let w = before (some_before i es some) in omega (arith, at, w))
           (rises_left (Ok fit room r l) top (take i es) (drop i es) cut))
-
-  -- from the one that descent with the low key takes
-  list_ranged : (l top : ℕ) (es : List Entry) → Rises (Ok fit room r l) top es → Right l
-      → gather (ranged r low high l) (reached low high es) ≡ between low high (gather (under r l) es)
-  unfolding up_to gather between
-  list_ranged l top [] h step = rw (drop-nil {A = Entry} (place low [])) refl
-  list_ranged l top (e ∷ es) h step =
-      let w = place_is low (e ∷ es) (omega arith) in
-      from_ranged l top (place low (e ∷ es)) (e ∷ es) w.inside w.low h step
-
-  -- under an entry
-  pub ranged_is : (l : ℕ) → Right l
-  unfolding ranged under Ok between ◌&◌
-  ranged_is zero y e b c h = rw (le-leb e.key high c) (go (leb low e.key))
-    where
-      go : (t : Bool) → pick t (e ∷ []) [] ≡ pick (t & true) (e ∷ []) []
-      go true = refl
-      go false = refl
-  ranged_is (suc l) y e b c h = list_ranged l y (r e.addr (suc l)) h.4 (ranged_is l)
-
-  -- from the root down
-  pub ranged_root : (l top p : ℕ) → Rises (Ok fit room r l) top (r p (suc l)) → ranged r low high (suc l)
-      (the p) ≡ between low high (under r (suc l) (the p))
-  unfolding ranged under
-  ranged_root l top p h = list_ranged l top (r p (suc l)) h (ranged_is l)
 
 -- ---- how many pairs there are at most
 unfoldable pub most_under : (ℕ → ℕ) → ℕ → ℕ

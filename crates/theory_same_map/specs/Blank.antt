@@ -10,7 +10,8 @@ use Rattle.geometry.specs.declared.Verdict.{Verdict}
 use Rattle.geometry.specs.declared.Verdict.TheVariants.{Sound, Broken}
 use Rattle.geometry.specs.Geometry.{small, plain, page_base}
 use Rattle.geometry.specs.Tests.{◌&◌}
-use Rattle.geometry.specs.Shape.{Core, small_shape, shape_core, plain_core}
+use Rattle.geometry.specs.Shape.{Core, shape_core, plain_core}
+use Rattle.geometry.proofs.Shape.{small_shape}
 use Rattle.model.specs.Bytes.{byte_at}
 use Rattle.model.specs.Image.{block_bytes, blocks_of, good_length, pages_of}
 use Rattle.model.specs.Rules.{verdict}

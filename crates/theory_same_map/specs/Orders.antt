@@ -4,7 +4,8 @@ use Rattle.std.proofs.Common.{ap, sym, subst, ◌∙◌, arith}
 use Rattle.std.proofs.Math.Option.{Option, none, some}
 use Rattle.geometry.specs.declared.Entry.{Entry}
 use Rattle.geometry.specs.Geometry.{small, plain}
-use Rattle.geometry.specs.Shape.{small_shape, shape_core, plain_core}
+use Rattle.geometry.proofs.Shape.{small_shape}
+use Rattle.geometry.specs.Shape.{shape_core, plain_core}
 use Rattle.log_lines.specs.declared.Order.{Order}
 use Rattle.log_lines.specs.declared.Order.TheVariants.{Format, Insert, Delete, Lookup, Limited}
 use Rattle.log_lines.specs.Replay.{largest_allowance, obeyed, blank_image}

@@ -9,7 +9,8 @@ use Rattle.std.proofs.Math.Option.{Option, none, some}
 use Rattle.geometry.specs.declared.Entry.{Entry}
 use Rattle.geometry.specs.Geometry.{small, plain}
 use Rattle.geometry.specs.Tests.{pick, ◌&◌, and_left, and_right, and_both, and_false}
-use Rattle.geometry.specs.Shape.{small_shape, shape_core, plain_core}
+use Rattle.geometry.proofs.Shape.{small_shape}
+use Rattle.geometry.specs.Shape.{shape_core, plain_core}
 use Rattle.model.specs.Calls.{Outcome}
 use Rattle.text_lines.specs.Lines.{lines}
 use Rattle.log_lines.specs.declared.Order.{Order}

@@ -7,7 +7,8 @@ use Rattle.std.proofs.Math.Path.{subst}
 use Rattle.geometry.specs.declared.Geometry.{Geometry}
 use Rattle.geometry.specs.declared.Entry.{Entry}
 use Rattle.geometry.specs.Geometry.{small, plain}
-use Rattle.geometry.specs.Shape.{small_shape, shape_core, plain_core}
+use Rattle.geometry.proofs.Shape.{small_shape}
+use Rattle.geometry.specs.Shape.{shape_core, plain_core}
 use Rattle.geometry.specs.Bounds.{four_bytes}
 use Rattle.model.specs.Image.{blocks_of}
 use Rattle.model.specs.Tree.{find}

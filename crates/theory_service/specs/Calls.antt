@@ -12,7 +12,8 @@ use Rattle.geometry.specs.declared.Chosen.TheVariants.{Of, Unknown}
 use Rattle.geometry.specs.declared.Verdict.TheVariants.{Sound, Broken}
 use Rattle.geometry.specs.Tests.{pick}
 use Rattle.geometry.specs.Geometry.{chosen_of}
-use Rattle.geometry.specs.Shape.{Known, is_small, is_large, Shape, shape, shape_core, chosen_known}
+use Rattle.geometry.specs.Shape.{Known, is_small, is_large, Shape, shape_core, chosen_known}
+use Rattle.geometry.proofs.Shape.{shape}
 use Rattle.geometry.specs.Bounds.{four_bytes}
 use Rattle.model.specs.Image.{blocks_of, pages_of, good_length}
 use Rattle.model.specs.Tree.{find}

@@ -6,7 +6,7 @@ use Rattle.std.proofs.Common.{ap, subst, ◌∙◌, inl, arith}
 use Rattle.std.proofs.Math.Path.{sym}
 use Rattle.std.proofs.Math.Option.{Option, none, some}
 use Rattle.geometry.specs.Geometry.{small}
-use Rattle.geometry.specs.Shape.{small_shape}
+use Rattle.geometry.proofs.Shape.{small_shape}
 use Rattle.geometry.specs.Tests.{pick}
 use Rattle.geometry.specs.Bounds.{four_bytes}
 use Rattle.model.specs.Bytes.{byte_at}

@@ -10,7 +10,8 @@ use Rattle.geometry.specs.declared.Chosen.{Chosen}
 use Rattle.geometry.specs.declared.Chosen.TheVariants.{Of}
 use Rattle.geometry.specs.declared.Verdict.TheVariants.{Broken}
 use Rattle.geometry.specs.Geometry.{chosen_of}
-use Rattle.geometry.specs.Shape.{Known, shape, chosen_known}
+use Rattle.geometry.specs.Shape.{Known, chosen_known}
+use Rattle.geometry.proofs.Shape.{shape}
 use Rattle.geometry.specs.Bounds.{four_bytes}
 use Rattle.model.specs.Image.{blocks_of, good_length}
 use Rattle.model.specs.Rules.{verdict}

@@ -7,7 +7,8 @@ use Rattle.geometry.specs.declared.Geometry.{Geometry}
 use Rattle.geometry.specs.declared.Chosen.{Chosen}
 use Rattle.geometry.specs.declared.Chosen.TheVariants.{Of}
 use Rattle.geometry.specs.Geometry.{chosen_of, code_place, page_base}
-use Rattle.geometry.specs.Shape.{Shape, shape, chosen_known}
+use Rattle.geometry.specs.Shape.{Shape, chosen_known}
+use Rattle.geometry.proofs.Shape.{shape}
 use Rattle.model.specs.Bytes.{byte_at}
 use Rattle.model.specs.Codes.{fits, flip_bit}
 use Rattle.model.specs.Calls.{Outcome, refused, is_half, patrol, chosen_call, patrol_of}

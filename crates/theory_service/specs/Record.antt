@@ -7,7 +7,8 @@ use native.Mathlib.Omega.{arith}
 use Rattle.std.proofs.lemmas.List.{set-get_or}
 use Rattle.geometry.specs.declared.Geometry.{Geometry}
 use Rattle.geometry.specs.Geometry.{page_base}
-use Rattle.geometry.specs.Shape.{Known, shape}
+use Rattle.geometry.specs.Shape.{Known}
+use Rattle.geometry.proofs.Shape.{shape}
 use Rattle.geometry.specs.Tests.{pick}
 use Rattle.geometry.specs.Bounds.{four_bytes}
 use Rattle.model.specs.Bytes.{byte_at, u32_at, erased, seq_at, height_at}

@@ -10,7 +10,6 @@ pub mod DeletePages
 pub mod Proper
 pub mod Plain
 pub mod PlainTied
-pub mod PlainInsert
 pub mod PlainDelete
 pub mod Frame
 pub mod Seek

@@ -19,7 +19,8 @@ use Rattle.theory_images.specs.Views.{beside}
 use Rattle.theory_images.specs.Built.{Parts, built_view}
 use Rattle.theory_images.specs.Held.{Held}
 use Rattle.model.specs.Legal.{Legal}
-use Rattle.theory_images.specs.Writes.{next_store, put_legal, put_max, side_chip, side_held, side_map, side_lives, side_frees}
+use Rattle.theory_images.specs.Writes.{next_store, put_legal}
+use Rattle.theory_images.proofs.Writes.{put_max, side_chip, side_held, side_map, side_lives, side_frees}
 
 -- P before and after each store, each store legal
 unfoldable pub Along : Geometry → ℕ → (List ℕ → Type 0) → List ℕ → List Store → Type 0

@@ -22,8 +22,10 @@ use Rattle.theory_counts.specs.Cases.{by_eq}
 use Rattle.theory_chips.specs.Whole.{some_page, Same}
 use Rattle.theory_chips.specs.Moves.{move_to}
 use Rattle.theory_chips.specs.Sweep.{sweep, Sweeping, moved_on, emptied}
-use Rattle.theory_chips.specs.Erase.{erase_block, erased_good, erased_pairs, erased_places, erased_frees}
-use Rattle.theory_chips.specs.Collect.{clear, collect, R7, R8, full_none, round_victim, round, collected}
+use Rattle.theory_chips.specs.Erase.{erase_block, erased_frees}
+use Rattle.theory_chips.proofs.Erase.{erased_good, erased_pairs, erased_places}
+use Rattle.theory_chips.specs.Collect.{clear, collect, R7, R8, full_none}
+use Rattle.theory_chips.proofs.Collect.{round_victim, round, collected}
 use Rattle.theory_images.specs.Held.{Held}
 use Rattle.model.specs.Legal.{Legal}
 use Rattle.theory_images.specs.Writes.{wipe_chip, wipe_held, wipe_max}

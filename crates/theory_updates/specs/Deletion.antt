@@ -27,7 +27,8 @@ use Rattle.theory_trees.specs.Lengths.{splice_all, splice_most, path_all, path_m
 use Rattle.theory_chips.specs.Whole.{some_page, Whole}
 use Rattle.theory_chips.specs.Collect.{R8}
 use Rattle.theory_chips.specs.Pages.{side_erased, new_side}
-use Rattle.theory_chips.specs.Deletion.{left_list, top_low, delete_done, top_most}
+use Rattle.theory_chips.specs.Deletion.{left_list, top_low}
+use Rattle.theory_chips.proofs.Deletion.{delete_done, top_most}
 use Rattle.live_beside.specs.Update.{delete_crest}
 use Rattle.theory_images.specs.Bytes.{Fits}
 use Rattle.theory_images.specs.Views.{rooted}

@@ -18,7 +18,8 @@ use Rattle.model.specs.Stores.{erase, apply_store}
 use Rattle.theory_counts.specs.Cases.{by_eq, by_test, true_false}
 use Rattle.theory_chips.specs.Whole.{some_page}
 use Rattle.theory_chips.specs.Sweep.{Sweeping}
-use Rattle.theory_chips.specs.Erase.{in_b, own, other, erase_block, erased_good, erased_frees}
+use Rattle.theory_chips.specs.Erase.{in_b, own, other, erase_block, erased_frees}
+use Rattle.theory_chips.proofs.Erase.{erased_good}
 use Rattle.theory_images.specs.Views.{peak_le, arg_new}
 use Rattle.theory_images.specs.Page.{views, view_chip}
 use Rattle.theory_images.specs.Small.{Small, u32_fits}

@@ -32,7 +32,8 @@ use Rattle.theory_chips.specs.Erase.{in_b}
 use Rattle.theory_images.specs.Views.{View, no_view, Views, top_of, rooted, peak_least}
 use Rattle.theory_images.specs.Page.{views, view_max}
 use Rattle.theory_images.specs.Built.{Parts, built_view}
-use Rattle.theory_images.specs.Stores.{Image, length_store, within, views_erase, block_room, program_root, program_r1, program_r3, program_r4, program_max}
+use Rattle.theory_images.specs.Stores.{Image, length_store, within, views_erase, block_room}
+use Rattle.theory_images.proofs.Stores.{program_root, program_r1, program_r3, program_r4, program_max}
 use Rattle.theory_images.specs.Small.{Small, built_small, store_small}
 use Rattle.theory_images.specs.Held.{Held, er_at}
 use Rattle.theory_images.specs.Lengths.{length_all}

@@ -2,7 +2,7 @@
 use Rattle.std.specs.Prelude.{◌≡◌, Bool, true, false, length, leb}
 use Rattle.std.proofs.Math.Path.{refl, ap, sym, subst}
 use Rattle.std.proofs.Common.{◌∙◌}
-use mathlib.Core.List.{List, [], ◌∷◌, ◌++◌, append_assoc, append-nil}
+use mathlib.Core.List.{List, [], ◌∷◌, ◌++◌, append-nil}
 use Prim.Native.Nat.{ℕ, zero, suc, ◌+◌, ◌-◌, ◌*◌, ◌<◌, ◌≤◌, min}
 use native.Mathlib.Omega.{arith}
 use borrow.Author.Tests.{le-leb, lt-leb, eq-eqb, ne_eqb}
@@ -29,7 +29,8 @@ use Rattle.theory_chips.specs.Next.{R2, step}
 use Rattle.theory_chips.specs.Whole.{some_page, Whole}
 use Rattle.theory_chips.specs.Collect.{R8}
 use Rattle.theory_chips.specs.Pages.{side_erased, side_inj, new_side}
-use Rattle.theory_chips.specs.Insertion.{side_list, main_list, cut_levels, needs_is, cuts_le, grow_all, Fuller, insert_done}
+use Rattle.theory_chips.specs.Insertion.{side_list, main_list, cut_levels, needs_is, cuts_le, grow_all, Fuller}
+use Rattle.theory_chips.proofs.Insertion.{insert_done}
 use Rattle.live_beside.specs.Update.{insert_crest}
 use Rattle.theory_images.specs.Bytes.{Fits}
 use Rattle.theory_images.specs.Views.{rooted, beside}
@@ -37,11 +38,12 @@ use Rattle.theory_images.specs.Page.{in_table_lem}
 use Rattle.theory_images.specs.Built.{built_view}
 use Rattle.theory_images.specs.Small.{node_fits}
 use Rattle.theory_images.specs.Held.{height_most}
-use Rattle.theory_images.specs.Writes.{next_store, ahead_beside, put_max}
+use Rattle.theory_images.specs.Writes.{next_store, ahead_beside}
+use Rattle.theory_images.proofs.Writes.{put_max}
 use Rattle.theory_updates.specs.Along.{Keeps, Runs, runs_end, runs_none, runs_then, runs_as, side_runs}
-use Rattle.theory_updates.specs.Contents.{side_parts, main_parts}
+use Rattle.theory_updates.specs.Contents.{side_parts}
 use Rattle.theory_updates.specs.Topped.{topped}
-use Rattle.theory_updates.specs.Updated.{Stands, Updated, updated}
+use Rattle.theory_updates.specs.Updated.{Stands}
 
 -- the chip d after the other halves of levels 1 to i, from the chip c
 pub record Laid (g : Geometry) (n : ℕ) (c : Chip) (k a i : ℕ) (d : Chip) : Type 0 where
@@ -98,7 +100,7 @@ module _ (g : Geometry) (shape : Shape g) (n : ℕ) (few : pages_of g n + g.page
   abbrev grows : Bool
   grows = fills g (suc c.level) (length (lists (suc c.level)))
 
-  m_is : m ≡ suc (cuts + bit grows)
+  pub m_is : m ≡ suc (cuts + bit grows)
   m_is = needs_is g shape n k a k_low c whole
 
   cut_le : cuts ≤ c.level
@@ -107,12 +109,12 @@ module _ (g : Geometry) (shape : Shape g) (n : ℕ) (few : pages_of g n + g.page
   free : m ≤ count t c.er
   free = omega (arith, room)
 
-  high : suc c.level ≤ g.top
+  pub high : suc c.level ≤ g.top
   high = height_most g (shape_core g shape) n img (let z = (side_erased g (shape_core g shape) n c whole.r2 m free m
       (omega (arith, m_is)) (omega arith)).1 in omega (arith, z))
       keeps.held
 
-  all_fit : (q l : ℕ) → All Fits (c.nodes q l)
+  pub all_fit : (q l : ℕ) → All Fits (c.nodes q l)
   all_fit = node_fits g img keeps.held.bytes
 
   -- ---- one other half more
@@ -160,10 +162,10 @@ module _ (g : Geometry) (shape : Shape g) (n : ℕ) (few : pages_of g n + g.page
     }
 
   -- the pages left after i are taken
-  left : (i : ℕ) → i ≤ m → count t (taken g.pages n (ahead g n c) i).er + i ≡ count t c.er
+  pub left : (i : ℕ) → i ≤ m → count t (taken g.pages n (ahead g n c) i).er + i ≡ count t c.er
   left i q = let z = (step g.pages n (ahead g n c) (some_page g (shape_core g shape)) whole.r2 i (omega (arith, q, free))).left in omega (arith, z)
 
-  next_is : (h l : ℕ) (parts : ℕ → List Entry) (x : List ℕ) → next_page g.pages n (ahead g n (chip_of g n x)) ≡ side l
+  pub next_is : (h l : ℕ) (parts : ℕ → List Entry) (x : List ℕ) → next_page g.pages n (ahead g n (chip_of g n x)) ≡ side l
       → suc (max_seq g n x) ≡ seq + l
       → program (side l) (built g (seq + l) h parts) ≡ next_store g n h parts x
   unfolding next_store
@@ -258,7 +260,7 @@ module _ (g : Geometry) (shape : Shape g) (n : ℕ) (few : pages_of g n + g.page
   abbrev halves : List Store
   halves = side_stores g seq k side lists c.level ++ crown_store g seq k side (suc c.level) (lists (suc c.level))
 
-  all_sided : Sided g n base img k a (cuts + bit grows) halves
+  pub all_sided : Sided g n base img k a (cuts + bit grows) halves
   unfolding crown_store side_list
   all_sided = by_test grows grown stayed
     where
@@ -294,12 +296,6 @@ module _ (g : Geometry) (shape : Shape g) (n : ℕ) (few : pages_of g n + g.page
   abbrev height : ℕ
   height = crown_height g (suc c.level) (lists (suc c.level))
 
-  height_in : (1 ≤ height) × (height ≤ g.top)
-  unfolding crown_height
-  height_in = by_test grows (λ e. let u = grow_all g shape n k a k_low c whole e in
-      rw e (omega arith, omega (arith, u.0)))
-      (λ e. rw e (omega arith, high))
-
   module _ (d : Chip) (laid : Laid g n c k a (cuts + bit grows) d) (q : ℕ) (number_is_lem : q ≡ suc (peak t d.seq))
       (most_is : peak t d.seq ≡ peak t c.seq + (cuts + bit grows)) where
     abbrev i : ℕ
@@ -311,7 +307,7 @@ module _ (g : Geometry) (shape : Shape g) (n : ℕ) (few : pages_of g n + g.page
     abbrev e' : Chip
     e' = rooted d P (built_view g q height (main_list g n c k a))
 
-    page_is : P ≡ N
+    pub page_is : P ≡ N
     page_is = ap (next_page g.pages n) laid.ahead_is ∙ sym (ap side m_is)
 
     er_is : after P d.er ≡ (taken g.pages n (ahead g n c) m).er
@@ -371,37 +367,6 @@ module _ (g : Geometry) (shape : Shape g) (n : ℕ) (few : pages_of g n + g.page
             };
           },
         )
-
-  -- the insertion's own stores: m programs
-  pub own_updated : Updated g n (Inserted g n c m k a) base (put k a base) img (own_stores g n seq c m k a) m 0
-  unfolding own_stores max_seq
-  own_updated =
-      let s = all_sided in
-      let i = cuts + bit grows in
-      let ss = halves in
-      let x = apply_all g ss img in
-      let ci = s.runs.chip_is in
-      let lf = left i (omega (arith, m_is)) in
-      let cnt : count t s.chip.er ≡ count t (taken g.pages n (ahead g n c) i).er =
-      ap (λ (y : Ahead). count t y.er) s.laid.ahead_is in
-      let chip_most : peak t s.chip.seq ≡ peak t c.seq + i = sym (ap (λ (y : Chip). peak t y.seq) ci)
-      ∙ s.max_is in
-      let page : next_page g.pages n (ahead g n (chip_of g n x)) ≡ N =
-      ap (λ (y : Chip). next_page g.pages n (ahead g n y)) ci ∙ page_is s.chip s.laid
-      (suc (peak t s.chip.seq)) refl chip_most in
-      let st = program N (built g (seq + m) height (main_list g n c k a)) in
-      let e = next_is height m (main_list g n c k a) x page (omega (arith, s.max_is, m_is)) in
-      let u = updated g shape n (Inserted g n c m k a) base (put k a base) img ss s.chip i 0 height
-      (main_list g n c k a) st s.runs (omega (arith, cnt, lf, room, m_is))
-      (omega (arith, s.max_is, low, m_is))
-      (main_parts g shape n few k a k_low a-low c whole all_fit high not-high) height_in.0 height_in.1 e
-      (λ q num. let w = final_done s.chip s.laid q num chip_most in
-      (w.0, w.1 ∙ ap (put k a) keeps.map_is, w.2, w.3)) in
-      let z : i + 1 ≡ m = omega (arith, m_is) in
-      subst (λ j. Updated g n (Inserted g n c m k a) base (put k a base) img (side_stores g seq k side lists c.level ++
-      (crown_store g seq k side (suc c.level) (lists (suc c.level)) ++ (st ∷ []))) j 0) z
-      (subst (λ (y : List Store). Updated g n (Inserted g n c m k a) base (put k a base) img y (i + 1) 0)
-      (append_assoc (side_stores g seq k side lists c.level) (crown_store g seq k side (suc c.level) (lists (suc c.level))) (st ∷ [])) u)
 
   -- they are m programs and no erase
   pub own_programs : programs (own_stores g n seq c m k a) ≡ m

@@ -20,5 +20,4 @@ pub mod Made
 pub mod OwnBy
 pub mod Records
 pub mod Room
-pub mod UpdateBy
 pub mod Format

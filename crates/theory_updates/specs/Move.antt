@@ -31,7 +31,8 @@ use Rattle.theory_images.specs.Built.{Parts, built_view}
 use Rattle.theory_images.specs.Small.{node_fits}
 use Rattle.theory_images.specs.Held.{Held, height_most}
 use Rattle.model.specs.Legal.{Legal}
-use Rattle.theory_images.specs.Writes.{next_store, put_legal, put_max, root_chip, root_held}
+use Rattle.theory_images.specs.Writes.{next_store, put_legal}
+use Rattle.theory_images.proofs.Writes.{put_max, root_chip, root_held}
 use Rattle.theory_updates.specs.Table.{off_table, parts_most}
 
 module _ (g : Geometry) (shape : Shape g) (n : ℕ) (few : pages_of g n + g.pages < four_bytes) (img : List ℕ)

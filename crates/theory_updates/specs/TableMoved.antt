@@ -20,7 +20,8 @@ use Rattle.theory_images.specs.Held.{Held}
 use Rattle.live_walk.specs.Table.{Marked}
 use Rattle.live_words.specs.Words.{words_of}
 use Rattle.live_beside.specs.Table.{Table, low_in, table_moved, Right}
-use Rattle.live_beside.specs.Marks.{Off, moved_new, moved_low, moved_follows}
+use Rattle.live_beside.specs.Marks.{Off}
+use Rattle.live_beside.proofs.Marks.{moved_new, moved_low, moved_follows}
 use Rattle.live_beside.specs.Rights.{right_follows}
 use Rattle.theory_updates.specs.Move.{move_chip}
 

@@ -17,7 +17,8 @@ use Rattle.theory_images.specs.Views.{rooted}
 use Rattle.theory_images.specs.Built.{Parts, built_view}
 use Rattle.model.specs.Legal.{Legal}
 use Rattle.live_beside.specs.Update.{Crest}
-use Rattle.theory_images.specs.Writes.{next_store, put_legal, root_chip, root_held, root_frees}
+use Rattle.theory_images.specs.Writes.{next_store, put_legal}
+use Rattle.theory_images.proofs.Writes.{root_chip, root_held, root_frees}
 use Rattle.theory_updates.specs.Along.{Along, along_append, Keeps, Runs, runs_end}
 use Rattle.theory_updates.specs.Topped.{Topped}
 

@@ -36,8 +36,10 @@ use Rattle.live_beside.specs.Update.{Returned, returned, made_by, insert_crest, 
 use Rattle.theory_updates.specs.Along.{Keeps}
 use Rattle.theory_updates.specs.Updated.{Stands}
 use Rattle.theory_updates.specs.Level.{chip_right}
-use Rattle.theory_updates.specs.Lists.{program_most, not_worn, numbers, roomy, m_top, m_some, insert_keeps, insert_low, insert_collected, insert_updated, insert_stands, one_top, delete_keeps, delete_collected, delete_low, delete_updated}
-use Rattle.theory_updates.specs.CollectBy.{Tells, collect_same}
+use Rattle.theory_updates.specs.Lists.{program_most, not_worn, numbers, roomy, m_top, m_some, one_top}
+use Rattle.theory_updates.proofs.Lists.{insert_keeps, insert_low, insert_collected, insert_updated, insert_stands, delete_keeps, delete_collected, delete_low, delete_updated}
+use Rattle.theory_updates.specs.CollectBy.{Tells}
+use Rattle.theory_updates.proofs.CollectBy.{collect_same}
 use Rattle.theory_updates.specs.Made.{updated_cautious, updated_held}
 use Rattle.theory_updates.specs.OwnBy.{own_by_lem, crest_by_lem, page_by_lem}
 use Rattle.theory_updates.specs.Records.{record_made_lem, made_by_lem}
@@ -73,7 +75,6 @@ module _ (g : Geometry) (shape : Shape g) (n : ℕ) (few : pages_of g n + g.page
   unfolding opened_in worn
   worn_is = ap (λ (o : Opened). ltb g.worn o.most) tells.at_is
 
-  -- ---- insert
   module _ (k a al : ℕ) (k_low : k < four_bytes) (a-low : a < four_bytes) where
     abbrev m : ℕ
     m = needs g c k
@@ -141,7 +142,6 @@ module _ (g : Geometry) (shape : Shape g) (n : ℕ) (few : pages_of g n + g.page
         go false false true u v d = refused_is 6
         go false false false u v d = insert_made_lem (not_worn g n img u) v d
 
-  -- ---- delete
   module _ (k al : ℕ) (k_low : k < four_bytes) where
     abbrev takes : List Store
     takes = delete_stores g n img k

@@ -16,7 +16,8 @@ use Rattle.theory_lists.specs.All.{All, all_left, all_right, all_append, all_map
 use Rattle.theory_nodes.specs.Entries.{gather_append}
 use Rattle.theory_nodes.specs.Nodes.{Ok, places_fit, the, Rooted}
 use Rattle.theory_trees.specs.Edit.{at_root, Made, made_map, no_places, page_where, edit_list_places}
-use Rattle.theory_trees.specs.Above.{Both, AboveHeld, stay_pairs, stay_ok, grow_pairs, grow_ok}
+use Rattle.theory_trees.specs.Above.{Both, AboveHeld}
+use Rattle.theory_trees.proofs.Above.{stay_pairs, stay_ok, grow_pairs, grow_ok}
 use Rattle.theory_nodes.specs.Tied.{Tied}
 use Rattle.theory_trees.specs.Proper.{Proper, with_live}
 use Rattle.theory_trees.specs.Plain.{renews, RenewHeld, RenewMade}

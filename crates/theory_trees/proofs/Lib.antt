@@ -1,0 +1,11 @@
+pub mod Above
+pub mod Fill
+pub mod Insert
+pub mod InsertPages
+pub mod Leaf
+pub mod Lows
+pub mod Move
+pub mod OnPath
+pub mod PlainInsert
+pub mod Proper
+pub mod Tied
