@@ -91,7 +91,6 @@ abbrev pub moved_pages : Nodes → ℕ → ℕ → ℕ → Entry → ℕ → Lis
 moved_pages r k a l e new = new ∷ map (λ x. x.page) (path_places r k a (suc l) e)
 
 module _ (m : ℕ) (r : Nodes) (k a l : ℕ) (e : Entry) (new : ℕ) (t : Table) where
-
   -- "a move changes at most height + 1 pages' marks"
   pub few_marks : length (moved_pages r k a l e new) ≤ suc l + 1
   few_marks = omega (arith, path_few r k a (suc l) e, length-map (path_places r k a (suc l) e) (λ (x : Place). x.page))

@@ -32,7 +32,6 @@ use Rattle.theory_chips.proofs.Erase.{erased_good, erased_pairs, erased_places, 
 use Rattle.theory_chips.specs.Collect.{Cleared, R7, clear, collect, full_none, lacks, wanted}
 
 module _ (g : Geometry) (shape : Shape g) (n k : ℕ) where
-
   module _ (c : Chip) (h : Whole g n c) where
     -- a live page is not erased
     live_kept : (q : ℕ) → c.er q ≡ true → live (places_of c) q ≡ false

@@ -53,7 +53,6 @@ pub record Cleared (g : Geometry) (n : ℕ) (c c' : Chip) : Type 0 where
 
 module _ (g : Geometry) (shape : Shape g) (n k : ℕ) where
   module _ (c : Chip) (h : Whole g n c) where
-
     -- a full block below n has no erased page
     pub full_none : (b i : ℕ) → b < n → full g.pages c.er b ≡ true → i < g.pages
         → c.er (g.pages * b + i) ≡ false

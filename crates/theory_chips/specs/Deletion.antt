@@ -60,7 +60,6 @@ module _ (g : Geometry) (shape : Shape g) (n k : ℕ) (k_low : k < four_bytes) (
   module _ (free : 1 ≤ count (g.pages * n) c.er) (s : Nodes) (numbers : ℕ → ℕ)
       (at_n : (j : ℕ) → 1 ≤ j → j ≤ g.top → s N j ≡ left_list g n c k j)
       (stays : (q l : ℕ) → fit (suc l) q → s q (suc l) ≡ r q (suc l)) (high : suc c.level ≤ g.top) where
-
     abbrev pub Done : ℕ → Type 0
     Done l = Whole g n (record { er = (taken g.pages n (ahead g n c) 1).er; seq = numbers; nodes = s; level = l; root = N }) ×
         (under s (suc l) (the N) ≡ remove k (map_of c)) ×

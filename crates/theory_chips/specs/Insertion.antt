@@ -184,6 +184,5 @@ module _ (g : Geometry) (shape : Shape g) (n k a : ℕ) (k_low : k < four_bytes)
       (at_n : (j : ℕ) → 1 ≤ j → j ≤ g.top → s N j ≡ main_list g n c k a j) (at_Side : (j : ℕ) → 1 ≤ j → j < m
       → s (side j) j ≡ side_list g n c k a j)
       (stays : (q l : ℕ) → fit (suc l) q → s q (suc l) ≡ r q (suc l)) (high : suc c.level ≤ g.top) where
-
     pub after_r2 : R2 g.pages n (taken g.pages n (ahead g n c) m).er
     after_r2 = (step g.pages n (ahead g n c) (some_page g (shape_core g shape)) good.r2 m free).r2

@@ -19,7 +19,6 @@ use Rattle.theory_images.proofs.Built.{view_built}
 use Rattle.theory_images.specs.Stores.{Image, views_program}
 
 module _ (g : Geometry) (core : Core g) (img : List ℕ) where
-
   -- the stores on the chip. T pages; max is the largest number on the image
   module _ (n : ℕ) (image : Image g n img) where
     abbrev t : ℕ

@@ -135,7 +135,6 @@ module _ (g : Geometry) (core : Core g) (parts : ℕ → List Entry) where
       ∙ numbered_seq seq h b q s
 
   module _ (ok : Parts g parts) where
-
     module _ (seq h : ℕ) (small : seq < 4294967295) (high : h < 256) where
       abbrev laid_levels : List ℕ
       laid_levels = put_levels g parts g.top (replicate (page_bytes g) 255)

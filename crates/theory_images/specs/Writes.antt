@@ -73,7 +73,6 @@ module _ (g : Geometry) (core : Core g) (n : ℕ) (img : List ℕ) (held : Held 
 
     module _ (parts : ℕ → List Entry) (ok : Parts g parts)
         (low : suc (max_seq g n img) < 4294967295) (h : ℕ) (high : h ≤ g.top) where
-
       pub h_low : h < 256
       h_low = let z = core.top_high in omega (arith, z, high)
 

@@ -70,7 +70,6 @@ module _ (k a n top : ℕ) (side half most : ℕ → ℕ) (r s : Nodes) (fit fit
     (fit-a : fit' 0 a)
     (keep : (l a : ℕ) → fit l a → fit' l a) (same : (p l : ℕ) → fit (suc l) p → s p (suc l) ≡ r p (suc l))
     (k_top : k < top) where
-
   -- the list at the root
   abbrev pub Fresh : ℕ → List Entry → List Entry → Type 0
   Fresh = over.Fresh k a top (λ _. n) (left_of k n side half) (right_of k n side half) half most r s fit fit' fit-a keep same k_top

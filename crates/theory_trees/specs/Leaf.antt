@@ -23,7 +23,6 @@ bottom r k zero e = e.addr
 bottom r k (suc l) e = bottom r k l (chosen k (r e.addr (suc (suc l))))
 
 module _ (fit : ℕ → ℕ → Type 0) (room : ℕ → ℕ) (r : Nodes) (k : ℕ) where
-
   -- it fits as a leaf
   way_fit : (l y : ℕ) (e : Entry) → k < y → Ok fit room r (suc l) y e → fit 1 (bottom r k l e)
   unfolding bottom Ok
@@ -87,7 +86,6 @@ module _ (n top : ℕ) (half most : ℕ → ℕ) (r s : Nodes) (fit fit' : ℕ �
     (l p₀ : ℕ) (h : Proper fit (λ l. 2 * half l) most top r (suc l) p₀)
     (made : DeleteMade r s k n (suc l) (chosen k (r p₀ (suc (suc l)))))
     (one : length (root_less n top half most r s fit fit' fit_n keep same new-n k k_top (suc l) p₀ h) ≡ 1) where
-
   abbrev page : ℕ
   page = bottom r k (suc l) (the p₀)
 

@@ -178,7 +178,6 @@ module _ (p a : ℕ) (half : ℕ → ℕ) (r : Nodes) (fit : ℕ → ℕ → Typ
 module _ (p a n top : ℕ) (half most : ℕ → ℕ) (r s : Nodes) (fit fit' : ℕ → ℕ → Type 0) (a-pos : 1 ≤ a)
     (keep : (l b : ℕ) → fit l b × Tie r p a l b → fit' l b) (same : (q l : ℕ) → fit (suc l) q × Tie r p a (suc l) q
     → s q (suc l) ≡ r q (suc l)) where
-
   abbrev pub OnNew : Place → Type 0
   OnNew x = (x.page ≡ n) × (a ≤ x.level) × (a < x.level → Some (λ e. e.addr ≡ n) (s n x.level))
 
