@@ -3,8 +3,4 @@ pub mod Words
 pub mod Fitting
 pub mod Numbers
 pub mod Blank
-pub mod Leaves
-pub mod Trees
-pub mod Orders
 pub mod Runs
-pub mod Same

@@ -33,8 +33,8 @@ use Rattle.plain_updates.specs.Words.{plain_insert_kept, plain_insert_done, plai
 use Rattle.plain_updates.specs.Answers.{plain_insert_answers, plain_delete_answers, plain_delete_absent, plain_absent_delete}
 use Rattle.theory_same_map.specs.Words.{Fits, Accepts}
 use Rattle.theory_same_map.specs.Numbers.{largest_on, update_raises}
-use Rattle.theory_same_map.specs.Leaves.{Leaves, Obeys, absence, address_in, tested_address, put_leaves, remove_leaves, found_leaves}
-use Rattle.theory_same_map.specs.Leaves.{format_leaves, tested_unworn, low_unworn, found_unworn}
+use Rattle.theory_same_map.proofs.Leaves.{Leaves, Obeys, absence, address_in, tested_address, put_leaves, remove_leaves, found_leaves}
+use Rattle.theory_same_map.proofs.Leaves.{format_leaves, tested_unworn, low_unworn, found_unworn}
 
 -- an update's own address is 0
 made_address : (g : Geometry) (ss : List Store) (al : ℕ) (img : List ℕ) → (made g ss al img).address ≡ 0

@@ -19,8 +19,8 @@ use Rattle.theory_same_map.specs.Words.{Images, blank_images, by_mu, by_plain, a
 use Rattle.theory_same_map.specs.Words.{after_all, map_after_all, AllAccepted, AllAlike}
 use Rattle.theory_same_map.specs.Numbers.{largest_on}
 use Rattle.theory_same_map.specs.Blank.{small_good, plain_good, blank_bytes, small_refused, plain_refused}
-use Rattle.theory_same_map.specs.Leaves.{Leaves, format_leaves}
-use Rattle.theory_same_map.specs.Trees.{mu_obeys, mu_unworn, plain_obeys, plain_unworn}
+use Rattle.theory_same_map.proofs.Leaves.{Leaves, format_leaves}
+use Rattle.theory_same_map.proofs.Trees.{mu_obeys, mu_unworn, plain_obeys, plain_unworn}
 
 -- ---- what an accepted order leaves
 pub record Step (order : Order) (m : Option (List Entry)) (x : Images) : Type 0 where

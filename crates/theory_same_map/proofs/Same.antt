@@ -18,8 +18,8 @@ use Rattle.theory_demands.specs.Words.{map_at}
 use Rattle.theory_same_map.specs.Words.{Images, blank_images, by_mu, by_plain, after_order, Fits, BothAccept, Alike, map_after, Same}
 use Rattle.theory_same_map.specs.Words.{after_all, map_after_all, AllAccepted, AllAlike, orders_of, Reaches, at_start, Counted, Ended}
 use Rattle.theory_same_map.specs.Fitting.{orders_fit}
-use Rattle.theory_same_map.specs.Orders.{order_step, blank_refused, orders_same}
-use Rattle.theory_same_map.specs.Runs.{line_counted, stands_step, stands, writes, ends}
+use Rattle.theory_same_map.proofs.Orders.{order_step, blank_refused, orders_same}
+use Rattle.theory_same_map.proofs.Runs.{line_counted, stands_step, stands, writes, ends}
 
 -- ---- images under the same map: their maps are equal, pair by pair
 pub maps_equal : (map : List Entry) (x : Images) → Same (some map) x → map_at small x.mu_tree ≡ map_at plain
