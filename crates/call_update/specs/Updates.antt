@@ -33,7 +33,8 @@ use Rattle.live_beside.specs.Update.{Returned, returned, insert_made, insert_by,
 use Rattle.call_account.specs.Lent.{known_pages, lent_enough, whole, lent_length, lent_short, lent_broken, right}
 use Rattle.call_account.specs.Low.{known_sized}
 use Rattle.theory_updates.specs.CollectBy.{Tells}
-use Rattle.theory_demands.specs.Live.{insert_replies, delete_replies}
+use Rattle.theory_demands.specs.Live.{insert_replies}
+use Rattle.theory_demands.proofs.Live.{delete_replies}
 use Rattle.call_update.specs.declared.Asks.{Asks}
 use Rattle.call_update.specs.declared.Update.{Update}
 use Rattle.call_update.specs.declared.Update.TheVariants.{Insert, Delete}

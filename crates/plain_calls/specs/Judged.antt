@@ -43,7 +43,7 @@ use Rattle.theory_images.specs.Held.{Held, height_most}
 use Rattle.plain_levels.specs.Levels.{insert_stores_at, delete_stores_at, pages_by, made_with, plain_insert_by, plain_delete_by}
 use Rattle.plain_updates.specs.Single.{plain_pages}
 use Rattle.plain_updates.specs.Words.{ready_held}
-use Rattle.plain_updates.specs.By.{plain_insert_by_lem, plain_delete_by_lem}
+use Rattle.plain_updates.proofs.By.{plain_insert_by_lem, plain_delete_by_lem}
 use Rattle.plain_calls.specs.declared.Loss.{Loss}
 use Rattle.plain_calls.specs.Counts.{Cuts, Sheds}
 

@@ -29,7 +29,7 @@ use Rattle.theory_images.specs.Views.{rooted, beside}
 use Rattle.theory_images.specs.Page.{in_table_lem}
 use Rattle.theory_images.specs.Built.{Parts, built_view}
 use Rattle.theory_images.specs.Held.{Held}
-use Rattle.theory_images.specs.Writes.{next_store, ahead_beside, put_legal}
+use Rattle.theory_images.specs.Writes.{next_store, ahead_beside}
 use Rattle.theory_images.proofs.Writes.{put_max, root_chip, root_held, side_chip, side_held, side_map}
 use Rattle.theory_updates.specs.Along.{Along}
 use Rattle.plain_updates.specs.Single.{Buildable}
@@ -116,19 +116,19 @@ module _ (g : Geometry) (core : Core g) (n : ℕ) (c : Chip) (r2 : R2 g.pages n 
     page_is : P ≡ page_of i
     page_is = ap (next_page g.pages n) at.ahead_is
 
-    some_left : 1 ≤ count t d.er
+    pub some_left : 1 ≤ count t d.er
     some_left =
         let z = (step g.pages n (ahead g n c) (some_page g core) r2 i (omega (arith, lt, free))).left in
         let e = ap (λ (y : Ahead). count t y.er) at.ahead_is in
         omega (arith, z, e, lt, free)
 
-    low_now : suc (max_seq g n x) < 4294967295
+    pub low_now : suc (max_seq g n x) < 4294967295
     low_now = let z = at.max_is in omega (arith, z, low, lt)
 
     number_is_lem : suc (max_seq g n x) ≡ seq + suc i
     number_is_lem = let z = at.max_is in omega (arith, z)
 
-    store_is : (h : ℕ) → store_of h i ≡ next_store g n h parts x
+    pub store_is : (h : ℕ) → store_of h i ≡ next_store g n h parts x
     unfolding next_store
     store_is h = ap (λ q. program q (built g (seq + suc i) h parts)) (sym page_is)
         ∙ ap (λ s. program P (built g s h parts)) (sym number_is_lem)
@@ -136,9 +136,6 @@ module _ (g : Geometry) (core : Core g) (n : ℕ) (c : Chip) (r2 : R2 g.pages n 
     number : suc (max_seq g n x) ≡ suc (peak t d.seq)
     unfolding max_seq
     number = refl
-
-    legal_now : (h : ℕ) → h ≤ g.top → Legal g n x (store_of h i)
-    legal_now h b = subst (Legal g n x) (sym (store_is h)) (put_legal g core n x held some_left parts ok low_now h b)
 
     page_in_lem : P < t
     page_in_lem = let z = (nth_erased g.pages n (ahead g n c) (some_page g core) r2 i (omega (arith, lt, free))).1 in
@@ -219,55 +216,6 @@ module _ (g : Geometry) (core : Core g) (n : ℕ) (c : Chip) (r2 : R2 g.pages n 
         })
 
   -- ---- all of them
-  module _ (new : List Entry) (m : ℕ) (count_is : length ps ≡ suc m) (good : Finishes g n c ps new m) where
-    -- the plans from i on are qs
-    abbrev Rest : ℕ → List Plan → Type 0
-    Rest i qs = (j : ℕ) → j < length qs → plan_at qs j ≡ plan_at ps (i + j)
-
-    first_plan : (i : ℕ) (y : Plan) (qs : List Plan) → Rest i (y ∷ qs) → y ≡ plan_at ps i
-    first_plan i y qs rest = rest 0 (omega arith) ∙ ap (plan_at ps) (let w : i + 0 ≡ i = omega arith in w)
-
-    from_here : (i : ℕ) (qs : List Plan) (x : List ℕ) → At i x → i + length qs ≡ suc m → 1 ≤ length qs → Rest i qs
-        → PlainUpdated g n old new x (laid g n c seq i qs)
-    unfolding laid Along apply_all
-    from_here i [] x at e some rest = absurd (omega (arith, some))
-    from_here i (y ∷ []) x at e some rest = subst (λ (z : Plan). PlainUpdated g n old new x
-        (program (page_of i) (built g (seq + suc i) z.level (only z.level z.list)) ∷ [])) (sym (first_plan i y [] rest)) final
-      where
-        final : PlainUpdated g n old new x (store_of (plan_at ps i).level i ∷ [])
-        final =
-            let lt : i < length ps = omega (arith, e, count_is) in
-            let is : m ≡ i = omega (arith, e) in
-            record {
-              init = [];
-              last = store_of (plan_at ps i).level i;
-              list_is = refl;
-              along = at.keeps;
-              legal = legal_now i lt x at (plan_at ps i).level (fine i lt).1;
-              end = last_placed i lt x at new (subst (Finishes g n c ps new) is good);
-            }
-    from_here i (y ∷ z ∷ qs) x at e some rest =
-        let lt : i < length ps = omega (arith, e, count_is) in
-        going lt (from_here (suc i) (z ∷ qs) (apply_store g (store_of 0 i) x) (next_placed i lt x at) (omega (arith, e)) (omega arith)
-        (λ j b. rest (suc j) (omega (arith, b)) ∙ ap (plan_at ps) (let w : i + suc j ≡ suc i + j = omega arith in w)))
-      where
-        going : i < length ps → PlainUpdated g n old new (apply_store g (store_of 0 i) x)
-            (laid g n c seq (suc i) (z ∷ qs))
-            → PlainUpdated g n old new x (program (page_of i)
-            (built g (seq + suc i) 0 (only y.level y.list)) ∷ laid g n c seq (suc i) (z ∷ qs))
-        going lt u = subst (λ (w : Plan). PlainUpdated g n old new x
-            (program (page_of i) (built g (seq + suc i) 0 (only w.level w.list)) ∷ laid g n c seq (suc i) (z ∷ qs))) (sym (first_plan i y (z ∷ qs) rest))
-            (record {
-              init = store_of 0 i ∷ u.init;
-              last = u.last;
-              list_is = ap (λ (ss : List Store). store_of 0 i ∷ ss) u.list_is;
-              along = (at.keeps, legal_now i lt x at 0 (omega arith), u.along);
-              legal = u.legal;
-              end = u.end;
-            })
-
-    pub laid_updated : (x : List ℕ) → At 0 x → PlainUpdated g n old new x (laid g n c seq 0 ps)
-    laid_updated x at = from_here 0 ps x at (omega (arith, count_is)) (omega (arith, count_is)) (λ j b. ap (plan_at ps) (let w : j ≡ 0 + j = omega arith in w))
 
 -- before the first
 pub none_placed : (g : Geometry) (n : ℕ) (img : List ℕ) (ps : List Plan) → Held g n img

@@ -81,19 +81,10 @@ module _ (g : Geometry) (img : List ℕ) (k a al : ℕ) where
   insert_untouched = judged_untouched g img (insert_rest g n img k a al) (subst (Untouched img) (sym insert_rest_lem)
       (tested_untouched img insert_tests ins (made_untouched g (insert_stores g n img k a) al img)))
 
-  pub delete_untouched : Untouched img (delete g img k al)
-  unfolding delete
-  delete_untouched = judged_untouched g img (delete_rest g n img k al) (subst (Untouched img) (sym delete_rest_lem)
-      (tested_untouched img delete_tests del (made_untouched g (delete_stores g n img k) al img)))
-
   module _ (ready : Ready g img) where
     pub insert_is : insert g img k a al ≡ tested img insert_tests ins
     unfolding insert
     insert_is = judged_ready g img (insert_rest g n img k a al) ready ∙ insert_rest_lem
-
-    pub delete_is : delete g img k al ≡ tested img delete_tests del
-    unfolding delete
-    delete_is = judged_ready g img (delete_rest g n img k al) ready ∙ delete_rest_lem
 
     -- a call that has begun has met none of its tests
     pub insert_passed : Began (insert g img k a al) → All Unmet insert_tests × (insert g img k a al ≡ ins)
@@ -101,11 +92,6 @@ module _ (g : Geometry) (img : List ℕ) (k a al : ℕ) where
         let p = tested_passed img insert_tests ins
         ((omega arith, omega arith), ((omega arith, omega arith), ((omega arith, omega arith), tt))) (subst Began insert_is b) in
         (p.0, insert_is ∙ p.1)
-
-    pub delete_passed : Began (delete g img k al) → All Unmet delete_tests × (delete g img k al ≡ del)
-    delete_passed b =
-        let p = tested_passed img delete_tests del ((omega arith, omega arith), ((omega arith, omega arith), tt)) (subst Began delete_is b) in
-        (p.0, delete_is ∙ p.1)
 
 -- ---- what `made` does
 module _ (g : Geometry) (ss : List Store) (al : ℕ) (img : List ℕ) where

@@ -11,7 +11,6 @@ pub mod Refusals
 pub mod Findings
 pub mod Disorder
 pub mod Named
-pub mod Inside
 pub mod Proofs
 pub mod Demands
 pub mod Builds
@@ -31,5 +30,4 @@ pub mod Safe
 pub mod Reached
 pub mod Inserts
 pub mod Filling
-pub mod Many
 pub mod Patrol

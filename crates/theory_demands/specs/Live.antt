@@ -1,15 +1,12 @@
 -- Request 7: on a sound image of n blocks, with its record and the table worked out from it, insert and delete by these
 -- have the outcome of the model's calls, leave the record of the image that is left, and the words worked out afresh
 -- from it; and what the calls with lent words promise of them. Assumes nothing.
-use Rattle.std.specs.Prelude.{◌≡◌, List, [], ◌∷◌, true, false, ◌⊎◌, ℕ, ◌*◌, ◌<◌, ◌≤◌, leb}
+use Rattle.std.specs.Prelude.{◌≡◌, List, [], ◌∷◌, true, false, ◌⊎◌, ℕ, ◌*◌, ◌<◌, ◌≤◌}
 use Rattle.std.proofs.Math.Path.{refl, ap, subst}
-use Rattle.std.proofs.Common.{sym, ◌∙◌, inl, inr, arith, lit≤, le-leb, leb-true, ne_eqb}
-use Rattle.std.proofs.Math.Bool.{Bool}
+use Rattle.std.proofs.Common.{sym, ◌∙◌, inl, inr, arith, lit≤, le-leb, ne_eqb}
 use Rattle.std.proofs.Math.ListN.{length}
-use Rattle.std.proofs.lemmas.Bool.{lt-leb}
 use Rattle.geometry.specs.declared.Geometry.{Geometry}
 use Rattle.geometry.specs.declared.Verdict.TheVariants.{Sound}
-use Rattle.geometry.specs.Tests.{pick}
 use Rattle.geometry.specs.Shape.{Known, is_small, is_large, Shape}
 use Rattle.geometry.specs.Bounds.{four_bytes}
 use Rattle.model.specs.Bytes.{byte_at}
@@ -18,12 +15,11 @@ use Rattle.model.specs.Tree.{places_of, live}
 use Rattle.model.specs.Rules.{verdict}
 use Rattle.model.specs.Collect.{lives_in}
 use Rattle.model.specs.Calls.{Outcome, refused, insert_rest, delete_rest, insert, delete}
-use Rattle.theory_counts.specs.Cases.{true_false}
 use Rattle.theory_lists.specs.All.{All}
 use Rattle.live_words.specs.Words.{block_words, words_of, block_ones, Told, Past}
-use Rattle.live_words.specs.Live.{Reply, reply, live_words, leaves_words, with_words, insert_live, delete_live}
+use Rattle.live_words.specs.Live.{Reply, reply, live_words, leaves_words, with_words, insert_live}
 use Rattle.live_words.specs.Ones.{block_ones_lem}
-use Rattle.live_words.specs.Filled.{past_none, filled_past, filled_told, filled_same}
+use Rattle.live_words.specs.Filled.{filled_same}
 use Rattle.open_record.specs.Opened.{opened_in}
 use Rattle.live_beside.specs.Beside.{Held}
 use Rattle.live_beside.specs.Update.{Returned, returned, insert_by, delete_by}
@@ -33,19 +29,19 @@ use Rattle.theory_updates.proofs.UpdateBy.{inserts, deletes}
 use Rattle.theory_demands.specs.Words.{Ready, map_at, OneOf}
 use Rattle.theory_demands.specs.Bridges.{few, some_pages, ready_keeps}
 use Rattle.theory_demands.specs.Calls.{judged_ready}
-use Rattle.theory_demands.specs.Proofs.{insert_one, delete_one}
+use Rattle.theory_demands.specs.Proofs.{insert_one}
 
-leaves : (x : ℕ) → (x ≡ 1) ⊎ (x ≡ 2) → leaves_words x ≡ true
+pub leaves : (x : ℕ) → (x ≡ 1) ⊎ (x ≡ 2) → leaves_words x ≡ true
 unfolding leaves_words
 leaves x (inl e) = rw e refl
 leaves x (inr e) = rw e refl
 
-changes : (x : ℕ) → (x ≡ 1 → ⊥) → (x ≡ 2 → ⊥) → leaves_words x ≡ false
+pub changes : (x : ℕ) → (x ≡ 1 → ⊥) → (x ≡ 2 → ⊥) → leaves_words x ≡ false
 unfolding leaves_words
 changes x p q = rw (ne_eqb x 1 p, ne_eqb x 2 q) refl
 
 -- an answer that is one of some is none but these
-other_answer : (x : ℕ) (ys : List ℕ) → OneOf x ys → (j : ℕ) → All (λ y. y ≡ j → ⊥) ys → x ≡ j → ⊥
+pub other_answer : (x : ℕ) (ys : List ℕ) → OneOf x ys → (j : ℕ) → All (λ y. y ≡ j → ⊥) ys → x ≡ j → ⊥
 other_answer x [] h j n e = absurd h
 other_answer x (y ∷ ys) (inl h) j n e = n.0 (sym h ∙ e)
 other_answer x (y ∷ ys) (inr h) j n e = other_answer x ys h j n.1 e
@@ -60,7 +56,7 @@ module _ (g : Geometry) (shape : Shape g) (whole : g.pages ≡ 32 * block_words 
     (good : good_length g img ≡ true) (blocks : n ≡ blocks_of g img)
     (bytes : (i : ℕ) → byte_at img i < 256) (sound : verdict g n img ≡ Sound)
     (h : Held) (tells : Tells g n img h) (known : Known g) where
-  ready : Ready g img
+  pub ready : Ready g img
   ready = record { length_good = good; is_sound_lem = subst (λ m. verdict g m img ≡ Sound) blocks sound; bytes = bytes }
 
   tells' : Tells g (blocks_of g img) img h
@@ -91,7 +87,7 @@ module _ (g : Geometry) (shape : Shape g) (whole : g.pages ≡ 32 * block_words 
     past' : Past (words_of g b) old h.table.words
     past' = subst (λ m. Past (words_of g m) old h.table.words) blocks past
 
-    replies : (o : Outcome) → (o.answer ≡ 1 → ⊥) → (o.answer ≡ 2 → ⊥)
+    pub replies : (o : Outcome) → (o.answer ≡ 1 → ⊥) → (o.answer ≡ 2 → ⊥)
         → reply o (live_words g b o.image h.table.words) ≡ with_words g img old o
     unfolding with_words live_words
     replies o p q =
@@ -129,19 +125,6 @@ module _ (g : Geometry) (shape : Shape g) (whole : g.pages ≡ 32 * block_words 
         ∙ replies o (no 1 (omega arith) (omega arith)) (no 2 (omega arith) (omega arith))
         ∙ ap (with_words g img old) (sym e)
 
-    pub delete_replies : (k al : ℕ) → k < four_bytes → told (delete_by g n h img k al) ≡ delete_live g img old k al
-    unfolding delete_live delete
-    delete_replies k al k_low =
-        let o = delete_rest g b img k al in
-        let e : delete g img k al ≡ o = judged_ready g img o ready in
-        let one = subst (λ (x : Outcome). OneOf x.answer (0 ∷ 3 ∷ 4 ∷ 7 ∷ [])) e (delete_one g shape img ready k al) in
-        let no : (j : ℕ) → 1 ≤ j → j ≤ 2 → o.answer ≡ j → ⊥ =
-        λ j p q. other_answer o.answer (0 ∷ 3 ∷ 4 ∷ 7 ∷ []) one j
-        ((λ z. omega (arith, z, p)), ((λ z. omega (arith, z, q)), ((λ z. omega (arith, z, q)), ((λ z. omega (arith, z, q)), tt)))) in
-        ap told (delete_by_lem k al k_low ∙ ap (λ m. left m (delete_rest g m img k al)) blocks)
-        ∙ replies o (no 1 (omega arith) (omega arith)) (no 2 (omega arith) (omega arith))
-        ∙ ap (with_words g img old) (sym e)
-
 -- ---- what a call with lent words promises, for every image: o is the outcome of the call without them
 pub record Lent (g : Geometry) (img old : List ℕ) (o : Outcome) (r : Reply) : Type 0 where
   -- with enough words the outcome is that of the call without them
@@ -155,50 +138,6 @@ pub record Lent (g : Geometry) (img old : List ℕ) (o : Outcome) (r : Reply) : 
   -- every other answer leaves the words worked out afresh from the image that is left
   pub words_told : (r.outcome.answer ≡ 1 → ⊥) → (r.outcome.answer ≡ 2 → ⊥)
       → Told (live (places_of (chip_of g (blocks_of g img) r.outcome.image))) (words_of g (blocks_of g img)) r.words
-
-module _ (g : Geometry) (img old : List ℕ) (o : Outcome) where
-  with_lent : Lent g img old o (with_words g img old o)
-  unfolding with_words live_words
-  with_lent = record {
-    outcome_is = λ h. rw (le-leb (words_of g (blocks_of g img)) (length old) h) refl;
-    words_short = λ h. rw (lt-leb (words_of g (blocks_of g img)) (length old) h) refl;
-    words_left = left (leb (words_of g (blocks_of g img)) (length old)) (leaves_words o.answer) refl;
-    words_past = past (leb (words_of g (blocks_of g img)) (length old)) (leaves_words o.answer);
-    words_told = told (leb (words_of g (blocks_of g img)) (length old)) (leaves_words o.answer) refl refl;
-  }
-    where
-      R : Bool → Bool → Reply
-      R u v = pick u (reply o (pick v old (live_words g (blocks_of g img) o.image old))) (reply (refused 1 img) old)
-
-      left : (u v : Bool) → leaves_words o.answer ≡ v → ((R u v).outcome.answer ≡ 1) ⊎ ((R u v).outcome.answer ≡ 2)
-          → (R u v).words ≡ old
-      left true true e h = refl
-      left true false e h = absurd (true_false (leaves_words o.answer) (leaves o.answer h) e)
-      left false v e h = refl
-
-      past : (u v : Bool) → Past (words_of g (blocks_of g img)) old (R u v).words
-      past true true = past_none (words_of g (blocks_of g img)) old
-      past true false = filled_past (live (places_of (chip_of g (blocks_of g img) o.image))) (words_of g (blocks_of g img)) old
-      past false v = past_none (words_of g (blocks_of g img)) old
-
-      told : (u v : Bool) → leb (words_of g (blocks_of g img)) (length old) ≡ u → leaves_words o.answer ≡ v
-          → ((R u v).outcome.answer ≡ 1 → ⊥) → ((R u v).outcome.answer ≡ 2 → ⊥)
-          → Told (live (places_of (chip_of g (blocks_of g img) (R u v).outcome.image))) (words_of g (blocks_of g img))
-          (R u v).words
-      told true true d e p q = absurd (true_false (leaves_words o.answer) e (changes o.answer p q))
-      told true false d e p q = filled_told (live (places_of (chip_of g (blocks_of g img) o.image))) (words_of g (blocks_of g img)) old
-          (leb-true (words_of g (blocks_of g img)) (length old) d)
-      told false v d e p q = absurd (p refl)
-
-pub insert_live_lem : (g : Geometry) (img old : List ℕ) (k a al : ℕ) → Lent g img old (insert g img k a al)
-    (insert_live g img old k a al)
-unfolding insert_live
-insert_live_lem g img old k a al = with_lent g img old (insert g img k a al)
-
-pub delete_live_lem : (g : Geometry) (img old : List ℕ) (k al : ℕ) → Lent g img old (delete g img k al)
-    (delete_live g img old k al)
-unfolding delete_live
-delete_live_lem g img old k al = with_lent g img old (delete g img k al)
 
 -- "A block's live pages are then the count of ones in its word": after every answer but LENGTH and DAMAGED
 pub live_counts : (g : Geometry) → g.pages ≡ 32 * block_words g → (img old : List ℕ) (o : Outcome) (r : Reply)

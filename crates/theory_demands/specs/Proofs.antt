@@ -1,5 +1,5 @@
 -- The demands' proofs, from the tests that an answer stands for. Assumes nothing.
-use Rattle.std.specs.Prelude.{◌≡◌, refl, List, [], ◌∷◌, Bool, false, ◌⊎◌, ℕ, zero, suc, ◌+◌, ◌-◌, ◌*◌, ◌<◌, ◌≤◌}
+use Rattle.std.specs.Prelude.{◌≡◌, refl, List, [], ◌∷◌, Bool, false, ℕ, zero, suc, ◌+◌, ◌-◌, ◌*◌, ◌<◌, ◌≤◌}
 use Rattle.std.proofs.Math.Path.{ap, sym}
 use Rattle.std.proofs.Common.{subst, ◌∙◌, inl, inr, arith}
 use Rattle.std.proofs.Math.Bool.{true}
@@ -16,21 +16,21 @@ use Rattle.geometry.specs.Bounds.{four_bytes}
 use Rattle.model.specs.Image.{blocks_of, good_length, Nodes, Chip, chip_of}
 use Rattle.model.specs.Tree.{chosen, find, sought}
 use Rattle.model.specs.Rules.{verdict}
-use Rattle.model.specs.Stores.{apply_all, programs, erases}
-use Rattle.model.specs.Edit.{put, gains, remove}
-use Rattle.model.specs.Update.{is_none, root_node, root_gains, needs, too_high, insert_stores, delete_store, delete_stores}
-use Rattle.model.specs.Calls.{Outcome, refused, damaged, made, by_verdict, judged, answered, lookup, worn, roomless, free_pages, insert, delete}
+use Rattle.model.specs.Stores.{apply_all}
+use Rattle.model.specs.Edit.{gains}
+use Rattle.model.specs.Update.{is_none, root_node, root_gains, needs, too_high, insert_stores}
+use Rattle.model.specs.Calls.{Outcome, refused, damaged, by_verdict, judged, answered, lookup, roomless, free_pages, insert}
 use Rattle.theory_counts.specs.Cases.{true_false}
 use Rattle.theory_chips.specs.Whole.{sought_map}
 use Rattle.theory_chips.specs.Insertion.{Fuller}
 use Rattle.theory_images.specs.Lengths.{blocks_same, length_all}
 use Rattle.theory_updates.specs.Along.{Keeps}
 use Rattle.theory_updates.specs.Lists.{not_worn, m_top}
-use Rattle.theory_updates.proofs.Lists.{insert_collected, insert_own, insert_programs_only, insert_updated, delete_collected, delete_updated}
-use Rattle.theory_demands.specs.Words.{Ready, map_at, Holds, Kept, Began, OneOf, Own}
-use Rattle.theory_demands.specs.Bridges.{few, some_pages, ready_keeps, updated_kept}
+use Rattle.theory_updates.proofs.Lists.{insert_collected, insert_own, insert_programs_only, insert_updated}
+use Rattle.theory_demands.specs.Words.{Ready, map_at, Began, OneOf, Own}
+use Rattle.theory_demands.specs.Bridges.{few, some_pages, ready_keeps}
 use Rattle.theory_demands.specs.Tests.{Met, tested_one, tested_met}
-use Rattle.theory_demands.specs.Calls.{judged_ready, insert_tests, delete_tests, insert_is, delete_is, insert_passed, delete_passed, made_began, made_done, made_stopped, made_image}
+use Rattle.theory_demands.specs.Calls.{judged_ready, insert_tests, insert_is, insert_passed, made_began, made_done}
 
 pub lookup_image : (g : Geometry) (img : List ℕ) (k : ℕ) → (lookup g img k).image ≡ img
 unfolding lookup judged by_verdict answered
@@ -43,7 +43,7 @@ lookup_image g img k = go (good_length g img) (verdict g (blocks_of g img) img) 
     go true (Broken rule page) o = refl
     go false v o = refl
 
-none_is : (o : Option ℕ) → is_none o ≡ true → o ≡ none
+pub none_is : (o : Option ℕ) → is_none o ≡ true → o ≡ none
 none_is none h = refl
 none_is (some a) h = absurd (true_false false h refl)
 
@@ -69,18 +69,10 @@ module _ (g : Geometry) (shape : Shape g) (img : List ℕ) (ready : Ready g img)
   insert_one a al = subst (λ (o : Outcome). OneOf o.answer (0 ∷ 3 ∷ 5 ∷ 6 ∷ 7 ∷ [])) (sym (insert_is g img k a al ready))
       (tested_one img (insert_tests g img k a al) _ (made_began g (insert_stores g n img k a) al img))
 
-  pub delete_one : (al : ℕ) → OneOf (delete g img k al).answer (0 ∷ 3 ∷ 4 ∷ 7 ∷ [])
-  delete_one al = subst (λ (o : Outcome). OneOf o.answer (0 ∷ 3 ∷ 4 ∷ 7 ∷ [])) (sym (delete_is g img k 0 al ready))
-      (tested_one img (delete_tests g img k 0 al) _ (made_began g (delete_stores g n img k) al img))
-
   -- a refusal is the number of a test that is met
   insert_met : (a al j : ℕ) → 1 ≤ j → j ≤ 6 → (insert g img k a al).answer ≡ j → Met j (insert_tests g img k a al)
   insert_met a al j p q h = tested_met img j (insert_tests g img k a al) _ (made_began g (insert_stores g n img k a) al img) p q
       (sym (ap (λ (o : Outcome). o.answer) (insert_is g img k a al ready)) ∙ h)
-
-  delete_met : (al j : ℕ) → 1 ≤ j → j ≤ 6 → (delete g img k al).answer ≡ j → Met j (delete_tests g img k 0 al)
-  delete_met al j p q h = tested_met img j (delete_tests g img k 0 al) _ (made_began g (delete_stores g n img k) al img) p q
-      (sym (ap (λ (o : Outcome). o.answer) (delete_is g img k 0 al ready)) ∙ h)
 
   -- ROOM: R8 leaves room for one page, so more are needed
   pub room_needs : (a al : ℕ) → (insert g img k a al).answer ≡ 6 → 2 ≤ needs g c k
@@ -99,26 +91,6 @@ module _ (g : Geometry) (shape : Shape g) (img : List ℕ) (ready : Ready g img)
     pub found : sought c k ≡ find k (map_at g img)
     found = sought_map g n c keeps.held.whole k k_low
 
-    pub absent_answer : (al : ℕ) → (delete g img k al).answer ≡ 4 → find k (map_at g img) ≡ none
-    absent_answer al h = sym found ∙ none_is (sought c k) (go (delete_met al 4 (omega arith) (omega arith) h))
-      where
-        go : Met 4 (delete_tests g img k 0 al) → is_none (sought c k) ≡ true
-        go (inl e) = absurd (omega (arith, e.0))
-        go (inr (inl e)) = e.1
-        go (inr (inr e)) = absurd e
-
-    pub answer_absent : (al : ℕ) → find k (map_at g img) ≡ none → ((delete g img k al).answer ≡ 3) ⊎
-        ((delete g img k al).answer ≡ 4)
-    answer_absent al h = subst (λ (o : Outcome). (o.answer ≡ 3) ⊎ (o.answer ≡ 4)) (sym (delete_is g img k 0 al ready))
-        (go (worn g n img) (is_none (sought c k)) (ap is_none (found ∙ h)))
-      where
-        go : (x y : Bool) → y ≡ true
-            → ((pick x (refused 3 img) (pick y (refused 4 img) (made g (delete_stores g n img k) al img))).answer ≡ 3) ⊎
-            ((pick x (refused 3 img) (pick y (refused 4 img) (made g (delete_stores g n img k) al img))).answer ≡ 4)
-        go true y e = inl refl
-        go false true e = inr refl
-        go false false e = absurd (true_false false e refl)
-
     pub height_absent : (a al : ℕ) → (insert g img k a al).answer ≡ 5 → find k (map_at g img) ≡ none
     unfolding too_high root_gains
     height_absent a al h = sym found ∙ none_is (sought c k) (gains_absent c.nodes k (half g) (is_none (sought c k)) c.level
@@ -129,17 +101,6 @@ module _ (g : Geometry) (shape : Shape g) (img : List ℕ) (ready : Ready g img)
         go (inr (inl e)) = e.1
         go (inr (inr (inl e))) = absurd (omega (arith, e.0))
         go (inr (inr (inr e))) = absurd e
-
-    pub insert_kept : (a al : ℕ) → a < four_bytes → Began (insert g img k a al)
-        → Kept g (map_at g img) (put k a (map_at g img)) img (insert_stores g n img k a)
-    insert_kept a al a-low b =
-        let p = insert_passed g img k a al ready b in
-        let f = few g shape img ready in
-        let s = some_pages g shape img ready in
-        let w = not_worn g n img p.0.0 in
-        updated_kept g shape img ready (Fuller g (needs g c k) c) (map_at g img) (put k a (map_at g img)) (insert_stores g n img k a) (needs g c k)
-        (m_top g shape n f (map_at g img) img keeps w s k a k_low a-low p.0.1.0 p.0.1.1.0)
-        (insert_updated g shape n f (map_at g img) img keeps w s k a k_low a-low p.0.1.0 p.0.1.1.0)
 
     -- what an insertion that answers 0 adds to the tree
     pub insert_fuller : (a al : ℕ) → a < four_bytes → (insert g img k a al).answer ≡ 0 → Fuller g (needs g c k) c
@@ -177,65 +138,6 @@ module _ (g : Geometry) (shape : Shape g) (img : List ℕ) (ready : Ready g img)
           atmost = m_top g shape n f (map_at g img) img keeps w s k a k_low a-low p.0.1.0 p.0.1.1.0;
           collected = insert_collected g shape n f (map_at g img) img keeps w s k a k_low a-low p.0.1.0 p.0.1.1.0;
         }
-
-    pub delete_pages : (al : ℕ) → Began (delete g img k al) → Own g n img 1 (delete_stores g n img k)
-    unfolding delete_stores delete_store programs erases
-    delete_pages al b =
-        let p = delete_passed g img k 0 al ready b in
-        record {
-          own = _;
-          list_is = refl;
-          programs_are = refl;
-          no_erase = refl;
-          atmost = (let z = shape.top_low in omega (arith, z));
-          collected = delete_collected g shape n (few g shape img ready) (map_at g img) img keeps (not_worn g n img p.0.0) (some_pages g shape img ready) k
-              k_low p.0.1.0;
-        }
-
-    pub delete_kept : (al : ℕ) → Began (delete g img k al) → Kept g (map_at g img) (remove k (map_at g img)) img
-        (delete_stores g n img k)
-    delete_kept al b =
-        let p = delete_passed g img k 0 al ready b in
-        updated_kept g shape img ready _ (map_at g img) (remove k (map_at g img)) (delete_stores g n img k) 1 (let z =
-        shape.top_low in omega (arith, z))
-        (delete_updated g shape n (few g shape img ready) (map_at g img) img keeps (not_worn g n img p.0.0) (some_pages g shape img ready) k k_low
-        p.0.1.0)
-
-    -- the image of a finished call, and of a stopped one
-    pub insert_ends : (a al : ℕ) → a < four_bytes → (insert g img k a al).answer ≡ 0 → Holds g (put k a (map_at g img))
-        (insert g img k a al).image
-    insert_ends a al a-low h =
-        let p = insert_passed g img k a al ready (inl h) in
-        let ss = insert_stores g n img k a in
-        let e = ap (λ (o : Outcome). o.image) p.1
-        ∙ made_done g ss al img (sym (ap (λ (o : Outcome). o.answer) p.1) ∙ h) in
-        subst (Holds g (put k a (map_at g img))) (sym e) (insert_kept a al a-low (inl h)).end
-
-    pub delete_ends : (al : ℕ) → (delete g img k al).answer ≡ 0 → Holds g (remove k (map_at g img))
-        (delete g img k al).image
-    delete_ends al h =
-        let p = delete_passed g img k 0 al ready (inl h) in
-        let ss = delete_stores g n img k in
-        let e = ap (λ (o : Outcome). o.image) p.1
-        ∙ made_done g ss al img (sym (ap (λ (o : Outcome). o.answer) p.1) ∙ h) in
-        subst (Holds g (remove k (map_at g img))) (sym e) (delete_kept al (inl h)).end
-
-    pub insert_stops : (a al : ℕ) → a < four_bytes → (insert g img k a al).answer ≡ 7 → Holds g (map_at g img)
-        (insert g img k a al).image
-    insert_stops a al a-low h =
-        let p = insert_passed g img k a al ready (inr h) in
-        let ss = insert_stores g n img k a in
-        let e = ap (λ (o : Outcome). o.image) p.1 ∙ made_image g ss al img in
-        subst (Holds g (map_at g img)) (sym e) ((insert_kept a al a-low (inr h)).before al
-        (made_stopped g ss al img (sym (ap (λ (o : Outcome). o.answer) p.1) ∙ h)))
-
-    pub delete_stops : (al : ℕ) → (delete g img k al).answer ≡ 7 → Holds g (map_at g img) (delete g img k al).image
-    delete_stops al h =
-        let p = delete_passed g img k 0 al ready (inr h) in
-        let ss = delete_stores g n img k in
-        let e = ap (λ (o : Outcome). o.image) p.1 ∙ made_image g ss al img in
-        subst (Holds g (map_at g img)) (sym e) ((delete_kept al (inr h)).before al
-        (made_stopped g ss al img (sym (ap (λ (o : Outcome). o.answer) p.1) ∙ h)))
 
     pub lookup_is : lookup g img k ≡ answered (find k (map_at g img)) img
     unfolding lookup

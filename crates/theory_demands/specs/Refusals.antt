@@ -9,11 +9,11 @@ use Rattle.geometry.specs.declared.Verdict.TheVariants.{Sound, Broken}
 use Rattle.model.specs.Image.{blocks_of, good_length, chip_of}
 use Rattle.model.specs.Tree.{sought}
 use Rattle.model.specs.Rules.{verdict}
-use Rattle.model.specs.Calls.{Outcome, refused, damaged, by_verdict, judged, judged_call, answered, lookup, insert_rest, insert, delete_rest, delete, format}
+use Rattle.model.specs.Calls.{Outcome, refused, damaged, by_verdict, judged, judged_call, answered, lookup, insert_rest, insert, format}
 use Rattle.model.specs.Stores.{apply_all}
-use Rattle.model.specs.Update.{insert_stores, delete_stores, format_stores}
+use Rattle.model.specs.Update.{insert_stores, format_stores}
 use Rattle.theory_demands.specs.Tests.{tested_later}
-use Rattle.theory_demands.specs.Calls.{insert_tests, delete_tests, insert_rest_lem, delete_rest_lem, made_began}
+use Rattle.theory_demands.specs.Calls.{insert_tests, insert_rest_lem, made_began}
 
 -- LENGTH for a bad length, DAMAGED with rule and page for an image that is not sound, neither otherwise; both leave the
 -- image
@@ -48,11 +48,6 @@ module _ (g : Geometry) (img : List ℕ) (k : ℕ) where
   insert_refuses a al = judged_refuses g img (insert_rest g (blocks_of g img) img k a al) (rw (insert_rest_lem g img k a al)
       (tested_later img (insert_tests g img k a al) _ (omega arith, (omega arith, (omega arith, tt)))
       (made_began g (insert_stores g (blocks_of g img) img k a) al img)))
-
-  pub delete_refuses : (al : ℕ) → Refuses g img (delete g img k al)
-  unfolding delete
-  delete_refuses al = judged_refuses g img (delete_rest g (blocks_of g img) img k al) (rw (delete_rest_lem g img k 0 al)
-      (tested_later img (delete_tests g img k 0 al) _ (omega arith, (omega arith, tt)) (made_began g (delete_stores g (blocks_of g img) img k) al img)))
 
 -- format gives 1 for a bad length and leaves the image; else 0
 pub format_refuses : (g : Geometry) (img : List ℕ) → good_length g img ≡ false → format g img ≡ refused 1 img

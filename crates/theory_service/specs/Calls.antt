@@ -23,11 +23,14 @@ use Rattle.model.specs.Stores.{Store, program, erase, programs, erases}
 use Rattle.model.specs.Update.{insert_stores, delete_stores}
 use Rattle.model.specs.Calls.{Outcome, refused, damaged, made, answered, lookup, insert, delete, chosen_call, lookup_of}
 use Rattle.theory_demands.specs.Words.{Ready, map_at, Holds, programmed_most, erased_most, Began, OneOf}
-use Rattle.theory_demands.specs.Refusals.{Refuses, lookup_refuses, insert_refuses, delete_refuses}
-use Rattle.theory_demands.specs.Demands.{lookup_reads, insert_refused, delete_refused, lookup_answers, insert_answers, delete_answers, insert_done, delete_done, insert_stopped, delete_stopped, insert_made_lem, delete_made_lem, insert_bounds, delete_bounds}
+use Rattle.theory_demands.specs.Refusals.{Refuses, lookup_refuses, insert_refuses}
+use Rattle.theory_demands.proofs.Refusals.{delete_refuses}
+use Rattle.theory_demands.specs.Demands.{lookup_reads, insert_refused, lookup_answers, insert_answers, insert_made_lem}
+use Rattle.theory_demands.proofs.Demands.{delete_refused, delete_answers, insert_done, delete_done, insert_stopped, delete_stopped, delete_made_lem, insert_bounds, delete_bounds}
 use Rattle.theory_demands.specs.Named.{first_broken_lem}
-use Rattle.theory_demands.specs.Inside.{page_inside}
-use Rattle.theory_demands.specs.Live.{Lent, insert_live_lem, delete_live_lem}
+use Rattle.theory_demands.proofs.Inside.{page_inside}
+use Rattle.theory_demands.specs.Live.{Lent}
+use Rattle.theory_demands.proofs.Live.{insert_live_lem, delete_live_lem}
 use Rattle.theory_counts.specs.Least.{by_lt}
 use Rattle.theory_images.specs.Lengths.{good_blocks_lem, few_pages}
 use Rattle.live_words.specs.Words.{words_of}

@@ -20,7 +20,8 @@ use Rattle.text_carrying.specs.Carrying.{records, bad, read_text, exports, expor
 use Rattle.text_carrying.specs.Back.{text_short, text_of_read, read_rises, read_few}
 use Rattle.theory_demands.specs.Words.{Ready, map_at, Holds}
 use Rattle.theory_demands.specs.Stored.{Stored}
-use Rattle.theory_demands.specs.Carrying.{export_bad_length, export_not_sound, export_exports, import_bad_length, import_bad_text, import_stored, import_finished, carried_call}
+use Rattle.theory_demands.specs.Carrying.{export_bad_length, export_not_sound, export_exports, import_bad_length, import_bad_text, import_finished}
+use Rattle.theory_demands.proofs.Carrying.{import_stored, carried_call}
 use Rattle.camera.specs.Camera.{Left, returned}
 use Rattle.theory_service.specs.Left.{on, other_unknown, number_in, short, whole, told_whole, told_short, told_number}
 

@@ -17,11 +17,12 @@ use Rattle.model.specs.Stores.{Store, apply_all, programs}
 use Rattle.model.specs.Calls.{Outcome, gives, refused, answered, format, lookup, insert, chosen_call, format_of, lookup_of}
 use Rattle.theory_demands.specs.Words.{Ready, map_at}
 use Rattle.theory_demands.specs.Calls.{made_counts}
-use Rattle.theory_demands.specs.Demands.{lookup_answers, insert_done, insert_made_lem, insert_bounds}
+use Rattle.theory_demands.specs.Demands.{lookup_answers, insert_made_lem}
+use Rattle.theory_demands.proofs.Demands.{insert_done, insert_bounds}
 use Rattle.theory_demands.specs.Builds.{format_holds}
 use Rattle.theory_demands.specs.Inserts.{Item, moves, Finished, beyond, splits_and_growths}
-use Rattle.theory_demands.specs.Many.{many_inserts, many_inserts_are}
-use Rattle.theory_demands.specs.Live.{insert_live_lem}
+use Rattle.theory_demands.proofs.Many.{many_inserts, many_inserts_are}
+use Rattle.theory_demands.proofs.Live.{insert_live_lem}
 use Rattle.theory_counts.specs.Least.{by_lt}
 use Rattle.live_words.specs.Words.{words_of}
 use Rattle.live_words.specs.Live.{Reply, insert_live, insert_live_of}

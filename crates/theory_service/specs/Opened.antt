@@ -29,10 +29,12 @@ use Rattle.live_beside.specs.Update.{Returned}
 use Rattle.live_beside.specs.Calls.{insert_with, delete_with, insert_with_of, delete_with_of}
 use Rattle.theory_demands.specs.Words.{Ready}
 use Rattle.theory_demands.specs.Calls.{judged_ready}
-use Rattle.theory_demands.specs.Stays.{insert_ready, delete_ready, insert_long, delete_long}
-use Rattle.theory_demands.specs.Live.{insert_live_lem, delete_live_lem}
+use Rattle.theory_demands.proofs.Stays.{insert_ready, delete_ready}
+use Rattle.theory_demands.specs.Stays.{insert_long, delete_long}
+use Rattle.theory_demands.proofs.Live.{insert_live_lem, delete_live_lem}
 use Rattle.theory_demands.specs.Opened.{opening_bad_length, opening_not_sound, opening_done, lookup_length, lookup_stale, list_length, list_stale, lookup_same, list_same}
-use Rattle.theory_demands.specs.OpenedCalls.{insert_length, insert_few_words, insert_stale, delete_length, delete_few_words, delete_stale, insert_same, delete_same}
+use Rattle.theory_demands.specs.OpenedCalls.{insert_length, insert_few_words, delete_length, delete_few_words}
+use Rattle.theory_demands.proofs.OpenedCalls.{insert_stale, delete_stale, insert_same, delete_same}
 use Rattle.camera.specs.Camera.{Left, returned, record_in, put_record, with_record, open_bytes, open_record, lookup_bytes, list_bytes, Reopened, reopened, packed, insert_bytes, delete_bytes, kept, words_left}
 use Rattle.theory_service.specs.Left.{looks_up, inserts, deletes, insert_words, delete_words, Enough, lists_pairs, other_unknown, on, short, whole, told_whole, told_short, words_whole, words_kept}
 use Rattle.theory_service.specs.Record.{record_read, record_back, record_long, opened_fits}

@@ -17,7 +17,8 @@ use Rattle.live_words.specs.Words.{words_of, block_ones, Told, Past}
 use Rattle.live_words.specs.Live.{Reply, reply, insert_live, delete_live, insert_live_of, delete_live_of}
 use Rattle.live_words.specs.Ones.{whole_words, block_ones_lem}
 use Rattle.live_words.specs.Filled.{past_none}
-use Rattle.theory_demands.specs.Live.{Lent, insert_live_lem, delete_live_lem}
+use Rattle.theory_demands.specs.Live.{Lent}
+use Rattle.theory_demands.proofs.Live.{insert_live_lem, delete_live_lem}
 use Rattle.camera.specs.Camera.{Left, returned, words_left}
 use Rattle.theory_service.specs.Left.{inserts, deletes, insert_words, delete_words, other_unknown, on, short, whole, told, told_whole, told_short, words_whole, words_kept}
 

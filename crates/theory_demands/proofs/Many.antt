@@ -9,7 +9,8 @@ use Rattle.model.specs.Bytes.{byte_at}
 use Rattle.model.specs.Image.{good_length}
 use Rattle.model.specs.Calls.{format}
 use Rattle.theory_demands.specs.Inserts.{Item, chip_at, Finished, filled_by, beyond, splits_and_growths}
-use Rattle.theory_demands.specs.Filling.{Stands, beyond_is, stands_after, format_stands, small_most}
+use Rattle.theory_demands.specs.Filling.{Stands, format_stands, small_most}
+use Rattle.theory_demands.proofs.Filling.{beyond_is, stands_after}
 
 module _ (img : List ℕ) (length_good : good_length small img ≡ true) (bytes : (i : ℕ)
     → byte_at img i < 256) (xs : List Item)

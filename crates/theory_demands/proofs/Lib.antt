@@ -1,0 +1,16 @@
+pub mod Builds
+pub mod Calls
+pub mod Carrying
+pub mod Demands
+pub mod Filling
+pub mod Inside
+pub mod Live
+pub mod Many
+pub mod Often
+pub mod OpenedCalls
+pub mod Proofs
+pub mod Reached
+pub mod Refusals
+pub mod Stays
+pub mod Stored
+pub mod Sums
