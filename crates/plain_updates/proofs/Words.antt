@@ -54,7 +54,6 @@ module _ (img : List ℕ) (ready : Ready plain img) where
       }
 
   module _ (k : ℕ) (k_low : k < four_bytes) where
-
     module _ (a al : ℕ) (a-low : a < four_bytes) where
       abbrev ss : List Store
       ss = plain_insert_stores plain m img k a

@@ -64,7 +64,6 @@ module _ (g : Geometry) (core : Core g) (single : Single g)
 module _ (n : ℕ) (some : 1 ≤ n) (few : n ≤ 1024) (img : List ℕ) (held : Held plain n img)
     (k : ℕ) (k_low : k < four_bytes)
     (present : is_none (sought (chip_of plain n img) k) ≡ false) where
-
   -- as many stores as pages that it leaves
   pub plain_delete_length : length (plain_delete_stores plain n img k) ≡ plain_leaves (chip_of plain n img) k
   plain_delete_length = delete_length plain plain_core plain_single n (few_pages plain plain_core n few) (plain_pages n some) img held k k_low present

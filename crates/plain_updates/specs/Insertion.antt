@@ -81,7 +81,6 @@ module _ (g : Geometry) (core : Core g) (single : Single g)
 -- ---- the plain tree
 module _ (n : ℕ) (some : 1 ≤ n) (few : n ≤ 1024) (img : List ℕ) (held : Held plain n img)
     (k a : ℕ) (k_low : k < four_bytes) (a-low : a < four_bytes) where
-
   -- as many stores as pages that it needs
   pub plain_insert_length : length (plain_insert_stores plain n img k a) ≡ plain_needs plain (chip_of plain n img) k
   plain_insert_length = insert_length plain plain_core plain_single n (few_pages plain plain_core n few) (plain_pages n some) img held k a k_low a-low

@@ -170,5 +170,4 @@ module _ (img : List ℕ) (ready : Ready plain img) where
             ap (λ (o : Outcome). o.erased) p ∙ ap erases (take_all al ss (made_all plain ss al img z))
                 ∙ plain_insert_erases m some_blocks blocks.most img ready_held k a k_low a-low,
           )
-
-    -- ---- delete
+      -- ---- delete

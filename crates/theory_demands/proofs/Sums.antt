@@ -29,7 +29,6 @@ use Rattle.theory_demands.specs.Stored.{inserted, store_more}
 use Rattle.theory_demands.specs.Sums.{Limits, sum_of}
 
 module _ (g : Geometry) (shape : Shape g) (allowed : stores_most g ≤ largest) where
-
   module _ (img : List ℕ) (ready : Ready g img) (k a : ℕ) (k_low : k < four_bytes) (a-low : a < four_bytes) where
     abbrev n : ℕ
     n = blocks_of g img

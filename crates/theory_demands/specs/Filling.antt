@@ -27,7 +27,6 @@ use Rattle.theory_demands.specs.Bridges.{some_pages, ready_keeps}
 use Rattle.theory_demands.specs.Builds.{format_holds, new_is, new_blocks}
 
 module _ (g : Geometry) (shape : Shape g) where
-
   -- what holds after n insertions with x pages beyond them
   pub record Stands (img : List ℕ) (n x : ℕ) : Type 0 where
     pub ready : Ready g img

@@ -11,7 +11,8 @@ use Rattle.log_lines.specs.declared.Order.TheVariants.{Format, Insert, Delete, L
 use Rattle.log_lines.specs.Replay.{largest_allowance, obeyed, blank_image}
 use Rattle.compare_scores.specs.Scores.{plain_obeyed}
 use Rattle.theory_lists.specs.All.{All}
-use Rattle.theory_demands.specs.Refusals.{Refuses, lookup_refuses, insert_refuses, delete_refuses}
+use Rattle.theory_demands.specs.Refusals.{Refuses, lookup_refuses, insert_refuses}
+use Rattle.theory_demands.proofs.Refusals.{delete_refuses}
 use Rattle.theory_demands.specs.Builds.{format_holds}
 use Rattle.plain_updates.specs.Words.{plain_format_holds}
 use Rattle.plain_updates.specs.Answers.{plain_insert_refuses, plain_delete_refuses}

@@ -22,14 +22,17 @@ use Rattle.log_lines.specs.declared.Order.TheVariants.{Format, Insert, Delete, L
 use Rattle.log_lines.specs.Replay.{largest_allowance, obeyed}
 use Rattle.compare_scores.specs.Scores.{plain_obeyed}
 use Rattle.theory_demands.specs.Words.{Ready, map_at, Holds, OneOf}
-use Rattle.theory_demands.specs.Calls.{insert_tests, delete_tests, insert_is, delete_is, made_began}
+use Rattle.theory_demands.specs.Calls.{insert_tests, delete_tests, insert_is, made_began}
+use Rattle.theory_demands.proofs.Calls.{delete_is}
 use Rattle.theory_demands.specs.Refusals.{format_answers}
-use Rattle.theory_demands.specs.Demands.{lookup_answers, delete_refused, insert_answers, delete_answers, delete_absent, absent_delete}
-use Rattle.theory_demands.specs.Demands.{insert_done, delete_done, insert_stores_lem, delete_stores_lem, insert_made_lem, delete_made_lem}
+use Rattle.theory_demands.specs.Demands.{lookup_answers, insert_answers}
+use Rattle.theory_demands.proofs.Demands.{delete_refused, delete_answers, delete_absent, absent_delete}
+use Rattle.theory_demands.specs.Demands.{insert_made_lem}
+use Rattle.theory_demands.proofs.Demands.{insert_done, delete_done, insert_stores_lem, delete_stores_lem, delete_made_lem}
 use Rattle.theory_demands.specs.Builds.{format_holds}
 use Rattle.plain_updates.specs.Words.{plain_insert_tests, plain_delete_tests, plain_insert_is, plain_delete_is, plain_insert_passed, plain_delete_passed}
 use Rattle.plain_updates.specs.Words.{plain_delete_refused, plain_format_holds, plain_reads}
-use Rattle.plain_updates.specs.Words.{plain_insert_kept, plain_insert_done, plain_delete_kept, plain_delete_done}
+use Rattle.plain_updates.proofs.Words.{plain_insert_kept, plain_insert_done, plain_delete_kept, plain_delete_done}
 use Rattle.plain_updates.specs.Answers.{plain_insert_answers, plain_delete_answers, plain_delete_absent, plain_absent_delete}
 use Rattle.theory_same_map.specs.Words.{Fits, Accepts}
 use Rattle.theory_same_map.specs.Numbers.{largest_on, update_raises}
