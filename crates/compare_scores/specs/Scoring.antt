@@ -116,5 +116,3 @@ within_more s order a b w h i j = go (counts order a b)
         (record { lines = s.lines + 1; updates = s.updates; mu = s.mu; plain = s.plain }))
     go true = (omega arith, omega arith, omega arith, omega arith)
     go false = (omega arith, omega arith, omega arith, omega arith)
-
-pub ruleset score_laws = (euclid_goes, euclid_ends, euclid_falls, ratio_none, ratio_some, part_some, stops_below, stops_from, counts_none, counts_first, counts_second, scored_none, scored_one)

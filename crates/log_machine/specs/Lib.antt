@@ -3,4 +3,3 @@
 pub mod Machine
 pub mod Tallied
 pub mod Run
-pub mod Steps

@@ -18,7 +18,6 @@ use Rattle.chip_read.specs.Chip.{chip_with}
 use Rattle.theory_counts.specs.Blocks.{some_pages, block_below}
 use Rattle.theory_counts.specs.Lowest.{broken_sound}
 use Rattle.theory_counts.specs.Peak.{arg_most, arg_less}
-use Rattle.theory_counts.specs.Scan.{scan_laws}
 use Rattle.chip_survey.specs.declared.Survey.{Survey}
 use Rattle.chip_survey.specs.Survey.{survey_of}
 use Rattle.chip_survey.specs.Pass.{chip_is}
@@ -29,7 +28,6 @@ use Rattle.sound_nodes.specs.Noted.{Marks}
 use Rattle.live_walk.specs.Table.{Marked}
 use Rattle.sound_links.specs.Loose.{Inside}
 use Rattle.sound_links.specs.Judged.{r5_inside}
-use Rattle.sound_verdict.specs.SpareRoom.{room_laws}
 use Rattle.sound_verdict.specs.declared.Judgement.{Judgement}
 use Rattle.sound_verdict.specs.Verdict.{from2, from3, Roomy, Surveyed, Tells, Never, Judged}
 
@@ -186,15 +184,3 @@ module _ (g : Geometry) (n : ℕ) (img : List ℕ) (t f : Bool) (s : Survey) (pr
     sight_judged w u v ev y e =
         judged_is g n img w u v s (verdict_is g n img v (or_good 1 _ Good _ v (sym c.formed) refl
         (or_good 2 _ Good _ v (sym c.ordered) refl ev))) c.survey c.level y e
-
-pub ruleset rule_laws = (or_bad, or_good, verdict_is, nodes_by, links_by, not_asked, asked_is, asked_or)
-
-pub ruleset table_laws = (roomy_many, roomy_few, tells_broken, tells_rule, surveyed_is, surveyed_same, marked_rule, marked_with)
-
-pub ruleset inside_laws = (inside_with, inside_good)
-
-pub ruleset broken_laws = (never_broken, order_breaks, passed_1, judged_never)
-
-pub ruleset sight_laws = (sight_broken, sight_surveyed, sight_counted, sight_ranges, sight_judged, programmed_is)
-
-pub ruleset verdict_laws = (scan_laws, room_laws, rule_laws, table_laws, inside_laws, broken_laws, sight_laws)

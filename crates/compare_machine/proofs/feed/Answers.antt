@@ -1,5 +1,5 @@
 use Rattle.std.proofs.Common.{sym, ◌∙◌}
-use Rattle.compare_machine.specs.Steps.{over_run, over_line, over_mu, over_plain, end_run, end_line, end_mu, end_plain, end_steady, more_run, more_line, more_mu, more_plain}
+use Rattle.compare_machine.proofs.Steps.{over_run, over_line, over_mu, over_plain, end_run, end_line, end_mu, end_plain, end_steady, more_run, more_line, more_mu, more_plain}
 use Rattle.compare_machine.proofs.feed.Goals as goal
 
 -- a run that is over

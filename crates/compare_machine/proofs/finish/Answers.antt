@@ -1,5 +1,5 @@
 use Rattle.std.proofs.Common.{take}
-use Rattle.compare_machine.specs.Steps.{finish_stopped, finish_refused, finish_last, finish_begun}
+use Rattle.compare_machine.proofs.Steps.{finish_stopped, finish_refused, finish_last, finish_begun}
 use Rattle.compare_machine.proofs.finish.Goals as goal
 
 pub returns-then-run-eq0-clause-place : goal.returns-then-run-eq0-clause-place

@@ -1,5 +1,5 @@
 use borrow.Author.Rules.{rules}
-use Rattle.compare_machine.specs.Steps.{step_laws}
+use Rattle.compare_machine.proofs.Steps.{step_laws}
 use Rattle.compare_machine.proofs.lengthen.Statement.{statement}
 use Rattle.compare_machine.proofs.lengthen.Tie as tie
 

@@ -1,5 +1,5 @@
 use borrow.Author.Rules.{rules}
-use Rattle.compare_machine.specs.Steps.{plain_laws}
+use Rattle.compare_machine.proofs.Steps.{plain_laws}
 use Rattle.compare_machine.proofs.obey_plain.Statement.{statement}
 use Rattle.compare_machine.proofs.obey_plain.Tie as tie
 

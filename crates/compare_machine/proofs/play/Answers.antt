@@ -1,7 +1,7 @@
 use Rattle.std.proofs.Common.{ap, sym, ◌∙◌}
 use Rattle.compare_machine.specs.Machine.{State}
 use Rattle.compare_machine.specs.Run.{run_of}
-use Rattle.compare_machine.specs.Steps.{close_both}
+use Rattle.compare_machine.proofs.Steps.{close_both}
 use Rattle.compare_machine.proofs.play.Goals as goal
 
 pub returns-clause-run : goal.returns-clause-run

@@ -1,5 +1,5 @@
 use borrow.Author.Rules.{rules}
-use Rattle.compare_machine.specs.Steps.{settle_laws}
+use Rattle.compare_machine.proofs.Steps.{settle_laws}
 use Rattle.compare_machine.proofs.settle.Statement.{statement}
 use Rattle.compare_machine.proofs.settle.Tie as tie
 

@@ -1,7 +1,7 @@
 use borrow.Author.Rules.{rules}
 use mathlib.Core.Path.{◌≡◌}
 use Rattle.compare_scores.specs.Ratio.{greatest}
-use Rattle.compare_scores.specs.Scoring.{score_laws}
+use Rattle.compare_scores.proofs.Laws.{score_laws}
 use Rattle.compare_scores.proofs.greatest.Statement.{statement}
 use Rattle.compare_scores.proofs.greatest.Tie as tie
 

@@ -1,5 +1,5 @@
 use borrow.Author.Rules.{rules}
-use Rattle.compare_scores.specs.Scoring.{score_laws}
+use Rattle.compare_scores.proofs.Laws.{score_laws}
 use Rattle.compare_scores.proofs.ratio_of.Statement.{statement}
 use Rattle.compare_scores.proofs.ratio_of.Tie as tie
 

@@ -1,4 +1,4 @@
-use Rattle.log_machine.specs.Steps.{answer_run, answer_image, answer_out}
+use Rattle.log_machine.proofs.Steps.{answer_run, answer_image, answer_out}
 use Rattle.log_machine.proofs.answer.Goals as goal
 
 pub returns-clause-run : goal.returns-clause-run

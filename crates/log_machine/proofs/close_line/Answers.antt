@@ -1,5 +1,5 @@
 use Rattle.std.proofs.Common.{rules}
-use Rattle.log_machine.specs.Steps.{step_laws}
+use Rattle.log_machine.proofs.Steps.{step_laws}
 use Rattle.log_machine.proofs.close_line.Goals as goal
 
 ruleset all = (rules, step_laws)

@@ -1,4 +1,4 @@
-use Rattle.log_machine.specs.Steps.{over_run, over_line, over_image, over_out, end_run, end_line, end_image, end_out, end_steady, more_run, more_line, more_image, more_out}
+use Rattle.log_machine.proofs.Steps.{over_run, over_line, over_image, over_out, end_run, end_line, end_image, end_out, end_steady, more_run, more_line, more_image, more_out}
 use Rattle.log_machine.proofs.feed.Goals as goal
 
 -- after E

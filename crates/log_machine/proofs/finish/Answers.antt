@@ -1,5 +1,5 @@
 use Rattle.std.proofs.Common.{refl, add-zero}
-use Rattle.log_machine.specs.Steps.{finish_over, finish_last, finish_error}
+use Rattle.log_machine.proofs.Steps.{finish_over, finish_last, finish_error}
 use Rattle.log_machine.proofs.finish.Goals as goal
 
 pub returns-then-run-clause-place : goal.returns-then-run-clause-place

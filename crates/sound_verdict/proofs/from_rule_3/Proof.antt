@@ -1,5 +1,5 @@
 use borrow.Author.Rules.{rules}
-use Rattle.sound_verdict.specs.InOrder.{verdict_laws}
+use Rattle.sound_verdict.proofs.Laws.{verdict_laws}
 use Rattle.sound_verdict.proofs.from_rule_3.Statement.{statement}
 use Rattle.sound_verdict.proofs.from_rule_3.Tie as tie
 use Rattle.sound_verdict.proofs.from_rule_3.Reads as reads

@@ -1,6 +1,6 @@
 use Rattle.sound_verdict.specs.InOrder.{surveyed_same, marked_rule, inside_good}
 use borrow.Author.Rules.{rules}
-use Rattle.sound_verdict.specs.InOrder.{verdict_laws}
+use Rattle.sound_verdict.proofs.Laws.{verdict_laws}
 use Rattle.sound_verdict.proofs.from_rule_5.Statement.{statement}
 use Rattle.sound_verdict.proofs.from_rule_5.Tie as tie
 use Rattle.sound_verdict.proofs.from_rule_5.Reads as reads

@@ -1,5 +1,5 @@
 use borrow.Author.Rules.{rules}
-use Rattle.sound_verdict.specs.InOrder.{verdict_laws}
+use Rattle.sound_verdict.proofs.Laws.{verdict_laws}
 use Rattle.sound_verdict.proofs.is_clearable.Statement.{statement}
 use Rattle.sound_verdict.proofs.is_clearable.Tie as tie
 use Rattle.sound_verdict.proofs.is_clearable.Reads as reads

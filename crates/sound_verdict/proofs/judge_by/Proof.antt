@@ -1,6 +1,6 @@
 use Rattle.sound_verdict.specs.InOrder.{sight_surveyed, sight_ranges, sight_counted}
 use borrow.Author.Rules.{rules}
-use Rattle.sound_verdict.specs.InOrder.{verdict_laws}
+use Rattle.sound_verdict.proofs.Laws.{verdict_laws}
 use Rattle.sound_verdict.proofs.judge_by.Statement.{statement}
 use Rattle.sound_verdict.proofs.judge_by.Tie as tie
 use Rattle.sound_verdict.proofs.judge_by.Reads as reads

@@ -1,5 +1,5 @@
 use borrow.Author.Rules.{rules}
-use Rattle.sound_verdict.specs.InOrder.{verdict_laws}
+use Rattle.sound_verdict.proofs.Laws.{verdict_laws}
 use Rattle.sound_verdict.proofs.judge_few.Statement.{statement}
 use Rattle.sound_verdict.proofs.judge_few.Tie as tie
 use Rattle.sound_verdict.proofs.judge_few.Reads as reads

@@ -1,5 +1,5 @@
 use borrow.Author.Rules.{rules}
-use Rattle.sound_verdict.specs.InOrder.{verdict_laws}
+use Rattle.sound_verdict.proofs.Laws.{verdict_laws}
 use Rattle.sound_verdict.proofs.rule_8.Statement.{statement}
 use Rattle.sound_verdict.proofs.rule_8.Tie as tie
 use Rattle.sound_verdict.proofs.rule_8.Reads as reads

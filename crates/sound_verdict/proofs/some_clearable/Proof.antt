@@ -4,7 +4,7 @@ use Rattle.model.specs.Bytes.{erased}
 use Rattle.model.specs.Count.{least}
 use Rattle.sound_verdict.specs.Verdict.{clearable}
 use borrow.Author.Rules.{rules}
-use Rattle.sound_verdict.specs.InOrder.{verdict_laws}
+use Rattle.sound_verdict.proofs.Laws.{verdict_laws}
 use Rattle.sound_verdict.proofs.some_clearable.Statement.{statement}
 use Rattle.sound_verdict.proofs.some_clearable.Tie as tie
 use Rattle.sound_verdict.proofs.some_clearable.Reads as reads
