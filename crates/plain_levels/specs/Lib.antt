@@ -1,5 +1,3 @@
 -- An update of the plain tree level by level: definitions, and why the code meets them.
 pub mod Levels
 pub mod Steps
-pub mod WayUp
-pub mod Tie

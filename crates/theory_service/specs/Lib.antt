@@ -2,7 +2,6 @@
 -- for request 1, Carrying for request 13, Many for request 10, Patrol for request 4, Words for request 7, and Record
 -- and Opened for request 8.
 pub mod Left
-pub mod Calls
 pub mod Listing
 pub mod Carrying
 pub mod Many

@@ -1,5 +1,5 @@
 use borrow.Author.Rules.{rules}
-use Rattle.plain_levels.specs.WayUp.{level_laws}
+use Rattle.plain_levels.proofs.WayUp.{level_laws}
 use Prim.Native.Nat.{ℕ, ◌<◌}
 use borrow.Fn.Kinds.{In}
 use borrow.Fn.PlainCycle.{Measures, is, falls, and}

@@ -1,5 +1,5 @@
 use borrow.Author.Rules.{rules}
-use Rattle.plain_levels.specs.WayUp.{level_laws}
+use Rattle.plain_levels.proofs.WayUp.{level_laws}
 use Rattle.plain_levels.proofs.settle_put.Statement.{statement}
 use Rattle.plain_levels.proofs.settle_put.Tie as tie
 use Rattle.plain_levels.proofs.settle_put.Reads as reads

@@ -1,5 +1,5 @@
 use borrow.Author.Rules.{rules}
-use Rattle.plain_levels.specs.WayUp.{level_laws}
+use Rattle.plain_levels.proofs.WayUp.{level_laws}
 use Rattle.plain_levels.proofs.settle_remove.Statement.{statement}
 use Rattle.plain_levels.proofs.settle_remove.Tie as tie
 use Rattle.plain_levels.proofs.settle_remove.Reads as reads

@@ -1,0 +1,2 @@
+-- Theorems that the must-fail edits of this crate turn, and what rests on them.
+pub mod Calls
