@@ -1,3 +1,3 @@
 -- Theorems that the must-fail edits of this crate turn, and what rests on them.
 pub mod WayUp
-pub mod Tie
+pub mod Tied

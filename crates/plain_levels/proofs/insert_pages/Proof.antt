@@ -1,5 +1,5 @@
 use borrow.Author.Rules.{rules}
-use Rattle.plain_levels.proofs.Tie.{tie_laws}
+use Rattle.plain_levels.proofs.Tied.{tie_laws}
 use Rattle.plain_levels.proofs.insert_pages.Statement.{statement}
 use Rattle.plain_levels.proofs.insert_pages.Tie as tie
 use Rattle.plain_levels.proofs.insert_pages.Reads as reads
