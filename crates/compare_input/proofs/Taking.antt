@@ -8,7 +8,8 @@ use Rattle.geometry.specs.Geometry.{page_base}
 use Rattle.text_lines.specs.Pieces.{take_sets}
 use Rattle.compare_scores.specs.Compare.{compared}
 use Rattle.compare_machine.specs.declared.Run.{Run}
-use Rattle.compare_machine.specs.Machine.{State, goes, start, feed, finish, ran, machine}
+use Rattle.compare_machine.specs.Machine.{State, goes, start, feed, finish, ran}
+use Rattle.compare_machine.proofs.Machine.{machine}
 use Rattle.compare_machine.specs.Run.{start_of, state_of}
 use Rattle.compare_input.specs.Taken.{Takes}
 

@@ -9,7 +9,8 @@ use Rattle.log_lines.specs.Replay.{blank_image, replayed}
 use Rattle.text_lines.specs.Pieces.{take_sets}
 use Rattle.log_machine.specs.declared.Run.{Run}
 use Rattle.log_machine.specs.Run.{start_of, state_of}
-use Rattle.log_machine.specs.Machine.{State, start, feed, finish, ran, machine}
+use Rattle.log_machine.specs.Machine.{State, start, feed, finish, ran}
+use Rattle.log_machine.proofs.Machine.{machine}
 use Rattle.log_day.specs.Emptied.{emptied}
 use Rattle.log_day.specs.Answered.{Answers, Passes}
 
