@@ -1,6 +1,6 @@
 #!/bin/sh
 # Request 12's program: the stored log, what stops a run and what does not, each way in which a line has no form, and the limit of
-# 1,000,000 lines.
+# 1,000,000 lines, a full output.
 # usage: run.sh PROGRAM, which may be a script that hands it to an emulator
 set -eu
 name=compare
@@ -40,5 +40,7 @@ awk 'BEGIN { print "F"; print "I\t1\t1"; for (i = 2; i < 1000000; i++) print "L\
 echo F >> "$folder/lines"
 "$program" < "$folder/lines" > "$folder/out"
 [ "$(tr '\t' ' ' < "$folder/out")" = "E 1000001" ] || { echo "compare: line 1,000,001 is not E"; bad=1; }
+fails_when_full crates/compare/stdin
+
 [ $bad -eq 0 ] && echo "compare: the stored log, what stops a run, lines without a form and the limit are as the request says"
 exit $bad

@@ -1,6 +1,6 @@
 #!/bin/sh
 # Request 3's program: the request's example, the stored longer log, each way in which a line has no form, and the limit of
-# 1,000,000 lines.
+# 1,000,000 lines, a full output.
 # usage: run.sh PROGRAM, which may be a script that hands it to an emulator
 set -eu
 name=replay
@@ -29,5 +29,7 @@ awk 'BEGIN { for (i = 0; i < 1000000; i++) print "L\t1" }' > "$folder/lines"
 echo F >> "$folder/lines"
 "$program" < "$folder/lines" > "$folder/out"
 [ "$(tail -n 1 "$folder/out" | tr '\t' ' ')" = "E 1000001" ] && [ "$(wc -l < "$folder/out")" -eq 1000001 ] || { echo "replay: line 1,000,001 is not E"; bad=1; }
+fails_when_full crates/replay/stdin
+
 [ $bad -eq 0 ] && echo "replay: the example, the stored log, lines without a form and the limit are as the request says"
 exit $bad

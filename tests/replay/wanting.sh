@@ -13,3 +13,13 @@ want() {
         bad=1
     fi
 }
+
+# fails_when_full INPUT: where the output is full the program must end with a failure, or half of what it says would pass for the whole
+fails_when_full() {
+    if [ ! -c /dev/full ]; then
+        echo "$name: a full output is not tried: this machine has no /dev/full"
+    elif "$program" < "$1" > /dev/full 2> "$folder/err"; then
+        echo "$name: a full output is passed over"
+        bad=1
+    fi
+}

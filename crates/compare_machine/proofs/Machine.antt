@@ -5,7 +5,6 @@ use Rattle.geometry.specs.Geometry.{small, plain}
 use Rattle.geometry.specs.Tests.{pick, ◌&◌}
 use Rattle.model.specs.Calls.{Outcome}
 use Rattle.text_lines.specs.Lines.{Pieces, lines}
-use Rattle.log_lines.specs.declared.Order.{Order}
 use Rattle.log_lines.specs.declared.Line.{Line}
 use Rattle.log_lines.specs.declared.Line.TheVariants.{Of, Other}
 use Rattle.log_lines.specs.Replay.{obeyed, blank_image, error_after, most_lines, form_after}
@@ -14,8 +13,7 @@ use Rattle.log_lines.specs.Bytewise.{Whole, whole_more, lines_rest, lines_line, 
 use Rattle.compare_scores.specs.declared.Score.{Score}
 use Rattle.compare_scores.specs.Scores.{plain_obeyed, stops, none_yet, scored}
 use Rattle.compare_scores.specs.Compare.{report, ending, met, reported, compared}
-use Rattle.compare_machine.specs.declared.Course.{Course}
-use Rattle.compare_machine.specs.declared.Course.TheVariants.{Going, Stopped, Refused}
+use Rattle.compare_machine.specs.declared.Course.TheVariants.{Stopped}
 use Rattle.compare_machine.specs.Machine.{State, goes, in_line, start, refused, played, close, longer, feed, finish, ran}
 
 -- ---- from the middle of a line

@@ -1,20 +1,18 @@
 -- Request 12 byte by byte, with a line of at most 34 bytes: what the code does with an input of any length. Nothing is
 -- written before the end. Definitions alone; that it is `compared` stands in proofs/Machine.antt.
-use Rattle.std.specs.Prelude.{◌≡◌, refl, List, [], ◌∷◌, ◌++◌, Bool, true, false, not, ℕ, ◌≤◌, eqb, ltb, length}
-use Rattle.std.proofs.Common.{ap, sym, ◌∙◌, append_assoc, append-nil, arith, length-append, ltb-true, ltb-false, eqb-true}
+use Rattle.std.specs.Prelude.{List, [], ◌∷◌, ◌++◌, Bool, true, false, not, ℕ, eqb, ltb, length}
 use Rattle.geometry.specs.Geometry.{small, plain}
 use Rattle.geometry.specs.Tests.{pick, ◌&◌}
 use Rattle.model.specs.Calls.{Outcome}
-use Rattle.text_lines.specs.Lines.{Pieces, lines}
+use Rattle.text_lines.specs.Lines.{lines}
 use Rattle.log_lines.specs.declared.Order.{Order}
 use Rattle.log_lines.specs.declared.Line.{Line}
 use Rattle.log_lines.specs.declared.Line.TheVariants.{Of, Other}
-use Rattle.log_lines.specs.Replay.{obeyed, blank_image, error_after, most_lines, form_after}
+use Rattle.log_lines.specs.Replay.{obeyed, blank_image, error_after, form_after}
 use Rattle.log_lines.specs.Short.{longest}
-use Rattle.log_lines.specs.Bytewise.{Whole, whole_more, lines_rest, lines_line, Foreign, long_foreign}
 use Rattle.compare_scores.specs.declared.Score.{Score}
 use Rattle.compare_scores.specs.Scores.{plain_obeyed, stops, none_yet, scored}
-use Rattle.compare_scores.specs.Compare.{report, ending, met, reported, compared}
+use Rattle.compare_scores.specs.Compare.{report, ending}
 use Rattle.compare_machine.specs.declared.Course.{Course}
 use Rattle.compare_machine.specs.declared.Course.TheVariants.{Going, Stopped, Refused}
 

@@ -1,6 +1,6 @@
 -- The halving rule over the table, and what theorems may know of a geometry: linear facts, proved once for each
 -- geometry. Assumes nothing.
-use Rattle.std.specs.Prelude.{ℕ, zero, suc, ◌+◌, ◌-◌, ◌*◌, ◌^◌, ◌<◌, ◌≤◌, Bool, true, false, ◌≡◌, refl, List, [], ◌∷◌, T, eqb, leb, ltb, get_or, length}
+use Rattle.std.specs.Prelude.{ℕ, zero, suc, ◌+◌, ◌-◌, ◌*◌, ◌<◌, ◌≤◌, Bool, true, false, ◌≡◌, refl, List, [], ◌∷◌, T, eqb, leb, ltb, get_or, length}
 use Rattle.std.proofs.Common.{ap, subst, lit<, lit≤, ne_eqb, ltb-true, ltb-false, arith, suc-mul, mul-le-mul_right}
 use Rattle.std.proofs.Math.Dec.{eqb→eq, leb→le, ltb→lt}
 use Rattle.std.proofs.Math.ListN.{get_or-eq_default}

@@ -83,8 +83,6 @@ module _ (m q j : ℕ) (t : Table) where
           (λ d. inr (not_here d, mark_other m q 0 t p d))
       go false e = inr (not_low (eqb-false (low_in t q) j e), refl)
 
--- ---- a path's marks taken off
-
 -- ---- a move
 -- the pages whose marks a move may change: the new one, and those of the path from level a up
 abbrev pub moved_pages : Nodes → ℕ → ℕ → ℕ → Entry → ℕ → List ℕ

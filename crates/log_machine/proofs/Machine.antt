@@ -17,7 +17,7 @@ use Rattle.log_lines.specs.declared.Line.TheVariants.{Of, Other}
 use Rattle.log_lines.specs.Replay.{obeyed, blank_image, answer_line, error_line, tally_after, ending, reply, most_lines, form_after, form_at, answers, replayed}
 use Rattle.log_lines.specs.Short.{longest}
 use Rattle.log_lines.specs.Bytewise.{Whole, whole_more, lines_rest, lines_line, Foreign, long_foreign}
-use Rattle.log_machine.specs.Machine.{State, Fed, start, close, longer, feed, finish, ran}
+use Rattle.log_machine.specs.Machine.{State, start, close, longer, feed, finish, ran}
 
 -- ---- from the middle of a line
 module _ (g : Geometry) where

@@ -7,8 +7,6 @@ use Rattle.text_lines.specs.Lines.{lines}
 use Rattle.log_tally.specs.declared.Tally.{Tally}
 use Rattle.log_tally.specs.Counted.{none_yet}
 use Rattle.log_lines.specs.declared.Order.{Order}
-use Rattle.log_lines.specs.declared.Line.TheVariants.{Of}
-use Rattle.log_lines.specs.Forms.{parsed}
 use Rattle.log_lines.specs.Replay.{obeyed, blank_image, answer_line, last_line, tally_after, ending, reply, most_lines, form_after, answers, replayed}
 use Rattle.log_machine.specs.Tallied.{outcomes, programmed_sum, erased_sum, tallied, answer_lines, Formed}
 

@@ -1,23 +1,18 @@
 -- Request 3 byte by byte, with a line of at most 34 bytes: what the code does with an input of any length. Definitions
 -- alone; that it is `replayed` stands in proofs/Machine.antt.
-use Rattle.std.specs.Prelude.{◌≡◌, Bool, ℕ, ◌<◌, ◌≤◌}
-use Rattle.std.proofs.Math.Path.{refl, ap, sym}
-use Rattle.std.proofs.Common.{◌∙◌, arith}
-use mathlib.Core.List.{List, [], ◌∷◌, ◌++◌, append_assoc, append-nil}
+use Rattle.std.specs.Prelude.{Bool, ℕ}
+use mathlib.Core.List.{List, [], ◌∷◌, ◌++◌}
 use Rattle.std.proofs.Math.Bool.{true, false}
 use Rattle.std.proofs.Math.Dec.{eqb, ltb}
-use Rattle.std.proofs.Math.ListN.{length, length-append}
-use borrow.Author.Tests.{ltb-true, ltb-false, eqb-true}
+use Rattle.std.proofs.Math.ListN.{length}
 use Rattle.geometry.specs.declared.Geometry.{Geometry}
 use Rattle.geometry.specs.Tests.{pick}
-use Rattle.text_lines.specs.Lines.{Pieces, lines}
 use Rattle.log_tally.specs.declared.Tally.{Tally}
 use Rattle.log_tally.specs.Counted.{none_yet}
 use Rattle.log_lines.specs.declared.Line.{Line}
 use Rattle.log_lines.specs.declared.Line.TheVariants.{Of, Other}
-use Rattle.log_lines.specs.Replay.{obeyed, blank_image, answer_line, error_line, tally_after, ending, reply, most_lines, form_after, form_at, answers, replayed}
+use Rattle.log_lines.specs.Replay.{obeyed, blank_image, answer_line, error_line, tally_after, ending, form_at}
 use Rattle.log_lines.specs.Short.{longest}
-use Rattle.log_lines.specs.Bytewise.{Whole, whole_more, lines_rest, lines_line, Foreign, long_foreign}
 
 -- the line that has begun, the tally, the image, and whether the run has ended with E
 pub record State : Type 0 where

@@ -1,15 +1,12 @@
 -- Request 3: the answers to a log's orders, their sums and the whole output. Definitions alone; the theorems stand in proofs/Tallied.antt.
-use Rattle.std.specs.Prelude.{◌≡◌, refl, List, [], ◌∷◌, ◌++◌, ℕ, ◌+◌, ◌≤◌, length}
-use Rattle.std.proofs.Common.{ap, sym, ◌∙◌, append_assoc, arith, lt-ltb}
+use Rattle.std.specs.Prelude.{◌≡◌, List, [], ◌∷◌, ◌++◌, ℕ, ◌+◌}
 use Rattle.geometry.specs.declared.Geometry.{Geometry}
 use Rattle.model.specs.Calls.{Outcome}
-use Rattle.text_lines.specs.Lines.{lines}
 use Rattle.log_tally.specs.declared.Tally.{Tally}
-use Rattle.log_tally.specs.Counted.{none_yet}
 use Rattle.log_lines.specs.declared.Order.{Order}
 use Rattle.log_lines.specs.declared.Line.TheVariants.{Of}
 use Rattle.log_lines.specs.Forms.{parsed}
-use Rattle.log_lines.specs.Replay.{obeyed, blank_image, answer_line, last_line, tally_after, ending, reply, most_lines, form_after, answers, replayed}
+use Rattle.log_lines.specs.Replay.{obeyed, answer_line, tally_after}
 
 -- the answers to a log's orders, one after the other
 unfoldable pub outcomes : Geometry → List ℕ → List Order → List Outcome

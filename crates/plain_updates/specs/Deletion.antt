@@ -41,8 +41,6 @@ module _ (g : Geometry) (core : Core g) (single : Single g)
   pub high : suc c.level ≤ g.top
   high = height_most g core n img some_pages held
 
-  -- ---- each plan can be built
-
   -- ---- as many pages as it leaves
   pub count_is : length plans ≡ plain_leaves c k
   count_is = plans_count g core n k k_low c whole present

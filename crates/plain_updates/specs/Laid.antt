@@ -214,7 +214,8 @@ module _ (g : Geometry) (core : Core g) (n : ℕ) (c : Chip) (r2 : R2 g.pages n 
           held = root_held g core n x held some_left parts ok low_now p.level (fine i lt).1 (fine i lt).0 (subst (Whole g n) (sym crowned_is) w.0);
           map_is = ap map_of (chip_crowned ∙ crowned_is) ∙ w.1;
         })
-    -- ---- all of them
+
+-- ---- all of them
 
 -- before the first
 pub none_placed : (g : Geometry) (n : ℕ) (img : List ℕ) (ps : List Plan) → Held g n img

@@ -13,7 +13,7 @@ use Rattle.model.specs.Bytes.{byte_at}
 use Rattle.model.specs.Image.{blocks_of, good_length, Chip, chip_of}
 use Rattle.model.specs.Tree.{map_of, find, sought}
 use Rattle.model.specs.Rules.{verdict}
-use Rattle.model.specs.Stores.{Store, apply_all, programs, erases}
+use Rattle.model.specs.Stores.{Store, apply_all, erases}
 use Rattle.model.specs.Update.{is_none, format_stores}
 use Rattle.model.specs.Calls.{Outcome, made, answered, lookup, worn, format}
 use Rattle.model.specs.Plain.{plain_high, plain_insert_stores, plain_needs, plain_roomless, plain_insert_rest, plain_insert}
@@ -23,7 +23,7 @@ use Rattle.theory_chips.specs.Whole.{sought_map}
 use Rattle.theory_images.specs.Held.{Held, plain_held, held_plain}
 use Rattle.theory_images.specs.Lengths.{Blocks, good_blocks_lem, blocks_same, length_same, length_all}
 use Rattle.theory_updates.specs.Format.{formatted_keeps}
-use Rattle.theory_demands.specs.Words.{Ready, map_at, Holds, Kept, Began}
+use Rattle.theory_demands.specs.Words.{Ready, map_at, Holds, Began}
 use Rattle.theory_demands.specs.Tests.{Test, tested, Untouched, Unmet, tested_untouched, tested_passed}
 use Rattle.theory_demands.specs.Calls.{judged_ready, judged_untouched, made_untouched, made_all, made_counts}
 use Rattle.theory_demands.specs.Refusals.{format_image}
@@ -170,4 +170,3 @@ module _ (img : List ℕ) (ready : Ready plain img) where
             ap (λ (o : Outcome). o.erased) p ∙ ap erases (take_all al ss (made_all plain ss al img z))
                 ∙ plain_insert_erases m some_blocks blocks.most img ready_held k a k_low a-low,
           )
-      -- ---- delete

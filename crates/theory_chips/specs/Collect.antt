@@ -8,7 +8,7 @@ use borrow.Author.Tests.{not-true}
 use Rattle.geometry.specs.declared.Geometry.{Geometry}
 use Rattle.geometry.specs.Tests.{pick}
 use Rattle.geometry.specs.Shape.{Shape, shape_core}
-use Rattle.model.specs.Count.{count, least}
+use Rattle.model.specs.Count.{count}
 use Rattle.model.specs.Image.{Chip}
 use Rattle.model.specs.Tree.{map_of, places_of, live}
 use Rattle.model.specs.Next.{full}

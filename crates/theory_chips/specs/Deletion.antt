@@ -1,12 +1,11 @@
 -- A deletion's one page on an abstract chip: R2, R5, R6 hold again, and the map is without K. Assumes nothing.
-use Rattle.std.specs.Prelude.{◌≡◌, false, eqb}
+use Rattle.std.specs.Prelude.{◌≡◌, false}
 use mathlib.Core.List.{List, [], ◌∷◌}
 use Prim.Native.Nat.{ℕ, zero, suc, ◌*◌, ◌<◌, ◌≤◌}
 use native.Mathlib.Omega.{arith}
 use Rattle.std.proofs.Math.ListN.{length}
 use Rattle.geometry.specs.declared.Geometry.{Geometry}
 use Rattle.geometry.specs.declared.Entry.{Entry}
-use Rattle.geometry.specs.Tests.{pick}
 use Rattle.geometry.specs.Shape.{Shape}
 use Rattle.geometry.specs.Bounds.{four_bytes}
 use Rattle.model.specs.Count.{count}
@@ -16,7 +15,6 @@ use Rattle.model.specs.Next.{ahead, taken}
 use Rattle.model.specs.Edit.{remove, Top, collapse}
 use Rattle.model.specs.Update.{is_none, side_page, delete_list, delete_top, delete_part}
 use Rattle.theory_nodes.specs.Nodes.{the, fit_of}
-use Rattle.theory_chips.specs.Next.{R2}
 use Rattle.theory_chips.specs.Whole.{Whole}
 
 -- the root that is left is no higher
@@ -64,8 +62,3 @@ module _ (g : Geometry) (shape : Shape g) (n k : ℕ) (k_low : k < four_bytes) (
     Done l = Whole g n (record { er = (taken g.pages n (ahead g n c) 1).er; seq = numbers; nodes = s; level = l; root = N }) ×
         (under s (suc l) (the N) ≡ remove k (map_of c)) ×
         (count (g.pages * n) (live (places s (suc l) (the N))) ≤ count (g.pages * n) (live (places_of c)))
-
-  -- the root that is left is within the table: by the nodes that are the old ones but for N
-  module _ (free : 1 ≤ count (g.pages * n) c.er) (high : suc c.level ≤ g.top) where
-    abbrev s : Nodes
-    s q j = pick (eqb q N) (left_list g n c k j) (r q j)

@@ -19,11 +19,11 @@ use Rattle.model.specs.Count.{count}
 use Rattle.model.specs.Image.{Nodes, Chip, the_root}
 use Rattle.model.specs.Tree.{under, chosen, find, sought}
 use Rattle.model.specs.Next.{ahead, taken}
-use Rattle.model.specs.Edit.{put, put_in, side_half, two, named, gains, splits}
+use Rattle.model.specs.Edit.{put, put_in, side_half, named, gains, splits}
 use Rattle.model.specs.Update.{is_none, root_node, root_gains, fills, needs, too_high, insert_list, insert_part, side_page}
 use Rattle.theory_counts.specs.Tally.{bit_most}
 use Rattle.theory_counts.specs.Cases.{by_eq, by_test, true_false}
-use Rattle.theory_nodes.specs.Nodes.{the, fit_of}
+use Rattle.theory_nodes.specs.Nodes.{fit_of}
 use Rattle.theory_trees.specs.Edit.{at_root}
 use Rattle.theory_trees.specs.Insert.{inserted}
 use Rattle.theory_trees.specs.Path.{put_as, root_is, on_path_top}

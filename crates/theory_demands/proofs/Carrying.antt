@@ -13,7 +13,7 @@ use Rattle.model.specs.Bytes.{byte_at}
 use Rattle.model.specs.Image.{blocks_of, good_length}
 use Rattle.model.specs.Stores.{apply_all}
 use Rattle.model.specs.Update.{format_stores}
-use Rattle.model.specs.Calls.{Outcome, gives, refused, format}
+use Rattle.model.specs.Calls.{Outcome, gives, format}
 use Rattle.text_decimals.specs.Decimals.{largest}
 use Rattle.text_carrying.specs.Carrying.{text_of, records, read_text, word, exports, exporting, counted, store_all, import_read, importing}
 use Rattle.text_carrying.specs.Back.{text_short, text_of_read, read_rises, read_few}

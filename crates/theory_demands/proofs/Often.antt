@@ -15,7 +15,7 @@ use Rattle.theory_lists.specs.All.{All}
 use Rattle.live_words.specs.Words.{words_of, Past}
 use Rattle.live_words.specs.Live.{insert_live, delete_live}
 use Rattle.open_record.specs.declared.Opened.{Opened}
-use Rattle.open_record.specs.Opened.{opened, opening}
+use Rattle.open_record.specs.Opened.{opened}
 use Rattle.theory_images.specs.Lengths.{blocks_same}
 use Rattle.live_beside.specs.Update.{Returned, returned}
 use Rattle.live_beside.specs.Calls.{insert_with, delete_with}

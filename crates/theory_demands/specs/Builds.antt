@@ -14,7 +14,7 @@ use Rattle.model.specs.Bytes.{byte_at}
 use Rattle.model.specs.Image.{blocks_of, good_length, chip_of}
 use Rattle.model.specs.Tree.{map_of, find}
 use Rattle.model.specs.Rules.{verdict}
-use Rattle.model.specs.Stores.{program, erase, apply_all}
+use Rattle.model.specs.Stores.{apply_all}
 use Rattle.model.specs.Update.{format_stores}
 use Rattle.model.specs.Calls.{refused, answered, lookup, worn, format}
 use Rattle.theory_images.specs.Held.{held_sound}

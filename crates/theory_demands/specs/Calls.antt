@@ -15,7 +15,7 @@ use Rattle.model.specs.Tree.{sought}
 use Rattle.model.specs.Rules.{verdict}
 use Rattle.model.specs.Stores.{Store, apply_all, programs}
 use Rattle.model.specs.Update.{is_none, needs, too_high, insert_stores, delete_stores}
-use Rattle.model.specs.Calls.{Outcome, refused, damaged, made, by_verdict, judged, judged_call, worn, roomless, free_pages, insert_rest, insert, delete_rest, delete}
+use Rattle.model.specs.Calls.{Outcome, refused, damaged, made, by_verdict, judged, judged_call, worn, roomless, free_pages, insert_rest, insert, delete_rest}
 use Rattle.theory_lists.specs.All.{All}
 use Rattle.theory_demands.specs.Words.{Ready, Began}
 use Rattle.theory_demands.specs.Tests.{Test, tested, Untouched, Unmet, tested_untouched, tested_passed}

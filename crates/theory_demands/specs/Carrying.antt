@@ -9,15 +9,12 @@ use Rattle.std.proofs.lemmas.Bool.{lt-leb}
 use Rattle.geometry.specs.declared.Geometry.{Geometry}
 use Rattle.geometry.specs.declared.Entry.{Entry}
 use Rattle.geometry.specs.declared.Verdict.TheVariants.{Broken}
-use Rattle.geometry.specs.Shape.{Known}
 use Rattle.geometry.specs.Tests.{pick}
 use Rattle.model.specs.Image.{blocks_of, good_length}
 use Rattle.model.specs.Rules.{verdict}
 use Rattle.model.specs.Calls.{gives, refused, damaged, by_verdict, judged}
 use Rattle.text_carrying.specs.Carrying.{text_of, Reading, records, bad, read_text, word, exports, exporting, import_read, importing}
-use Rattle.theory_demands.specs.Words.{Ready, map_at, Holds}
-use Rattle.theory_demands.specs.Stored.{Stored}
-use Rattle.theory_demands.specs.Sums.{sum_of}
+use Rattle.theory_demands.specs.Words.{Ready, map_at}
 
 -- ---- export, for every image: LENGTH and DAMAGED come first, write nothing and count nothing
 module _ (g : Geometry) (img buffer : List ℕ) where

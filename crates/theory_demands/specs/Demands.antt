@@ -11,8 +11,8 @@ use Rattle.model.specs.Image.{blocks_of, chip_of}
 use Rattle.model.specs.Tree.{find}
 use Rattle.model.specs.Edit.{put, remove}
 use Rattle.model.specs.Update.{needs, insert_stores}
-use Rattle.model.specs.Calls.{made, answered, lookup, insert, delete}
-use Rattle.theory_demands.specs.Words.{Ready, map_at, Rising, Holds, Kept, Began, OneOf, Own}
+use Rattle.model.specs.Calls.{made, answered, lookup, insert}
+use Rattle.theory_demands.specs.Words.{Ready, map_at, Rising, Began, OneOf, Own}
 use Rattle.theory_demands.specs.Maps.{rising, find_put, find_put_other, find_remove, find_remove_other}
 use Rattle.theory_demands.specs.Bridges.{ready_rises}
 use Rattle.theory_demands.specs.Calls.{insert_untouched, insert_passed}

@@ -4,7 +4,7 @@ use Rattle.std.specs.Prelude.{◌≡◌, true}
 use Rattle.std.proofs.Math.Path.{refl}
 use Rattle.std.proofs.Common.{ap, ◌∙◌}
 use mathlib.Core.List.{List}
-use Prim.Native.Nat.{ℕ, ◌+◌, ◌-◌, ◌*◌, ◌<◌, ◌≤◌}
+use Prim.Native.Nat.{ℕ, ◌+◌, ◌*◌, ◌<◌, ◌≤◌}
 use native.Mathlib.Omega.{arith}
 use Rattle.std.proofs.Math.ListN.{length}
 use Rattle.geometry.specs.declared.Geometry.{Geometry}
@@ -21,7 +21,7 @@ use Rattle.theory_chips.specs.Whole.{nodes_below, HalfFull}
 use Rattle.theory_images.specs.Held.{height_most}
 use Rattle.theory_images.specs.Lengths.{good_blocks_lem}
 use Rattle.theory_updates.specs.Format.{formatted_level}
-use Rattle.theory_demands.specs.Inserts.{chip_at, beyond}
+use Rattle.theory_demands.specs.Inserts.{chip_at}
 use Rattle.theory_demands.specs.Words.{Ready, map_at}
 use Rattle.theory_demands.specs.Bridges.{some_pages, ready_keeps}
 use Rattle.theory_demands.specs.Builds.{format_holds, new_is, new_blocks}

@@ -14,7 +14,7 @@ use Rattle.model.specs.Image.{blocks_of, good_length, chip_of}
 use Rattle.model.specs.Tree.{places_of, live}
 use Rattle.model.specs.Rules.{verdict}
 use Rattle.model.specs.Collect.{lives_in}
-use Rattle.model.specs.Calls.{Outcome, refused, insert_rest, delete_rest, insert, delete}
+use Rattle.model.specs.Calls.{Outcome, refused, insert_rest, delete_rest, insert}
 use Rattle.theory_lists.specs.All.{All}
 use Rattle.live_words.specs.Words.{block_words, words_of, block_ones, Told, Past}
 use Rattle.live_words.specs.Live.{Reply, reply, live_words, leaves_words, with_words, insert_live}

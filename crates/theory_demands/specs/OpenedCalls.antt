@@ -11,7 +11,7 @@ use Rattle.geometry.specs.declared.Geometry.{Geometry}
 use Rattle.geometry.specs.Shape.{Known}
 use Rattle.geometry.specs.Tests.{and_false, and_none, and_both}
 use Rattle.model.specs.Image.{blocks_of, good_length}
-use Rattle.model.specs.Calls.{refused, insert, delete}
+use Rattle.model.specs.Calls.{refused}
 use Rattle.live_words.specs.Words.{words_of}
 use Rattle.open_record.specs.declared.Opened.{Opened}
 use Rattle.open_record.specs.Opened.{opened_in, standing}

@@ -11,7 +11,7 @@ use Rattle.geometry.specs.Shape.{Shape, shape_core}
 use Rattle.geometry.proofs.Shape.{shape}
 use Rattle.geometry.specs.Bounds.{four_bytes}
 use Rattle.model.specs.Image.{blocks_of, chip_of}
-use Rattle.model.specs.Calls.{Outcome, roomless, free_pages, insert, delete, format}
+use Rattle.model.specs.Calls.{Outcome, roomless, free_pages, insert, delete}
 use Rattle.open_record.specs.Opened.{opened}
 use Rattle.live_beside.specs.Calls.{insert_with, delete_with}
 use Rattle.theory_chips.specs.Whole.{some_page}

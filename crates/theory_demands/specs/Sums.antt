@@ -5,7 +5,7 @@ use mathlib.Core.List.{List, [], ◌∷◌}
 use Rattle.geometry.specs.declared.Geometry.{Geometry}
 use Rattle.geometry.specs.declared.Entry.{Entry}
 use Rattle.geometry.specs.Tests.{pick}
-use Rattle.model.specs.Calls.{Outcome, refused, insert}
+use Rattle.model.specs.Calls.{Outcome, insert}
 use Rattle.text_decimals.specs.Decimals.{largest}
 use Rattle.theory_demands.specs.Words.{programmed_most, erased_most}
 

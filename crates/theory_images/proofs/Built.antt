@@ -18,10 +18,10 @@ use Rattle.model.specs.Bytes.{byte_at, u32_at, blank, entries_at}
 use Rattle.model.specs.Codes.{codes_fit}
 use Rattle.model.specs.Page.{put_u32, put_entries, put_level, put_levels, numbered, sealed, built}
 use Rattle.theory_counts.specs.Cases.{by_eq}
-use Rattle.theory_images.specs.Bytes.{copy_entries, blank_all, blank_get, Off, length_word, word_off, length_entries, entries_off, entries_same}
+use Rattle.theory_images.specs.Bytes.{copy_entries, blank_all, Off, length_word, word_off, length_entries, entries_off, entries_same}
 use Rattle.theory_images.specs.Codes.{coded_fits}
 use Rattle.theory_images.specs.Page.{table_in_lem, node_from, tail_from, view_from}
-use Rattle.theory_images.specs.Built.{Parts, built_seq, built_view, len_bare, length_laid, length_levels, length_numbered, off_nothing, sealed_byte}
+use Rattle.theory_images.specs.Built.{Parts, built_er, built_seq, built_view, len_bare, length_laid, length_levels, length_numbered, off_nothing, sealed_byte}
 
 module _ (g : Geometry) (core : Core g) (parts : ℕ → List Entry) where
   numbered_off : (seq h : ℕ) (b : List ℕ) (k : ℕ) → Off k g.main 5 → byte_at (numbered g b seq h) k ≡ byte_at b k
@@ -164,23 +164,6 @@ module _ (g : Geometry) (core : Core g) (parts : ℕ → List Entry) where
       unfolding tail_from
       built_tail = and_both _ _ (rw zero-add built_blank) built_codes
 
-      -- a number below 2^32 - 1 shows
-      built_er : blank (built g seq h parts) 0 (page_bytes g) ≡ false
-      unfolding u32_at
-      built_er = go (blank (built g seq h parts) 0 (page_bytes g)) refl
-        where
-          go : (t : Bool) → blank (built g seq h parts) 0 (page_bytes g) ≡ t → t ≡ false
-          go false e = refl
-          go true e =
-              let s = core.spare_low in
-              let at : (k : ℕ) → k < page_bytes g → byte_at (built g seq h parts) k ≡ 255 = λ k q.
-              blank_get (built g seq h parts) (page_bytes g) 0 k e (omega arith) (omega (arith, q)) in
-              let b₀ = at g.main (omega (arith, s)) in
-              let b₁ = at (g.main + 1) (omega (arith, s)) in
-              let b₂ = at (g.main + 2) (omega (arith, s)) in
-              let b₃ = at (g.main + 3) (omega (arith, s)) in
-              absurd (omega (arith, built_seq g core parts ok seq h small high, b₀, b₁, b₂, b₃, small))
-
       built_read : (l : ℕ) → node_from g (built g seq h parts) 0 l ≡ pick (in_table g l) (parts l) []
       unfolding node_from root_slots entries_at
       built_read l = go (in_table g l) refl
@@ -205,10 +188,10 @@ module _ (g : Geometry) (core : Core g) (parts : ℕ → List Entry) where
       pub view_built : view_from g (built g seq h parts) 0 ≡ built_view g seq h parts
       unfolding view_from
       view_built = λ i. record {
-        er = built_er i;
-        seq = pick (built_er i) 0 (e₂ i);
-        height = pick (built_er i) 0 (e₃ i);
-        tail = pick (built_er i) true (built_tail i);
+        er = built_er g core parts ok seq h small high i;
+        seq = pick (built_er g core parts ok seq h small high i) 0 (e₂ i);
+        height = pick (built_er g core parts ok seq h small high i) 0 (e₃ i);
+        tail = pick (built_er g core parts ok seq h small high i) true (built_tail i);
         node = λ l. built_read l i;
       }
         where

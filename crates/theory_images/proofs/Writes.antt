@@ -1,6 +1,6 @@
 -- One store: a page at the next place with the next number, with a root or without; a block without live pages erased.
 -- What is held stays held. Assumes nothing.
-use Rattle.std.specs.Prelude.{◌≡◌, List, true, ℕ, suc, ◌-◌, ◌*◌, ◌<◌, ◌≤◌}
+use Rattle.std.specs.Prelude.{◌≡◌, List, true, ℕ, suc, ◌*◌, ◌<◌, ◌≤◌}
 use Rattle.std.proofs.Math.Path.{refl, ap, sym, subst}
 use Rattle.std.proofs.Common.{◌∙◌, arith, ne_eqb}
 use Rattle.geometry.specs.declared.Geometry.{Geometry}

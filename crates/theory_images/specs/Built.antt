@@ -4,7 +4,7 @@ use Rattle.std.proofs.Math.Path.{refl}
 use Rattle.std.proofs.Common.{ap, ◌∙◌, inl, inr, eq-eqb, ne_eqb, ltb-true, ltb-false}
 use mathlib.Core.List.{List, []}
 use Rattle.std.proofs.Math.Bool.{true, false}
-use Prim.Native.Nat.{ℕ, zero, suc, ◌+◌, ◌-◌, ◌*◌, ◌%◌, ◌<◌, ◌≤◌}
+use Prim.Native.Nat.{ℕ, zero, suc, ◌+◌, ◌*◌, ◌%◌, ◌<◌, ◌≤◌}
 use native.Mathlib.Omega.{arith}
 use Rattle.std.proofs.Math.ListN.{length, length-set, length-replicate}
 use Rattle.std.proofs.Math.Seq.{get_or-set_other}
@@ -14,11 +14,11 @@ use Rattle.geometry.specs.Tests.{pick}
 use Rattle.geometry.specs.Geometry.{page_bytes, halves, code_place, slots, first_slot, slots_of, root_slots, root_most, in_table}
 use Rattle.geometry.specs.Shape.{Shape, Core, most_slots}
 use Rattle.geometry.specs.Bounds.{four_bytes}
-use Rattle.model.specs.Bytes.{byte_at, u32_at}
+use Rattle.model.specs.Bytes.{byte_at, u32_at, blank}
 use Rattle.model.specs.Page.{put_u32, put_entries, put_level, put_levels, numbered, sealed, built, only}
 use Rattle.theory_counts.specs.Cases.{by_eq}
 use Rattle.theory_lists.specs.All.{All}
-use Rattle.theory_images.specs.Bytes.{copy_u32, Off, length_word, length_entries, word_same, Fits}
+use Rattle.theory_images.specs.Bytes.{copy_u32, blank_get, Off, length_word, length_entries, word_same, Fits}
 use Rattle.theory_images.specs.Codes.{length_coded, coded_off}
 use Rattle.theory_images.specs.Views.{View}
 
@@ -148,3 +148,20 @@ module _ (g : Geometry) (core : Core g) (parts : ℕ → List Entry) where
       pub built_seq : u32_at (built g seq h parts) g.main ≡ seq
       unfolding built
       built_seq = let s = core.spare_low in sealed_seq seq h laid_levels (omega (arith, length_laid, s)) (omega arith)
+
+      -- a number below 2^32 - 1 shows
+      pub built_er : blank (built g seq h parts) 0 (page_bytes g) ≡ false
+      unfolding u32_at
+      built_er = go (blank (built g seq h parts) 0 (page_bytes g)) refl
+        where
+          go : (t : Bool) → blank (built g seq h parts) 0 (page_bytes g) ≡ t → t ≡ false
+          go false e = refl
+          go true e =
+              let s = core.spare_low in
+              let at : (k : ℕ) → k < page_bytes g → byte_at (built g seq h parts) k ≡ 255 = λ k q.
+              blank_get (built g seq h parts) (page_bytes g) 0 k e (omega arith) (omega (arith, q)) in
+              let b₀ = at g.main (omega (arith, s)) in
+              let b₁ = at (g.main + 1) (omega (arith, s)) in
+              let b₂ = at (g.main + 2) (omega (arith, s)) in
+              let b₃ = at (g.main + 3) (omega (arith, s)) in
+              absurd (omega (arith, built_seq, b₀, b₁, b₂, b₃, small))

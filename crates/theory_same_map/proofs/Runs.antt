@@ -1,6 +1,6 @@
 -- The comparing program's run: at every line that it comes to, both trees hold the same map, and neither answers WORN:
 -- a line raises the largest number by at most 191, and there are at most 1,000,000 of them. Assumes nothing.
-use Rattle.std.specs.Prelude.{◌≡◌, Bool, true, false, ◌⊎◌, ℕ, ◌+◌, ◌*◌, ◌≤◌}
+use Rattle.std.specs.Prelude.{◌≡◌, Bool, true, false, ◌⊎◌, ℕ, ◌+◌, ◌≤◌}
 use Rattle.std.proofs.Math.Path.{refl}
 use Rattle.std.proofs.Common.{ap, subst, ◌∙◌, arith, le-leb, eqb-true}
 use mathlib.Core.List.{List, [], ◌∷◌}
@@ -24,7 +24,6 @@ use Rattle.theory_counts.specs.Cases.{true_false}
 use Rattle.theory_same_map.specs.Words.{Images, blank_images, by_mu, by_plain, after_order, Accepts, map_after, Same, Reaches, at_start, goes_on, Counted, Ended}
 use Rattle.theory_same_map.specs.Runs.{Stands}
 use Rattle.theory_same_map.specs.Fitting.{form_after_lem}
-use Rattle.theory_same_map.specs.Numbers.{largest_on}
 use Rattle.theory_same_map.specs.Blank.{small_good, plain_good, blank_numbers}
 use Rattle.theory_same_map.proofs.Orders.{Step, blank_refused, order_step, order_unworn}
 

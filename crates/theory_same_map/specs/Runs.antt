@@ -1,6 +1,6 @@
 -- What stands at every line that the comparing program's run comes to: both trees hold the same map, and a line raises the
 -- largest number by at most 191. A definition alone.
-use Rattle.std.specs.Prelude.{ℕ, ◌*◌, ◌≤◌}
+use Rattle.std.specs.Prelude.{◌*◌, ◌≤◌}
 use mathlib.Core.List.{List}
 use Rattle.std.proofs.Math.Option.{Option}
 use Rattle.geometry.specs.declared.Entry.{Entry}

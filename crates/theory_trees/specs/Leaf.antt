@@ -73,9 +73,6 @@ module _ (n top : ℕ) (half most : ℕ → ℕ) (r s : Nodes) (fit fit' : ℕ �
   abbrev p : ℕ
   p = bottom r k l (the p₀)
 
-  -- ---- insert
-
-  -- ---- delete
   abbrev root_less : List Entry
   root_less = at_root (remove_in k) (deleted r k n l) k l (r p₀ (suc l))
 

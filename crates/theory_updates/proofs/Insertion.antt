@@ -16,7 +16,7 @@ use Rattle.model.specs.Image.{pages_of, max_seq, Chip, chip_of}
 use Rattle.model.specs.Tree.{places_of, live, chosen, sought}
 use Rattle.model.specs.Next.{Ahead, ahead, next_page, taken}
 use Rattle.model.specs.Page.{built}
-use Rattle.model.specs.Stores.{Store, program, apply_all, programs}
+use Rattle.model.specs.Stores.{Store, program, apply_all}
 use Rattle.model.specs.Edit.{put, splits}
 use Rattle.model.specs.Update.{is_none, root_node, fills, needs, too_high, insert_list, side_stores, crown_store, crown_height, side_page, own_stores}
 use Rattle.theory_counts.specs.Cases.{by_test}

@@ -15,7 +15,6 @@ use Rattle.model.specs.Count.{count, least}
 use Rattle.model.specs.Image.{pages_of, seq_of, max_seq, Chip, chip_of}
 use Rattle.model.specs.Tree.{places_of, live, low_level}
 use Rattle.model.specs.Next.{mixed, first_in, Ahead, ahead, round, next_block, next_page, after, onward}
-use Rattle.model.specs.Edit.{same}
 use Rattle.theory_counts.specs.Least.{least_none}
 use Rattle.theory_counts.specs.Cases.{by_eq, by_le, by_test, true_false}
 use Rattle.theory_chips.specs.Count.{count_gone}

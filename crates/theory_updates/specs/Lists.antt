@@ -11,7 +11,6 @@ use Rattle.geometry.specs.Bounds.{four_bytes}
 use Rattle.model.specs.Count.{count}
 use Rattle.model.specs.Image.{pages_of, max_seq, Chip, chip_of}
 use Rattle.model.specs.Tree.{places_of, live, sought}
-use Rattle.model.specs.Stores.{programs}
 use Rattle.model.specs.Update.{is_none, needs, too_high}
 use Rattle.model.specs.Calls.{worn, roomless, free_pages}
 use Rattle.theory_chips.specs.Whole.{some_page}
