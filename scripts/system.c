@@ -1,5 +1,6 @@
 /* system.c: what rt links beside a program for x86-64, written again for another processor: memory from the C library's heap, and its
- * number of the last error. The kit has these as machine code of x86-64 alone. The library for C needs none of them: no call allocates. */
+ * number of the last error. The kit has these as machine code of x86-64 alone. The library for C needs none of them: no call allocates. A
+ * block lies as malloc puts it, which is enough for every type of Rattle's: none asks for more than 16. */
 #include <errno.h>
 #include <stdbool.h>
 #include <stddef.h>
