@@ -64,7 +64,7 @@ part_length line n h e = length-take-le n line (omega arith)
 module _ (count : ℕ) (line : List ℕ) where
   pub form_late : 1000000 ≤ count → form_after count line ≡ Other
   unfolding form_after
-  form_late h = rw (le-ltb count 1000000 h) refl
+  form_late h = rw (le-ltb count most_lines (omega (arith, h))) refl
 
   pub form_as : (form x : Line) → count < 1000000 → form ≡ parsed line → form ≡ x → form_after count line ≡ x
   unfolding form_after

@@ -34,7 +34,7 @@ pub record_made_lem : (g : Geometry) (n : ℕ) (start then : List ℕ) (m : ℕ)
 unfolding record_made opened_in max_seq
 record_made_lem g n start then m t s held low =
     let top = s.topped in
-    let number : (max_seq g n start + m) % four_bytes ≡ max_seq g n start + m = mod-eq_of_lt low in
+    let number : (max_seq g n start + m) % four_bytes ≡ max_seq g n start + m = mod-eq_of_lt (omega (arith, low)) in
     let height : suc t.level ≡ height_of g then (root_of g n then) = (let a = s.level_is in let b = held.r4 in
     let c = root_height g n then in omega (arith, a, b, c)) in
     let left = top.frees in
