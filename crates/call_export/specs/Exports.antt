@@ -9,7 +9,7 @@ use Rattle.std.proofs.Math.Seq.{sets, sets-eq, length-sets}
 use Rattle.std.proofs.lemmas.Bool.{lt-leb}
 use Rattle.geometry.specs.declared.Geometry.{Geometry}
 use Rattle.geometry.specs.declared.Entry.{Entry}
-use Rattle.geometry.specs.declared.Verdict.TheVariants.{Sound, Broken}
+use Rattle.geometry.specs.Findings.{Sound, broken_at}
 use Rattle.geometry.specs.Shape.{Known}
 use Rattle.geometry.proofs.Shape.{shape}
 use Rattle.geometry.specs.Bounds.{four_bytes}
@@ -255,7 +255,7 @@ module _ (g : Geometry) (n : ℕ) (img : List ℕ) (j : Judgement) (t u : List �
   sound_few known e = subst (λ (c : Chip). length (map_of c) < four_bytes) (sym (chip_is g n img j.survey x.survey))
       (few_map g n img known (sym x.verdict ∙ e))
 
-  pub exported_broken : (r p : ℕ) (b : List ℕ) (w : Row) → j.verdict ≡ Broken r p → w ≡ row_of (Damaged r p)
+  pub exported_broken : (r p : ℕ) (b : List ℕ) (w : Row) → j.verdict ≡ broken_at r p → w ≡ row_of (Damaged r p)
       → told_by w b ≡ exported_in g n img b
   unfolding exported_in by_verdict
   exported_broken r p b w e f = ap (λ (y : Row). told_by y b) f ∙ sym (simp (← x.verdict, e))

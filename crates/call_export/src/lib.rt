@@ -14,7 +14,7 @@ ghost use Rattle.text_carrying.specs.Carrying.{text_of, word, exports, exporting
 ghost use Rattle.call_export.specs.Exporter.{line_text, after, exported_in};
 
 use call_answers::{Answer, Row};
-use geometry::{Entry, Geometry, Verdict};
+use geometry::{Broken, Entry, Geometry};
 
 // How far the writer has come: records so far, and the place of the next line.
 #[derive(Clone, Copy)]
@@ -136,8 +136,8 @@ fn export_blocks(g: Geometry, img: &[u8], table: &mut [u8], n: u16, text: &mut [
     let verdict = judgement.verdict;
     let survey = judgement.survey;
     match verdict {
-        Verdict::Broken(rule, page) => call_answers::row_of(Answer::Damaged(rule, page)),
-        Verdict::Sound => write_tree(g, img, &mut *text, survey.level, survey.root),
+        Err(Broken { rule, page }) => call_answers::row_of(Answer::Damaged(rule, page)),
+        Ok(()) => write_tree(g, img, &mut *text, survey.level, survey.root),
     }
 }
 

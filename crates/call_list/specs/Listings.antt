@@ -8,7 +8,7 @@ use Rattle.std.proofs.Math.Seq.{take-nil}
 use borrow.Author.Tests.{lt-leb, le-leb}
 use Rattle.geometry.specs.declared.Geometry.{Geometry}
 use Rattle.geometry.specs.declared.Entry.{Entry}
-use Rattle.geometry.specs.declared.Verdict.TheVariants.{Sound, Broken}
+use Rattle.geometry.specs.Findings.{Sound, broken_at}
 use Rattle.geometry.specs.Shape.{Known}
 use Rattle.geometry.proofs.Shape.{shape}
 use Rattle.geometry.specs.Tests.{pick}
@@ -230,7 +230,7 @@ module _ (g : Geometry) (img : List ℕ) (l p low high x : ℕ) (b d : List ℕ)
 -- ---- a judged image
 module _ (g : Geometry) (n : ℕ) (img : List ℕ) (low high : ℕ) (j : Judgement) (t u : List ℕ) (x : Judged g n img j t u)
   where
-    pub listed_broken : (r p : ℕ) (b : List ℕ) → j.verdict ≡ Broken r p
+    pub listed_broken : (r p : ℕ) (b : List ℕ) → j.verdict ≡ broken_at r p
         → told (Damaged r p) b ≡ as_outcome (listed_in g n img low high b)
     unfolding listed_in by_verdict
     listed_broken r p b e = sym (simp (← x.verdict, e))

@@ -12,7 +12,7 @@ ghost use Rattle.open_record.specs.Opened.{pairs_most};
 ghost use Rattle.call_list.specs.Listing.{put_pair, put_pairs, not_below, Lists, listed_in};
 
 use call_answers::Answer;
-use geometry::{Entry, Geometry, Verdict};
+use geometry::{Broken, Entry, Geometry};
 
 // Pair i of the buffer, if it has room for both numbers.
 fn put_pair(pairs: &mut [u32], i: usize, entry: Entry)
@@ -131,8 +131,8 @@ fn list_blocks(
     let verdict = judgement.verdict;
     let survey = judgement.survey;
     match verdict {
-        Verdict::Broken(rule, page) => Answer::Damaged(rule, page),
-        Verdict::Sound => list_tree(g, img, &mut *pairs, survey.level, survey.root, low, high),
+        Err(Broken { rule, page }) => Answer::Damaged(rule, page),
+        Ok(()) => list_tree(g, img, &mut *pairs, survey.level, survey.root, low, high),
     }
 }
 

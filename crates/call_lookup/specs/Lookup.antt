@@ -1,10 +1,9 @@
 -- Lookup, in the form in which the code has the premises. Assumes nothing.
-use Rattle.std.specs.Prelude.{ℕ, ◌≡◌, refl, List}
+use Rattle.std.specs.Prelude.{ℕ, ◌≡◌, refl, List, Option}
 use Rattle.std.proofs.Common.{sym, ◌∙◌}
 use Rattle.std.proofs.Math.Path.{ap}
-use Rattle.std.proofs.Math.Option.{Option}
 use Rattle.geometry.specs.declared.Geometry.{Geometry}
-use Rattle.geometry.specs.declared.Verdict.TheVariants.{Sound, Broken}
+use Rattle.geometry.specs.Findings.{Sound, broken_at}
 use Rattle.model.specs.Image.{Chip, chip_of}
 use Rattle.model.specs.Tree.{sought}
 use Rattle.model.specs.Rules.{verdict}
@@ -51,7 +50,7 @@ pub weighed_is : (g : Geometry) (n : ℕ) (img : List ℕ) (j : Judgement) (t u 
 weighed_is g n img j t u x = record { before = t; after = u; judged = x }
 
 module _ (g : Geometry) (n : ℕ) (img : List ℕ) (k : ℕ) (j : Judgement) (x : Weighed g n img j) where
-  pub lookup_broken : (a : Answer) (r p : ℕ) → j.verdict ≡ Broken r p → told a img ≡ damaged img r p
+  pub lookup_broken : (a : Answer) (r p : ℕ) → j.verdict ≡ broken_at r p → told a img ≡ damaged img r p
       → told a img ≡ by_verdict (verdict g n img) (damaged img) (answered (sought (chip_of g n img) k) img)
   lookup_broken a r p e h =
       judged_broken g n img (damaged img) _ j x.before x.after x.judged (told a img) r p e h

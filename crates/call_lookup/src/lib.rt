@@ -10,7 +10,7 @@ ghost use Rattle.call_answers.specs.Answers.{told};
 ghost use Rattle.call_lookup.specs.Lookup.{answer_of, Weighed};
 
 use call_answers::Answer;
-use geometry::{Geometry, Verdict};
+use geometry::{Broken, Geometry};
 use sound_verdict::Judgement;
 use tree_search::Found;
 
@@ -63,8 +63,8 @@ fn lookup_blocks(g: Geometry, img: &[u8], n: u16, key: u32) -> Answer
     let verdict = judgement.verdict;
     let survey = judgement.survey;
     match verdict {
-        Verdict::Broken(rule, page) => Answer::Damaged(rule, page),
-        Verdict::Sound => answer(tree_descent::find_key(g, img, survey.level, survey.root, key)),
+        Err(Broken { rule, page }) => Answer::Damaged(rule, page),
+        Ok(()) => answer(tree_descent::find_key(g, img, survey.level, survey.root, key)),
     }
 }
 

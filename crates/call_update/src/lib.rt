@@ -23,7 +23,7 @@ use call_account::{Made, Renewed};
 use call_answers::Answer;
 use chip_store::Budget;
 use chip_survey::Survey;
-use geometry::{Geometry, Verdict};
+use geometry::{Broken, Geometry};
 use open_record::Opened;
 use tree_root::Own;
 use tree_search::Found;
@@ -266,8 +266,8 @@ fn update_blocks(
     let verdict = judgement.verdict;
     let survey = judgement.survey;
     match verdict {
-        Verdict::Broken(rule, page) => Answer::Damaged(rule, page),
-        Verdict::Sound => update_judged(
+        Err(Broken { rule, page }) => Answer::Damaged(rule, page),
+        Ok(()) => update_judged(
             g,
             &mut *img,
             &mut *table,

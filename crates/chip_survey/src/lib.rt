@@ -178,7 +178,7 @@ pub fn rule_4(g: Geometry, img: &[u8], n: u16, survey: Survey) -> Finding
     ensures { result ≡ r4 g n img.now }
 {
     if survey.height == 0 {
-        return Finding::Bad(0);
+        return Err(0);
     }
-    Finding::Good
+    Ok(())
 }

@@ -1,11 +1,10 @@
 -- Laws of collection, in the form in which the code has the premises. Assumes nothing.
 use Prim.Native.Nat.{ℕ, zero, suc, ◌+◌, ◌-◌, ◌*◌, ◌<◌, ◌≤◌, min}
-use Rattle.std.specs.Prelude.{true, false, not, ◌≡◌, refl, ltb, length, get_or}
+use Rattle.std.specs.Prelude.{true, false, not, ◌≡◌, refl, ltb, length, get_or, None, Some}
 use Rattle.std.proofs.lemmas.Bool.{false≢true, not-true, not-false}
 use Rattle.std.proofs.Math.Path.{sym, ap}
 use Rattle.std.proofs.Common.{subst, ◌∙◌, Fits, arith, mul-le-mul_left, add-one, eq-eqb, ne_eqb, lt-ltb, le-ltb}
 use mathlib.Core.List.{List, [], ◌∷◌}
-use Rattle.std.proofs.Math.Option.{none, some}
 use Rattle.std.specs.Int.{w16}
 use Rattle.std.proofs.Math.Nat.{min-le_left}
 use Rattle.std.proofs.Math.Numerals.{sub-one}
@@ -201,7 +200,7 @@ module _ (g : Geometry) (n v l : ℕ) (s : Opened) (b c : Budget) (i o tbl u ws 
   swept = subst (λ (y : Beside). Makes Beside g n (sweep_by g n v g.pages y i) b c i o (beside_in k l (table_in u x)) tbl u ws x) start sw
 
   pub clear_halt : b.stopped ≡ false → c.stopped ≡ true
-      → Clears g n (clear_by g n (some v) (holding s (table_in tbl ws)) i) b (record { budget = c; opened = s }) i o tbl u
+      → Clears g n (clear_by g n (Some v) (holding s (table_in tbl ws)) i) b (record { budget = c; opened = s }) i o tbl u
       ws x
   unfolding clear_by
   clear_halt e f = record { made = makes_halt g n Beside Held _ (erase_by g n v s) b c i o _ _ tbl u ws x swept e f; low = low }
@@ -222,7 +221,7 @@ module _ (g : Geometry) (n v l : ℕ) (s : Opened) (b c : Budget) (i o tbl u ws 
   }
 
   pub clear_done : (d : Swept) (p : List ℕ) → Wipes g n v s k c d o p → c.stopped ≡ false
-      → Clears g n (clear_by g n (some v) (holding s (table_in tbl ws)) i) b d i p tbl u ws x
+      → Clears g n (clear_by g n (Some v) (holding s (table_in tbl ws)) i) b d i p tbl u ws x
   unfolding clear_by
   clear_done d p w f = record {
     made = makes_then g n Beside Held _ (erase_by g n v s) b c d.budget i o p _ _ tbl u u ws x x swept (wiped d p w f) f;
@@ -234,11 +233,11 @@ module _ (g : Geometry) (n : ℕ) (i tbl ws : List ℕ) (v : Best) (bs : Bests (
   abbrev t : Table
   t = table_in tbl ws
 
-  none_is : v.found ≡ false → none ≡ victim_by g n t i
+  none_is : v.found ≡ false → None ≡ victim_by g n t i
   unfolding best_of
   none_is e = sym (rw e refl) ∙ victim_is g n i ws v bs
 
-  some_is : v.found ≡ true → some v.block ≡ victim_by g n t i
+  some_is : v.found ≡ true → Some v.block ≡ victim_by g n t i
   unfolding best_of
   some_is e = sym (rw e refl) ∙ victim_is g n i ws v bs
 
@@ -247,7 +246,7 @@ module _ (g : Geometry) (n : ℕ) (i tbl ws : List ℕ) (v : Best) (bs : Bests (
   unfolding clear_by
   clear_none f low = record { made = rw (← none_is (not-true v.found f)) (makes_still g n Held (holding s t) b i tbl ws); low = low }
 
-  pub clear_some : (r : Swept) (o u x : List ℕ) → Clears g n (clear_by g n (some v.block) (holding s t) i) b r i o tbl
+  pub clear_some : (r : Swept) (o u x : List ℕ) → Clears g n (clear_by g n (Some v.block) (holding s t) i) b r i o tbl
       u ws x → not v.found ≡ false
       → Clears g n (clear_by g n (victim_by g n t i) (holding s t) i) b r i o tbl u ws x
   clear_some r o u x w f = rw (← some_is (not-false v.found f)) w

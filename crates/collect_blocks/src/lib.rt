@@ -3,8 +3,7 @@
 // walked, and the image is surveyed anew only where the block erased may have held the largest number.
 #![tactic(auto)]
 
-ghost use Rattle.std.specs.Prelude.{◌≡◌, false, ◌+◌, ◌≤◌, ◌<◌, max, get_or};
-ghost use Rattle.std.proofs.Math.Option.{some};
+ghost use Rattle.std.specs.Prelude.{◌≡◌, false, ◌+◌, ◌≤◌, ◌<◌, max, get_or, Some};
 ghost use Rattle.geometry.specs.Geometry.{page_bytes};
 ghost use Rattle.geometry.specs.Bounds.{four_bytes, longest_page};
 ghost use Rattle.chip_store.specs.Run.{Countable};
@@ -243,7 +242,7 @@ fn clear_block(
 ) -> Swept
     requires { (o.erased < 4294901760) × (o.height < 256) × (page_bytes g ≤ longest_page) × (Countable b) ×
         (b.stopped ≡ false) }
-    ensures { Clears g n (clear_by g n (some v) (holding o (table_in table.old words.old))
+    ensures { Clears g n (clear_by g n (Some v) (holding o (table_in table.old words.old))
         img.old) b result img.old img.new table.old table.new words.old words.new }
 {
     let h = begin(g, n, o);

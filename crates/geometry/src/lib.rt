@@ -87,24 +87,15 @@ impl Geometry {
     }
 }
 
-// A geometry by its number.
-#[derive(Clone, Copy)]
-pub enum Chosen {
-    Of(Geometry),
-    Unknown,
-}
-
-// 0 the small chip, 1 the large one.
-pub fn choose(kind: u32) -> Chosen
+// The geometry by its number: 0 the small chip, 1 the large one.
+pub fn choose(kind: u32) -> Option<Geometry>
     ensures { result ≡ chosen_of kind }
 {
-    if kind == 0 {
-        return Chosen::Of(Geometry::small());
+    match kind {
+        0 => Some(Geometry::small()),
+        1 => Some(Geometry::large()),
+        _ => None,
     }
-    if kind == 1 {
-        return Chosen::Of(Geometry::large());
-    }
-    Chosen::Unknown
 }
 
 // One slot: a key, and the caller's address (in a leaf) or a page number (above).
@@ -115,18 +106,17 @@ pub struct Entry {
 }
 
 // What one rule finds: nothing, or the page that breaks it.
-#[derive(Clone, Copy)]
-pub enum Finding {
-    Good,
-    Bad(u32),
+pub type Finding = Result<(), u32>;
+
+// A broken rule, and the page that breaks it.
+#[derive(Clone, Copy, PartialEq, Eq)]
+pub struct Broken {
+    pub rule: u32,
+    pub page: u32,
 }
 
 // What all rules find: nothing, or the first broken rule and its page.
-#[derive(Clone, Copy)]
-pub enum Verdict {
-    Sound,
-    Broken(u32, u32),
-}
+pub type Verdict = Result<(), Broken>;
 
 // What a patrol of one half finds: nothing, the number of the data bit or of the code's bit that it mended, or more
 // than it can mend.

@@ -15,7 +15,6 @@ ghost use Rattle.live_beside.specs.Calls.{insert_with_of, delete_with_of};
 
 use call_account::Renewed;
 use call_answers::{Answer, Row};
-use geometry::Chosen;
 use open_calls::Opening;
 use open_record::Opened;
 
@@ -23,7 +22,7 @@ pub fn format(kind: u32, img: &mut [u8]) -> Answer
     ensures { told result img.new ≡ format_of kind img.old }
 {
     let chosen = geometry::choose(kind);
-    let Chosen::Of(g) = chosen else {
+    let Some(g) = chosen else {
         return Answer::Length;
     };
     call_format::format(g, &mut *img)
@@ -33,7 +32,7 @@ pub fn lookup(kind: u32, img: &[u8], key: u32) -> Answer
     ensures { told result img.now ≡ lookup_of kind img.now key }
 {
     let chosen = geometry::choose(kind);
-    let Chosen::Of(g) = chosen else {
+    let Some(g) = chosen else {
         return Answer::Length;
     };
     call_lookup::lookup_on(g, img, key)
@@ -45,7 +44,7 @@ pub fn list(kind: u32, img: &[u8], low: u32, high: u32, pairs: &mut [u32]) -> An
         pairs.old) }
 {
     let chosen = geometry::choose(kind);
-    let Chosen::Of(g) = chosen else {
+    let Some(g) = chosen else {
         return Answer::Length;
     };
     call_list::list_on(g, img, low, high, &mut *pairs)
@@ -63,7 +62,7 @@ pub fn insert(
         lent.old key address allowance }
 {
     let chosen = geometry::choose(kind);
-    let Chosen::Of(g) = chosen else {
+    let Some(g) = chosen else {
         return Answer::Length;
     };
     call_insert::insert_on(g, &mut *img, &mut *lent, key, address, allowance)
@@ -74,7 +73,7 @@ pub fn delete(kind: u32, img: &mut [u8], lent: &mut [u32], key: u32, allowance: 
         lent.old key allowance }
 {
     let chosen = geometry::choose(kind);
-    let Chosen::Of(g) = chosen else {
+    let Some(g) = chosen else {
         return Answer::Length;
     };
     call_delete::delete_on(g, &mut *img, &mut *lent, key, allowance)
@@ -86,7 +85,7 @@ pub fn open(kind: u32, img: &[u8]) -> Opening
         (result.opened ≡ opened_of kind img.now) }
 {
     let chosen = geometry::choose(kind);
-    let Chosen::Of(g) = chosen else {
+    let Some(g) = chosen else {
         return open_calls::refused(Answer::Length);
     };
     open_calls::open_on(g, img)
@@ -97,7 +96,7 @@ pub fn lookup_opened(kind: u32, img: &[u8], o: Opened, key: u32) -> Answer
     ensures { told result img.now ≡ lookup_with_of kind img.now o key }
 {
     let chosen = geometry::choose(kind);
-    let Chosen::Of(g) = chosen else {
+    let Some(g) = chosen else {
         return Answer::Length;
     };
     open_calls::lookup_opened_on(g, img, o, key)
@@ -116,7 +115,7 @@ pub fn list_opened(
         pairs.old) }
 {
     let chosen = geometry::choose(kind);
-    let Chosen::Of(g) = chosen else {
+    let Some(g) = chosen else {
         return Answer::Length;
     };
     open_calls::list_opened_on(g, img, o, low, high, &mut *pairs)
@@ -136,7 +135,7 @@ pub fn insert_opened(
         img.old lent.old o key address allowance }
 {
     let chosen = geometry::choose(kind);
-    let Chosen::Of(g) = chosen else {
+    let Some(g) = chosen else {
         return Renewed {
             answer: Answer::Length,
             opened: o,
@@ -158,7 +157,7 @@ pub fn delete_opened(
         img.old lent.old o key allowance }
 {
     let chosen = geometry::choose(kind);
-    let Chosen::Of(g) = chosen else {
+    let Some(g) = chosen else {
         return Renewed {
             answer: Answer::Length,
             opened: o,
@@ -171,7 +170,7 @@ pub fn patrol(kind: u32, img: &mut [u8], page: u32, half: u32) -> Answer
     ensures { told result img.new ≡ patrol_of kind img.old page half }
 {
     let chosen = geometry::choose(kind);
-    let Chosen::Of(g) = chosen else {
+    let Some(g) = chosen else {
         return Answer::Length;
     };
     call_patrol::patrol_on(g, &mut *img, page, half)
@@ -183,7 +182,7 @@ pub fn export_text(kind: u32, img: &[u8], text: &mut [u8]) -> Row
     ensures { told_by result text.new ≡ export_of kind img.now text.old }
 {
     let chosen = geometry::choose(kind);
-    let Chosen::Of(g) = chosen else {
+    let Some(g) = chosen else {
         return call_answers::row_of(Answer::Length);
     };
     call_export::export_on(g, img, &mut *text)
@@ -195,7 +194,7 @@ pub fn import_text(kind: u32, img: &mut [u8], text: &[u8]) -> Row
     ensures { told_by result img.new ≡ import_of kind img.old text.now }
 {
     let chosen = geometry::choose(kind);
-    let Chosen::Of(g) = chosen else {
+    let Some(g) = chosen else {
         return call_answers::row_of(Answer::Length);
     };
     call_import::import_on(g, &mut *img, text)

@@ -1,6 +1,5 @@
 -- The stores of insert, delete and format. Definitions alone; assumes nothing.
-use Rattle.std.specs.Prelude.{ℕ, zero, suc, ◌+◌, ◌*◌, Bool, true, false, List, [], ◌∷◌, ◌++◌, eqb, leb, ltb, length}
-use Rattle.std.proofs.Math.Option.{Option, none, some}
+use Rattle.std.specs.Prelude.{ℕ, zero, suc, ◌+◌, ◌*◌, Bool, true, false, List, [], ◌∷◌, ◌++◌, eqb, leb, ltb, length, None, Option, Some}
 use Rattle.geometry.specs.declared.Geometry.{Geometry}
 use Rattle.geometry.specs.declared.Entry.{Entry}
 use Rattle.geometry.specs.Geometry.{half, root_slots}
@@ -14,8 +13,8 @@ use Rattle.model.specs.Edit.{on_path, put_in, path_half, side_half, two, named, 
 use Rattle.model.specs.Collect.{collect_stores}
 
 abbrev pub is_none : {A : Type 0} → Option A → Bool
-is_none none = true
-is_none (some a) = false
+is_none None = true
+is_none (Some a) = false
 
 -- ---- k: "the pages an update needs: 1 + splits + 1 if it grows"
 -- the root's entries

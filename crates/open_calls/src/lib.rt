@@ -13,7 +13,7 @@ ghost use Rattle.open_calls.specs.Opening.{opening_in, opened_blocks};
 
 use call_answers::Answer;
 use chip_survey::Survey;
-use geometry::{Geometry, Verdict};
+use geometry::{Broken, Geometry};
 use open_record::Opened;
 
 // What opening answers, and the record: zeros where it is refused.
@@ -63,8 +63,8 @@ fn open_blocks(g: Geometry, img: &[u8], table: &mut [u8], n: u16) -> Opening
     let verdict = judgement.verdict;
     let survey = judgement.survey;
     match verdict {
-        Verdict::Broken(rule, page) => refused(Answer::Damaged(rule, page)),
-        Verdict::Sound => granted(g, img, n, survey),
+        Err(Broken { rule, page }) => refused(Answer::Damaged(rule, page)),
+        Ok(()) => granted(g, img, n, survey),
     }
 }
 

@@ -5,7 +5,7 @@ use Rattle.std.proofs.Common.{subst, ◌∙◌, arith, add-one, Fits}
 use borrow.Author.Tests.{lt-ltb, le-ltb, lt-leb, le-leb, eq-eqb, ne_eqb}
 use Rattle.std.specs.Int.{w8}
 use Rattle.geometry.specs.declared.Geometry.{Geometry}
-use Rattle.geometry.specs.declared.Verdict.TheVariants.{Sound, Broken}
+use Rattle.geometry.specs.Findings.{Sound, broken_at}
 use Rattle.geometry.specs.Geometry.{plain, page_bytes}
 use Rattle.geometry.specs.Shape.{plain_core}
 use Rattle.geometry.specs.Tests.{pick, bit, ◌&◌, and_true, and_false}
@@ -235,17 +235,17 @@ module _ (img : List ℕ) (n : ℕ) (g : Geometry) (eg : g ≡ plain) (en : n �
     judgement : Judged plain n img j t u
     judgement = rw eg at d
 
-    call_broken : (rest : Outcome) (rule page : ℕ) → j.verdict ≡ Broken rule page → told (Damaged rule page) img
+    call_broken : (rest : Outcome) (rule page : ℕ) → j.verdict ≡ broken_at rule page → told (Damaged rule page) img
         ≡ judged_call plain img rest
     call_broken rest rule page e = judged_blocks plain img (refused 1 img) (damaged img) rest n blocks _ some
         (judged_broken plain n img (damaged img) rest j t u judgement _ rule page e refl)
 
-    pub insert_broken : (k a x rule page : ℕ) → j.verdict ≡ Broken rule page → told (Damaged rule page) img
+    pub insert_broken : (k a x rule page : ℕ) → j.verdict ≡ broken_at rule page → told (Damaged rule page) img
         ≡ plain_insert plain img k a x
     unfolding plain_insert
     insert_broken k a x rule page e = call_broken _ rule page e
 
-    pub delete_broken : (k x rule page : ℕ) → j.verdict ≡ Broken rule page → told (Damaged rule page) img
+    pub delete_broken : (k x rule page : ℕ) → j.verdict ≡ broken_at rule page → told (Damaged rule page) img
         ≡ plain_delete plain img k x
     unfolding plain_delete
     delete_broken k x rule page e = call_broken _ rule page e

@@ -1,8 +1,7 @@
 -- Counting the levels that a delete empties, in the form in which the code has the premises. Assumes nothing.
-use Rattle.std.specs.Prelude.{ℕ, zero, suc, ◌+◌, ◌-◌, ◌<◌, Bool, true, false, ◌≡◌, refl, List, [], ◌∷◌, eqb}
+use Rattle.std.specs.Prelude.{ℕ, zero, suc, ◌+◌, ◌-◌, ◌<◌, Bool, true, false, ◌≡◌, refl, List, [], ◌∷◌, eqb, None, Some}
 use Rattle.std.proofs.Math.Path.{sym, ap}
 use Rattle.std.proofs.Common.{◌∙◌, length-append, arith, add-one, sub-one}
-use Rattle.std.proofs.Math.Option.{none, some}
 use Rattle.std.proofs.Math.ListN.{length}
 use Rattle.geometry.specs.declared.Geometry.{Geometry}
 use Rattle.geometry.specs.declared.Entry.{Entry}
@@ -50,25 +49,25 @@ splice_one f k [] z = refl
 splice_one f k (e ∷ es) z = let w = splice_length f k (e ∷ es) (omega arith) in omega (arith, w, z)
 
 -- ---- the leaf: it loses K, where K stands there
-one_there : (k a : ℕ) (x : Entry) (t : Bool) → eqb x.key k ≡ t → find k (x ∷ []) ≡ some a
+one_there : (k a : ℕ) (x : Entry) (t : Bool) → eqb x.key k ≡ t → find k (x ∷ []) ≡ Some a
     → length (remove k (x ∷ [])) ≡ 0
 unfolding find
 one_there k a x true e h = rw e
 one_there k a x false e h = let z : ◌≡◌ {A = ℕ} 0 1 = cc in absurd (omega arith)
 
-one_missing : (k : ℕ) (x : Entry) (t : Bool) → eqb x.key k ≡ t → find k (x ∷ []) ≡ none → length (remove k (x ∷ []))
+one_missing : (k : ℕ) (x : Entry) (t : Bool) → eqb x.key k ≡ t → find k (x ∷ []) ≡ None → length (remove k (x ∷ []))
     ≡ 1
 unfolding find
 one_missing k x true e h = let z : ◌≡◌ {A = ℕ} 0 1 = cc in absurd (omega arith)
 one_missing k x false e h = rw e
 
-remove_there : (k a : ℕ) (es : List Entry) → find_in k es ≡ some a → length (remove_in k es) ≡ length es - 1
+remove_there : (k a : ℕ) (es : List Entry) → find_in k es ≡ Some a → length (remove_in k es) ≡ length es - 1
 unfolding find_in remove_in splice
 remove_there k a [] h = refl
 remove_there k a (e ∷ es) h = let x = chosen k (e ∷ es) in
     splice_none (λ y. remove k (y ∷ [])) k (e ∷ es) (one_there k a x (eqb x.key k) refl h)
 
-remove_missing : (k : ℕ) (es : List Entry) → find_in k es ≡ none → length (remove_in k es) ≡ length es
+remove_missing : (k : ℕ) (es : List Entry) → find_in k es ≡ None → length (remove_in k es) ≡ length es
 unfolding find_in remove_in splice
 remove_missing k [] h = refl
 remove_missing k (e ∷ es) h = let x = chosen k (e ∷ es) in
@@ -84,7 +83,7 @@ module _ (g : Geometry) (img : List ℕ) (k : ℕ) (e : Entry) (f : Found) (ef :
       (record { absent = false; emptied = 0; left = m })
   unfolding leaf edited count found
   leaf_there m a em q =
-      let there : find_in k (node_at g img e.addr 1) ≡ some a = sym ef ∙ rw q in
+      let there : find_in k (node_at g img e.addr 1) ≡ Some a = sym ef ∙ rw q in
       record {
         absent = rw there;
         emptied = refl;
@@ -95,7 +94,7 @@ module _ (g : Geometry) (img : List ℕ) (k : ℕ) (e : Entry) (f : Found) (ef :
   pub leaf_missing : f ≡ Nothing → Loses g img k 0 e (record { absent = true; emptied = 0; left = n })
   unfolding leaf edited count found
   leaf_missing q =
-      let missing : find_in k (node_at g img e.addr 1) ≡ none = sym ef ∙ rw q in
+      let missing : find_in k (node_at g img e.addr 1) ≡ None = sym ef ∙ rw q in
       record {
         absent = rw missing;
         emptied = refl;
@@ -152,8 +151,8 @@ module _ (g : Geometry) (img : List ℕ) (k : ℕ) (e x : Entry) (r : Loss) wher
             let none : length (below (node_at g img) k l e) ≡ 0 = sym w.left ∙ z in
             record {
               absent = w.absent;
-              emptied = sym (emptied_below_lem (node_at g img) k l e ∙ rw ((none_kept _ none).0, ← w.emptied) (omega arith));
-              left = sym (left_one (node_at g img) k l e none ∙ rw size);
+              emptied = sym (emptied_below_lem (node_at g img) k l e ∙ rw ((none_kept _ None).0, ← w.emptied) (omega arith));
+              left = sym (left_one (node_at g img) k l e None ∙ rw size);
               few = omega (arith, w.few);
             },
         λ z.

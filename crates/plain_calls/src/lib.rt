@@ -18,7 +18,7 @@ ghost use Rattle.plain_calls.specs.Counts.{Cuts, Loses, Sheds};
 
 use call_answers::Answer;
 use chip_survey::Survey;
-use geometry::{Entry, Geometry, Verdict};
+use geometry::{Broken, Entry, Geometry};
 use tree_plan::Run;
 use tree_search::Found;
 
@@ -139,8 +139,8 @@ fn insert_blocks(
     let verdict = judgement.verdict;
     let survey = judgement.survey;
     match verdict {
-        Verdict::Broken(rule, page) => Answer::Damaged(rule, page),
-        Verdict::Sound => insert_judged(g, &mut *img, n, survey, key, addr, allowance),
+        Err(Broken { rule, page }) => Answer::Damaged(rule, page),
+        Ok(()) => insert_judged(g, &mut *img, n, survey, key, addr, allowance),
     }
 }
 
@@ -299,8 +299,8 @@ fn delete_blocks(
     let verdict = judgement.verdict;
     let survey = judgement.survey;
     match verdict {
-        Verdict::Broken(rule, page) => Answer::Damaged(rule, page),
-        Verdict::Sound => delete_judged(g, &mut *img, n, survey, key, allowance),
+        Err(Broken { rule, page }) => Answer::Damaged(rule, page),
+        Ok(()) => delete_judged(g, &mut *img, n, survey, key, allowance),
     }
 }
 

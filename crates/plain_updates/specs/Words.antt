@@ -1,10 +1,9 @@
 -- The plain tree's calls (request 12) in the demands' words: Ready, map_at, Holds, Kept, Began (crate theory_demands). The
 -- definitions `plain_insert`, `plain_delete`, `lookup` and `format` with the geometry `plain`; k, the key, and a, the
 -- address, are below 2^32; al is the store allowance. Assumes nothing.
-use Rattle.std.specs.Prelude.{◌≡◌, List, [], ◌∷◌, true, false, ℕ, suc, ◌<◌, ◌≤◌, length}
+use Rattle.std.specs.Prelude.{◌≡◌, List, [], ◌∷◌, true, false, ℕ, suc, ◌<◌, ◌≤◌, length, Option}
 use Rattle.std.proofs.Math.Path.{refl, ap, sym}
 use Rattle.std.proofs.Common.{subst, ◌∙◌, inl, arith, take_all}
-use Rattle.std.proofs.Math.Option.{Option}
 use Rattle.geometry.specs.declared.Entry.{Entry}
 use Rattle.geometry.specs.Geometry.{plain}
 use Rattle.geometry.specs.Shape.{plain_core}

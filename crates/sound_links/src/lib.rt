@@ -84,7 +84,7 @@ pub fn rule_6(g: Geometry, img: &[u8], table: &[u8], pages: u32, level: u32, roo
 {
     let page = lowest_loose(g, img, table, level + 1, root, pages);
     if page < pages {
-        return Finding::Bad(page);
+        return Err(page);
     }
-    Finding::Good
+    Ok(())
 }

@@ -188,10 +188,10 @@ fn judge_leaf(
     ensures table_len_unchanged { length table.new ≡ length table.old }
 {
     if !leaf_own(g, img, pages, page, lo, hi) {
-        return Finding::Bad(page);
+        return Err(page);
     }
     live_walk::note(&mut *table, page, 1);
-    Finding::Good
+    Ok(())
 }
 
 // The leaf that the i-th of n entries from byte `at` names.
@@ -280,15 +280,15 @@ fn judge_leaves(
     while i < n {
         let found = leaf_at(g, img, &mut *table, pages, at, n, hi, i);
         match found {
-            Finding::Bad(leaf) => {
-                return Finding::Bad(leaf);
+            Err(leaf) => {
+                return Err(leaf);
             }
-            Finding::Good => {
+            Ok(()) => {
                 i += 1;
             }
         }
     }
-    Finding::Good
+    Ok(())
 }
 
 // The same, after their lines are read.
@@ -332,14 +332,14 @@ fn judge_node(
     ensures table_len_unchanged { length table.new ≡ length table.old }
 {
     if level == 0 {
-        return Finding::Good;
+        return Ok(());
     }
     if !node_own(g, img, pages, level, page, lo, hi, programmed) {
-        return Finding::Bad(page);
+        return Err(page);
     }
     live_walk::note(&mut *table, page, level);
     if level == 1 {
-        return Finding::Good;
+        return Ok(());
     }
     let at = chip_read::node_place(g, page, level);
     let n = chip_read::node_count(g, img, page, level);
@@ -410,15 +410,15 @@ fn judge_entries(
     while i < n {
         let found = node_under(g, img, &mut *table, pages, below, at, n, hi, i, programmed);
         match found {
-            Finding::Bad(bad) => {
-                return Finding::Bad(bad);
+            Err(bad) => {
+                return Err(bad);
             }
-            Finding::Good => {
+            Ok(()) => {
                 i += 1;
             }
         }
     }
-    Finding::Good
+    Ok(())
 }
 
 // From the root down. Where all is good its levels are noted.
@@ -438,7 +438,7 @@ fn judge_root(
     ensures table_len_unchanged { length table.new ≡ length table.old }
 {
     if !root_own(g, img, pages, level + 1, root, programmed) {
-        return Finding::Bad(root);
+        return Err(root);
     }
     live_walk::note(&mut *table, root, level + 1);
     let at = chip_read::node_place(g, root, level + 1);

@@ -208,7 +208,7 @@ pub fn rule_3(g: Geometry, img: &[u8], n: u16, rising: bool, lows: &[u32], highs
     ensures { result ≡ r3 g n img.now }
 {
     if ranges_differ(g, img, n, rising, lows, highs) {
-        return Finding::Good;
+        return Ok(());
     }
     sound_repeats::first_repeated(g, img, n)
 }

@@ -3,7 +3,7 @@ use Rattle.std.specs.Prelude.{ℕ, ◌-◌, ◌*◌, ◌<◌, ◌≤◌, Bool, t
 use Rattle.std.proofs.Common.{sym, ◌∙◌, arith}
 use borrow.Author.Tests.{not-true, not-false, le-leb, lt-leb}
 use Rattle.geometry.specs.declared.Geometry.{Geometry}
-use Rattle.geometry.specs.declared.Finding.{Finding}
+use Rattle.geometry.specs.Findings.{Finding}
 use Rattle.geometry.specs.Geometry.{halves, page_base}
 use Rattle.geometry.specs.Tests.{and_true, and_false}
 use Rattle.model.specs.Bytes.{erased, seq_at, height_at, tail_at}

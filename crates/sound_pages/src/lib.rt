@@ -67,11 +67,11 @@ pub fn rule_1(g: Geometry, img: &[u8], n: u16) -> Finding
     let mut page: u32 = 0;
     while page < pages {
         if !well_formed(g, img, page) {
-            return Finding::Bad(page);
+            return Err(page);
         }
         page += 1;
     }
-    Finding::Good
+    Ok(())
 }
 
 // The place in a block of its first erased page, or the block's pages.
@@ -175,11 +175,11 @@ pub fn rule_2(g: Geometry, img: &[u8], n: u16) -> Finding
 {
     let block = first_disorder(g, img, n);
     if block < n {
-        return Finding::Bad(chip_read::page_of(g, block, first_in(g, img, block)));
+        return Err(chip_read::page_of(g, block, first_in(g, img, block)));
     }
     let second = second_mixed(g, img, n);
     if second < n {
-        return Finding::Bad(chip_read::first_page(g, second));
+        return Err(chip_read::first_page(g, second));
     }
-    Finding::Good
+    Ok(())
 }

@@ -173,7 +173,7 @@ pub fn first_repeated(g: Geometry, img: &[u8], n: u16) -> Finding
     let pages = chip_read::first_page(g, n);
     let page = lowest_page(g, img, pages);
     if page < pages {
-        return Finding::Bad(page);
+        return Err(page);
     }
-    Finding::Good
+    Ok(())
 }

@@ -6,10 +6,7 @@ use Rattle.std.proofs.Common.{ap, subst, ◌∙◌, arith, mul-le-mul, mod-lt, e
 use Rattle.std.proofs.Math.Nat.{div-add-mod}
 use Rattle.std.proofs.lemmas.Bool.{not-true, not-false}
 use Rattle.geometry.specs.declared.Geometry.{Geometry}
-use Rattle.geometry.specs.declared.Finding.{Finding}
-use Rattle.geometry.specs.declared.Finding.TheVariants.{Good, Bad}
-use Rattle.geometry.specs.declared.Verdict.{Verdict}
-use Rattle.geometry.specs.declared.Verdict.TheVariants.{Sound, Broken}
+use Rattle.geometry.specs.Findings.{Finding, Good, Bad, Verdict, Sound, broken_at}
 use Rattle.model.specs.Bytes.{erased, seq_at}
 use Rattle.model.specs.Count.{arg}
 use Rattle.model.specs.Image.{Chip, chip_of, pages_of, root_of, root_score}
@@ -33,7 +30,7 @@ use Rattle.sound_verdict.specs.Verdict.{from2, from3, Roomy, Surveyed, Tells, Ne
 
 -- rule k and those after it: v is its finding
 module _ (k : ℕ) (f v : Finding) (w : Verdict) where
-  pub or_bad : (q : ℕ) → v ≡ f → v ≡ Bad q → Broken k q ≡ or_else k f w
+  pub or_bad : (q : ℕ) → v ≡ f → v ≡ Bad q → broken_at k q ≡ or_else k f w
   unfolding or_else
   or_bad q e b = sym (rw (← e, b) refl)
 
@@ -70,7 +67,7 @@ module _ (g : Geometry) (f : Finding) (d : g.table ≡ 2 → ⊥) where
   asked_or k u w e = e ∙ ap (λ (y : Finding). or_else k y w) (asked_is f refl)
 
 -- the table
-pub tells_broken : (c : Chip) (tbl : List ℕ) (k q : ℕ) → Tells c tbl (Broken k q)
+pub tells_broken : (c : Chip) (tbl : List ℕ) (k q : ℕ) → Tells c tbl (broken_at k q)
 tells_broken c tbl k q = record { marked = λ e. absurd (broken_sound k q e) }
 
 -- 65536 places have room for 1024 blocks of at most 64 pages, 4096 for 64 blocks
@@ -143,12 +140,12 @@ programmed_is g n t img programmed x l e = record {
 }
 
 -- an image that R1 or R2 breaks
-pub never_broken : (k q : ℕ) → Never (Broken k q)
+pub never_broken : (k q : ℕ) → Never (broken_at k q)
 never_broken k q = record { never = broken_sound k q }
 
 pub order_breaks : (g : Geometry) (n : ℕ) (img : List ℕ) (v : Finding) (q : ℕ) → Flaw g n img → r1 g n img ≡ Good
     → v ≡ r2 g.pages n (erased g img) → v ≡ Good
-    → Broken 2 q ≡ from2 g n img
+    → broken_at 2 q ≡ from2 g n img
 order_breaks g n img v q x e f h = absurd (x.flaw e (sym f ∙ h))
 
 pub passed_1 : (g : Geometry) (n : ℕ) (img : List ℕ) (v : Finding) → v ≡ r1 g n img → v ≡ Good → r1 g n img ≡ Good

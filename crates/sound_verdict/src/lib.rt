@@ -2,7 +2,7 @@
 #![tactic(auto)]
 
 ghost use Rattle.std.specs.Prelude.{◌≡◌, ◌+◌, ◌*◌, ◌-◌, ◌≤◌, ◌<◌, length};
-ghost use Rattle.geometry.specs.declared.Finding.{Finding};
+ghost use Rattle.geometry.specs.Findings.{Good};
 ghost use Rattle.model.specs.Bytes.{erased, seq_at};
 ghost use Rattle.model.specs.Count.{any};
 ghost use Rattle.model.specs.Image.{chip_of};
@@ -15,7 +15,7 @@ ghost use Rattle.sound_links.specs.Loose.{Inside};
 ghost use Rattle.sound_verdict.specs.Verdict.{clearable, from2, from3, from4, from5, from6, from7, from8, Roomy, Surveyed, Tells, Never, Judged};
 
 use chip_survey::Survey;
-use geometry::{Finding, Geometry, Verdict};
+use geometry::{Broken, Finding, Geometry, Verdict};
 use sound_sight::Sight;
 
 // A verdict, and the survey that came with it.
@@ -56,12 +56,12 @@ fn rule_7(g: Geometry, img: &[u8], table: &[u8], n: u16, survey: Survey) -> Find
 {
     let free = survey.erased;
     if geometry::wide(g.pages) <= geometry::index(free) {
-        return Finding::Good;
+        return Ok(());
     }
     if some_clearable(g, img, table, n, free) {
-        return Finding::Good;
+        return Ok(());
     }
-    Finding::Bad(0)
+    Err(0)
 }
 
 // R8: the pages that are not live are two blocks' at least.
@@ -74,9 +74,9 @@ fn rule_8(g: Geometry, img: &[u8], table: &[u8], n: u16, survey: Survey) -> Find
     let lives = live_walk::live_pages(table, pages);
     let dead = geometry::index(pages - lives);
     if 2 * geometry::wide(g.pages) <= dead {
-        return Finding::Good;
+        return Ok(());
     }
-    Finding::Bad(0)
+    Err(0)
 }
 
 fn from_rule_8(g: Geometry, img: &[u8], table: &[u8], n: u16, survey: Survey) -> Verdict
@@ -85,8 +85,8 @@ fn from_rule_8(g: Geometry, img: &[u8], table: &[u8], n: u16, survey: Survey) ->
     ensures { result ≡ from8 g n img.now }
 {
     match rule_8(g, img, table, n, survey) {
-        Finding::Bad(page) => Verdict::Broken(8, page),
-        Finding::Good => Verdict::Sound,
+        Err(page) => Err(Broken { rule: 8, page }),
+        Ok(()) => Ok(()),
     }
 }
 
@@ -97,11 +97,11 @@ fn from_rule_7(g: Geometry, img: &[u8], table: &[u8], n: u16, survey: Survey) ->
     ensures { result ≡ from7 g n img.now }
 {
     if g.table == Geometry::PLAIN_TABLE {
-        return Verdict::Sound;
+        return Ok(());
     }
     match rule_7(g, img, table, n, survey) {
-        Finding::Bad(page) => Verdict::Broken(7, page),
-        Finding::Good => from_rule_8(g, img, table, n, survey),
+        Err(page) => Err(Broken { rule: 7, page }),
+        Ok(()) => from_rule_8(g, img, table, n, survey),
     }
 }
 
@@ -119,8 +119,8 @@ fn from_rule_6(g: Geometry, img: &[u8], table: &[u8], n: u16, survey: Survey) ->
         survey.level,
         survey.root,
     ) {
-        Finding::Bad(page) => Verdict::Broken(6, page),
-        Finding::Good => from_rule_7(g, img, table, n, survey),
+        Err(page) => Err(Broken { rule: 6, page }),
+        Ok(()) => from_rule_7(g, img, table, n, survey),
     }
 }
 
@@ -148,8 +148,8 @@ fn from_rule_5(
         survey.root,
         programmed,
     ) {
-        Finding::Bad(page) => Verdict::Broken(5, page),
-        Finding::Good => from_rule_6(g, img, &*table, n, survey),
+        Err(page) => Err(Broken { rule: 5, page }),
+        Ok(()) => from_rule_6(g, img, &*table, n, survey),
     }
 }
 
@@ -169,8 +169,8 @@ fn from_rule_4(
     ensures table_len_unchanged { length table.new ≡ length table.old }
 {
     match chip_survey::rule_4(g, img, n, survey) {
-        Finding::Bad(page) => Verdict::Broken(4, page),
-        Finding::Good => from_rule_5(g, img, &mut *table, n, survey, programmed),
+        Err(page) => Err(Broken { rule: 4, page }),
+        Ok(()) => from_rule_5(g, img, &mut *table, n, survey, programmed),
     }
 }
 
@@ -196,20 +196,20 @@ fn from_rule_3(
     ensures table_len_unchanged { length table.new ≡ length table.old }
 {
     match sound_numbers::rule_3(g, img, n, rising, lows, highs) {
-        Finding::Bad(page) => Verdict::Broken(3, page),
-        Finding::Good => from_rule_4(g, img, &mut *table, n, survey, programmed),
+        Err(page) => Err(Broken { rule: 3, page }),
+        Ok(()) => from_rule_4(g, img, &mut *table, n, survey, programmed),
     }
 }
 
 // R2 of an image that it breaks.
 fn broken_order(g: Geometry, img: &[u8], n: u16) -> Verdict
     requires flaw { Flaw g n img.now }
-    requires img_value { r1 g n img.now ≡ Finding.Good }
+    requires img_value { r1 g n img.now ≡ Good }
     ensures { (result ≡ from2 g n img.now) × Never result }
 {
     match sound_pages::rule_2(g, img, n) {
-        Finding::Bad(page) => Verdict::Broken(2, page),
-        Finding::Good => Verdict::Broken(2, 0),
+        Err(page) => Err(Broken { rule: 2, page }),
+        Ok(()) => Err(Broken { rule: 2, page: 0 }),
     }
 }
 
@@ -219,8 +219,8 @@ fn broken_pages(g: Geometry, img: &[u8], n: u16) -> Verdict
     ensures { (result ≡ verdict g n img.now) × Never result }
 {
     match sound_pages::rule_1(g, img, n) {
-        Finding::Bad(page) => Verdict::Broken(1, page),
-        Finding::Good => broken_order(g, img, n),
+        Err(page) => Err(Broken { rule: 1, page }),
+        Ok(()) => broken_order(g, img, n),
     }
 }
 

@@ -1,8 +1,7 @@
 -- A number read byte by byte, as the code does it. Assumes nothing.
-use Rattle.std.specs.Prelude.{ℕ, ◌+◌, ◌-◌, ◌*◌, ◌<◌, ◌≤◌, Bool, true, false, ◌≡◌, List, [], ◌∷◌, leb, length, get_or, drop}
+use Rattle.std.specs.Prelude.{ℕ, ◌+◌, ◌-◌, ◌*◌, ◌<◌, ◌≤◌, Bool, true, false, ◌≡◌, List, [], ◌∷◌, leb, length, get_or, drop, None, Option, Some}
 use Rattle.std.proofs.Math.Path.{refl, sym}
 use Rattle.std.proofs.Common.{◌∙◌, add-one, arith, drop_of_length-le, drop-cons}
-use Rattle.std.proofs.Math.Option.{Option, none, some}
 use borrow.Author.Tests.{lt-ltb, le-ltb, le-leb, lt-leb, leb-true, leb-false}
 use Rattle.geometry.specs.Tests.{pick, ◌&◌, and_false, and_none, and_both}
 use Rattle.text_decimals.specs.declared.Number.{Number}
@@ -11,13 +10,13 @@ use Rattle.text_decimals.specs.Decimals.{digit, all_digits, value, proper, large
 
 -- what the code answers, as the definition has it
 unfoldable pub number_is : Number → Option ℕ
-number_is (Value n) = some n
-number_is Nothing = none
+number_is (Value n) = Some n
+number_is Nothing = None
 
 -- the digits that are left, after others of value v
 unfoldable pub number_from : ℕ → List ℕ → Option ℕ
-number_from v [] = some v
-number_from v (b ∷ bs) = pick (digit b) (pick (leb (10 * v + (b - 48)) largest) (number_from (10 * v + (b - 48)) bs) none) none
+number_from v [] = Some v
+number_from v (b ∷ bs) = pick (digit b) (pick (leb (10 * v + (b - 48)) largest) (number_from (10 * v + (b - 48)) bs) None) None
 
 digit_in : (b : ℕ) → 48 ≤ b → b ≤ 57 → digit b ≡ true
 unfolding digit
@@ -38,7 +37,7 @@ digits_start s = refl
 module _ (s : List ℕ) (v i : ℕ) (inv : number_from 0 s ≡ number_from v (drop i s)) where
   turn : i < length s → number_from 0 s
       ≡ pick (digit (get_or s i 0)) (pick (leb (10 * v + (get_or s i 0 - 48)) largest)
-      (number_from (10 * v + (get_or s i 0 - 48)) (drop (i + 1) s)) none) none
+      (number_from (10 * v + (get_or s i 0 - 48)) (drop (i + 1) s)) None) None
   unfolding number_from
   turn h = inv ∙ rw (drop-cons s i 0 h, add-one) refl
 
@@ -70,7 +69,7 @@ value_more v [] = omega arith
 value_more v (b ∷ bs) = let h = value_more (10 * v + (b - 48)) bs in omega (arith, h)
 
 from_is : (v : ℕ) (bs : List ℕ) → v ≤ largest → number_from v bs ≡ pick (all_digits bs & leb (value v bs) largest)
-    (some (value v bs)) none
+    (Some (value v bs)) None
 unfolding number_from all_digits value ◌&◌
 from_is v [] h = rw (le-leb v largest h) refl
 from_is v (b ∷ bs) h = go (digit b) (leb (10 * v + (b - 48)) largest) refl (λ q. from_is (10 * v + (b - 48)) bs q)
@@ -78,10 +77,10 @@ from_is v (b ∷ bs) h = go (digit b) (leb (10 * v + (b - 48)) largest) refl (λ
     go : (t u : Bool) → leb (10 * v + (b - 48)) largest ≡ u
         → (10 * v + (b - 48) ≤ largest → number_from (10 * v + (b - 48)) bs
         ≡ pick (all_digits bs & leb (value (10 * v + (b - 48)) bs) largest)
-        (some (value (10 * v + (b - 48)) bs)) none)
-        → pick t (pick u (number_from (10 * v + (b - 48)) bs) none) none
+        (Some (value (10 * v + (b - 48)) bs)) None)
+        → pick t (pick u (number_from (10 * v + (b - 48)) bs) None) None
         ≡ pick ((t & all_digits bs) & leb (value (10 * v + (b - 48)) bs) largest)
-        (some (value (10 * v + (b - 48)) bs)) none
+        (Some (value (10 * v + (b - 48)) bs)) None
     go true true e i = i (leb-true (10 * v + (b - 48)) largest e)
     go true false e i = rw (
       lt-leb (value (10 * v + (b - 48)) bs) largest
@@ -95,8 +94,8 @@ whole : (s : List ℕ) (r : Number) → proper s ≡ true → number_is r ≡ nu
 unfolding number_of ◌&◌
 whole s r p e = e ∙ from_is 0 s (omega arith) ∙ rw p (go (all_digits s))
   where
-    go : (t : Bool) → pick (t & leb (value 0 s) largest) (some (value 0 s)) none
-        ≡ pick (t & true & leb (value 0 s) largest) (some (value 0 s)) none
+    go : (t : Bool) → pick (t & leb (value 0 s) largest) (Some (value 0 s)) None
+        ≡ pick (t & true & leb (value 0 s) largest) (Some (value 0 s)) None
     go true = refl
     go false = refl
 
@@ -104,7 +103,7 @@ improper : (s : List ℕ) → proper s ≡ false → number_is Nothing ≡ numbe
 unfolding number_is number_of ◌&◌
 improper s p = rw p (go (all_digits s))
   where
-    go : (t : Bool) → none ≡ pick (t & false & leb (value 0 s) largest) (some (value 0 s)) none
+    go : (t : Bool) → None ≡ pick (t & false & leb (value 0 s) largest) (Some (value 0 s)) None
     go true = refl
     go false = refl
 

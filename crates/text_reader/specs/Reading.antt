@@ -1,9 +1,8 @@
 -- Laws by which the reader's code is proved. Assumes nothing.
-use Rattle.std.specs.Prelude.{ℕ, suc, ◌+◌, ◌-◌, ◌<◌, ◌≤◌, ◌≡◌, length}
+use Rattle.std.specs.Prelude.{ℕ, suc, ◌+◌, ◌-◌, ◌<◌, ◌≤◌, ◌≡◌, length, None, Some}
 use Rattle.std.proofs.Math.Path.{refl, sym, ap}
 use Rattle.std.proofs.Common.{◌∙◌, arith, zero-add, add-one, length-drop, length-take-le}
 use mathlib.Core.List.{List, [], ◌∷◌, ◌++◌}
-use Rattle.std.proofs.Math.Option.{none, some}
 use Rattle.std.proofs.Math.ListN.{take, drop}
 use borrow.Author.Rules.{part_to_end}
 use borrow.Author.Tests.{lt-leb, le-leb, lt-ltb, le-ltb, eq-eqb, ne_eqb}
@@ -51,11 +50,11 @@ module _ (line : List ℕ) (tab : ℕ) (et : tab ≡ 0 + reach 9 (drop 0 line)) 
         sym (ap record_of (first_field h ∙ ap (λ l. take tab line ∷ l) (fields_more r (omega (arith, w, ee, g))))
         ∙ three (take tab line) (take (reach 9 r) r) (drop (suc (reach 9 r)) r))
       where
-        many : (k a : List ℕ) (xs : List (List ℕ)) (x : List ℕ) → record_of (k ∷ a ∷ (xs ++ (x ∷ []))) ≡ none
+        many : (k a : List ℕ) (xs : List (List ℕ)) (x : List ℕ) → record_of (k ∷ a ∷ (xs ++ (x ∷ []))) ≡ None
         many k a [] x = refl
         many k a (y ∷ ys) x = refl
 
-        three : (k a l : List ℕ) → record_of (k ∷ a ∷ fields l) ≡ none
+        three : (k a l : List ℕ) → record_of (k ∷ a ∷ fields l) ≡ None
         three k a l = many k a (pieces 9 l).ended (pieces 9 l).rest
 
     module _ (last : length line ≤ end) where
@@ -75,18 +74,18 @@ module _ (line : List ℕ) (tab : ℕ) (et : tab ≡ 0 + reach 9 (drop 0 line)) 
 
         module _ (v : ℕ) (ev : k ≡ Value v) (a : Number) (ea : number_is a
             ≡ number_of (take (length line - (tab + 1)) (drop (tab + 1) line))) where
-          both : record_of (fields line) ≡ pair (some v) (number_is a)
+          both : record_of (fields line) ≡ pair (Some v) (number_is a)
           unfolding number_is
           both = two ∙ (λ i. pair ((sym ek ∙ ap number_is ev) i) (sym ea i))
 
           pub record_addr : a ≡ Nothing → pair_is NoPair ≡ record_of (fields line)
           unfolding pair_is number_is pair
-          record_addr n = sym (both ∙ ap (λ x. pair (some v) (number_is x)) n)
+          record_addr n = sym (both ∙ ap (λ x. pair (Some v) (number_is x)) n)
 
           pub record_both : (w : ℕ) → a ≡ Value w → pair_is (Pair (record { key = v; addr = w }))
               ≡ record_of (fields line)
           unfolding pair_is number_is pair
-          record_both w n = sym (both ∙ ap (λ x. pair (some v) (number_is x)) n)
+          record_both w n = sym (both ∙ ap (λ x. pair (Some v) (number_is x)) n)
 
 -- ---- a record that is taken
 module _ (s : Spot) (next k : ℕ) (e : Entry) (ek : k ≡ e.key) where

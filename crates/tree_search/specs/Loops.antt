@@ -1,8 +1,7 @@
 -- Searching the entries of a node, in the form in which the code has the premises. Assumes nothing.
-use Rattle.std.specs.Prelude.{ℕ, suc, ◌+◌, ◌-◌, ◌*◌, ◌/◌, ◌<◌, ◌≤◌, Bool, true, false, ◌≡◌, refl, List, eqb, length}
+use Rattle.std.specs.Prelude.{ℕ, suc, ◌+◌, ◌-◌, ◌*◌, ◌/◌, ◌<◌, ◌≤◌, Bool, true, false, ◌≡◌, refl, List, eqb, length, Some}
 use Rattle.std.proofs.Math.Path.{sym, ap}
 use Rattle.std.proofs.Common.{◌∙◌, add-one, lt-ltb, le-ltb, ne_eqb}
-use Rattle.std.proofs.Math.Option.{some}
 use native.Mathlib.Omega.{arith}
 use Rattle.geometry.specs.declared.Geometry.{Geometry}
 use Rattle.geometry.specs.declared.Entry.{Entry}
@@ -85,7 +84,7 @@ module _ (img : List ℕ) (at n k : ℕ) where
         let less : place k (entries_at img at n) < n =
         rw entries_length at (place_is k (entries_at img at n) w.0).inside in
         let z = ei ∙ w.2 in
-        ap some (ea ∙ sym (addr_is img (at + 8 * i)) ∙ ap (λ (x : Entry). x.addr)
+        ap Some (ea ∙ sym (addr_is img (at + 8 * i)) ∙ ap (λ (x : Entry). x.addr)
         (chosen_read img at n k i (entry_at img (at + 8 * i)) z (omega (arith, less, z)) (λ o. absurd (omega (arith, less, o))) refl))
         ∙ sym (find_by k (entries_at img at n) ∙ rw (← eb, q))
 

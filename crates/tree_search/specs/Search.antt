@@ -1,6 +1,5 @@
 -- The place where a key stands or enters, beside the model's `place`. Definitions alone; assumes nothing.
-use Rattle.std.specs.Prelude.{ℕ, suc, List, [], ◌∷◌, Bool, false, eqb, ltb}
-use Rattle.std.proofs.Math.Option.{Option, none, some}
+use Rattle.std.specs.Prelude.{ℕ, suc, List, [], ◌∷◌, Bool, false, eqb, ltb, None, Option, Some}
 use Rattle.geometry.specs.declared.Entry.{Entry}
 use Rattle.geometry.specs.Tests.{pick}
 use Rattle.model.specs.Tree.{place, chosen}
@@ -19,5 +18,5 @@ holds k (e ∷ es) = eqb (chosen k (e ∷ es)).key k
 
 -- what the code's answer says
 unfoldable pub found : Found → Option ℕ
-found (At a) = some a
-found Nothing = none
+found (At a) = Some a
+found Nothing = None
