@@ -4,48 +4,42 @@
 ghost use Rattle.std.specs.Prelude.{◌≡◌, ◌+◌, ◌%◌, ◌<◌, ◌≤◌, length};
 ghost use Rattle.std.proofs.lemmas.List.Edits.{sets};
 ghost use Rattle.text_decimals.specs.Decimals.{number_of, decimal};
-ghost use Rattle.text_decimals.specs.Reading.{number_is, number_from};
-
-#[derive(Clone, Copy)]
-pub enum Number {
-    Value(u32),
-    Nothing,
-}
+ghost use Rattle.text_decimals.specs.Reading.{number_from};
 
 // The value of digits, if all bytes are digits and it is not too large.
-fn digits_value(s: &[u8]) -> Number
-    ensures { number_is result ≡ number_from 0 s.now }
+fn digits_value(s: &[u8]) -> Option<u32>
+    ensures { result ≡ number_from 0 s.now }
 {
     let mut v: u64 = 0;
     for x in s {
         let b = u64::from(*x);
         if b < 48 {
-            return Number::Nothing;
+            return None;
         }
         if 57 < b {
-            return Number::Nothing;
+            return None;
         }
         v = 10 * v + (b - 48);
         if 4294967295 < v {
-            return Number::Nothing;
+            return None;
         }
     }
-    Number::Value(v as u32)
+    Some(v as u32)
 }
 
 // The number that bytes are, if they are one. A part of a text is handed on as a slice.
-pub fn parse_number(s: &[u8]) -> Number
-    ensures { number_is result ≡ number_of s.now }
+pub fn parse_number(s: &[u8]) -> Option<u32>
+    ensures { result ≡ number_of s.now }
 {
     let n = s.len();
     if n == 0 {
-        return Number::Nothing;
+        return None;
     }
     if n == 1 {
         return digits_value(s);
     }
     if s[0] <= 48 {
-        return Number::Nothing;
+        return None;
     }
     digits_value(s)
 }
