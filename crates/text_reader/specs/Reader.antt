@@ -4,15 +4,8 @@ use Rattle.geometry.specs.declared.Entry.{Entry}
 use Rattle.geometry.specs.Tests.{pick, ◌&◌}
 use Rattle.text_lines.specs.Lines.{fields, reach}
 use Rattle.text_carrying.specs.Carrying.{record_of}
-use Rattle.text_reader.specs.declared.Line.{Line}
-use Rattle.text_reader.specs.declared.Line.TheVariants.{Pair, Nothing}
 use Rattle.text_reader.specs.declared.Spot.{Spot}
 use Rattle.text_reader.specs.declared.Turn.{Turn}
-
--- what the code answers, as the definition has it
-unfoldable pub pair_is : Line → Option Entry
-pair_is (Pair e) = Some e
-pair_is Nothing = None
 
 abbrev pub no_pair : Entry
 no_pair = record { key = 0; addr = 0 }

@@ -4,10 +4,9 @@
 ghost use Rattle.std.specs.Prelude.{◌≡◌, ◌+◌, ◌≤◌, ◌<◌, length};
 ghost use Rattle.text_lines.specs.Lines.{fields};
 ghost use Rattle.text_carrying.specs.Carrying.{record_of};
-ghost use Rattle.text_reader.specs.Reader.{pair_is, idle, refusal, taken, line_turn, turn_of, filled};
+ghost use Rattle.text_reader.specs.Reader.{idle, refusal, taken, line_turn, turn_of, filled};
 
 use geometry::Entry;
-use text_decimals::Number;
 
 // How far the reader has come: the place of the next line, the records so far, the least key that the next one may
 // have, and the number of the line that is refused, 0 if none is.
@@ -26,33 +25,21 @@ pub struct Turn {
     pub spot: Spot,
 }
 
-// What a line is read as.
-#[derive(Clone, Copy)]
-pub enum Line {
-    Pair(Entry),
-    Nothing,
-}
-
 // The record of a line, if it fits the form.
-pub fn read_record(line: &[u8]) -> Line
-    ensures { pair_is result ≡ record_of (fields line.now) }
+pub fn read_record(line: &[u8]) -> Option<Entry>
+    ensures { result ≡ record_of (fields line.now) }
 {
-    let tab = text_lines::piece_end(line, 0, 9);
+    let tab = text_lines::piece_end(line, 0, b'\t');
     if line.len() <= tab {
-        return Line::Nothing;
+        return None;
     }
     let from = tab + 1;
-    let end = text_lines::piece_end(line, from, 9);
-    if end < line.len() {
-        return Line::Nothing;
+    if text_lines::piece_end(line, from, b'\t') < line.len() {
+        return None;
     }
-    let Number::Value(key) = text_decimals::parse_number(&line[..tab]) else {
-        return Line::Nothing;
-    };
-    let Number::Value(addr) = text_decimals::parse_number(&line[from..]) else {
-        return Line::Nothing;
-    };
-    Line::Pair(Entry { key, addr })
+    let key = text_decimals::parse_number(&line[..tab])?;
+    let addr = text_decimals::parse_number(&line[from..])?;
+    Some(Entry { key, addr })
 }
 
 // Nothing is read.
@@ -111,7 +98,7 @@ fn read_line(text: &[u8], s: Spot) -> Turn
     if text.len() <= end {
         return refuse(s);
     }
-    let Line::Pair(entry) = read_record(&text[at..end]) else {
+    let Some(entry) = read_record(&text[at..end]) else {
         return refuse(s);
     };
     take_record(s, end + 1, entry)
