@@ -9,12 +9,8 @@ use Rattle.geometry.specs.Tests.{pick}
 use Rattle.text_lines.specs.Lines.{pieces, fields, reach}
 use Rattle.text_lines.specs.Pieces.{reach_within, fields_more, fields_last}
 use Rattle.text_decimals.specs.Decimals.{number_of}
-use Rattle.text_decimals.specs.declared.Number.{Number}
-use Rattle.text_decimals.specs.declared.Number.TheVariants.{Value, Nothing}
-use Rattle.text_decimals.specs.Reading.{number_is}
 use Rattle.log_lines.specs.declared.Order.TheVariants.{Format, Insert, Delete, Lookup, Limited}
-use Rattle.log_lines.specs.declared.Line.{Line}
-use Rattle.log_lines.specs.declared.Line.TheVariants.{Of, Other}
+use Rattle.log_lines.specs.Line.{Line, Of, Other}
 use Rattle.log_lines.specs.Forms.{is_letter, given, form_of}
 
 -- ---- by the letter, after one, two and three numbers
@@ -130,22 +126,22 @@ module _ (s : List ℕ) (from end : ℕ) (e : end ≡ from + reach 9 (drop from 
         go [] R = refl
         go (y ∷ E) R = refl
 
-    module _ (n : Number) (is : number_is n ≡ number_of (take (end - from) (drop from s))) where
-      pub form_none : n ≡ Nothing → Other ≡ number_then one more (fields (drop from s))
-      unfolding number_is given number_then
+    module _ (n : Option ℕ) (is : n ≡ number_of (take (end - from) (drop from s))) where
+      pub form_none : n ≡ None → Other ≡ number_then one more (fields (drop from s))
+      unfolding given number_then
       form_none e = elim (dec_lt end (length s)) [
         | yes h ↦ sym (rw (field_more h, many, ← is, e) refl)
         | no h ↦ sym (rw (field_last (omega arith), ← is, e) refl)
       ]
 
-      pub form_more : (k : ℕ) (r : Line) → n ≡ Value k → end < length s → r ≡ more k (fields (drop (end + 1) s))
+      pub form_more : (k : ℕ) (r : Line) → n ≡ Some k → end < length s → r ≡ more k (fields (drop (end + 1) s))
           → r ≡ number_then one more (fields (drop from s))
-      unfolding number_is given
+      unfolding given
       form_more k r e h f = f ∙ sym (rw (field_more h, many, ← is, e) refl)
 
-      pub form_last : (k : ℕ) (r : Line) → n ≡ Value k → length s ≤ end → r ≡ one k → r ≡ number_then one more
+      pub form_last : (k : ℕ) (r : Line) → n ≡ Some k → length s ≤ end → r ≡ one k → r ≡ number_then one more
           (fields (drop from s))
-      unfolding number_is given number_then
+      unfolding given number_then
       form_last k r e h f = f ∙ sym (rw (field_last h, ← is, e) refl)
 
   -- a field too many

@@ -5,8 +5,7 @@ use Rattle.geometry.specs.Tests.{pick}
 use Rattle.text_lines.specs.Lines.{fields}
 use Rattle.text_decimals.specs.Decimals.{number_of}
 use Rattle.log_lines.specs.declared.Order.TheVariants.{Format, Insert, Delete, Lookup, Limited}
-use Rattle.log_lines.specs.declared.Line.{Line}
-use Rattle.log_lines.specs.declared.Line.TheVariants.{Of, Other}
+use Rattle.log_lines.specs.Line.{Line, Of, Other}
 
 -- a field that is one letter
 unfoldable pub is_letter : ℕ → List ℕ → Bool

@@ -9,8 +9,7 @@ use Rattle.text_lines.specs.Pieces.{joined, pieces_join}
 use Rattle.text_decimals.specs.Decimals.{number_of}
 use Rattle.text_decimals.specs.Back.{number_short}
 use Rattle.log_lines.specs.declared.Order.TheVariants.{Format, Insert, Delete, Lookup, Limited}
-use Rattle.log_lines.specs.declared.Line.{Line}
-use Rattle.log_lines.specs.declared.Line.TheVariants.{Of, Other}
+use Rattle.log_lines.specs.Line.{Line, Of, Other}
 use Rattle.log_lines.specs.Forms.{is_letter, given, form_of, parsed}
 
 abbrev pub longest : ℕ

@@ -6,12 +6,12 @@ ghost use Rattle.std.specs.Prelude.{◌≡◌, [], ◌+◌, ◌<◌, ◌≤◌, 
 ghost use Rattle.std.proofs.lemmas.List.Edits.{sets};
 ghost use Rattle.geometry.specs.Geometry.{small};
 ghost use Rattle.log_tally.specs.Counted.{Within};
-ghost use Rattle.log_lines.specs.declared.Line.TheVariants.{Of};
+ghost use Rattle.log_lines.specs.Line.{Of};
 ghost use Rattle.log_lines.specs.Replay.{error_line, form_at};
 ghost use Rattle.log_machine.specs.Machine.{close, feed, finish};
 ghost use Rattle.log_machine.specs.Run.{start_of, state_of, run_of, refused_run, longer_from, Steady};
 
-use log_lines::{Line, Order};
+use log_lines::Order;
 use log_tally::Tally;
 
 #[derive(Clone, Copy)]
@@ -94,7 +94,7 @@ fn close_line(img: &mut [u8], line: &[u8], out: &mut [u8], t: Tally, wrote: usiz
         return refuse(&mut *out, t, wrote);
     }
     let form = log_lines::parse_line(line);
-    let Line::Of(order) = form else {
+    let Some(order) = form else {
         return refuse(&mut *out, t, wrote);
     };
     answer(&mut *img, &mut *out, t, wrote, order)

@@ -13,8 +13,7 @@ use Rattle.geometry.specs.Shape.{shape_core, plain_core}
 use Rattle.model.specs.Calls.{Outcome}
 use Rattle.text_lines.specs.Lines.{lines}
 use Rattle.log_lines.specs.declared.Order.{Order}
-use Rattle.log_lines.specs.declared.Line.{Line}
-use Rattle.log_lines.specs.declared.Line.TheVariants.{Of, Other}
+use Rattle.log_lines.specs.Line.{Line, Of, Other}
 use Rattle.log_lines.specs.Replay.{error_after, form_after}
 use Rattle.compare_scores.specs.declared.Score.{Score}
 use Rattle.compare_scores.specs.Scores.{stops, is_update, counts, scored}

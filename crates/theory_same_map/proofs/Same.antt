@@ -7,7 +7,7 @@ use Rattle.geometry.specs.Geometry.{small, plain}
 use Rattle.text_lines.specs.Lines.{lines}
 use Rattle.log_lines.specs.declared.Order.{Order}
 use Rattle.log_lines.specs.declared.Order.TheVariants.{Format}
-use Rattle.log_lines.specs.declared.Line.TheVariants.{Of}
+use Rattle.log_lines.specs.Line.{Of}
 use Rattle.log_lines.specs.Replay.{form_after}
 use Rattle.compare_scores.specs.declared.Score.{Score}
 use Rattle.compare_scores.specs.Scores.{stops, none_yet, counts}

@@ -9,8 +9,7 @@ use Rattle.text_decimals.specs.Back.{number_most}
 use Rattle.theory_lists.specs.All.{All}
 use Rattle.log_lines.specs.declared.Order.{Order}
 use Rattle.log_lines.specs.declared.Order.TheVariants.{Format, Insert, Delete, Lookup, Limited}
-use Rattle.log_lines.specs.declared.Line.{Line}
-use Rattle.log_lines.specs.declared.Line.TheVariants.{Of, Other}
+use Rattle.log_lines.specs.Line.{Line, Of, Other}
 use Rattle.log_lines.specs.Forms.{is_letter, given, form_of, parsed}
 use Rattle.log_lines.specs.Replay.{most_lines, form_after}
 use Rattle.theory_same_map.specs.Words.{Fits, followed_by, orders_in}
