@@ -1,18 +1,18 @@
 // R7, R8, and the verdict: R1 to R8 in their order.
-#![tactic(auto)]
+#![tactic(auto, using(crate::proofs::Laws::verdict_laws))]
 
 ghost use Rattle.std.specs.Prelude.{◌≡◌, ◌+◌, ◌*◌, ◌-◌, ◌≤◌, ◌<◌, length};
-ghost use Rattle.geometry.specs.Findings.{Good};
+ghost use Rattle.geometry.specs.Findings.{Sound};
 ghost use Rattle.model.specs.Bytes.{erased, seq_at};
 ghost use Rattle.model.specs.Count.{any};
 ghost use Rattle.model.specs.Image.{chip_of};
-ghost use Rattle.model.specs.Rules.{r1, r7, r8, verdict};
+ghost use Rattle.model.specs.Rules.{r7, r8, or_else, verdict};
 ghost use Rattle.chip_survey.specs.Survey.{survey_of};
 ghost use Rattle.sound_numbers.specs.Ranges.{Shows, Ranges};
 ghost use Rattle.sound_sight.specs.Sight.{Told, Counted, Clear, Flaw};
 ghost use Rattle.live_walk.specs.Table.{Marked};
 ghost use Rattle.sound_links.specs.Loose.{Inside};
-ghost use Rattle.sound_verdict.specs.Verdict.{clearable, from2, from3, from4, from5, from6, from7, from8, Roomy, Surveyed, Tells, Never, Judged};
+ghost use Rattle.sound_verdict.specs.Verdict.{clearable, from3, from6, Roomy, Surveyed, Tells, Never, Judged};
 
 use chip_survey::Survey;
 use geometry::{Broken, Finding, Geometry, Verdict};
@@ -38,12 +38,10 @@ fn is_clearable(g: Geometry, img: &[u8], table: &[u8], block: u16, free: u32) ->
 fn some_clearable(g: Geometry, img: &[u8], table: &[u8], n: u16, free: u32) -> bool
     ensures { result ≡ any n (clearable g.pages (erased g img.now) table.now free) }
 {
-    let mut block: u16 = 0;
-    while block < n {
+    for block in 0..n {
         if is_clearable(g, img, table, block, free) {
             return true;
         }
-        block += 1;
     }
     false
 }
@@ -79,99 +77,27 @@ fn rule_8(g: Geometry, img: &[u8], table: &[u8], n: u16, survey: Survey) -> Find
     Err(0)
 }
 
-fn from_rule_8(g: Geometry, img: &[u8], table: &[u8], n: u16, survey: Survey) -> Verdict
-    requires surveyed { Surveyed g n img.now survey (length table.now) }
-    requires marked { Marked (chip_of g n img.now) table.now }
-    ensures { result ≡ from8 g n img.now }
+// A rule's finding, as what all rules find.
+fn tell(rule: u32, found: Finding) -> Verdict
+    ensures { result ≡ or_else rule found Sound }
 {
-    match rule_8(g, img, table, n, survey) {
-        Err(page) => Err(Broken { rule: 8, page }),
-        Ok(()) => Ok(()),
-    }
+    found.map_err(|page| Broken { rule, page })
 }
 
-// R7 and R8 are not asked of the plain tree.
-fn from_rule_7(g: Geometry, img: &[u8], table: &[u8], n: u16, survey: Survey) -> Verdict
-    requires surveyed { Surveyed g n img.now survey (length table.now) }
-    requires marked { Marked (chip_of g n img.now) table.now }
-    ensures { result ≡ from7 g n img.now }
-{
-    if g.table == Geometry::PLAIN_TABLE {
-        return Ok(());
-    }
-    match rule_7(g, img, table, n, survey) {
-        Err(page) => Err(Broken { rule: 7, page }),
-        Ok(()) => from_rule_8(g, img, table, n, survey),
-    }
-}
-
+// From R6 on, by the table that R5's walk left. R7 and R8 are not asked of the plain tree.
 fn from_rule_6(g: Geometry, img: &[u8], table: &[u8], n: u16, survey: Survey) -> Verdict
     requires surveyed { Surveyed g n img.now survey (length table.now) }
     requires marked { Marked (chip_of g n img.now) table.now }
     requires inside { Inside (chip_of g n img.now) (length table.now) }
     ensures { result ≡ from6 g n img.now }
 {
-    match sound_links::rule_6(
-        g,
-        img,
-        table,
-        chip_read::first_page(g, n),
-        survey.level,
-        survey.root,
-    ) {
-        Err(page) => Err(Broken { rule: 6, page }),
-        Ok(()) => from_rule_7(g, img, table, n, survey),
+    let pages = chip_read::first_page(g, n);
+    tell(6, sound_links::rule_6(g, img, table, pages, survey.level, survey.root))?;
+    if g.table == Geometry::PLAIN_TABLE {
+        return Ok(());
     }
-}
-
-fn from_rule_5(
-    g: Geometry,
-    img: &[u8],
-    table: &mut [u8],
-    n: u16,
-    survey: Survey,
-    programmed: &[u16],
-) -> Verdict
-    requires surveyed { Surveyed g n img.now survey (length table.old) }
-    requires counted { Counted g n img.now programmed.now }
-    requires n_in_bounds { n ≤ length programmed.now }
-    ensures value { (result ≡ from5 g n img.now) × Tells (chip_of g n img.now)
-        table.new result }
-    ensures table_len_unchanged { length table.new ≡ length table.old }
-{
-    match sound_nodes::rule_5(
-        g,
-        img,
-        &mut *table,
-        chip_read::first_page(g, n),
-        survey.level,
-        survey.root,
-        programmed,
-    ) {
-        Err(page) => Err(Broken { rule: 5, page }),
-        Ok(()) => from_rule_6(g, img, &*table, n, survey),
-    }
-}
-
-fn from_rule_4(
-    g: Geometry,
-    img: &[u8],
-    table: &mut [u8],
-    n: u16,
-    survey: Survey,
-    programmed: &[u16],
-) -> Verdict
-    requires surveyed { Surveyed g n img.now survey (length table.old) }
-    requires counted { Counted g n img.now programmed.now }
-    requires n_in_bounds { n ≤ length programmed.now }
-    ensures value { (result ≡ from4 g n img.now) × Tells (chip_of g n img.now)
-        table.new result }
-    ensures table_len_unchanged { length table.new ≡ length table.old }
-{
-    match chip_survey::rule_4(g, img, n, survey) {
-        Err(page) => Err(Broken { rule: 4, page }),
-        Ok(()) => from_rule_5(g, img, &mut *table, n, survey, programmed),
-    }
+    tell(7, rule_7(g, img, table, n, survey))?;
+    tell(8, rule_8(g, img, table, n, survey))
 }
 
 // From R3 on, by what the pass told.
@@ -195,22 +121,20 @@ fn from_rule_3(
         table.new result }
     ensures table_len_unchanged { length table.new ≡ length table.old }
 {
-    match sound_numbers::rule_3(g, img, n, rising, lows, highs) {
-        Err(page) => Err(Broken { rule: 3, page }),
-        Ok(()) => from_rule_4(g, img, &mut *table, n, survey, programmed),
-    }
-}
-
-// R2 of an image that it breaks.
-fn broken_order(g: Geometry, img: &[u8], n: u16) -> Verdict
-    requires flaw { Flaw g n img.now }
-    requires img_value { r1 g n img.now ≡ Good }
-    ensures { (result ≡ from2 g n img.now) × Never result }
-{
-    match sound_pages::rule_2(g, img, n) {
-        Err(page) => Err(Broken { rule: 2, page }),
-        Ok(()) => Err(Broken { rule: 2, page: 0 }),
-    }
+    tell(3, sound_numbers::rule_3(g, img, n, rising, lows, highs))?;
+    tell(4, chip_survey::rule_4(g, img, n, survey))?;
+    let pages = chip_read::first_page(g, n);
+    let nodes = sound_nodes::rule_5(
+        g,
+        img,
+        &mut *table,
+        pages,
+        survey.level,
+        survey.root,
+        programmed,
+    );
+    tell(5, nodes)?;
+    from_rule_6(g, img, &*table, n, survey)
 }
 
 // The verdict of an image that R1 or R2 breaks.
@@ -218,10 +142,8 @@ fn broken_pages(g: Geometry, img: &[u8], n: u16) -> Verdict
     requires { Flaw g n img.now }
     ensures { (result ≡ verdict g n img.now) × Never result }
 {
-    match sound_pages::rule_1(g, img, n) {
-        Err(page) => Err(Broken { rule: 1, page }),
-        Ok(()) => broken_order(g, img, n),
-    }
+    tell(1, sound_pages::rule_1(g, img, n))?;
+    tell(2, sound_pages::rule_2(g, img, n))
 }
 
 // Judges n blocks that R1 or R2 breaks.
