@@ -1,5 +1,5 @@
 // Descent with a key, and what stands under it.
-#![tactic(auto)]
+#![tactic(auto, using(crate::specs::Descents::descent_laws))]
 
 ghost use Rattle.std.specs.Prelude.{◌≡◌, ◌+◌, ◌-◌, ◌<◌};
 ghost use Rattle.model.specs.Bytes.{node_at};
@@ -16,11 +16,9 @@ pub fn leaf_page(g: Geometry, img: &[u8], level: u32, root: u32, key: u32) -> u3
     ensures { node_at g img.now result 1 ≡ leaf (node_at g img.now) key level (naming root) }
 {
     let mut page = root;
-    let mut below = level;
-    while 0 < below {
-        let entry = tree_search::chosen_entry(g, img, page, below + 1, key);
-        page = entry.addr;
-        below -= 1;
+    for below in (0..level).rev() {
+        // Of the node at level below + 2: the entry names the page of level below + 1.
+        page = tree_search::chosen_entry(g, img, page, below + 2, key).addr;
     }
     page
 }

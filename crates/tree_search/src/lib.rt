@@ -1,5 +1,5 @@
 // Searching inside a node. The only place that compares a key with the keys of a node.
-#![tactic(auto)]
+#![tactic(auto, using(crate::specs::Loops::search_laws))]
 
 ghost use Rattle.std.specs.Prelude.{◌≡◌, ◌+◌, ◌*◌, ◌-◌, ◌≤◌, ◌<◌};
 ghost use Rattle.model.specs.Bytes.{entries_at, node_at};
@@ -28,8 +28,9 @@ pub fn chosen_index(img: &[u8], at: usize, n: usize, key: u32) -> usize
     requires { at + 8 * n < 1152921504606846976 }
     ensures { (result ≡ place key (entries_at img.now at n)) × (result ≤ n - 1) }
 {
-    let mut low: usize = 0;
-    let mut high: usize = n;
+    let mut low = 0;
+    let mut high = n;
+    // Stays a while: each step halves, no range counts it.
     while low + 1 < high {
         let middle = low + (high - low) / 2;
         if key < chip_read::read_u32(img, at + 8 * middle) {
