@@ -1,7 +1,9 @@
 -- The walk that sets bits, in the form in which the code has the premises. Assumes nothing.
 use Rattle.std.specs.Prelude.{ℕ, zero, suc, ◌+◌, ◌-◌, ◌*◌, ◌/◌, ◌%◌, ◌^◌, ◌<◌, ◌≤◌, min, Bool, ◌≡◌, List, [], ◌∷◌, length, get_or, set, take}
 use Rattle.std.proofs.Math.Path.{refl, sym}
-use Rattle.std.proofs.Common.{ap, ◌∙◌, length-set, ext_get_or, arith, mod-eq_of_lt, one-mul, lt-ltb, le-ltb}
+use Rattle.std.proofs.lemmas.List.{length-take-le}
+use Rattle.std.proofs.lemmas.List.Edits.{fill_none, fill_more}
+use Rattle.std.proofs.Common.{ap, subst, ◌∙◌, ◌++◌, add-one, replicate, drop, length-set, ext_get_or, arith, mod-eq_of_lt, one-mul, lt-ltb, le-ltb}
 use Rattle.std.specs.Int.Bits.{bit_or}
 use Rattle.std.proofs.Math.Pow.{pow-lt}
 use Rattle.geometry.specs.declared.Geometry.{Geometry}
@@ -13,7 +15,7 @@ use Rattle.chip_read.specs.Chip.{naming, chip_with}
 use Rattle.live_walk.specs.Stops.{Steps, Walked, Going, leaves_at, walked_none, walked_out, walked_leaf, walked_end, walked_leaves, walked_root, going_turn, going_start, leaves_start, leaves_go, level_two}
 use Rattle.live_words.specs.Words.{word_of, word, words_of, filled}
 use Rattle.live_words.specs.Filled.{length_filled, filled_in, filled_past}
-use Rattle.live_fill.specs.LentWords.{fill_start, fill_go, fill_end, fill_long}
+use Rattle.live_fill.specs.LentWords.{fill_start, fill_go}
 use Rattle.live_tell.specs.Counts.{Counted, count_laws}
 use Rattle.live_tell.specs.Telling.{mark_one, mark_all, nowhere, marked_live}
 
@@ -103,26 +105,21 @@ unfolding word_of nowhere
 no_bits zero at = refl
 no_bits (suc n) at = rw (no_bits n (at + 1)) refl
 
-pub clear_start : (words : List ℕ) → words ≡ filled nowhere 0 words
-clear_start words = fill_start nowhere words
-
-pub clear_go : (words x : List ℕ) (i : ℕ) → x ≡ filled nowhere i words → set x i 0 ≡ filled nowhere (i + 1) words
+-- `fill` on the first k words
+fill_clears : (words : List ℕ) (k : ℕ) → k ≤ length words → replicate k 0 ++ drop k words ≡ filled nowhere k words
 unfolding word
-clear_go words x i e = fill_go nowhere words x (set x i 0) i (rw (no_bits 32 (32 * i)) refl) e
+fill_clears words zero h = sym (fill_none words 0) ∙ fill_start nowhere words
+fill_clears words (suc k) h =
+    let x : List ℕ = replicate k 0 ++ drop k words in
+    let P : ℕ → Type 0 = λ j. replicate j 0 ++ drop j words ≡ filled nowhere j words in
+    subst P (add-one k) (sym (fill_more k 0 words (omega arith))
+    ∙ fill_go nowhere words x (set x k 0) k (rw (no_bits 32 (32 * k)) refl) (fill_clears words k (omega arith)))
 
-pub clear_end : (words x : List ℕ) (i m : ℕ) → x ≡ filled nowhere i words → i ≤ m → m ≤ i → x ≡ filled nowhere m words
-clear_end words x i m e h k = fill_end nowhere words x i m e h k
-
-pub clear_long : (words x : List ℕ) (i : ℕ) → x ≡ filled nowhere i words → length x ≡ length words
-clear_long words x i e = fill_long nowhere words x i e
+pub cleared : (words z : List ℕ) (m : ℕ) → m ≤ length words → z ≡ replicate (length (take m words)) 0
+    → z ++ drop m words ≡ filled nowhere m words
+cleared words z m h e = rw (e, length-take-le m words h) (fill_clears words m h)
 
 -- ---- no more words than are lent
-pub within_all : (m n : ℕ) → m ≤ n → m ≡ min m n
-within_all m n h = omega arith
-
-pub within_lent : (m n : ℕ) → n < m → n ≡ min m n
-within_lent m n h = omega arith
-
 filled_within : (f : ℕ → Bool) (m : ℕ) (old : List ℕ) → filled f (min m (length old)) old ≡ filled f m old
 filled_within f m old =
     let k = min m (length old) in
@@ -145,4 +142,4 @@ told g img n l p w m r old t u ew em et x =
     ∙ ap (λ (k : ℕ). filled (live xs) k old) em ∙ filled_within (live xs) w old
     ∙ ap (λ (k : ℕ). filled (live xs) k old) ew
 
-pub ruleset telling_laws = (going_start, level_two, count_laws, one_bit, bit_set, mark_far, mark_in, marked_none, marked_out, marked_leaf, marked_leaves, marked_end, marked_turn, leaves_begin, leaves_turn, leaves_end, leaves_same, mark_same, marked_same, clear_start, clear_go, clear_end, clear_long, within_all, within_lent, told)
+pub ruleset telling_laws = (going_start, level_two, count_laws, one_bit, bit_set, mark_far, mark_in, marked_none, marked_out, marked_leaf, marked_leaves, marked_end, marked_turn, leaves_begin, leaves_turn, leaves_end, leaves_same, mark_same, marked_same, told)

@@ -1,8 +1,8 @@
 // The lent words of request 7 by one walk from a root: the image's words are cleared, then each page that the walk
 // meets sets its bit.
-#![tactic(auto)]
+#![tactic(auto, using(crate::specs::SettingBits::telling_laws))]
 
-ghost use Rattle.std.specs.Prelude.{◌≡◌, ◌+◌, ◌*◌, ◌^◌, ◌≤◌, ◌<◌, min, length, take};
+ghost use Rattle.std.specs.Prelude.{true, ◌≡◌, ◌+◌, ◌*◌, ◌^◌, ◌≤◌, ◌<◌, length, take};
 ghost use Rattle.std.specs.Int.Bits.{bit_or};
 ghost use Rattle.model.specs.Bytes.{u32_at};
 ghost use Rattle.model.specs.Tree.{places_of, live};
@@ -42,29 +42,15 @@ fn mark_page(lent: &mut [u32], m: usize, page: u32)
     lent[at] = with_bit(lent[at], page % 32);
 }
 
-// Marks the leaves that k entries from byte `at` name, all inside the image.
-fn mark_inside(img: &[u8], lent: &mut [u32], m: usize, at: usize, k: usize)
-    requires { (m ≤ length lent.old) × (k < 256) × (at + 8 * k ≤ length img.now) }
+// Marks the leaves that k entries from byte `at` name: INSIDE where all entries are known to stand in the image.
+fn mark_each<const INSIDE: bool>(img: &[u8], lent: &mut [u32], m: usize, at: usize, k: usize)
+    requires bounds { (m ≤ length lent.old) × (k < 256) × (at < 1125899906842624) }
+    requires inside { INSIDE ≡ true → at + 8 * k ≤ length img.now }
     ensures { lent.new ≡ mark_all m (leaves_at img.now at k) lent.old }
 {
-    let mut i: usize = 0;
-    while i < k {
-        let leaf = chip_read::raw_u32(img, at + 8 * i + 4);
+    for i in 0..k {
+        let leaf = live_walk::leaf_at::<INSIDE>(img, at + 8 * i + 4);
         mark_page(&mut *lent, m, leaf);
-        i += 1;
-    }
-}
-
-// The same where the image may end before the entries do.
-fn mark_across(img: &[u8], lent: &mut [u32], m: usize, at: usize, k: usize)
-    requires { (m ≤ length lent.old) × (k < 256) × (at < 1125899906842624) }
-    ensures { lent.new ≡ mark_all m (leaves_at img.now at k) lent.old }
-{
-    let mut i: usize = 0;
-    while i < k {
-        let leaf = chip_read::read_u32(img, at + 8 * i + 4);
-        mark_page(&mut *lent, m, leaf);
-        i += 1;
     }
 }
 
@@ -73,11 +59,11 @@ fn mark_entries(img: &[u8], lent: &mut [u32], m: usize, at: usize, k: usize)
     requires { (m ≤ length lent.old) × (k < 256) × (at < 1125899906842624) }
     ensures { lent.new ≡ mark_all m (leaves_at img.now at k) lent.old }
 {
-    if img.len() < at + 8 * k {
-        mark_across(img, &mut *lent, m, at, k);
+    if at + 8 * k <= img.len() {
+        mark_each::<true>(img, &mut *lent, m, at, k);
         return;
     }
-    mark_inside(img, &mut *lent, m, at, k);
+    mark_each::<false>(img, &mut *lent, m, at, k);
 }
 
 // Marks the node at level 2 of a page, n its count, and its leaves, no more than `left` nodes. Gives how many are left.
@@ -100,19 +86,6 @@ fn mark_leaves(
     live_walk::left_after(left - 1, k)
 }
 
-fn narrow(x: usize) -> u8
-    requires { x < 256 }
-    ensures { result ≡ x }
-{
-    x as u8
-}
-
-fn wide(b: u8) -> usize
-    ensures { (result ≡ b) × (result < 256) }
-{
-    b as usize
-}
-
 // The counts of the nodes at a level that n entries from byte `at` name. They are read before any of these nodes is
 // walked: so they come from memory side by side, and not one after another.
 fn counts_below(g: Geometry, img: &[u8], at: usize, n: usize, level: u32) -> [u8; 256]
@@ -121,11 +94,9 @@ fn counts_below(g: Geometry, img: &[u8], at: usize, n: usize, level: u32) -> [u8
     ensures result_len { length result ≡ 256 }
 {
     let mut counts: [u8; 256] = [0; 256];
-    let mut i: usize = 0;
-    while i < n {
+    for i in 0..n {
         let below = chip_read::read_u32(img, at + 8 * i + 4);
-        counts[i] = narrow(chip_read::node_count(g, img, below, level));
-        i += 1;
+        counts[i] = chip_read::node_count(g, img, below, level) as u8;
     }
     counts
 }
@@ -153,11 +124,8 @@ fn below_at(
     ensures count_bound { result.count < 256 }
 {
     let page = chip_read::read_u32(img, at + 8 * i + 4);
-    let count = wide(counts[i]);
-    Below {
-        page: page,
-        count: count,
-    }
+    let count = usize::from(counts[i]);
+    Below { page, count }
 }
 
 // Marks the node at a level of a page, n its count, and all that it reaches, no more than `left` nodes. Gives how many
@@ -192,8 +160,7 @@ fn mark_nodes(
     let at = chip_read::node_place(g, page, level);
     let counts = counts_below(g, img, at, n, level - 1);
     let mut more = left - 1;
-    let mut i: usize = 0;
-    while i < n {
+    for i in 0..n {
         let below = below_at(g, img, &counts, at, n, level - 1, i);
         more = mark_nodes(
             g,
@@ -205,7 +172,6 @@ fn mark_nodes(
             more,
             below.count,
         );
-        i += 1;
     }
     more
 }
@@ -215,22 +181,7 @@ fn clear(lent: &mut [u32], m: usize)
     requires { m ≤ length lent.old }
     ensures { lent.new ≡ filled nowhere m lent.old }
 {
-    let mut i: usize = 0;
-    while i < m {
-        lent[i] = 0;
-        i += 1;
-    }
-}
-
-// The words of an image of m that are lent.
-fn within(lent: &[u32], m: usize) -> usize
-    ensures { (result ≡ min m (length lent.now)) × (result ≤ length lent.now) }
-{
-    let n = lent.len();
-    if m <= n {
-        return m;
-    }
-    n
+    lent[..m].fill(0);
 }
 
 // The words of n blocks from a root on, by no more than 8,388,608 nodes: so a walk ends soon on every image.
@@ -239,7 +190,7 @@ pub fn tell_words(g: Geometry, img: &[u8], lent: &mut [u32], n: u16, level: u32,
     ensures { lent.new ≡ filled (live (take 8388608 (places_of (chip_with g img.now level root))))
         (words_of g n) lent.old }
 {
-    let m = within(&*lent, live_fill::words_of(g, n));
+    let m = live_fill::words_of(g, n).min(lent.len());
     clear(&mut *lent, m);
     let count = chip_read::node_count(g, img, root, level + 1);
     mark_nodes(g, img, &mut *lent, m, level + 1, root, 8388608, count);

@@ -1,0 +1,15 @@
+use Rattle.std.proofs.Common.{rules}
+use Rattle.live_tell.specs.SettingBits.{telling_laws}
+use Rattle.live_tell.proofs.+mark_nodes.Goals as goal
+
+pub returns-then-level-eq0 : goal.returns-then-level-eq0
+returns-then-level-eq0 t c = search (rules, telling_laws)
+
+pub returns-then-level-eq1 : goal.returns-then-level-eq1
+returns-then-level-eq1 t c = search (rules, telling_laws)
+
+pub loop-i-preserved : goal.loop-i-preserved
+loop-i-preserved t c = search (rules, telling_laws)
+
+pub returns : goal.returns
+returns t c = search (rules, telling_laws)
