@@ -1,6 +1,6 @@
 // What an update will need, read before it begins: whether the key is there, how many pages, whether the tree is too
 // high.
-#![tactic(auto)]
+#![tactic(auto, using(crate::specs::Planning::plan_laws))]
 
 ghost use Rattle.std.specs.Prelude.{◌≡◌, suc, ◌+◌, ◌*◌, ◌-◌, ◌≤◌, ◌<◌, eqb, length};
 ghost use Rattle.geometry.specs.Geometry.{half};
