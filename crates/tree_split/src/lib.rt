@@ -1,6 +1,6 @@
 // One step of an update's way up: a changed node goes on page N, its other half on a page alone, and what names them
 // stands above.
-#![tactic(auto)]
+#![tactic(auto, using(crate::specs::StepUp::step_laws))]
 
 ghost use Rattle.std.specs.Prelude.{◌≡◌, ◌+◌, ◌*◌, ◌-◌, ◌≤◌, ◌<◌, min, false};
 ghost use Rattle.geometry.specs.Geometry.{page_bytes};
