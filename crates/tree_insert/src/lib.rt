@@ -1,5 +1,5 @@
 // Insert's own stores: other halves, lower level first, then page N.
-#![tactic(auto)]
+#![tactic(auto, using(crate::specs::OwnStores::insertion_laws, crate::specs::Tie::tie_laws))]
 
 ghost use Rattle.std.specs.Prelude.{◌≡◌, ◌+◌, ◌≤◌, ◌<◌, max};
 ghost use Rattle.geometry.specs.Geometry.{page_bytes};
