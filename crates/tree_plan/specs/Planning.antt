@@ -2,6 +2,7 @@
 use Rattle.std.specs.Prelude.{ℕ, zero, suc, ◌+◌, ◌-◌, ◌*◌, ◌<◌, ◌≤◌, Bool, true, false, not, ◌≡◌, refl, List, eqb, length, Option}
 use Rattle.std.proofs.Common.{sym, ◌∙◌, arith, add-one, sub-one, lt-ltb, le-ltb, eq-eqb, ne_eqb}
 use Rattle.std.proofs.lemmas.Bool.{not-true, not-false}
+use Rattle.std.specs.Int.{from_bool}
 use Rattle.geometry.specs.declared.Geometry.{Geometry}
 use Rattle.geometry.specs.declared.Entry.{Entry}
 use Rattle.geometry.specs.Geometry.{half, root_slots}
@@ -111,17 +112,17 @@ pub fills_is : (g : Geometry) (l m t k s : ℕ) → s ≡ root_slots g l → t �
 unfolding fills
 fills_is g l m t k s es et ek h = sym (rw (lt-ltb l g.top (rw (← et, ← ek) h), es) (and_true _))
 
-pub more_yes : (n : ℕ) (b : Bool) → b ≡ true → n + 1 ≡ n + bit b
-more_yes n b e = rw e
+-- a test as a number
+pub bit_from : (b : Bool) → from_bool b ≡ bit b
+bit_from true = refl
+bit_from false = refl
 
-pub more_no : (n : ℕ) (b : Bool) → b ≡ false → n ≡ n + bit b
-more_no n b e = rw e (omega arith)
+pub bit_low : (b : Bool) → from_bool b ≤ 1
+bit_low true = omega arith
+bit_low false = omega arith
 
-pub pages_grow : (n : ℕ) (b : Bool) → b ≡ true → n + 2 ≡ suc (n + bit b)
-pages_grow n b e = rw e (omega arith)
-
-pub pages_stay : (n : ℕ) (b : Bool) → b ≡ false → n + 1 ≡ suc (n + bit b)
-pages_stay n b e = rw e (omega arith)
+pub more_is : (n x : ℕ) (b : Bool) → x ≡ from_bool b → n + x ≡ n + bit b
+more_is n x b e = rw (e, bit_from b)
 
 pub high_low : (g : Geometry) (l m k t : ℕ) (b : Bool) → k ≡ l → t ≡ g.top → (k ≡ t → ⊥) → false ≡ high g l m b
 unfolding high
@@ -161,4 +162,4 @@ planned g img l p k a x r m m' n grows h c ea ex em em' eg en few eh =
       some = omega arith;
     }
 
-pub ruleset plan_laws = (seek_leaf, seek_on, absent_no, absent_yes, full_is, run_end, run_loose, run_none, run_one, fills_top, fills_is, more_yes, more_no, pages_grow, pages_stay, high_low, high_loose, high_is, planned)
+pub ruleset plan_laws = (seek_leaf, seek_on, absent_no, absent_yes, full_is, run_end, run_loose, run_none, run_one, fills_top, fills_is, bit_from, bit_low, more_is, high_low, high_loose, high_is, planned)

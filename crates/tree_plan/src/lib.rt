@@ -1,6 +1,6 @@
 // What an update will need, read before it begins: whether the key is there, how many pages, whether the tree is too
 // high.
-#![tactic(auto)]
+#![tactic(auto, using(crate::specs::Planning::plan_laws))]
 
 ghost use Rattle.std.specs.Prelude.{◌≡◌, suc, ◌+◌, ◌*◌, ◌-◌, ◌≤◌, ◌<◌, eqb, length};
 ghost use Rattle.geometry.specs.Geometry.{half};
@@ -90,25 +90,12 @@ pub fn root_fills(g: Geometry, level: u32, m: usize) -> bool
     m == geometry::root_slots(g, level)
 }
 
-fn one_more(n: usize, more: bool) -> usize
-    requires { n < 65536 }
-    ensures { result ≡ n + bit more }
-{
-    if more {
-        return n + 1;
-    }
-    n
-}
-
 // One page, one for each split, and one more where the root grows.
 pub fn count_pages(splits: u32, grows: bool) -> u32
     requires { splits < 65536 }
     ensures { (result ≡ suc (splits + bit grows)) × (result ≤ splits + 2) }
 {
-    if grows {
-        return splits + 2;
-    }
-    splits + 1
+    splits + 1 + u32::from(grows)
 }
 
 // HEIGHT: the greatest height, a root with all its slots, and one entry more.
@@ -131,10 +118,7 @@ pub fn is_absent(g: Geometry, img: &[u8], key: u32, below: u32, e: Entry) -> boo
     ensures { result ≡ is_none (find_in key (leaf (node_at g img.now) key below e)) }
 {
     let r = seek(g, img, key, below, e);
-    match r {
-        Found::At(_) => false,
-        Found::Nothing => true,
-    }
+    matches!(r, Found::Nothing)
 }
 
 // The plan for a key under the root at a page with `level` levels below it.
@@ -146,7 +130,7 @@ pub fn make_plan(g: Geometry, img: &[u8], level: u32, root: u32, key: u32) -> Pl
     let x = tree_search::chosen_entry(g, img, root, level + 1, key);
     let r = count_splits(g, img, key, absent, level, x);
     let m = chip_read::node_count(g, img, root, level + 1);
-    let grows = root_fills(g, level + 1, one_more(m, r.gains));
+    let grows = root_fills(g, level + 1, m + usize::from(r.gains));
     let needs = count_pages(r.splits, grows);
     let high = too_high(g, level + 1, m, r.gains);
     Plan {
