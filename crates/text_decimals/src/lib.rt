@@ -1,5 +1,5 @@
 // Numbers in decimal: read from the bytes of a slice, and put into a lent buffer.
-#![tactic(auto)]
+#![tactic(auto, using(crate::specs::Reading::reading_laws))]
 
 ghost use Rattle.std.specs.Prelude.{◌≡◌, ◌+◌, ◌%◌, ◌<◌, ◌≤◌, length};
 ghost use Rattle.std.proofs.lemmas.List.Edits.{sets};
@@ -12,20 +12,13 @@ pub enum Number {
     Nothing,
 }
 
-fn wide(b: u8) -> u64
-    ensures { (result ≡ b) × (result < 256) }
-{
-    b as u64
-}
-
 // The value of digits, if all bytes are digits and it is not too large.
 fn digits_value(s: &[u8]) -> Number
     ensures { number_is result ≡ number_from 0 s.now }
 {
     let mut v: u64 = 0;
-    let mut i: usize = 0;
-    while i < s.len() {
-        let b = wide(s[i]);
+    for x in s {
+        let b = u64::from(*x);
         if b < 48 {
             return Number::Nothing;
         }
@@ -36,7 +29,6 @@ fn digits_value(s: &[u8]) -> Number
         if 4294967295 < v {
             return Number::Nothing;
         }
-        i += 1;
     }
     Number::Value(v as u32)
 }
@@ -52,7 +44,7 @@ pub fn parse_number(s: &[u8]) -> Number
     if n == 1 {
         return digits_value(s);
     }
-    if wide(s[0]) <= 48 {
+    if s[0] <= 48 {
         return Number::Nothing;
     }
     digits_value(s)
@@ -65,6 +57,7 @@ fn digit(n: u64) -> u8
 }
 
 // A number's digits from a place on. Gives the place after them. Nothing is put outside the buffer.
+#[tactic(auto, using(crate::specs::Back::decimal_one, crate::specs::Writing::writing_laws, crate::specs::Writing::decimal_long))]
 pub fn put_number(buf: &mut [u8], at: usize, n: u64) -> usize
     requires { at ≤ 9223372036854775807 }
     ensures place { result ≡ at + length (decimal n) }
