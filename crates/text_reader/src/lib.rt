@@ -1,8 +1,7 @@
 // The reader of request 13: lines of a text into a lent slice of key and address pairs, until one does not fit.
-#![tactic(auto)]
+#![tactic(auto, using(crate::specs::Reading::reader_laws))]
 
 ghost use Rattle.std.specs.Prelude.{◌≡◌, ◌+◌, ◌≤◌, ◌<◌, length};
-ghost use Rattle.geometry.specs.Bounds.{four_bytes};
 ghost use Rattle.text_lines.specs.Lines.{fields};
 ghost use Rattle.text_carrying.specs.Carrying.{record_of};
 ghost use Rattle.text_reader.specs.Reader.{pair_is, idle, refusal, taken, line_turn, turn_of, filled};
@@ -47,24 +46,13 @@ pub fn read_record(line: &[u8]) -> Line
     if end < line.len() {
         return Line::Nothing;
     }
-    let first = text_decimals::parse_number(&line[..tab]);
-    let Number::Value(key) = first else {
+    let Number::Value(key) = text_decimals::parse_number(&line[..tab]) else {
         return Line::Nothing;
     };
-    let second = text_decimals::parse_number(&line[from..]);
-    let Number::Value(addr) = second else {
+    let Number::Value(addr) = text_decimals::parse_number(&line[from..]) else {
         return Line::Nothing;
     };
-    Line::Pair(Entry {
-        key: key,
-        addr: addr,
-    })
-}
-
-fn wide(x: u32) -> u64
-    ensures { (result ≡ x) × (result < four_bytes) }
-{
-    x as u64
+    Line::Pair(Entry { key, addr })
 }
 
 // Nothing is read.
@@ -98,12 +86,12 @@ fn take_record(s: Spot, next: usize, entry: Entry) -> Turn
     requires { s.count < 4096 }
     ensures { result ≡ taken s next entry }
 {
-    let key = wide(entry.key);
+    let key = u64::from(entry.key);
     if key < s.low {
         return refuse(s);
     }
     Turn {
-        entry: entry,
+        entry,
         spot: Spot {
             at: next,
             count: s.count + 1,
@@ -123,8 +111,7 @@ fn read_line(text: &[u8], s: Spot) -> Turn
     if text.len() <= end {
         return refuse(s);
     }
-    let line = read_record(&text[at..end]);
-    let Line::Pair(entry) = line else {
+    let Line::Pair(entry) = read_record(&text[at..end]) else {
         return refuse(s);
     };
     take_record(s, end + 1, entry)
@@ -134,13 +121,7 @@ fn read_line(text: &[u8], s: Spot) -> Turn
 pub fn read_turn(text: &[u8], s: Spot) -> Turn
     ensures { result ≡ turn_of text.now s }
 {
-    if s.bad != 0 {
-        return stay(s);
-    }
-    if 4096 <= s.count {
-        return stay(s);
-    }
-    if text.len() <= s.at {
+    if s.bad != 0 || 4096 <= s.count || text.len() <= s.at {
         return stay(s);
     }
     read_line(text, s)
@@ -151,13 +132,11 @@ pub fn read_pairs(text: &[u8], pairs: &mut [Entry], n: usize, s: Spot) -> Spot
     requires { n ≤ length pairs.old }
     ensures { (result, pairs.new) ≡ filled text.now n s pairs.old }
 {
-    let mut i: usize = 0;
     let mut t = s;
-    while i < n {
+    for i in 0..n {
         let r = read_turn(text, t);
         pairs[i] = r.entry;
         t = r.spot;
-        i = i + 1;
     }
     t
 }
