@@ -1,5 +1,5 @@
 // A line of a day's log as an order.
-#![tactic(auto)]
+#![tactic(auto, using(crate::specs::FieldByField::letter_laws, crate::specs::FieldByField::line_laws))]
 
 ghost use Rattle.std.specs.Prelude.{◌≡◌, ◌≤◌, length, drop};
 ghost use Rattle.text_lines.specs.Lines.{fields};
