@@ -1,5 +1,5 @@
 -- Lookup, in the form in which the code has the premises. Assumes nothing.
-use Rattle.std.specs.Prelude.{ℕ, ◌≡◌, refl, List, Option}
+use Rattle.std.specs.Prelude.{ℕ, ◌≡◌, refl, List, Option, Some, None}
 use Rattle.std.proofs.Common.{sym, ◌∙◌}
 use Rattle.std.proofs.Math.Path.{ap}
 use Rattle.geometry.specs.declared.Geometry.{Geometry}
@@ -13,31 +13,28 @@ use Rattle.call_answers.specs.declared.Answer.TheVariants.{Done, Length, Absent}
 use Rattle.call_answers.specs.Answers.{told}
 use Rattle.chip_read.specs.Chip.{good_blocks, chip_with}
 use Rattle.chip_read.specs.Blocks.{some_blocks}
-use Rattle.tree_search.specs.declared.Found.{Found}
-use Rattle.tree_search.specs.declared.Found.TheVariants.{At, Nothing}
-use Rattle.tree_search.specs.Search.{found}
 use Rattle.sound_verdict.specs.declared.Judgement.{Judgement}
 use Rattle.sound_verdict.specs.Verdict.{Judged}
 use Rattle.sound_verdict.specs.InOrder.{roomy_few}
 use Rattle.chip_survey.specs.Pass.{chip_is}
 use Rattle.call_judged.specs.Judging.{judged_broken, judged_rest, judged_length, judged_blocks}
 
-unfoldable pub answer_of : Found → Answer
-answer_of (At a) = Done a 0 0
-answer_of Nothing = Absent
+unfoldable pub answer_of : Option ℕ → Answer
+answer_of (Some a) = Done a 0 0
+answer_of None = Absent
 
-pub answer_at : (f : Found) (a : ℕ) → f ≡ At a → Done a 0 0 ≡ answer_of f
+pub answer_at : (f : Option ℕ) (a : ℕ) → f ≡ Some a → Done a 0 0 ≡ answer_of f
 unfolding answer_of
 answer_at f a e = sym (rw e refl)
 
-pub answer_none : (f : Found) → f ≡ Nothing → Absent ≡ answer_of f
+pub answer_none : (f : Option ℕ) → f ≡ None → Absent ≡ answer_of f
 unfolding answer_of
 answer_none f e = sym (rw e refl)
 
-pub answer_tells : (f : Found) (img : List ℕ) → told (answer_of f) img ≡ answered (found f) img
-unfolding answer_of answered found
-answer_tells (At a) img = refl
-answer_tells Nothing img = refl
+pub answer_tells : (f : Option ℕ) (img : List ℕ) → told (answer_of f) img ≡ answered f img
+unfolding answer_of answered
+answer_tells (Some a) img = refl
+answer_tells None img = refl
 
 -- a judgement of n blocks, whatever table came with it
 pub record Weighed (g : Geometry) (n : ℕ) (img : List ℕ) (j : Judgement) : Type 0 where
@@ -55,12 +52,12 @@ module _ (g : Geometry) (n : ℕ) (img : List ℕ) (k : ℕ) (j : Judgement) (x 
   lookup_broken a r p e h =
       judged_broken g n img (damaged img) _ j x.before x.after x.judged (told a img) r p e h
 
-  pub lookup_done : (f : Found) (a : Answer) → j.verdict ≡ Sound → found f ≡ sought (chip_with g img j.survey.level
+  pub lookup_done : (f : Option ℕ) (a : Answer) → j.verdict ≡ Sound → f ≡ sought (chip_with g img j.survey.level
       j.survey.root) k
       → a ≡ answer_of f → told a img ≡ by_verdict (verdict g n img) (damaged img)
       (answered (sought (chip_of g n img) k) img)
   lookup_done f a e ef ea =
-      let c : found f ≡ sought (chip_of g n img) k =
+      let c : f ≡ sought (chip_of g n img) k =
       ef ∙ ap (λ (y : Chip). sought y k) (chip_is g n img j.survey x.judged.survey) in
       judged_rest g n img (damaged img) _ j x.before x.after x.judged (told a img)
       (ap (λ (y : Answer). told y img) ea ∙ answer_tells f img ∙ ap (λ (y : Option ℕ). answered y img) c) e

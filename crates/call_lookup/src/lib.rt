@@ -12,15 +12,14 @@ ghost use Rattle.call_lookup.specs.Lookup.{answer_of, Weighed};
 use call_answers::Answer;
 use geometry::{Broken, Geometry};
 use sound_verdict::Judgement;
-use tree_search::Found;
 
 // The answer to what stands under a key.
-pub fn answer(found: Found) -> Answer
+pub fn answer(found: Option<u32>) -> Answer
     ensures { result ≡ answer_of found }
 {
     match found {
-        Found::At(address) => Answer::Done(address, 0, 0),
-        Found::Nothing => Answer::Absent,
+        Some(address) => Answer::Done(address, 0, 0),
+        None => Answer::Absent,
     }
 }
 

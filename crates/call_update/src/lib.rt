@@ -26,7 +26,6 @@ use chip_survey::Survey;
 use geometry::{Broken, Geometry};
 use open_record::Opened;
 use tree_root::Own;
-use tree_search::Found;
 
 // The insert of a key and an address, or the delete of a key.
 #[derive(Clone, Copy)]
@@ -64,8 +63,8 @@ fn is_absent(g: Geometry, img: &[u8], o: Opened, key: u32) -> bool
 {
     let level = chip_survey::level_by(g, o.height);
     match tree_descent::find_key(g, img, level, o.root, key) {
-        Found::At(_) => false,
-        Found::Nothing => true,
+        Some(_) => false,
+        None => true,
     }
 }
 

@@ -17,8 +17,6 @@ use Rattle.call_answers.specs.declared.Answer.TheVariants.{Done, Length, Damaged
 use Rattle.call_answers.specs.Answers.{told}
 use Rattle.chip_read.specs.Chip.{good_blocks, chip_with}
 use Rattle.chip_read.specs.Blocks.{none_good, some_good, some_blocks}
-use Rattle.tree_search.specs.declared.Found.{Found}
-use Rattle.tree_search.specs.Search.{found}
 use Rattle.chip_survey.specs.Survey.{survey_of}
 use Rattle.sound_verdict.specs.declared.Judgement.{Judgement}
 use Rattle.sound_verdict.specs.Verdict.{Judged}
@@ -108,12 +106,12 @@ module _ (g : Geometry) (img : List ℕ) (o : Opened) (n : ℕ) (en : n ≡ good
       unfolding lookup_with
       lookup_stale f = call_stale s es h (refused 1 img) (refused 8 img) _ f
 
-      pub lookup_sought : (l : ℕ) (f : Found) (a : Answer) → l ≡ min (height_at g img o.root - 1) (g.top - 1)
-          → found f ≡ sought (chip_with g img l o.root) k
+      pub lookup_sought : (l : ℕ) (f : Option ℕ) (a : Answer) → l ≡ min (height_at g img o.root - 1) (g.top - 1)
+          → f ≡ sought (chip_with g img l o.root) k
           → a ≡ answer_of f → not s ≡ false → told a img ≡ lookup_with g img o k
       unfolding lookup_with
       lookup_sought l f a el ef ea e =
-          let c : found f ≡ sought (chip_by g img o) k =
+          let c : f ≡ sought (chip_by g img o) k =
           ef ∙ ap (λ (m : ℕ). sought (chip_with g img m o.root) k) (call_level s es h l el e) in
           ap (λ (y : Answer). told y img) ea ∙ answer_tells f img ∙ ap (λ (y : Option ℕ). answered y img) c
           ∙ call_rest s es h (refused 1 img) (refused 8 img) _ e

@@ -1,5 +1,5 @@
 -- Counting the levels that a delete empties, in the form in which the code has the premises. Assumes nothing.
-use Rattle.std.specs.Prelude.{ℕ, zero, suc, ◌+◌, ◌-◌, ◌<◌, Bool, true, false, ◌≡◌, refl, List, [], ◌∷◌, eqb, None, Some}
+use Rattle.std.specs.Prelude.{ℕ, zero, suc, ◌+◌, ◌-◌, ◌<◌, Bool, true, false, ◌≡◌, refl, List, [], ◌∷◌, eqb, None, Some, Option}
 use Rattle.std.proofs.Math.Path.{sym, ap}
 use Rattle.std.proofs.Common.{◌∙◌, length-append, arith, add-one, sub-one}
 use Rattle.std.proofs.Math.ListN.{length}
@@ -17,9 +17,6 @@ use Rattle.model.specs.Plain.{none_left, emptied}
 use Rattle.theory_counts.specs.Tally.{count_same}
 use Rattle.chip_read.specs.Chip.{chip_with}
 use Rattle.chip_read.specs.Node.{node_length}
-use Rattle.tree_search.specs.declared.Found.{Found}
-use Rattle.tree_search.specs.declared.Found.TheVariants.{At, Nothing}
-use Rattle.tree_search.specs.Search.{found}
 use Rattle.tree_path.specs.Paths.{path_top, path_below}
 use Rattle.plain_calls.specs.declared.Loss.{Loss}
 use Rattle.plain_calls.specs.Counts.{less_of, emptied_below, Loses, Sheds}
@@ -76,12 +73,12 @@ remove_missing k (e ∷ es) h = let x = chosen k (e ∷ es) in
 pub less_none : (n : ℕ) → n ≡ 0 → 0 ≡ n - 1
 less_none n h = omega arith
 
-module _ (g : Geometry) (img : List ℕ) (k : ℕ) (e : Entry) (f : Found) (ef : found f ≡ find_in k
+module _ (g : Geometry) (img : List ℕ) (k : ℕ) (e : Entry) (f : Option ℕ) (ef : f ≡ find_in k
     (node_at g img e.addr 1)) (n : ℕ)
     (en : n ≡ node_count g img e.addr 1) where
-  pub leaf_there : (m a : ℕ) → m ≡ n - 1 → f ≡ At a → Loses g img k 0 e
+  pub leaf_there : (m a : ℕ) → m ≡ n - 1 → f ≡ Some a → Loses g img k 0 e
       (record { absent = false; emptied = 0; left = m })
-  unfolding leaf edited count found
+  unfolding leaf edited count
   leaf_there m a em q =
       let there : find_in k (node_at g img e.addr 1) ≡ Some a = sym ef ∙ rw q in
       record {
@@ -91,8 +88,8 @@ module _ (g : Geometry) (img : List ℕ) (k : ℕ) (e : Entry) (f : Found) (ef :
         few = omega arith;
       }
 
-  pub leaf_missing : f ≡ Nothing → Loses g img k 0 e (record { absent = true; emptied = 0; left = n })
-  unfolding leaf edited count found
+  pub leaf_missing : f ≡ None → Loses g img k 0 e (record { absent = true; emptied = 0; left = n })
+  unfolding leaf edited count
   leaf_missing q =
       let missing : find_in k (node_at g img e.addr 1) ≡ None = sym ef ∙ rw q in
       record {

@@ -20,7 +20,6 @@ use call_answers::Answer;
 use chip_survey::Survey;
 use geometry::{Broken, Entry, Geometry};
 use tree_plan::Run;
-use tree_search::Found;
 
 // What a delete does to the node that an entry names: whether its key is absent, how many levels below are emptied, the
 // entries left.
@@ -172,12 +171,12 @@ fn leaf_loss(g: Geometry, img: &[u8], key: u32, e: Entry) -> Loss
 {
     let n = chip_read::node_count(g, img, e.addr, 1);
     match tree_search::find_key(g, img, e.addr, 1, key) {
-        Found::At(_) => Loss {
+        Some(_) => Loss {
             absent: false,
             emptied: 0,
             left: one_less(n),
         },
-        Found::Nothing => Loss {
+        None => Loss {
             absent: true,
             emptied: 0,
             left: n,

@@ -5,10 +5,8 @@ ghost use Rattle.std.specs.Prelude.{◌≡◌, ◌+◌, ◌-◌, ◌<◌};
 ghost use Rattle.model.specs.Bytes.{node_at};
 ghost use Rattle.model.specs.Tree.{leaf, sought};
 ghost use Rattle.chip_read.specs.Chip.{naming, chip_with};
-ghost use Rattle.tree_search.specs.Search.{found};
 
 use geometry::Geometry;
-use tree_search::Found;
 
 // The page of the leaf where descent with a key ends.
 pub fn leaf_page(g: Geometry, img: &[u8], level: u32, root: u32, key: u32) -> u32
@@ -24,9 +22,9 @@ pub fn leaf_page(g: Geometry, img: &[u8], level: u32, root: u32, key: u32) -> u3
 }
 
 // What stands under a key.
-pub fn find_key(g: Geometry, img: &[u8], level: u32, root: u32, key: u32) -> Found
+pub fn find_key(g: Geometry, img: &[u8], level: u32, root: u32, key: u32) -> Option<u32>
     requires { level < 255 }
-    ensures { found result ≡ sought (chip_with g img.now level root) key }
+    ensures { result ≡ sought (chip_with g img.now level root) key }
 {
     let page = leaf_page(g, img, level, root, key);
     tree_search::find_key(g, img, page, 1, key)

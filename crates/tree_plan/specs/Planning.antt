@@ -1,5 +1,5 @@
 -- Laws of plans, in the form in which the code has the premises. Assumes nothing.
-use Rattle.std.specs.Prelude.{ℕ, zero, suc, ◌+◌, ◌-◌, ◌*◌, ◌<◌, ◌≤◌, Bool, true, false, not, ◌≡◌, refl, List, eqb, length, Option}
+use Rattle.std.specs.Prelude.{ℕ, zero, suc, ◌+◌, ◌-◌, ◌*◌, ◌<◌, ◌≤◌, Bool, true, false, not, ◌≡◌, refl, List, eqb, length, Option, Some, None}
 use Rattle.std.proofs.Common.{sym, ◌∙◌, arith, add-one, sub-one, lt-ltb, le-ltb, eq-eqb, ne_eqb}
 use Rattle.std.proofs.lemmas.Bool.{not-true, not-false}
 use Rattle.std.specs.Int.{from_bool}
@@ -13,33 +13,28 @@ use Rattle.model.specs.Edit.{gains, splits}
 use Rattle.model.specs.Update.{is_none, fills, needs, too_high, root_gains}
 use Rattle.chip_read.specs.Chip.{chip_with}
 use Rattle.chip_read.specs.Node.{node_length}
-use Rattle.tree_search.specs.declared.Found.{Found}
-use Rattle.tree_search.specs.declared.Found.TheVariants.{At, Nothing}
-use Rattle.tree_search.specs.Search.{found}
 use Rattle.tree_plan.specs.declared.Run.{Run}
 use Rattle.tree_plan.specs.Plan.{high, Counts, Plans}
 
 -- ---- seek
-pub seek_leaf : (g : Geometry) (img : List ℕ) (k l : ℕ) (e : Entry) (r : Found) → found r ≡ find_in k
+pub seek_leaf : (g : Geometry) (img : List ℕ) (k l : ℕ) (e : Entry) (r : Option ℕ) → r ≡ find_in k
     (node_at g img e.addr 1) → l ≡ 0
-    → found r ≡ find_in k (leaf (node_at g img) k l e)
+    → r ≡ find_in k (leaf (node_at g img) k l e)
 unfolding leaf
 seek_leaf g img k zero e r er z = er
 seek_leaf g img k (suc l) e r er z = absurd (omega arith)
 
-pub seek_on : (g : Geometry) (img : List ℕ) (k l : ℕ) (e x : Entry) (r : Found) → found r ≡ find_in k
+pub seek_on : (g : Geometry) (img : List ℕ) (k l : ℕ) (e x : Entry) (r : Option ℕ) → r ≡ find_in k
     (leaf (node_at g img) k (l - 1) x) → x ≡ chosen k (node_at g img e.addr (l + 1)) → (l ≡ 0 → ⊥)
-    → found r ≡ find_in k (leaf (node_at g img) k l e)
+    → r ≡ find_in k (leaf (node_at g img) k l e)
 unfolding leaf
 seek_on g img k zero e x r er ex z = absurd (z refl)
 seek_on g img k (suc l) e x r er ex z = rw sub-one at er ∙ rw (ex, add-one)
 
-pub absent_no : (o : Option ℕ) (f : Found) (a : ℕ) → found f ≡ o → f ≡ At a → false ≡ is_none o
-unfolding found
+pub absent_no : (o : Option ℕ) (f : Option ℕ) (a : ℕ) → f ≡ o → f ≡ Some a → false ≡ is_none o
 absent_no o f a e q = rw (← e, q)
 
-pub absent_yes : (o : Option ℕ) (f : Found) → found f ≡ o → f ≡ Nothing → true ≡ is_none o
-unfolding found
+pub absent_yes : (o : Option ℕ) (f : Option ℕ) → f ≡ o → f ≡ None → true ≡ is_none o
 absent_yes o f e q = rw (← e, q)
 
 -- ---- run

@@ -8,12 +8,10 @@ ghost use Rattle.model.specs.Bytes.{node_at};
 ghost use Rattle.model.specs.Tree.{leaf, find_in};
 ghost use Rattle.geometry.specs.Tests.{bit};
 ghost use Rattle.model.specs.Update.{is_none, fills};
-ghost use Rattle.tree_search.specs.Search.{found};
 ghost use Rattle.chip_read.specs.Chip.{chip_with};
 ghost use Rattle.tree_plan.specs.Plan.{high, Counts, Plans};
 
 use geometry::{Entry, Geometry};
-use tree_search::Found;
 
 // How many nodes of a path split, and whether the entry above it gives way to two.
 #[derive(Clone, Copy)]
@@ -31,9 +29,9 @@ pub struct Plan {
 }
 
 // What lookup finds of a key, from the entry e with `below` levels under its node.
-pub fn seek(g: Geometry, img: &[u8], key: u32, below: u32, e: Entry) -> Found
+pub fn seek(g: Geometry, img: &[u8], key: u32, below: u32, e: Entry) -> Option<u32>
     requires { below < 256 }
-    ensures { found result ≡ find_in key (leaf (node_at g img.now) key below e) }
+    ensures { result ≡ find_in key (leaf (node_at g img.now) key below e) }
 {
     if below == 0 {
         return tree_search::find_key(g, img, e.addr, 1, key);
@@ -118,7 +116,7 @@ pub fn is_absent(g: Geometry, img: &[u8], key: u32, below: u32, e: Entry) -> boo
     ensures { result ≡ is_none (find_in key (leaf (node_at g img.now) key below e)) }
 {
     let r = seek(g, img, key, below, e);
-    matches!(r, Found::Nothing)
+    r.is_none()
 }
 
 // The plan for a key under the root at a page with `level` levels below it.

@@ -3,8 +3,6 @@ use Rattle.std.specs.Prelude.{ℕ, suc, List, [], ◌∷◌, Bool, false, eqb, l
 use Rattle.geometry.specs.declared.Entry.{Entry}
 use Rattle.geometry.specs.Tests.{pick}
 use Rattle.model.specs.Tree.{place, chosen}
-use Rattle.tree_search.specs.declared.Found.{Found}
-use Rattle.tree_search.specs.declared.Found.TheVariants.{At, Nothing}
 
 -- after the entry that descent takes where its key is below k, else there
 unfoldable pub ahead : ℕ → List Entry → ℕ
@@ -16,7 +14,3 @@ unfoldable pub holds : ℕ → List Entry → Bool
 holds k [] = false
 holds k (e ∷ es) = eqb (chosen k (e ∷ es)).key k
 
--- what the code's answer says
-unfoldable pub found : Found → Option ℕ
-found (At a) = Some a
-found Nothing = None
