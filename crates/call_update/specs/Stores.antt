@@ -1,5 +1,5 @@
 -- The stores of an update, in the form in which the code has the premises. Assumes nothing.
-use Rattle.std.specs.Prelude.{ℕ, suc, ◌+◌, ◌-◌, ◌<◌, ◌≤◌, Bool, true, false, ◌≡◌, refl, List, [], ◌∷◌, Some, None, Option}
+use Rattle.std.specs.Prelude.{ℕ, suc, ◌+◌, ◌-◌, ◌<◌, ◌≤◌, Bool, true, false, ◌≡◌, refl, List, [], ◌∷◌, Some, None, Option, is_none}
 use Rattle.std.proofs.Math.Path.{sym}
 use Rattle.std.proofs.Common.{ap, subst, ◌∙◌, arith, ltb-true}
 use Rattle.geometry.specs.declared.Geometry.{Geometry}
@@ -7,7 +7,7 @@ use Rattle.geometry.specs.Tests.{pick, and_left}
 use Rattle.model.specs.Image.{Chip}
 use Rattle.model.specs.Stores.{Store}
 use Rattle.model.specs.Tree.{sought}
-use Rattle.model.specs.Update.{is_none, fills, crown_height}
+use Rattle.model.specs.Update.{fills, crown_height}
 use Rattle.call_answers.specs.declared.Answer.TheVariants.{Height, Absent}
 use Rattle.call_answers.specs.Answers.{told}
 use Rattle.chip_read.specs.Chip.{chip_with}

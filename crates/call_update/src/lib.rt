@@ -1,11 +1,10 @@
 // An update (insert or delete) with lent words of live pages: refused, or made under its allowance. Judged first.
 #![tactic(auto)]
 
-ghost use Rattle.std.specs.Prelude.{◌≡◌, ◌+◌, ◌≤◌, ◌<◌, length};
+ghost use Rattle.std.specs.Prelude.{◌≡◌, ◌+◌, ◌≤◌, ◌<◌, length, is_none};
 ghost use Rattle.geometry.specs.Shape.{Known};
 ghost use Rattle.chip_store.specs.Run.{Countable};
 ghost use Rattle.model.specs.Tree.{sought};
-ghost use Rattle.model.specs.Update.{is_none};
 ghost use Rattle.call_answers.specs.Answers.{told};
 ghost use Rattle.chip_read.specs.Chip.{good_blocks};
 ghost use Rattle.call_account.specs.Account.{Sized, Makes};

@@ -1,6 +1,6 @@
 -- "Answer numbers": the calls on every image. Each gives its answer, address, counts, rule, page and the image
 -- afterwards. Definitions alone; assumes nothing.
-use Rattle.std.specs.Prelude.{ℕ, ◌+◌, ◌-◌, ◌*◌, Bool, List, leb, ltb, length, take, None, Option, Some, Err}
+use Rattle.std.specs.Prelude.{ℕ, ◌+◌, ◌-◌, ◌*◌, Bool, List, leb, ltb, length, take, None, Option, Some, Err, is_none}
 use Rattle.geometry.specs.declared.Geometry.{Geometry}
 use Rattle.geometry.specs.Findings.{Verdict, Sound}
 use Rattle.geometry.specs.declared.Patrol.{Patrol}
@@ -12,7 +12,7 @@ use Rattle.model.specs.Image.{Chip, chip_of, pages_of, blocks_of, good_length, m
 use Rattle.model.specs.Tree.{sought, live_pages}
 use Rattle.model.specs.Rules.{verdict}
 use Rattle.model.specs.Stores.{Store, apply_all, programs, erases}
-use Rattle.model.specs.Update.{is_none, needs, too_high, insert_stores, delete_stores, format_stores}
+use Rattle.model.specs.Update.{needs, too_high, insert_stores, delete_stores, format_stores}
 
 pub record Outcome : Type 0 where
   pub answer : ℕ

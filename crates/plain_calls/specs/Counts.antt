@@ -1,5 +1,5 @@
 -- What an update of the plain tree counts before its stores, on every image. Definitions alone; assumes nothing.
-use Rattle.std.specs.Prelude.{ℕ, suc, ◌≤◌, ◌≡◌, List, length}
+use Rattle.std.specs.Prelude.{ℕ, suc, ◌≤◌, ◌≡◌, List, length, is_none}
 use Rattle.geometry.specs.declared.Geometry.{Geometry}
 use Rattle.geometry.specs.declared.Entry.{Entry}
 use Rattle.model.specs.Bytes.{node_at}
@@ -7,7 +7,7 @@ use Rattle.model.specs.Count.{count}
 use Rattle.model.specs.Image.{Nodes, Chip}
 use Rattle.model.specs.Tree.{leaf, find_in, sought}
 use Rattle.model.specs.Edit.{remove_in, kept, edited, on_path}
-use Rattle.model.specs.Update.{is_none, delete_list}
+use Rattle.model.specs.Update.{delete_list}
 use Rattle.model.specs.Plain.{plain_cuts, plain_grows, none_left, emptied}
 use Rattle.tree_plan.specs.declared.Run.{Run}
 use Rattle.plain_calls.specs.declared.Loss.{Loss}

@@ -1,5 +1,5 @@
 -- The plain tree's calls, in the form in which the code has the premises. Assumes nothing.
-use Rattle.std.specs.Prelude.{ℕ, suc, ◌+◌, ◌-◌, ◌<◌, ◌≤◌, Bool, true, false, ◌≡◌, refl, List, eqb, leb, ltb}
+use Rattle.std.specs.Prelude.{ℕ, suc, ◌+◌, ◌-◌, ◌<◌, ◌≤◌, Bool, true, false, ◌≡◌, refl, List, eqb, leb, ltb, is_none}
 use Rattle.std.proofs.Math.Path.{sym, ap}
 use Rattle.std.proofs.Common.{subst, ◌∙◌, arith, add-one, Fits}
 use borrow.Author.Tests.{lt-ltb, le-ltb, lt-leb, le-leb, eq-eqb, ne_eqb}
@@ -15,7 +15,6 @@ use Rattle.model.specs.Count.{count}
 use Rattle.model.specs.Image.{Chip, chip_of, pages_of, max_seq}
 use Rattle.model.specs.Tree.{leaf, find_in}
 use Rattle.model.specs.Calls.{Outcome, refused, damaged, judged_call, worn, format, lookup}
-use Rattle.model.specs.Update.{is_none}
 use Rattle.model.specs.Stores.{Store}
 use Rattle.model.specs.Plain.{plain_cuts, plain_grows, plain_high, plain_needs, plain_roomless, plain_insert_rest, plain_insert}
 use Rattle.model.specs.Plain.{emptied, plain_shrinks, plain_leaves, plain_delete_rest, plain_delete}

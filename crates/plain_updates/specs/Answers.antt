@@ -1,7 +1,7 @@
 -- The plain tree's calls (request 12) under demands 1 and 2, in the demands' words: which answers they give, and what
 -- those say of the map. Which number is given where several apply, the definitions say: LENGTH, DAMAGED, WORN, ABSENT,
 -- HEIGHT, ROOM, STOPPED, the first that applies. Assumes nothing.
-use Rattle.std.specs.Prelude.{◌≡◌, refl, List, [], ◌∷◌, Bool, false, ◌⊎◌, ℕ, ◌<◌, ◌≤◌, None, Option, Some}
+use Rattle.std.specs.Prelude.{◌≡◌, refl, List, [], ◌∷◌, Bool, false, ◌⊎◌, ℕ, ◌<◌, ◌≤◌, None, Option, Some, is_none}
 use Rattle.std.proofs.Math.Path.{ap}
 use Rattle.std.proofs.Common.{sym, subst, ◌∙◌, inl, inr}
 use Rattle.std.proofs.Math.Bool.{true}
@@ -11,7 +11,6 @@ use Rattle.geometry.specs.Tests.{pick, bit, and_right}
 use Rattle.geometry.specs.Bounds.{four_bytes}
 use Rattle.model.specs.Image.{blocks_of, Chip, chip_of}
 use Rattle.model.specs.Tree.{find, sought}
-use Rattle.model.specs.Update.{is_none}
 use Rattle.model.specs.Calls.{Outcome, refused, made, worn}
 use Rattle.model.specs.Plain.{plain_high, plain_insert_stores, plain_needs, plain_insert_rest, plain_insert}
 use Rattle.model.specs.Plain.{plain_roomless, plain_delete_stores, plain_leaves, plain_delete_rest, plain_delete}

@@ -1,6 +1,6 @@
 -- The bad builds that document 01 names, excluded on a formatted image: no single answer fits, and a finished insertion
 -- has written. An update that has room finishes if its allowance is large enough. Assumes nothing.
-use Rattle.std.specs.Prelude.{◌≡◌, true, ltb, Option, Some}
+use Rattle.std.specs.Prelude.{◌≡◌, true, ltb, Option, Some, is_none}
 use Rattle.std.proofs.Math.Path.{refl, ap}
 use Rattle.std.proofs.Common.{sym, subst, ◌∙◌, arith}
 use mathlib.Core.List.{List, [], ◌∷◌}
@@ -20,7 +20,7 @@ use Rattle.model.specs.Image.{blocks_of, good_length, pages_of, max_seq, Chip, c
 use Rattle.model.specs.Tree.{live_pages, chosen, find, sought}
 use Rattle.model.specs.Stores.{Store, program, erase, programs, erases}
 use Rattle.model.specs.Edit.{put}
-use Rattle.model.specs.Update.{is_none, root_node, root_gains, fills, needs, too_high, insert_stores, delete_stores}
+use Rattle.model.specs.Update.{root_node, root_gains, fills, needs, too_high, insert_stores, delete_stores}
 use Rattle.model.specs.Calls.{Outcome, made, answered, lookup, worn, roomless, free_pages, insert, delete, format}
 use Rattle.theory_counts.specs.Tally.{bit_most}
 use Rattle.theory_trees.specs.Splits.{splits_le}

@@ -1,6 +1,6 @@
 -- Request 10's proof: after n insertions with x pages beyond them the tree has x + height − 1 nodes below its root,
 -- each at least half full, and half-full nodes are few. Assumes nothing.
-use Rattle.std.specs.Prelude.{◌≡◌, None}
+use Rattle.std.specs.Prelude.{◌≡◌, None, is_none}
 use Rattle.std.proofs.Math.Path.{refl, subst}
 use Rattle.std.proofs.Common.{ap, sym, ◌∙◌, inl}
 use mathlib.Core.List.{List, [], ◌∷◌}
@@ -14,7 +14,7 @@ use Rattle.model.specs.Image.{blocks_of, Chip, chip_of}
 use Rattle.model.specs.Tree.{find}
 use Rattle.model.specs.Stores.{programs}
 use Rattle.model.specs.Collect.{collect_stores}
-use Rattle.model.specs.Update.{is_none, needs}
+use Rattle.model.specs.Update.{needs}
 use Rattle.chip_store.specs.Runs.{programs_append}
 use Rattle.theory_trees.specs.Splits.{put_size}
 use Rattle.theory_chips.specs.Insertion.{Fuller}

@@ -1,5 +1,5 @@
 -- The demands' proofs, from the tests that an answer stands for. Assumes nothing.
-use Rattle.std.specs.Prelude.{◌≡◌, refl, List, [], ◌∷◌, Bool, false, ◌⊎◌, ℕ, ◌-◌, ◌<◌, ◌≤◌, None}
+use Rattle.std.specs.Prelude.{◌≡◌, refl, List, [], ◌∷◌, Bool, false, ◌⊎◌, ℕ, ◌-◌, ◌<◌, ◌≤◌, None, is_none}
 use Rattle.std.proofs.Math.Path.{ap, sym}
 use Rattle.std.proofs.Common.{subst, ◌∙◌, inl, inr, arith}
 use Rattle.std.proofs.Math.Bool.{true}
@@ -11,7 +11,7 @@ use Rattle.model.specs.Image.{blocks_of, Chip, chip_of}
 use Rattle.model.specs.Tree.{find, sought}
 use Rattle.model.specs.Stores.{programs, erases}
 use Rattle.model.specs.Edit.{put, remove}
-use Rattle.model.specs.Update.{is_none, needs, insert_stores, delete_store, delete_stores}
+use Rattle.model.specs.Update.{needs, insert_stores, delete_store, delete_stores}
 use Rattle.model.specs.Calls.{Outcome, refused, made, worn, insert, delete}
 use Rattle.theory_counts.specs.Cases.{true_false}
 use Rattle.theory_chips.specs.Insertion.{Fuller}

@@ -1,5 +1,5 @@
 -- The calls opened: which tests an answer stands for. Assumes nothing.
-use Rattle.std.specs.Prelude.{◌≡◌, ◌⊎◌, Bool, ℕ, ◌<◌, ◌≤◌, length, take, leb, Err}
+use Rattle.std.specs.Prelude.{◌≡◌, ◌⊎◌, Bool, ℕ, ◌<◌, ◌≤◌, length, take, leb, Err, is_none}
 use Rattle.std.proofs.Math.Path.{refl, ap}
 use Rattle.std.proofs.Common.{sym, subst, ◌∙◌, arith, take_all}
 use mathlib.Core.List.{List, [], ◌∷◌}
@@ -13,7 +13,7 @@ use Rattle.model.specs.Image.{blocks_of, good_length, Chip, chip_of}
 use Rattle.model.specs.Tree.{sought}
 use Rattle.model.specs.Rules.{verdict}
 use Rattle.model.specs.Stores.{Store, apply_all, programs}
-use Rattle.model.specs.Update.{is_none, needs, too_high, insert_stores, delete_stores}
+use Rattle.model.specs.Update.{needs, too_high, insert_stores, delete_stores}
 use Rattle.model.specs.Calls.{Outcome, refused, damaged, made, by_verdict, judged, judged_call, worn, roomless, free_pages, insert_rest, insert, delete_rest}
 use Rattle.theory_lists.specs.All.{All}
 use Rattle.theory_demands.specs.Words.{Ready, Began}

@@ -1,7 +1,7 @@
 -- The words of request 10: inserts of absent keys, one after the other, accepted and finished, with nothing else
 -- between; X, the pages programmed beyond one for each, the collector's moves left out; the splits and growths.
 -- Definitions alone; assumes nothing.
-use Rattle.std.specs.Prelude.{◌≡◌, List, [], ◌∷◌, ℕ, suc, ◌+◌, ◌-◌, ◌<◌, length, None}
+use Rattle.std.specs.Prelude.{◌≡◌, List, [], ◌∷◌, ℕ, suc, ◌+◌, ◌-◌, ◌<◌, length, None, is_none}
 use Rattle.geometry.specs.declared.Geometry.{Geometry}
 use Rattle.geometry.specs.Tests.{bit}
 use Rattle.geometry.specs.Geometry.{half}
@@ -11,7 +11,7 @@ use Rattle.model.specs.Tree.{chosen, find, sought}
 use Rattle.model.specs.Edit.{splits}
 use Rattle.model.specs.Stores.{programs}
 use Rattle.model.specs.Collect.{collect_stores}
-use Rattle.model.specs.Update.{is_none, root_node, root_gains, fills, needs, insert_stores}
+use Rattle.model.specs.Update.{root_node, root_gains, fills, needs, insert_stores}
 use Rattle.model.specs.Calls.{Outcome, insert}
 use Rattle.theory_demands.specs.Words.{map_at}
 

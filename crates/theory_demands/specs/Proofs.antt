@@ -1,5 +1,5 @@
 -- The demands' proofs, from the tests that an answer stands for. Assumes nothing.
-use Rattle.std.specs.Prelude.{◌≡◌, refl, List, [], ◌∷◌, Bool, false, ℕ, zero, suc, ◌+◌, ◌-◌, ◌*◌, ◌<◌, ◌≤◌, None, Option, Some, Err}
+use Rattle.std.specs.Prelude.{◌≡◌, refl, List, [], ◌∷◌, Bool, false, ℕ, zero, suc, ◌+◌, ◌-◌, ◌*◌, ◌<◌, ◌≤◌, None, Option, Some, Err, is_none}
 use Rattle.std.proofs.Math.Path.{ap, sym}
 use Rattle.std.proofs.Common.{subst, ◌∙◌, inl, inr, arith}
 use Rattle.std.proofs.Math.Bool.{true}
@@ -16,7 +16,7 @@ use Rattle.model.specs.Tree.{chosen, find, sought}
 use Rattle.model.specs.Rules.{verdict}
 use Rattle.model.specs.Stores.{apply_all}
 use Rattle.model.specs.Edit.{gains}
-use Rattle.model.specs.Update.{is_none, root_node, root_gains, needs, too_high, insert_stores}
+use Rattle.model.specs.Update.{root_node, root_gains, needs, too_high, insert_stores}
 use Rattle.model.specs.Calls.{Outcome, refused, damaged, by_verdict, judged, answered, lookup, roomless, free_pages, insert}
 use Rattle.theory_counts.specs.Cases.{true_false}
 use Rattle.theory_chips.specs.Whole.{sought_map}

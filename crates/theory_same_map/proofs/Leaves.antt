@@ -1,6 +1,6 @@
 -- One order on a sound image, of any tree: what an accepted order's outcome comes to, by its answer; and WORN. Assumes
 -- nothing.
-use Rattle.std.specs.Prelude.{◌≡◌, refl, List, [], ◌∷◌, Bool, true, false, ◌⊎◌, ℕ, ◌+◌, ◌<◌, ◌≤◌, eqb, None, Option, Some}
+use Rattle.std.specs.Prelude.{◌≡◌, refl, List, [], ◌∷◌, Bool, true, false, ◌⊎◌, ℕ, ◌+◌, ◌<◌, ◌≤◌, eqb, None, Option, Some, is_none}
 use Rattle.std.proofs.Common.{ap, sym, subst, ◌∙◌, inl, inr, arith, le-ltb}
 use Rattle.geometry.specs.declared.Geometry.{Geometry}
 use Rattle.geometry.specs.declared.Entry.{Entry}
@@ -11,7 +11,7 @@ use Rattle.model.specs.Image.{blocks_of, good_length, max_seq}
 use Rattle.model.specs.Tree.{find}
 use Rattle.model.specs.Stores.{apply_all}
 use Rattle.model.specs.Edit.{put, remove}
-use Rattle.model.specs.Update.{is_none, format_stores}
+use Rattle.model.specs.Update.{format_stores}
 use Rattle.model.specs.Calls.{Outcome, refused, made, answered, format, worn}
 use Rattle.log_lines.specs.declared.Order.{Order}
 use Rattle.log_lines.specs.declared.Order.TheVariants.{Format, Insert, Delete, Lookup, Limited}

@@ -1,6 +1,6 @@
 -- k, counted beforehand, is what happens, over any pages: an entry gives way to two exactly where `gains` says so, and
 -- the levels that split are 1 to `splits`. The μ-Tree (Splits) is an instance. Assumes nothing.
-use Rattle.std.specs.Prelude.{◌≡◌, Bool, true, false, eqb, leb, ltb, None, Some}
+use Rattle.std.specs.Prelude.{◌≡◌, Bool, true, false, eqb, leb, ltb, None, Some, is_none}
 use Rattle.std.proofs.Math.Path.{refl, ap}
 use Rattle.std.proofs.Common.{sym, ◌∙◌}
 use mathlib.Core.List.{List, [], ◌∷◌}
@@ -13,7 +13,6 @@ use Rattle.geometry.specs.Tests.{pick, ◌&◌, bit, and_left, and_right}
 use Rattle.model.specs.Image.{Nodes}
 use Rattle.model.specs.Tree.{gather, under, following, chosen, find}
 use Rattle.model.specs.Edit.{splice, on_path, put, put_in, gains, splits}
-use Rattle.model.specs.Update.{is_none}
 use Rattle.model.specs.Plain.{both}
 use Rattle.theory_counts.specs.Tally.{bit_most}
 use Rattle.theory_counts.specs.Cases.{by_eq, and_pick}

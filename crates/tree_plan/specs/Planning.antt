@@ -1,5 +1,5 @@
 -- Laws of plans, in the form in which the code has the premises. Assumes nothing.
-use Rattle.std.specs.Prelude.{ℕ, zero, suc, ◌+◌, ◌-◌, ◌*◌, ◌<◌, ◌≤◌, Bool, true, false, not, ◌≡◌, refl, List, eqb, length, Option, Some, None}
+use Rattle.std.specs.Prelude.{ℕ, zero, suc, ◌+◌, ◌-◌, ◌*◌, ◌<◌, ◌≤◌, Bool, true, false, not, ◌≡◌, refl, List, eqb, length, Option, Some, None, is_none}
 use Rattle.std.proofs.Common.{sym, ◌∙◌, arith, add-one, sub-one, lt-ltb, le-ltb, eq-eqb, ne_eqb}
 use Rattle.std.proofs.lemmas.Bool.{not-true, not-false}
 use Rattle.std.specs.Int.{from_bool}
@@ -10,7 +10,7 @@ use Rattle.geometry.specs.Tests.{bit, ◌&◌, and_true, and_false}
 use Rattle.model.specs.Bytes.{node_at, node_count}
 use Rattle.model.specs.Tree.{chosen, leaf, find_in}
 use Rattle.model.specs.Edit.{gains, splits}
-use Rattle.model.specs.Update.{is_none, fills, needs, too_high, root_gains}
+use Rattle.model.specs.Update.{fills, needs, too_high, root_gains}
 use Rattle.chip_read.specs.Chip.{chip_with}
 use Rattle.chip_read.specs.Node.{node_length}
 use Rattle.tree_plan.specs.declared.Run.{Run}

@@ -2,12 +2,12 @@
 // high.
 #![tactic(auto, using(crate::specs::Planning::plan_laws))]
 
-ghost use Rattle.std.specs.Prelude.{◌≡◌, suc, ◌+◌, ◌*◌, ◌-◌, ◌≤◌, ◌<◌, eqb, length};
+ghost use Rattle.std.specs.Prelude.{◌≡◌, suc, ◌+◌, ◌*◌, ◌-◌, ◌≤◌, ◌<◌, eqb, length, is_none};
 ghost use Rattle.geometry.specs.Geometry.{half};
 ghost use Rattle.model.specs.Bytes.{node_at};
 ghost use Rattle.model.specs.Tree.{leaf, find_in};
 ghost use Rattle.geometry.specs.Tests.{bit};
-ghost use Rattle.model.specs.Update.{is_none, fills};
+ghost use Rattle.model.specs.Update.{fills};
 ghost use Rattle.chip_read.specs.Chip.{chip_with};
 ghost use Rattle.tree_plan.specs.Plan.{high, Counts, Plans};
 
