@@ -1,14 +1,17 @@
 -- Laws of the pages to come, in the form in which the code has the premises. Assumes nothing.
 use Prim.Native.Nat.{ℕ, zero, suc, ◌+◌, ◌-◌, ◌*◌, ◌/◌, ◌%◌, ◌<◌, ◌≤◌}
-use Rattle.std.specs.Prelude.{Bool, true, false, ◌≡◌, List, eqb, ltb, get_or, set, length}
+use Rattle.std.specs.Prelude.{Bool, true, false, ◌≡◌, List, eqb, ltb, get_or, set, take, length, ◌||◌}
 use Rattle.std.proofs.Math.Path.{refl, sym}
-use Rattle.std.proofs.Common.{ap, ◌∙◌, Fits, length-set, get_or-set_same, get_or-set_other, div-le_self, mul-le-mul_left}
+use Rattle.std.proofs.Common.{ap, ◌∙◌, Fits, length-set, get_or-set_same, get_or-set_other, div-le_self, mul-le-mul_left, take-suc}
 use Rattle.std.specs.Int.{w16}
+use Rattle.std.specs.List.{list_any}
+use Rattle.std.proofs.Math.Decide.{ℕ_discrete}
+use Rattle.std.proofs.lemmas.List.Folds.{list_any-append}
 use native.Mathlib.Omega.{arith}
 use Rattle.std.proofs.Math.Nat.{div-zero, mod-zero}
 use Rattle.std.proofs.Math.Numerals.{sub-one, add-one}
 use borrow.Author.Tests.{eq-eqb, ne_eqb, lt-ltb, le-ltb, le-leb, lt-leb}
-use Rattle.geometry.specs.Tests.{◌&◌, and_true, and_false}
+use Rattle.geometry.specs.Tests.{pick, ◌&◌, and_true, and_false}
 use Rattle.geometry.specs.Bounds.{four_bytes}
 use Rattle.model.specs.Count.{least}
 use Rattle.model.specs.Next.{mixed, first_in, round, next_block, next_page, after}
@@ -19,25 +22,33 @@ use Rattle.theory_counts.specs.Scan.{scan_laws}
 use Rattle.chip_next.specs.Coming.{free, whole, whole_after, seen, Coming, erased_from}
 
 -- ---- is_free
+eqb_swap : (x y : ℕ) → eqb x y ≡ eqb y x
+eqb_swap x y = elim (ℕ_discrete x y) [
+  | yes e ↦ eq-eqb x y e ∙ sym (eq-eqb y x (sym e))
+  | no e ↦ ne_eqb x y e ∙ sym (ne_eqb y x (λ z. e (sym z)))
+]
+
+any_more : (a b : Bool) (r : Bool) → pick b false (pick a false r) ≡ pick (a || (b || false)) false r
+any_more true true r = refl
+any_more true false r = refl
+any_more false true r = refl
+any_more false false r = refl
+
+-- page q is free where it is none of the first i pages chosen, and erased
 module _ (er : ℕ → Bool) (ps : List ℕ) (q : ℕ) where
-  pub free_start : (i : ℕ) → free er ps i q ≡ free er ps i q
-  free_start i = refl
-
-  pub free_stop : (i k : ℕ) → free er ps i q ≡ free er ps k q → 0 < k → get_or ps (k - 1) 0 ≡ q → false ≡ free er ps i q
+  free_any : (i : ℕ) → i ≤ length ps → free er ps i q ≡ pick (list_any (λ y. eqb y q) (take i ps)) false (er q)
   unfolding free
-  free_stop i zero e h g = absurd (omega arith)
-  free_stop i (suc k) e h g = sym (e ∙ rw (eq-eqb q (get_or ps k 0) (sym (rw sub-one at g))))
+  free_any zero h = refl
+  free_any (suc i) h =
+      rw (take-suc ps i 0 h, list_any-append, eqb_swap q (get_or ps i 0), free_any i (omega arith))
+      (any_more (list_any (λ y. eqb y q) (take i ps)) (eqb (get_or ps i 0) q) (er q))
 
-  pub free_go : (i k : ℕ) → free er ps i q ≡ free er ps k q → 0 < k → (get_or ps (k - 1) 0 ≡ q → ⊥)
-      → free er ps i q ≡ free er ps (k - 1) q
-  unfolding free
-  free_go i zero e h g = absurd (omega arith)
-  free_go i (suc k) e h g = e ∙ rw (ne_eqb q (get_or ps k 0) (λ z. g (rw sub-one (sym z))), sub-one)
+  module _ (i : ℕ) (h : i ≤ length ps) (t : Bool) (e : t ≡ list_any (λ y. eqb y q) (take i ps)) where
+    pub free_taken : t ≡ true → false ≡ free er ps i q
+    free_taken w = sym (free_any i h ∙ rw (← e, w))
 
-  pub free_end : (i k : ℕ) (r : Bool) → free er ps i q ≡ free er ps k q → k ≤ 0 → r ≡ er q → r ≡ free er ps i q
-  unfolding free
-  free_end i zero r e h er' = er' ∙ sym e
-  free_end i (suc k) r e h er' = absurd (omega arith)
+    pub free_clear : t ≡ false → er q ≡ free er ps i q
+    free_clear w = sym (free_any i h ∙ rw (← e, w))
 
 -- ---- the block of a page
 pub quotient : (a b x y : ℕ) → x ≡ a → y ≡ b → x / y ≡ a / b
@@ -202,7 +213,7 @@ module _ (p n : ℕ) where
 pub set_length : (ps : List ℕ) (k x m : ℕ) → length ps ≡ m → length (set ps k x) ≡ m
 set_length ps k x m e = length-set ps k x ∙ e
 
-pub ruleset free_laws = (free_start, free_stop, free_go, free_end)
+pub ruleset free_laws = (free_taken, free_clear)
 
 pub ruleset whole_laws = (whole_no, whole_is, next_mixed, round_later, round_start, next_round)
 

@@ -1,6 +1,6 @@
 // Which page next, and the pages to come. A page counts as erased if it is so on the image and is not among the pages
 // already chosen, the first i of `taken`.
-#![tactic(auto)]
+#![tactic(auto, using(crate::specs::PagesToCome::next_laws))]
 
 ghost use Rattle.std.specs.Prelude.{◌≡◌, suc, ◌+◌, ◌/◌, ◌%◌, ◌≤◌, ◌<◌, max, min, eqb, length};
 ghost use Rattle.geometry.specs.Bounds.{four_bytes};
@@ -19,14 +19,7 @@ fn is_free(g: Geometry, img: &[u8], taken: &[u32; 256], i: usize, page: u32) -> 
     requires { i ≤ 256 }
     ensures { result ≡ free (erased g img.now) taken.now i page }
 {
-    let mut k: usize = i;
-    while 0 < k {
-        k -= 1;
-        if taken[k] == page {
-            return false;
-        }
-    }
-    chip_read::page_erased(g, img, page)
+    !taken[..i].contains(&page) && chip_read::page_erased(g, img, page)
 }
 
 // The block that holds a page.
@@ -56,14 +49,12 @@ fn first_whole(g: Geometry, img: &[u8], taken: &[u32; 256], i: usize, from: usiz
     requires { i ≤ 256 }
     ensures { result ≡ least n (whole g.pages (free (erased g img.now) taken.now i) from) }
 {
-    let mut block: u16 = 0;
-    while block < n {
+    for block in 0..n {
         if is_whole(g, img, taken, i, from, block) {
             return block;
         }
-        block += 1;
     }
-    block
+    n
 }
 
 // The first block met whose first page is free, from the one after block `from` on, round past the end to the start.
@@ -149,11 +140,9 @@ pub fn coming_from(g: Geometry, img: &[u8], n: u16, next: u32, count: usize) -> 
     let mut taken = no_pages();
     taken[0] = next;
     let mut page = next;
-    let mut i: usize = 1;
-    while i < count {
+    for i in 1..count {
         page = page_after(g, img, &taken, i, n, page);
         taken[i] = page;
-        i += 1;
     }
     taken
 }
@@ -185,9 +174,5 @@ pub fn next_erased(g: Geometry, img: &[u8], n: u16, root: u32, next: u32) -> u32
 pub fn next_by(g: Geometry, n: u16, next: u32) -> u32
     ensures { (result ≡ min (pages_of g n) next) × (result ≤ 4294836225) }
 {
-    let pages = chip_read::first_page(g, n);
-    if pages < next {
-        return pages;
-    }
-    next
+    chip_read::first_page(g, n).min(next)
 }
