@@ -256,7 +256,8 @@ folded_start img from ws bytes e = record {
 
 -- a word more
 pub word_put : (img : List ℕ) (from : ℕ) (ws : List ℕ) (i w : ℕ) → w ≡ word_at img (from + 8 * i) 8 → i < length ws
-    → ((k : ℕ) → k < i → word ws k ≡ word_in img from k) → (k : ℕ) → k < i + 1 → word (set ws i w) k ≡ word_in img from k
+    → ((k : ℕ) → k < i → word ws k ≡ word_in img from k) → (k : ℕ) → k < i + 1 → word (set ws i w) k ≡ word_in img from
+    k
 unfolding word_in
 word_put img from ws i w e h f = rw e (fill_by_more (word_in img from) ws i 0 h f)
 

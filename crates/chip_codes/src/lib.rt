@@ -48,8 +48,8 @@ fn power(k: u64) -> u64
     1 << k
 }
 
-// The numbers of a word's set bits by exclusive or. The word is folded in two until one bit is left: the upper half tells
-// of one bit of the numbers, and goes onto the lower half for the others.
+// The numbers of a word's set bits by exclusive or. The word is folded in two until one bit is left: the upper half
+// tells of one bit of the numbers, and goes onto the lower half for the others.
 fn in_64(w: u64) -> u64
     ensures { result ≡ in_word 64 w }
 {
@@ -94,7 +94,8 @@ fn seal(rows: u64, all: u64) -> u32
 fn fold(words: &mut [u64; 32], half: usize) -> u64
     requires { half ≤ 16 }
     ensures upper { result ≡ xor_below (λ i. slice_index words.old (half + i)) half }
-    ensures lower { (i : ℕ) → i < half → slice_index words.new i ≡ slice_index words.old (half + i) ⊕ slice_index words.old i }
+    ensures lower { (i : ℕ) → i < half
+        → slice_index words.new i ≡ slice_index words.old (half + i) ⊕ slice_index words.old i }
 {
     let mut upper = 0;
     for i in 0..half {
@@ -116,8 +117,8 @@ fn words_of(img: &[u8], at: usize) -> [u64; 32]
     words
 }
 
-// The code of the 256 bytes from `at` inside the image. Their words are folded in two until one is left, as `in_64` folds
-// a word.
+// The code of the 256 bytes from `at` inside the image. Their words are folded in two until one is left, as `in_64`
+// folds a word.
 fn half_code(img: &[u8], at: usize) -> u32
     requires { at + 256 ≤ length img.now }
     ensures { result ≡ fresh_code img.now at }
