@@ -3,6 +3,7 @@ use Prim.Native.Nat.{ℕ, zero, suc, ◌+◌, ◌-◌, ◌*◌, ◌/◌, ◌%◌
 use Rattle.std.specs.Prelude.{Bool, true, false, ◌≡◌, List, eqb, ltb, get_or, set, take, length, ◌||◌}
 use Rattle.std.proofs.Math.Path.{refl, sym}
 use Rattle.std.proofs.Common.{ap, ◌∙◌, Fits, length-set, get_or-set_same, get_or-set_other, div-le_self, mul-le-mul_left, take-suc}
+use Rattle.std.proofs.Math.Seq.{take-length}
 use Rattle.std.specs.Int.{w16}
 use Rattle.std.specs.List.{list_any}
 use Rattle.std.proofs.Math.Decide.{ℕ_discrete}
@@ -43,12 +44,20 @@ module _ (er : ℕ → Bool) (ps : List ℕ) (q : ℕ) where
       rw (take-suc ps i 0 h, list_any-append, eqb_swap q (get_or ps i 0), free_any i (omega arith))
       (any_more (list_any (λ y. eqb y q) (take i ps)) (eqb (get_or ps i 0) q) (er q))
 
-  module _ (i : ℕ) (h : i ≤ length ps) (t : Bool) (e : t ≡ list_any (λ y. eqb y q) (take i ps)) where
-    pub free_taken : t ≡ true → false ≡ free er ps i q
-    free_taken w = sym (free_any i h ∙ rw (← e, w))
+  free_all : free er ps (length ps) q ≡ pick (list_any (λ y. eqb y q) ps) false (er q)
+  free_all = free_any (length ps) (omega arith) ∙ rw take-length
 
-    pub free_clear : t ≡ false → er q ≡ free er ps i q
-    free_clear w = sym (free_any i h ∙ rw (← e, w))
+  module _ (t : Bool) (e : t ≡ list_any (λ y. eqb y q) ps) where
+    pub free_taken : t ≡ true → false ≡ free er ps (length ps) q
+    free_taken w = sym (free_all ∙ rw (← e, w))
+
+    pub free_clear : t ≡ false → er q ≡ free er ps (length ps) q
+    free_clear w = sym (free_all ∙ rw (← e, w))
+
+-- the first k pages chosen by themselves
+free_cut : (er : ℕ → Bool) (ps : List ℕ) (k : ℕ) → k ≤ length ps
+    → free er (take k ps) (length (take k ps)) ≡ free er ps k
+free_cut er ps k h = λ z q. (free_all er (take k ps) q ∙ sym (free_any er ps q k h)) z
 
 -- ---- the block of a page
 pub quotient : (a b x y : ℕ) → x ≡ a → y ≡ b → x / y ≡ a / b
@@ -168,6 +177,11 @@ module _ (p n : ℕ) where
   erased_suc er x (suc i) q = erased_suc (after x er) (next_after p n (after x er) x) i q
 
   module _ (er : ℕ → Bool) (x : ℕ) where
+    -- the page after one, where the pages chosen lie in a longer list
+    after_cut : (k page y : ℕ) (ps : List ℕ) → k ≤ length ps
+        → y ≡ next_after p n (free er (take k ps) (length (take k ps))) page → y ≡ next_after p n (free er ps k) page
+    after_cut k page y ps h ey = ey ∙ ap (λ (f : ℕ → Bool). next_after p n f page) (free_cut er ps k h)
+
     -- the code's test of a page, and the erased pages once the chosen ones are programmed
     free_from : (k : ℕ) (ps : List ℕ) → Coming p n er x k ps → (q : ℕ) → free er ps k q ≡ erased_from p n er x k q
     unfolding free erased_from
@@ -192,18 +206,20 @@ module _ (p n : ℕ) where
     page_one = refl
 
     pub page_more : (k page y : ℕ) (ps : List ℕ) → Coming p n er x k ps → page ≡ page_from p n er x (k - 1) → 1 ≤ k
-        → y ≡ next_after p n (free er ps k) page
+        → y ≡ next_after p n (free er (take k ps) (length (take k ps))) page → length ps ≡ 256 → k < 256
         → y ≡ page_from p n er x (k + 1 - 1)
-    page_more k page y ps c e h ey = let q : k + 1 - 1 ≡ k = omega arith in rw q (next_from k page y ps c e h ey)
+    page_more k page y ps c e h ey len l =
+        let q : k + 1 - 1 ≡ k = omega arith in
+        rw q (next_from k page y ps c e h (after_cut k page y ps (omega arith) ey))
 
     pub coming_more : (k page y : ℕ) (ps : List ℕ) → Coming p n er x k ps → page ≡ page_from p n er x (k - 1) → 1 ≤ k
-        → y ≡ next_after p n (free er ps k) page
+        → y ≡ next_after p n (free er (take k ps) (length (take k ps))) page
         → length ps ≡ 256 → k < 256 → Coming p n er x (k + 1) (set ps k y)
     coming_more k page y ps c e some ey len h = record {
       at = λ i j. by_lt i k
           (λ b. get_or-set_other ps k i y 0 (omega arith) ∙ c.at i b)
           (λ b. let q : i ≡ k = omega arith in rw q (get_or-set_same ps k y 0 (omega arith)
-          ∙ next_from k page y ps c e some ey));
+          ∙ next_from k page y ps c e some (after_cut k page y ps (omega arith) ey)));
     }
 
     pub coming_done : (k m : ℕ) (ps : List ℕ) → Coming p n er x k ps → m ≤ k → Coming p n er x m ps

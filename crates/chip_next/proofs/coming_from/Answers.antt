@@ -8,4 +8,4 @@ loop-i-init c = (omega arith, search (rules, set_length), search (rules, coming_
 pub loop-i-preserved : goal.loop-i-preserved
 loop-i-preserved c =
     let h : c.loop-i.i < 256 = omega arith in
-    (omega arith, search (rules, set_length), search (rules, coming_more, h), search (rules, page_more))
+    (omega arith, search (rules, set_length), search (rules, coming_more, h), search (rules, page_more, h))
