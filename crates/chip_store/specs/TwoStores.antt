@@ -1,7 +1,6 @@
 -- Laws of the two stores, in the form in which the code has the premises. Assumes nothing.
 use Rattle.std.specs.Prelude.{◌≡◌, refl, List, [], ◌∷◌, ◌++◌, ℕ, zero, suc, ◌+◌, ◌-◌, ◌*◌, ◌<◌, ◌≤◌, length, set, take, drop, get_or, replicate}
-use Rattle.std.proofs.Common.{sym, ap, ◌∙◌, Fits, mul-le-mul_left, lt_of_le_of_lt, arith, zero-add, take-append-drop, length-drop, get_or-take, length-take-le, ext_get_or}
-use Rattle.std.specs.Int.{w32}
+use Rattle.std.proofs.Common.{sym, ap, ◌∙◌, arith, zero-add, take-append-drop, length-drop, get_or-take, length-take-le, ext_get_or}
 use Rattle.std.proofs.Math.ListN.{get_or-eq_default}
 use Rattle.std.proofs.Math.Seq.{set_out}
 use Rattle.std.proofs.lemmas.List.{set-append_left, length-replicate, get_or-replicate}
@@ -83,24 +82,17 @@ blank_is img y at n e h =
     (part_written _ y (λ k. 255) (ap length e ∙ length-replicate _ 255)
     (λ j m. rw e (get_or-replicate _ j 255 0 m))) h
 
--- two numbers of 16 bits have a product of 32
-pub product_fits : (a b : ℕ) → a < 65536 → b < 65536 → Fits w32 (a * b)
-product_fits a b ha hb = record {
-  fits = lt_of_le_of_lt (mul-le-mul_left a (let h : b ≤ 65535 = omega arith in
-      h)) (omega arith);
-}
-
 pub program_is : (g : Geometry) (img o bs : List ℕ) (p b n : ℕ) → o ≡ written img b (byte_at bs) n → b ≡ page_base g p
     → n ≡ page_bytes g
     → o ≡ apply_store g (program p bs) img
 unfolding apply_store
 program_is g img o bs p b n e eb en = e ∙ rw (eb, en)
 
-pub erase_is : (g : Geometry) (img o : List ℕ) (k q b n : ℕ) → o ≡ written img b (λ k. 255) n → b ≡ page_base g q
-    → q ≡ g.pages * k → n ≡ page_base g g.pages
+pub erase_is : (g : Geometry) (img o : List ℕ) (k q b n w : ℕ) → o ≡ written img b (λ k. 255) n → b ≡ page_base g q
+    → q ≡ g.pages * k → n ≡ page_base g w → w ≡ g.pages
     → o ≡ apply_store g (erase k) img
 unfolding apply_store
-erase_is g img o k q b n e eb eq en = e ∙ rw (eb, eq, en)
+erase_is g img o k q b n w e eb eq en ew = e ∙ rw (eb, eq, en, ew)
 
 -- a page's bytes alone are programmed, however long the buffer
 pub program_cut : (g : Geometry) (p : ℕ) (bs img : List ℕ) → apply_store g (program p bs) img ≡ apply_store g
@@ -109,4 +101,4 @@ unfolding apply_store
 program_cut g p bs img =
     written_same img (page_base g p) (byte_at bs) (byte_at (take (page_bytes g) bs)) (page_bytes g) (λ j h. sym (get_or-take (page_bytes g) bs j 0 h))
 
-pub ruleset store_laws = (byte_past, put_past, loop_none, copy_more, blank_more, copy_is, blank_is, product_fits, program_is, erase_is)
+pub ruleset store_laws = (byte_past, put_past, loop_none, copy_more, blank_more, copy_is, blank_is, program_is, erase_is)

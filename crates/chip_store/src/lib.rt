@@ -82,26 +82,12 @@ pub fn program_page(g: Geometry, img: &mut [u8], page: u32, bytes: &[u8])
     copy(img, at, bytes, n);
 }
 
-// The first page of a block.
-fn first_page(g: Geometry, block: u16) -> u32
-    ensures { result ≡ g.pages * block }
-{
-    u32::from(g.pages) * u32::from(block)
-}
-
-// The bytes of a block.
-fn block_bytes(g: Geometry) -> usize
-    ensures { (result ≡ page_base g g.pages) × (result < 562949953421312) }
-{
-    geometry::page_base(g, u32::from(g.pages))
-}
-
 // Erases one block: all its bytes become 255.
 pub fn erase_block(g: Geometry, img: &mut [u8], block: u16)
     ensures { img.new ≡ apply_store g (Store.erase block) img.old }
 {
-    let at = geometry::page_base(g, first_page(g, block));
-    let n = block_bytes(g);
+    let at = geometry::page_base(g, chip_read::first_page(g, block));
+    let n = geometry::page_base(g, u32::from(g.pages));
     blank(img, at, n);
 }
 

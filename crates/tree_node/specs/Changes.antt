@@ -1,8 +1,9 @@
 -- Laws of nodes by value, in the form in which the code has the premises. Assumes nothing.
-use Rattle.std.specs.Prelude.{ℕ, zero, suc, ◌+◌, ◌-◌, ◌<◌, ◌≤◌, ◌≡◌, refl, List, [], ◌∷◌, ◌++◌, take, drop, length, get_or, set}
-use Rattle.std.proofs.Common.{sym, ap, ◌∙◌, length-take-le, take-take, arith, add-one, ext_get_or}
+use Rattle.std.specs.Prelude.{ℕ, zero, suc, ◌+◌, ◌-◌, ◌<◌, ◌≤◌, min, ◌≡◌, refl, List, [], ◌∷◌, ◌++◌, take, drop, length, get_or, set}
+use Rattle.std.proofs.Common.{sym, ap, ◌∙◌, length-take-le, length-take, take-take, take_all, arith, add-one, ext_get_or}
 use Rattle.std.specs.List.{CopiedTo, SameBelow, SameFrom}
 use Rattle.std.proofs.Math.Decide.{dec_lt}
+use Rattle.std.proofs.Math.ListN.{drop_of_length-le}
 use Rattle.std.proofs.lemmas.List.{set_split}
 use Rattle.geometry.specs.declared.Entry.{Entry}
 use Rattle.model.specs.Stores.{written}
@@ -83,31 +84,21 @@ removes n m i c e len p q =
     let r : n.count - (i + 1) ≡ n.count - 1 - i = omega arith in
     rw (moved n.e m (i + 1) i (n.count - (i + 1)) e (omega arith) c, r) (removed no_entry n.e n.count (omega arith) i p)
 
-pub lefts : (n : Node) (h : ℕ) → h < n.count → entries (record { e = n.e; count = h }) ≡ take h (entries n)
+entries_few : (n : Node) (h : ℕ) → n.count ≤ h → length (entries n) ≤ h
 unfolding entries
-lefts n h p = sym (take-take h n.count n.e (omega arith))
+entries_few n h p = omega (arith, length-take n.count n.e)
 
-short : (c h : ℕ) (l : List Entry) → c ≤ h → take c l ≡ take h (take c l)
-short zero zero l p = refl
-short zero (suc h) l p = refl
-short (suc c) zero l p = absurd (omega arith)
-short (suc c) (suc h) [] p = refl
-short (suc c) (suc h) (x ∷ l) p = ap (λ (m : List Entry). x ∷ m) (short c h l (omega arith))
-
-pub lefts_all : (n : Node) (h : ℕ) → n.count ≤ h → entries n ≡ take h (entries n)
+pub lefts : (n : Node) (h : ℕ) → entries (record { e = n.e; count = min n.count h }) ≡ take h (entries n)
 unfolding entries
-lefts_all n h p = short n.count h n.e p
-
-short_drop : (c h : ℕ) (l : List Entry) → c ≤ h → [] ≡ drop h (take c l)
-short_drop zero zero l p = refl
-short_drop zero (suc h) l p = refl
-short_drop (suc c) zero l p = absurd (omega arith)
-short_drop (suc c) (suc h) [] p = refl
-short_drop (suc c) (suc h) (x ∷ l) p = short_drop c h l (omega arith)
+lefts n h = elim (dec_lt h n.count) [
+  | yes p ↦ let q : min n.count h ≡ h = omega arith in rw q (sym (take-take h n.count n.e (omega arith)))
+  | no p ↦
+      let q : min n.count h ≡ n.count = omega arith in
+      rw q (sym (take_all h (take n.count n.e) (entries_few n h (omega arith))))
+]
 
 none_right : (n : Node) (h : ℕ) → n.count ≤ h → [] ≡ drop h (entries n)
-unfolding entries
-none_right n h p = short_drop n.count h n.e p
+none_right n h p = sym (drop_of_length-le (entries n) (entries_few n h p))
 
 pub rights_none : (n m : Node) (h : ℕ) → entries m ≡ [] → n.count ≤ h → entries m ≡ drop h (entries n)
 rights_none n m h e p = e ∙ none_right n h p
@@ -174,4 +165,4 @@ pub spliced_two : (n r : Node) (i : ℕ) (c : Carry) (x y : Entry) → entries r
 unfolding carried
 spliced_two n r i c x y e ec = e ∙ rw ec
 
-pub ruleset node_laws = (length_mapped, size_is, first_none, first_some, replaced, empty_is, inserts, removes, lefts, lefts_all, rights, rights_none, two_is, spliced_empty, spliced_none, spliced_one, spliced_two)
+pub ruleset node_laws = (length_mapped, size_is, first_none, first_some, replaced, empty_is, inserts, removes, lefts, rights, rights_none, two_is, spliced_empty, spliced_none, spliced_one, spliced_two)

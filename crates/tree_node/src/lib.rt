@@ -96,11 +96,8 @@ pub fn remove_at(n: Node, i: usize) -> Node
 pub fn left_half(n: Node, h: usize) -> Node
     ensures { (entries result ≡ take h (entries n)) × (result.count ≤ n.count) }
 {
-    if n.count <= h {
-        return n;
-    }
     let mut m = n;
-    m.count = h;
+    m.count = n.count.min(h);
     m
 }
 
