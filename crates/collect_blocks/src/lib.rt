@@ -1,7 +1,7 @@
 // Collection: the victim's live pages moved, lowest first, then the victim erased, while too few pages are erased.
 // Each store on the image as it then stands. The lent tables follow each move, and the record each erase: no tree is
 // walked, and the image is surveyed anew only where the block erased may have held the largest number.
-#![tactic(auto)]
+#![tactic(auto, using(crate::specs::Collecting::collect_laws))]
 
 ghost use Rattle.std.specs.Prelude.{◌≡◌, false, ◌+◌, ◌≤◌, ◌<◌, max, get_or};
 ghost use Rattle.std.proofs.Math.Option.{some};
@@ -49,7 +49,7 @@ fn kept_after(g: Geometry, img: &[u8], n: u16, h: Kept) -> Kept
     Kept {
         root: h.next,
         most: h.most + 1,
-        next: next,
+        next,
     }
 }
 
@@ -197,23 +197,17 @@ fn sweep(
     )
 }
 
-fn long(x: u32) -> u64
-    ensures { (result ≡ x) × (result < four_bytes) }
-{
-    x as u64
-}
-
 // What is kept at the start of a sweep, by the record.
 fn begin(g: Geometry, n: u16, o: Opened) -> Kept
     ensures begins { Begins g n o result }
     ensures pages_bound { (result.most + g.pages < 8589934592) × (result.next + g.pages < four_bytes) }
 {
     let next = chip_next::next_by(g, n, o.next);
-    let most = long(o.most);
+    let most = u64::from(o.most);
     Kept {
         root: o.root,
-        most: most,
-        next: next,
+        most,
+        next,
     }
 }
 
@@ -302,7 +296,7 @@ pub fn enough(g: Geometry, k: u32) -> u32
     requires { k < 65536 }
     ensures { result ≡ g.pages + k }
 {
-    (g.pages as u32) + k
+    u32::from(g.pages) + k
 }
 
 // Collects while fewer pages are erased than a block's and k more, in at most m rounds. The record that comes back is
