@@ -154,7 +154,7 @@ fn sweep_page(
     )
 }
 
-// Moves the live ones of the last `left` pages of block v, in rising order.
+// Moves the live pages of block v, in rising order.
 fn sweep(
     g: Geometry,
     img: &mut [u8],
@@ -164,37 +164,33 @@ fn sweep(
     b: Budget,
     level: u32,
     v: u16,
-    left: u16,
     h: Kept,
 ) -> Carried
-    requires { (left ≤ g.pages) × (level < 255) × (page_bytes g ≤ longest_page) × (h.most + left < 8589934592) ×
-        (h.next + left < four_bytes) × (Countable b) × (b.stopped ≡ false) }
-    ensures { Sweeps g n level (sweep_by g n v left
+    requires { (level < 255) × (page_bytes g ≤ longest_page) × (h.most + g.pages < 8589934592) ×
+        (h.next + g.pages < four_bytes) × (Countable b) × (b.stopped ≡ false) }
+    ensures { Sweeps g n level (sweep_by g n v g.pages
         (beside_in h level (table_in table.old words.old)) img.old) b result.budget
         img.old img.new result.kept table.old table.new words.old words.new }
 {
-    if left == 0 {
-        return Carried { budget: b, kept: h };
+    let mut w = Carried { budget: b, kept: h };
+    for j in 0..g.pages {
+        let page = chip_read::page_of(g, v, j);
+        w = sweep_page(
+            g,
+            &mut *img,
+            &mut *table,
+            &mut *words,
+            n,
+            w.budget,
+            level,
+            page,
+            w.kept,
+        );
+        if w.budget.stopped {
+            return w;
+        }
     }
-    let page = chip_read::page_of(g, v, g.pages - left);
-    let w = sweep_page(g, &mut *img, &mut *table, &mut *words, n, b, level, page, h);
-    let r = w.budget;
-    let k = w.kept;
-    if r.stopped {
-        return w;
-    }
-    sweep(
-        g,
-        &mut *img,
-        &mut *table,
-        &mut *words,
-        n,
-        r,
-        level,
-        v,
-        left - 1,
-        k,
-    )
+    w
 }
 
 // What is kept at the start of a sweep, by the record.
@@ -242,18 +238,7 @@ fn clear_block(
 {
     let h = begin(g, n, o);
     let level = chip_survey::level_by(g, o.height);
-    let w = sweep(
-        g,
-        &mut *img,
-        &mut *table,
-        &mut *words,
-        n,
-        b,
-        level,
-        v,
-        g.pages,
-        h,
-    );
+    let w = sweep(g, &mut *img, &mut *table, &mut *words, n, b, level, v, h);
     let r = w.budget;
     let k = w.kept;
     if r.stopped {
@@ -317,23 +302,26 @@ pub fn collect(
     ensures { Collects g n k m b result o img.old img.new table.old
         table.new words.old words.new }
 {
-    if m == 0 {
-        return Swept {
-            budget: b,
-            opened: o,
-        };
+    let mut w = Swept {
+        budget: b,
+        opened: o,
+    };
+    for round in 0..m {
+        if enough(g, k) <= w.opened.erased {
+            return w;
+        }
+        w = clear(
+            g,
+            &mut *img,
+            &mut *table,
+            &mut *words,
+            n,
+            w.budget,
+            w.opened,
+        );
+        if w.budget.stopped {
+            return w;
+        }
     }
-    if enough(g, k) <= o.erased {
-        return Swept {
-            budget: b,
-            opened: o,
-        };
-    }
-    let w = clear(g, &mut *img, &mut *table, &mut *words, n, b, o);
-    let r = w.budget;
-    let t = w.opened;
-    if r.stopped {
-        return w;
-    }
-    collect(g, &mut *img, &mut *table, &mut *words, n, r, k, m - 1, t)
+    w
 }
