@@ -130,8 +130,7 @@ fn mark_nodes(
     n: usize,
 ) -> u32
     requires { (level < 256) × (Counted g img.now page level n) × (n < 256) }
-    ensures { Walked (mark_all (length words.old)) g img.now level page left result words.old
-        words.new }
+    ensures { Walked (mark_all (length words.old)) g img.now level page left result words.old words.new }
 {
     if level == 0 {
         return left;
@@ -150,16 +149,8 @@ fn mark_nodes(
     let counts = counts_below(g, img, at, n, level - 1);
     let mut more = left - 1;
     for i in 0..n {
-        let below = below_at(g, img, &counts, at, n, level - 1, i);
-        more = mark_nodes(
-            g,
-            img,
-            &mut *words,
-            level - 1,
-            below.page,
-            more,
-            below.count,
-        );
+        let node = below_at(g, img, &counts, at, n, level - 1, i);
+        more = mark_nodes(g, img, &mut *words, level - 1, node.page, more, node.count);
     }
     more
 }

@@ -10,7 +10,7 @@ returns-then-level-eq1 t c = search (rules, telling_laws)
 
 pub loop-i-preserved : goal.loop-i-preserved
 loop-i-preserved t c =
-    marked_turn _ _ _ _ _ _ _ _ _ _ _ _ _ _ _ c.loop-i.invariant c.below_at-below.ensures.page_value
+    marked_turn _ _ _ _ _ _ _ _ _ _ _ _ _ _ _ c.loop-i.invariant c.below_at-node.ensures.page_value
     c.mark_nodes-more.ensures (omega arith) c.loop-i-test.true
 
 pub returns : goal.returns
