@@ -164,6 +164,44 @@ module _ (g : Geometry) (n l v : ℕ) (b : Budget) (i tbl ws : List ℕ) (h : Ke
     sweep_on (suc j) d k o y w two eq z f =
         makes_then g n Beside Beside _ (sweep_by g n v j) b c d i m o _ _ tbl u y ws x w (rw eq at one) (rw sub-one at two) f
 
+-- a sweep under way, as a loop has it: what the last `left` pages make from here on is what the whole sweep makes
+pub record Sweeping (g : Geometry) (n l v : ℕ) (h : Kept) (b : Budget) (i tbl ws : List ℕ)
+    (left : ℕ) (k : Kept) (c : Budget) (m u x : List ℕ) : Type 0 where
+  pub rest : (d : Budget) (a : Kept) (o y w : List ℕ)
+      → Sweeps g n l (sweep_by g n v left (beside_in k l (table_in u x)) m) c d m o a u y x w
+      → Sweeps g n l (sweep_by g n v g.pages (beside_in h l (table_in tbl ws)) i) b d i o a tbl y ws w
+
+pub sweeping_start : (g : Geometry) (n l v : ℕ) (h : Kept) (b : Budget) (i tbl ws : List ℕ) (left : ℕ) → left ≡ g.pages
+    → Sweeping g n l v h b i tbl ws left h b i tbl ws
+sweeping_start g n l v h b i tbl ws left e = rw e (record { rest = λ d a o y w z. z })
+
+module _ (g : Geometry) (n l v : ℕ) (h : Kept) (b : Budget) (i tbl ws : List ℕ) (j : ℕ) (k : Kept) (c : Budget)
+    (m u x : List ℕ) (s : Sweeping g n l v h b i tbl ws (g.pages - j) k c m u x) where
+  pub sweeping_end : g.pages ≤ j
+      → Sweeps g n l (sweep_by g n v g.pages (beside_in h l (table_in tbl ws)) i) b c i m k tbl u ws x
+  sweeping_end e = s.rest c k m u x (sweep_none g n l v c m u x k (g.pages - j) (omega arith))
+
+  module _ (q : ℕ) (d : Budget) (a : Kept) (o y w : List ℕ)
+      (one : Sweeps g n l (page_by g n q (beside_in k l (table_in u x)) m) c d m o a u y x w)
+      (eq : q ≡ g.pages * v + j) (low : j < g.pages) where
+    place : q ≡ g.pages * v + (g.pages - (g.pages - j))
+    place = omega (arith, eq, low)
+
+    more : g.pages - j ≡ 0 → ⊥
+    more e = omega (arith, e, low)
+
+    pub sweeping_halt : c.stopped ≡ false → d.stopped ≡ true
+        → Sweeps g n l (sweep_by g n v g.pages (beside_in h l (table_in tbl ws)) i) b d i o a tbl y ws w
+    sweeping_halt e f = s.rest d a o y w (sweep_halt g n l v c m u x k q d a o y w one (g.pages - j) place more e f)
+
+    pub sweeping_on : d.stopped ≡ false → Sweeping g n l v h b i tbl ws (g.pages - (j + 1)) a d o y w
+    sweeping_on f =
+        let less : g.pages - (j + 1) ≡ g.pages - j - 1 = omega arith in
+        record {
+          rest = λ d' a' o' y' w' two. s.rest d' a' o' y' w'
+              (sweep_on g n l v c m u x k q d a o y w one (g.pages - j) d' a' o' y' w' (rw less at two) place more f);
+        }
+
 -- ---- clear
 pub begins : (g : Geometry) (n x y : ℕ) (o : Opened) → x ≡ min (pages_of g n) o.next → y ≡ o.most
     → Begins g n o (record { root = o.root; most = y; next = x })
@@ -296,4 +334,39 @@ module _ (g : Geometry) (n k : ℕ) (i tbl ws : List ℕ) (b : Budget) (s : Open
         low = two.low;
       }
 
-pub ruleset collect_laws = (onward, remarks, page_dead, page_live, move_halt, move_done, sweep_none, sweep_halt, sweep_on, begins, most_room, next_room, wipes, clear_halt, clear_done, clear_none, clear_some, collect_none, collect_enough, collect_halt, collect_on)
+-- a collection under way, as a loop has it: what at most `left` rounds make from here on is what the whole makes
+pub record Rounds (g : Geometry) (n k m : ℕ) (s : Opened) (b : Budget) (i tbl ws : List ℕ)
+    (left : ℕ) (c : Swept) (h u x : List ℕ) : Type 0 where
+  pub rest : (r : Swept) (o y w : List ℕ) → Collects g n k left c.budget r c.opened h o u y x w
+      → Collects g n k m b r s i o tbl y ws w
+
+pub rounds_start : (g : Geometry) (n k m : ℕ) (s : Opened) (b : Budget) (i tbl ws : List ℕ) (left : ℕ) → left ≡ m
+    → Rounds g n k m s b i tbl ws left (record { budget = b; opened = s }) i tbl ws
+rounds_start g n k m s b i tbl ws left e = rw e (record { rest = λ r o y w z. z })
+
+module _ (g : Geometry) (n k m : ℕ) (s : Opened) (b : Budget) (i tbl ws : List ℕ) (j : ℕ) (c : Swept)
+    (h u x : List ℕ) (z : Rounds g n k m s b i tbl ws (m - j) c h u x) (low : c.opened.height < 256) where
+  pub rounds_end : m ≤ j → Collects g n k m b c s i h tbl u ws x
+  rounds_end e = z.rest c h u x (collect_none g n k h u x c.budget c.opened (m - j) (omega arith) low)
+
+  module _ (w : ℕ) (ew : w ≡ g.pages + k) (left : j < m) where
+    again : m - j ≡ 0 → ⊥
+    again e = omega (arith, e, left)
+
+    pub rounds_enough : w ≤ c.opened.erased → Collects g n k m b c s i h tbl u ws x
+    rounds_enough e = z.rest c h u x (collect_enough g n k h u x c.budget c.opened w ew (m - j) e again low)
+
+    module _ (d : Swept) (o y v : List ℕ) (one : Clears g n (clear_by g n (victim_by g n (table_in u x) h)
+        (holding c.opened (table_in u x)) h) c.budget d h o u y x v) (few : c.opened.erased < w) where
+      pub rounds_halt : c.budget.stopped ≡ false → d.budget.stopped ≡ true → Collects g n k m b d s i o tbl y ws v
+      rounds_halt e f = z.rest d o y v (collect_halt g n k h u x c.budget c.opened w ew d o y v one few (m - j) again e f)
+
+      pub rounds_on : d.budget.stopped ≡ false → Rounds g n k m s b i tbl ws (m - (j + 1)) d o y v
+      rounds_on f =
+          let less : m - (j + 1) ≡ m - j - 1 = omega arith in
+          record {
+            rest = λ r p t q two. z.rest r p t q
+                (collect_on g n k h u x c.budget c.opened w ew d o y v one few (m - j) r p t q (rw less at two) again f);
+          }
+
+pub ruleset collect_laws = (onward, remarks, page_dead, page_live, move_halt, move_done, sweeping_start, sweeping_end, sweeping_halt, sweeping_on, begins, most_room, next_room, wipes, clear_halt, clear_done, clear_none, clear_some, rounds_start, rounds_end, rounds_enough, rounds_halt, rounds_on)

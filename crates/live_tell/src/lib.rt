@@ -9,7 +9,7 @@ ghost use Rattle.model.specs.Tree.{places_of, live};
 ghost use Rattle.chip_read.specs.Chip.{chip_with};
 ghost use Rattle.live_words.specs.Words.{words_of, filled};
 ghost use Rattle.live_walk.specs.Stops.{Walked, leaves_at};
-ghost use Rattle.live_tell.specs.Telling.{nowhere, mark_one, mark_all};
+ghost use Rattle.live_tell.specs.Telling.{mark_one, mark_all};
 ghost use Rattle.live_tell.specs.Counts.{Counted, Counts};
 
 use geometry::Geometry;
@@ -30,59 +30,49 @@ fn with_bit(w: u32, j: u32) -> u32
     w | one_bit(j)
 }
 
-// A page's bit in the first m words; a page past them is passed over.
-fn mark_page(lent: &mut [u32], m: usize, page: u32)
-    requires { m ≤ length lent.old }
-    ensures { lent.new ≡ mark_one m lent.old page }
+// A page's bit in the words; a page past them is passed over.
+fn mark_page(words: &mut [u32], page: u32)
+    ensures { words.new ≡ mark_one (length words.old) words.old page }
 {
     let at = geometry::index(page / 32);
-    if m <= at {
-        return;
+    if at < words.len() {
+        words[at] = with_bit(words[at], page % 32);
     }
-    lent[at] = with_bit(lent[at], page % 32);
 }
 
 // Marks the leaves that k entries from byte `at` name: INSIDE where all entries are known to stand in the image.
-fn mark_each<const INSIDE: bool>(img: &[u8], lent: &mut [u32], m: usize, at: usize, k: usize)
-    requires bounds { (m ≤ length lent.old) × (k < 256) × (at < 1125899906842624) }
+fn mark_each<const INSIDE: bool>(img: &[u8], words: &mut [u32], at: usize, k: usize)
+    requires bounds { (k < 256) × (at < 1125899906842624) }
     requires inside { INSIDE ≡ true → at + 8 * k ≤ length img.now }
-    ensures { lent.new ≡ mark_all m (leaves_at img.now at k) lent.old }
+    ensures { words.new ≡ mark_all (length words.old) (leaves_at img.now at k) words.old }
 {
     for i in 0..k {
         let leaf = live_walk::leaf_at::<INSIDE>(img, at + 8 * i + 4);
-        mark_page(&mut *lent, m, leaf);
+        mark_page(&mut *words, leaf);
     }
 }
 
 // Marks the leaves that k entries from byte `at` name.
-fn mark_entries(img: &[u8], lent: &mut [u32], m: usize, at: usize, k: usize)
-    requires { (m ≤ length lent.old) × (k < 256) × (at < 1125899906842624) }
-    ensures { lent.new ≡ mark_all m (leaves_at img.now at k) lent.old }
+fn mark_entries(img: &[u8], words: &mut [u32], at: usize, k: usize)
+    requires { (k < 256) × (at < 1125899906842624) }
+    ensures { words.new ≡ mark_all (length words.old) (leaves_at img.now at k) words.old }
 {
     if at + 8 * k <= img.len() {
-        mark_each::<true>(img, &mut *lent, m, at, k);
+        mark_each::<true>(img, &mut *words, at, k);
         return;
     }
-    mark_each::<false>(img, &mut *lent, m, at, k);
+    mark_each::<false>(img, &mut *words, at, k);
 }
 
 // Marks the node at level 2 of a page, n its count, and its leaves, no more than `left` nodes. Gives how many are left.
-fn mark_leaves(
-    g: Geometry,
-    img: &[u8],
-    lent: &mut [u32],
-    m: usize,
-    page: u32,
-    left: u32,
-    n: usize,
-) -> u32
-    requires { (m ≤ length lent.old) × (left ≡ 0 → ⊥) × (Counted g img.now page 2 n) × (n < 256) }
-    ensures { Walked (mark_all m) g img.now 2 page left result lent.old lent.new }
+fn mark_leaves(g: Geometry, img: &[u8], words: &mut [u32], page: u32, left: u32, n: usize) -> u32
+    requires { (left ≡ 0 → ⊥) × (Counted g img.now page 2 n) × (n < 256) }
+    ensures { Walked (mark_all (length words.old)) g img.now 2 page left result words.old words.new }
 {
-    mark_page(&mut *lent, m, page);
+    mark_page(&mut *words, page);
     let at = chip_read::node_place(g, page, 2);
     let k = live_walk::at_most(n, left - 1);
-    mark_entries(img, &mut *lent, m, at, k);
+    mark_entries(img, &mut *words, at, k);
     live_walk::left_after(left - 1, k)
 }
 
@@ -133,16 +123,14 @@ fn below_at(
 fn mark_nodes(
     g: Geometry,
     img: &[u8],
-    lent: &mut [u32],
-    m: usize,
+    words: &mut [u32],
     level: u32,
     page: u32,
     left: u32,
     n: usize,
 ) -> u32
-    requires { (level < 256) × (m ≤ length lent.old) × (Counted g img.now page level n) × (n < 256) }
-    ensures { Walked (mark_all m) g img.now level page left result lent.old
-        lent.new }
+    requires { (level < 256) × (Counted g img.now page level n) × (n < 256) }
+    ensures { Walked (mark_all (length words.old)) g img.now level page left result words.old words.new }
 {
     if level == 0 {
         return left;
@@ -151,9 +139,9 @@ fn mark_nodes(
         return 0;
     }
     if level == 2 {
-        return mark_leaves(g, img, &mut *lent, m, page, left, n);
+        return mark_leaves(g, img, &mut *words, page, left, n);
     }
-    mark_page(&mut *lent, m, page);
+    mark_page(&mut *words, page);
     if level == 1 {
         return left - 1;
     }
@@ -161,27 +149,10 @@ fn mark_nodes(
     let counts = counts_below(g, img, at, n, level - 1);
     let mut more = left - 1;
     for i in 0..n {
-        let below = below_at(g, img, &counts, at, n, level - 1, i);
-        more = mark_nodes(
-            g,
-            img,
-            &mut *lent,
-            m,
-            level - 1,
-            below.page,
-            more,
-            below.count,
-        );
+        let node = below_at(g, img, &counts, at, n, level - 1, i);
+        more = mark_nodes(g, img, &mut *words, level - 1, node.page, more, node.count);
     }
     more
-}
-
-// The first m words with no page live.
-fn clear(lent: &mut [u32], m: usize)
-    requires { m ≤ length lent.old }
-    ensures { lent.new ≡ filled nowhere m lent.old }
-{
-    lent[..m].fill(0);
 }
 
 // The words of n blocks from a root on, by no more than 8,388,608 nodes: so a walk ends soon on every image.
@@ -191,7 +162,8 @@ pub fn tell_words(g: Geometry, img: &[u8], lent: &mut [u32], n: u16, level: u32,
         (words_of g n) lent.old }
 {
     let m = live_fill::words_of(g, n).min(lent.len());
-    clear(&mut *lent, m);
+    let words = &mut lent[..m];
+    words.fill(0);
     let count = chip_read::node_count(g, img, root, level + 1);
-    mark_nodes(g, img, &mut *lent, m, level + 1, root, 8388608, count);
+    mark_nodes(g, img, &mut *words, level + 1, root, 8388608, count);
 }
