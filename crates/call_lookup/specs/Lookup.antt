@@ -15,7 +15,7 @@ use Rattle.chip_read.specs.Chip.{good_blocks, chip_with}
 use Rattle.chip_read.specs.Blocks.{some_blocks}
 use Rattle.sound_verdict.specs.declared.Judgement.{Judgement}
 use Rattle.sound_verdict.specs.Verdict.{Judged}
-use Rattle.sound_verdict.specs.InOrder.{roomy_few}
+use Rattle.sound_verdict.specs.InOrder.{roomy_few, roomy_many}
 use Rattle.chip_survey.specs.Pass.{chip_is}
 use Rattle.call_judged.specs.Judging.{judged_broken, judged_rest, judged_length, judged_blocks}
 
@@ -74,4 +74,4 @@ module _ (g : Geometry) (img : List ℕ) (k n : ℕ) (en : n ≡ good_blocks g i
       judged_blocks g img (refused 1 img) (damaged img) _ n en (told a img) h
       (e ∙ ap (λ (m : ℕ). by_verdict (verdict g n img) (damaged img) (answered (sought (chip_of g m img) k) img)) (some_blocks g img n en h))
 
-pub ruleset lookup_laws = (answer_at, answer_none, roomy_few, weighed_is, lookup_length, lookup_broken, lookup_done, lookup_blocks)
+pub ruleset lookup_laws = (answer_at, answer_none, roomy_few, roomy_many, weighed_is, lookup_length, lookup_broken, lookup_done, lookup_blocks)

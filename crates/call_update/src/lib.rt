@@ -1,5 +1,5 @@
 // An update (insert or delete) with lent words of live pages: refused, or made under its allowance. Judged first.
-#![tactic(auto)]
+#![tactic(auto, using(crate::specs::Stores::asks_laws, crate::specs::Stores::store_laws, crate::specs::Updates::update_laws))]
 
 ghost use Rattle.std.specs.Prelude.{◌≡◌, ◌+◌, ◌≤◌, ◌<◌, length, is_none};
 ghost use Rattle.geometry.specs.Shape.{Known};
@@ -61,10 +61,7 @@ fn is_absent(g: Geometry, img: &[u8], o: Opened, key: u32) -> bool
     ensures { result ≡ is_none (sought (chip_by g img.now o) key) }
 {
     let level = chip_survey::level_by(g, o.height);
-    match tree_descent::find_key(g, img, level, o.root, key) {
-        Some(_) => false,
-        None => true,
-    }
+    tree_descent::find_key(g, img, level, o.root, key).is_none()
 }
 
 // ABSENT, and one page.
@@ -278,8 +275,8 @@ fn update_blocks(
     }
 }
 
-// The update on at most 64 blocks, with a short table: it is cleared at every call.
-fn update_few(
+// The update with a table of N places: it is cleared at every call.
+fn update_sized<const N: usize>(
     g: Geometry,
     img: &mut [u8],
     lent: &mut [u32],
@@ -288,33 +285,16 @@ fn update_few(
     allowance: u32,
 ) -> Answer
     requires known { (Known g) × (Small u) }
-    requires n_value { (n ≡ good_blocks g img.old) × (n ≤ 64) × (n ≡ 0 → ⊥) × (words_of g n ≤ length lent.old) }
+    requires n_value { (n ≡ good_blocks g img.old) × (n ≤ 1024) × (n ≡ 0 → ⊥) × (N ≤ 65536) × (Roomy g n N)
+        × (words_of g n ≤ length lent.old) }
     ensures { reply (told result img.new) lent.new
         ≡ update_live u g img.old lent.old allowance }
 {
-    let mut table: [u8; 4096] = [0; 4096];
+    let mut table: [u8; N] = [0; N];
     update_blocks(g, &mut *img, &mut table, &mut *lent, n, u, allowance)
 }
 
-// The update on at most 1,024 blocks.
-fn update_many(
-    g: Geometry,
-    img: &mut [u8],
-    lent: &mut [u32],
-    n: u16,
-    u: Update,
-    allowance: u32,
-) -> Answer
-    requires known { (Known g) × (Small u) }
-    requires n_value { (n ≡ good_blocks g img.old) × (n ≤ 1024) × (n ≡ 0 → ⊥) × (words_of g n ≤ length lent.old) }
-    ensures { reply (told result img.new) lent.new
-        ≡ update_live u g img.old lent.old allowance }
-{
-    let mut table: [u8; 65536] = [0; 65536];
-    update_blocks(g, &mut *img, &mut table, &mut *lent, n, u, allowance)
-}
-
-// The update on a chip of a known geometry.
+// The update on a chip of a known geometry: at most 64 blocks have a short table.
 pub fn update_on(g: Geometry, img: &mut [u8], lent: &mut [u32], u: Update, allowance: u32) -> Answer
     requires { (Known g) × (Small u) }
     ensures { reply (told result img.new) lent.new
@@ -328,7 +308,7 @@ pub fn update_on(g: Geometry, img: &mut [u8], lent: &mut [u32], u: Update, allow
         return Answer::Length;
     }
     if n <= 64 {
-        return update_few(g, &mut *img, &mut *lent, n, u, allowance);
+        return update_sized::<4096>(g, &mut *img, &mut *lent, n, u, allowance);
     }
-    update_many(g, &mut *img, &mut *lent, n, u, allowance)
+    update_sized::<65536>(g, &mut *img, &mut *lent, n, u, allowance)
 }
