@@ -1,7 +1,8 @@
 -- Laws by which the export's code is proved. Assumes nothing.
 use Rattle.std.specs.Prelude.{ℕ, zero, suc, ◌+◌, ◌-◌, ◌*◌, ◌<◌, ◌≤◌, ◌≡◌, set}
 use Rattle.std.proofs.Math.Path.{refl, sym, ap}
-use Rattle.std.proofs.Common.{subst, ◌∙◌, zero-add, add-one, sub-one, length-append, le-leb}
+use Rattle.std.specs.Int.{w32}
+use Rattle.std.proofs.Common.{subst, ◌∙◌, Fits, zero-add, add-one, sub-one, length-append, le-leb}
 use mathlib.Core.List.{List, [], ◌∷◌, ◌++◌, append_assoc, append-nil}
 use native.Mathlib.Omega.{arith}
 use Rattle.std.proofs.Math.ListN.{length, drop}
@@ -16,7 +17,6 @@ use Rattle.geometry.specs.Bounds.{four_bytes}
 use Rattle.model.specs.Bytes.{node_place, node_count, node_at}
 use Rattle.model.specs.Image.{Nodes, Chip}
 use Rattle.model.specs.Tree.{gather, under, map_of}
-use Rattle.model.specs.Rules.{verdict}
 use Rattle.model.specs.Calls.{Outcome, gives, by_verdict, judged}
 use Rattle.call_answers.specs.declared.Answer.TheVariants.{Length, Damaged}
 use Rattle.call_answers.specs.declared.Row.{Row}
@@ -40,8 +40,8 @@ module _ (n k at r : ℕ) (ek : k ≡ n) where
   pub value_place : r ≡ at + length (decimal k) → r ≡ at + length (decimal n)
   value_place e = e ∙ rw ek refl
 
-  pub value_short : r ≡ at + length (decimal k) → k < four_bytes → r ≤ at + 10
-  value_short e h = let x = decimal_short 9 k (omega (arith, h)) in omega (arith, x, e)
+  pub value_short : r ≡ at + length (decimal k) → Fits w32 n → r ≤ at + 10
+  value_short e h = let x = decimal_short 9 k (omega (arith, ek, h.fits)) in omega (arith, x, e)
 
   pub value_bytes : (b c : List ℕ) → c ≡ sets b at (decimal k) → c ≡ sets b at (decimal n)
   value_bytes b c e = e ∙ rw ek refl
