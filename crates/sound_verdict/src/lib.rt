@@ -154,10 +154,7 @@ fn judge_broken(g: Geometry, img: &[u8], n: u16) -> Judgement
 {
     let survey = chip_survey::take_survey(g, img, n);
     let verdict = broken_pages(g, img, n);
-    Judgement {
-        verdict: verdict,
-        survey: survey,
-    }
+    Judgement { verdict, survey }
 }
 
 // Judges n blocks by what the pass told.
@@ -193,32 +190,17 @@ fn judge_by(
         lows,
         highs,
     );
-    Judgement {
-        verdict: verdict,
-        survey: survey,
-    }
+    Judgement { verdict, survey }
 }
 
-// Judges at most 1,024 blocks.
-fn judge_many(g: Geometry, img: &[u8], table: &mut [u8], n: u16) -> Judgement
-    requires { (n ≤ 1024) × (Roomy g n (length table.old)) }
+// Judges at most MOST blocks, with lists of as many places: these are cleared at every call.
+fn judge_most<const MOST: usize>(g: Geometry, img: &[u8], table: &mut [u8], n: u16) -> Judgement
+    requires { (n ≤ MOST) × (MOST ≤ 1024) × (Roomy g n (length table.old)) }
     ensures { Judged g n img.now result table.old table.new }
 {
-    let mut programmed: [u16; 1024] = [0; 1024];
-    let mut lows: [u32; 1024] = [0; 1024];
-    let mut highs: [u32; 1024] = [0; 1024];
-    let sight = sound_sight::take_sight(g, img, n, &mut programmed, &mut lows, &mut highs);
-    judge_by(g, img, &mut *table, n, sight, &programmed, &lows, &highs)
-}
-
-// Judges at most 64 blocks, with shorter lists: these are cleared at every call.
-fn judge_few(g: Geometry, img: &[u8], table: &mut [u8], n: u16) -> Judgement
-    requires { (n ≤ 64) × (Roomy g n (length table.old)) }
-    ensures { Judged g n img.now result table.old table.new }
-{
-    let mut programmed: [u16; 64] = [0; 64];
-    let mut lows: [u32; 64] = [0; 64];
-    let mut highs: [u32; 64] = [0; 64];
+    let mut programmed: [u16; MOST] = [0; MOST];
+    let mut lows: [u32; MOST] = [0; MOST];
+    let mut highs: [u32; MOST] = [0; MOST];
     let sight = sound_sight::take_sight(g, img, n, &mut programmed, &mut lows, &mut highs);
     judge_by(g, img, &mut *table, n, sight, &programmed, &lows, &highs)
 }
@@ -230,9 +212,9 @@ pub fn judge_in(g: Geometry, img: &[u8], table: &mut [u8], n: u16) -> Judgement
     ensures { Judged g n img.now result table.old table.new }
 {
     if n <= 64 {
-        return judge_few(g, img, &mut *table, n);
+        return judge_most::<64>(g, img, &mut *table, n);
     }
-    judge_many(g, img, &mut *table, n)
+    judge_most::<1024>(g, img, &mut *table, n)
 }
 
 // The same with a table for the largest image.
