@@ -73,10 +73,7 @@ pub fn entry_at(img: &[u8], at: usize) -> Entry
     }
     let key = read_u32(img, at);
     let addr = read_u32(img, at + 4);
-    Entry {
-        key: key,
-        addr: addr,
-    }
+    Entry { key, addr }
 }
 
 // Whether the n bytes from `at` are all 255, one by one from the last down.
@@ -220,12 +217,7 @@ pub fn node_count(g: Geometry, img: &[u8], page: u32, level: u32) -> usize
     if !geometry::in_table(g, level) {
         return 0;
     }
-    let n = count_at(g, img, page, level);
-    let full = geometry::root_slots(g, level);
-    if full < n {
-        return full + 1;
-    }
-    n
+    count_at(g, img, page, level).min(geometry::root_slots(g, level) + 1)
 }
 
 // The byte at which the node at a level begins.
@@ -254,10 +246,7 @@ pub fn page_of(g: Geometry, block: u16, j: u16) -> u32
 pub fn last_page(g: Geometry, block: u16) -> u32
     ensures { result ≡ g.pages * block + (g.pages - 1) }
 {
-    if g.pages == 0 {
-        return page_of(g, block, 0);
-    }
-    page_of(g, block, g.pages - 1)
+    page_of(g, block, g.pages.saturating_sub(1))
 }
 
 // Whether the last page of a block is erased.
