@@ -3,7 +3,6 @@
 #![tactic(auto, using(crate::specs::RuleThree::number_laws))]
 
 ghost use Rattle.std.specs.Prelude.{◌≡◌, ◌+◌, ◌*◌, ◌-◌, ◌≤◌, ◌<◌, false, length, get_or, IfSome};
-ghost use Rattle.geometry.specs.Bounds.{four_bytes};
 ghost use Rattle.model.specs.Bytes.{erased, seq_at};
 ghost use Rattle.model.specs.Rules.{r3};
 ghost use Rattle.sound_numbers.specs.Ranges.{extended, apart_of, Zero, Shows, Ranges, Clear, AllClear, Spaced, Over, Nearer};
