@@ -41,6 +41,8 @@ fn mark_page(words: &mut [u32], page: u32)
 }
 
 // Marks the leaves that k entries from byte `at` name: INSIDE where all entries are known to stand in the image.
+// Beside `note_each` of live_walk: one for both would need a trait of the two tables, with its law for each, which is
+// no plainer than two loops of two lines.
 fn mark_each<const INSIDE: bool>(img: &[u8], words: &mut [u32], at: usize, k: usize)
     requires bounds { (k < 256) × (at < 1125899906842624) }
     requires inside { INSIDE ≡ true → at + 8 * k ≤ length img.now }
@@ -120,6 +122,8 @@ fn below_at(
 
 // Marks the node at a level of a page, n its count, and all that it reaches, no more than `left` nodes. Gives how many
 // are left.
+// Beside `note_nodes` of live_walk, which reads each count where it stands: here it comes from the node above, read
+// ahead (docs/DECISIONS.md, 204).
 fn mark_nodes(
     g: Geometry,
     img: &[u8],

@@ -1,12 +1,11 @@
 -- The walk, in the form in which the code has the premises. Assumes nothing.
-use Rattle.std.specs.Prelude.{ℕ, zero, suc, ◌+◌, ◌-◌, ◌*◌, ◌<◌, ◌≤◌, Bool, true, false, not, ◌≡◌, refl, List, [], ◌∷◌, ◌++◌, eqb, length, get_or, set}
+use Rattle.std.specs.Prelude.{ℕ, zero, suc, ◌+◌, ◌-◌, ◌*◌, ◌<◌, ◌≤◌, not, ◌≡◌, refl, List, [], ◌∷◌, ◌++◌, eqb, length, get_or, set}
 use Rattle.std.proofs.Common.{sym, ◌∙◌, length-set, arith, sub-one, ne_eqb}
 use Rattle.std.proofs.Math.ListN.{get_or-eq_default}
 use Rattle.std.proofs.Math.Seq.{set_out}
 use Rattle.std.proofs.Math.Nat.{min-eq_left, min-eq_right}
 use Rattle.geometry.specs.declared.Geometry.{Geometry}
 use Rattle.geometry.specs.declared.Entry.{Entry}
-use Rattle.geometry.specs.Tests.{bit}
 use Rattle.model.specs.Bytes.{u32_at, node_place, node_count, node_at}
 use Rattle.model.specs.Image.{Nodes}
 use Rattle.model.specs.Tree.{gather, Place, places}
@@ -113,14 +112,8 @@ pub live_is : (tbl : List ℕ) (p r : ℕ) → r ≡ get_or tbl p 0 → not (eqb
 unfolding live_in
 live_is tbl p r e = rw e
 
-pub bit_live : (tbl : List ℕ) (p : ℕ) (b : Bool) → b ≡ live_in tbl p → b ≡ true → 1 ≡ bit (live_in tbl p)
-bit_live tbl p b e q = simp (← e, q)
-
-pub bit_dead : (tbl : List ℕ) (p : ℕ) (b : Bool) → b ≡ live_in tbl p → b ≡ false → 0 ≡ bit (live_in tbl p)
-bit_dead tbl p b e q = simp (← e, q)
-
 pub ruleset noted_laws = (noted_past, noted_at, lower_first, lower_new, lower_old, note_past, note_at)
 
-pub ruleset live_laws = (live_is, bit_live, bit_dead, tally_laws, within_laws)
+pub ruleset live_laws = (live_is, tally_laws, within_laws)
 
 pub ruleset walk_laws = (noted_laws, walk_same, note_same, live_laws)

@@ -2,7 +2,6 @@
 #![tactic(auto, using(crate::specs::Walking::walk_laws, crate::specs::Stops::note_laws))]
 
 ghost use Rattle.std.specs.Prelude.{true, ◌≡◌, ◌+◌, ◌*◌, ◌-◌, ◌≤◌, ◌<◌, min, length, get_or, take};
-ghost use Rattle.geometry.specs.Tests.{bit};
 ghost use Rattle.model.specs.Bytes.{u32_at};
 ghost use Rattle.model.specs.Count.{count};
 ghost use Rattle.model.specs.Next.{in_block};
@@ -166,23 +165,13 @@ pub fn is_live(table: &[u8], page: u32) -> bool
     noted(table, page) != 0
 }
 
-// 1 for a live page.
-fn live_bit(table: &[u8], page: u32) -> u32
-    ensures { (result ≡ bit (live_in table.now page)) × (result ≤ 1) }
-{
-    if is_live(table, page) {
-        return 1;
-    }
-    0
-}
-
 // The live pages below a number.
 pub fn live_pages(table: &[u8], pages: u32) -> u32
     ensures { (result ≡ count pages (live_in table.now)) × (result ≤ pages) }
 {
     let mut lives: u32 = 0;
     for page in 0..pages {
-        lives = live_bit(table, page) + lives;
+        lives += u32::from(is_live(table, page));
     }
     lives
 }
@@ -193,7 +182,7 @@ pub fn lives_in(g: Geometry, table: &[u8], block: u16) -> u32
 {
     let mut lives: u32 = 0;
     for j in 0..g.pages {
-        lives = live_bit(table, chip_read::page_of(g, block, j)) + lives;
+        lives += u32::from(is_live(table, chip_read::page_of(g, block, j)));
     }
     lives
 }
