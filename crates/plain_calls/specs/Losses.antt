@@ -1,5 +1,5 @@
 -- Counting the levels that a delete empties, in the form in which the code has the premises. Assumes nothing.
-use Rattle.std.specs.Prelude.{ℕ, zero, suc, ◌+◌, ◌-◌, ◌<◌, Bool, true, false, ◌≡◌, refl, List, [], ◌∷◌, eqb, None, Some, Option}
+use Rattle.std.specs.Prelude.{ℕ, zero, suc, ◌+◌, ◌-◌, ◌<◌, Bool, true, false, ◌≡◌, refl, List, [], ◌∷◌, eqb, Option, None, Some, is_none}
 use Rattle.std.proofs.Math.Path.{sym, ap}
 use Rattle.std.proofs.Common.{◌∙◌, length-append, arith, add-one, sub-one}
 use Rattle.std.proofs.Math.ListN.{length}
@@ -19,7 +19,7 @@ use Rattle.chip_read.specs.Chip.{chip_with}
 use Rattle.chip_read.specs.Node.{node_length}
 use Rattle.tree_path.specs.Paths.{path_top, path_below}
 use Rattle.plain_calls.specs.declared.Loss.{Loss}
-use Rattle.plain_calls.specs.Counts.{less_of, emptied_below, Loses, Sheds}
+use Rattle.plain_calls.specs.Counts.{less_of, emptied_below, Loses, LosesSome, ShedsSome}
 
 -- ---- a node whose entry gives way to a list
 swap_length : (f : Entry → List Entry) (i : ℕ) (es : List Entry) → i < length es
@@ -77,27 +77,22 @@ module _ (g : Geometry) (img : List ℕ) (k : ℕ) (e : Entry) (f : Option ℕ) 
     (node_at g img e.addr 1)) (n : ℕ)
     (en : n ≡ node_count g img e.addr 1) where
   pub leaf_there : (m a : ℕ) → m ≡ n - 1 → f ≡ Some a → Loses g img k 0 e
-      (record { absent = false; emptied = 0; left = m })
+      (record { emptied = 0; left = m })
   unfolding leaf edited count
   leaf_there m a em q =
       let there : find_in k (node_at g img e.addr 1) ≡ Some a = sym ef ∙ rw q in
       record {
-        absent = rw there;
+        stands = rw there;
         emptied = refl;
         left = em ∙ sym (remove_there k a (node_at g img e.addr 1) there ∙ rw (node_length, en));
         few = omega arith;
       }
 
-  pub leaf_missing : f ≡ None → Loses g img k 0 e (record { absent = true; emptied = 0; left = n })
-  unfolding leaf edited count
+  pub leaf_missing : f ≡ None → true ≡ is_none (find_in k (leaf (node_at g img) k 0 e))
+  unfolding leaf
   leaf_missing q =
       let missing : find_in k (node_at g img e.addr 1) ≡ None = sym ef ∙ rw q in
-      record {
-        absent = rw missing;
-        emptied = refl;
-        left = sym (remove_missing k (node_at g img e.addr 1) missing ∙ rw (node_length, en));
-        few = omega arith;
-      }
+      rw missing
 
 -- ---- a node above level 1: it loses an entry where the one below is emptied
 none_kept : (c : List Entry) → length c ≡ 0 → (none_left c ≡ true) × ((l : ℕ) (e : Entry) → length (kept 0 l e c) ≡ 0)
@@ -137,25 +132,25 @@ module _ (r : Nodes) (k l : ℕ) (e : Entry) where
 module _ (g : Geometry) (img : List ℕ) (k : ℕ) (e x : Entry) (r : Loss) where
   one_level : (l n : ℕ) → Loses g img k l x r → x ≡ chosen k (node_at g img e.addr (suc (suc l)))
       → n ≡ node_count g img e.addr (suc (suc l))
-      → (r.left ≡ 0 → Loses g img k (suc l) e (record { absent = r.absent; emptied = r.emptied + 1; left = n - 1 }))
-      × ((r.left ≡ 0 → ⊥) → Loses g img k (suc l) e (record { absent = r.absent; emptied = r.emptied; left = n }))
+      → (r.left ≡ 0 → Loses g img k (suc l) e (record { emptied = r.emptied + 1; left = n - 1 }))
+      × ((r.left ≡ 0 → ⊥) → Loses g img k (suc l) e (record { emptied = r.emptied; left = n }))
   unfolding leaf
   one_level l n c ex en =
       let w : Loses g img k l (chosen k (node_at g img e.addr (suc (suc l)))) r = rw (← ex) c in
       let size : length (node_at g img e.addr (suc (suc l))) ≡ n = node_length g img e.addr (suc (suc l))
       ∙ sym en in (
         λ z.
-            let none : length (below (node_at g img) k l e) ≡ 0 = sym w.left ∙ z in
+            let empty : length (below (node_at g img) k l e) ≡ 0 = sym w.left ∙ z in
             record {
-              absent = w.absent;
-              emptied = sym (emptied_below_lem (node_at g img) k l e ∙ rw ((none_kept _ None).0, ← w.emptied) (omega arith));
-              left = sym (left_one (node_at g img) k l e None ∙ rw size);
+              stands = w.stands;
+              emptied = sym (emptied_below_lem (node_at g img) k l e ∙ rw ((none_kept _ empty).0, ← w.emptied) (omega arith));
+              left = sym (left_one (node_at g img) k l e empty ∙ rw size);
               few = omega (arith, w.few);
             },
         λ z.
             let some_left : length (below (node_at g img) k l e) ≡ 0 → ⊥ = λ h. z (w.left ∙ h) in
             record {
-              absent = w.absent;
+              stands = w.stands;
               emptied = sym (emptied_below_lem (node_at g img) k l e
                   ∙ rw ((some_kept _ some_left).0, ← w.emptied) (omega arith));
               left = sym (left_all (node_at g img) k l e some_left ∙ size);
@@ -166,7 +161,7 @@ module _ (g : Geometry) (img : List ℕ) (k : ℕ) (e x : Entry) (r : Loss) wher
   pub loss_emptied : (l n m : ℕ) → Loses g img k (l - 1) x r → x ≡ chosen k (node_at g img e.addr (l + 1))
       → n ≡ node_count g img e.addr (l + 1)
       → m ≡ n - 1 → r.left ≡ 0 → (l ≡ 0 → ⊥) → Loses g img k l e
-      (record { absent = r.absent; emptied = r.emptied + 1; left = m })
+      (record { emptied = r.emptied + 1; left = m })
   loss_emptied zero n m c ex en em z h = absurd (h refl)
   loss_emptied (suc l) n m c ex en em z h =
       rw em ((one_level l n (rw sub-one at c) (rw add-one at ex) (rw add-one at en)).0 z)
@@ -174,23 +169,32 @@ module _ (g : Geometry) (img : List ℕ) (k : ℕ) (e x : Entry) (r : Loss) wher
   pub loss_kept : (l n : ℕ) → Loses g img k (l - 1) x r → x ≡ chosen k (node_at g img e.addr (l + 1))
       → n ≡ node_count g img e.addr (l + 1)
       → (r.left ≡ 0 → ⊥) → (l ≡ 0 → ⊥) → Loses g img k l e
-      (record { absent = r.absent; emptied = r.emptied; left = n })
+      (record { emptied = r.emptied; left = n })
   loss_kept zero n c ex en z h = absurd (h refl)
   loss_kept (suc l) n c ex en z h = (one_level l n (rw sub-one at c) (rw add-one at ex) (rw add-one at en)).1 z
 
-pub loss_leaf : (g : Geometry) (img : List ℕ) (k l : ℕ) (e : Entry) (r : Loss) → Loses g img k 0 e r → l ≡ 0
-    → Loses g img k l e r
+-- where the key is absent below, it is absent here
+pub loss_missing : (g : Geometry) (img : List ℕ) (k l : ℕ) (e x : Entry)
+    → true ≡ is_none (find_in k (leaf (node_at g img) k (l - 1) x)) → x ≡ chosen k (node_at g img e.addr (l + 1))
+    → (l ≡ 0 → ⊥) → true ≡ is_none (find_in k (leaf (node_at g img) k l e))
+unfolding leaf
+loss_missing g img k zero e x h ex z = absurd (z refl)
+loss_missing g img k (suc l) e x h ex z = rw sub-one at h ∙ rw (ex, add-one)
+
+pub loss_leaf : (g : Geometry) (img : List ℕ) (k l : ℕ) (e : Entry) (r : Option Loss) → LosesSome g img k 0 e r → l ≡ 0
+    → LosesSome g img k l e r
 loss_leaf g img k l e r c h = rw h c
 
 -- ---- the root
-pub sheds : (g : Geometry) (img : List ℕ) (l p k : ℕ) (r : Loss) → Loses g img k l (record { key = 0; addr = p }) r
-    → Sheds (chip_with g img l p) k r
+pub sheds : (g : Geometry) (img : List ℕ) (l p k : ℕ) (r : Option Loss)
+    → LosesSome g img k l (record { key = 0; addr = p }) r → ShedsSome (chip_with g img l p) k r
 unfolding emptied delete_list
-sheds g img l p k r c = record {
-  absent = c.absent;
+sheds g img l p k None c = c
+sheds g img l p k (Some r) c = record {
+  stands = c.stands;
   emptied = c.emptied;
   left = c.left ∙ ap length (sym (path_top (node_at g img) k (remove_in k) (kept 0) l (record { key = 0; addr = p })));
   few = c.few;
 }
 
-pub ruleset loss_laws = (less_none, leaf_there, leaf_missing, loss_leaf, loss_emptied, loss_kept, sheds)
+pub ruleset loss_laws = (less_none, leaf_there, leaf_missing, loss_leaf, loss_emptied, loss_kept, loss_missing, sheds)
