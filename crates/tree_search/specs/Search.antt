@@ -1,5 +1,5 @@
 -- The place where a key stands or enters, beside the model's `place`. Definitions alone; assumes nothing.
-use Rattle.std.specs.Prelude.{ℕ, suc, List, [], ◌∷◌, Bool, false, eqb, ltb, None, Option, Some}
+use Rattle.std.specs.Prelude.{ℕ, suc, List, [], ◌∷◌, Bool, false, eqb, ltb}
 use Rattle.geometry.specs.declared.Entry.{Entry}
 use Rattle.geometry.specs.Tests.{pick}
 use Rattle.model.specs.Tree.{place, chosen}
