@@ -1,6 +1,6 @@
 // A day's log, fed byte by byte. What waits to be written stands at the start of a lent buffer; the line that has begun
 // stands in another one of 34 bytes, which is as long as a line with a form can be.
-#![tactic(auto)]
+#![tactic(auto, using(crate::proofs::Steps::step_laws))]
 
 ghost use Rattle.std.specs.Prelude.{◌≡◌, [], ◌+◌, ◌<◌, ◌≤◌, length, take};
 ghost use Rattle.std.proofs.lemmas.List.Edits.{sets};
@@ -64,10 +64,10 @@ fn answer(img: &mut [u8], out: &mut [u8], t: Tally, wrote: usize, order: Order) 
 {
     let row = call_answers::row_of(log_play::obey(&mut *img, order));
     let numbers = [
-        row.answer as u64,
-        row.address as u64,
-        row.programmed as u64,
-        row.erased as u64,
+        u64::from(row.answer),
+        u64::from(row.address),
+        u64::from(row.programmed),
+        u64::from(row.erased),
     ];
     let next = log_replies::put_line(&mut *out, wrote, log_lines::letter_of(order), numbers, 4);
     let counted = log_tally::after_line(t, row.programmed, row.erased);
@@ -90,7 +90,8 @@ fn close_line(img: &mut [u8], line: &[u8], out: &mut [u8], t: Tally, wrote: usiz
     ensures most { result.wrote ≤ wrote + 86 }
     ensures within { Within result.tally }
 {
-    if 1000000 <= t.lines {
+    let full = 1000000 <= t.lines;
+    if full {
         return refuse(&mut *out, t, wrote);
     }
     let form = log_lines::parse_line(line);
@@ -117,7 +118,7 @@ fn lengthen(line: &mut [u8], out: &mut [u8], t: Tally, filled: usize, wrote: usi
             filled: filled + 1,
             tally: t,
             over: false,
-            wrote: wrote,
+            wrote,
         };
     }
     refuse(&mut *out, t, wrote)
