@@ -92,7 +92,8 @@ fn from_rule_6(g: Geometry, img: &[u8], table: &[u8], n: u16, survey: Survey) ->
     ensures { result ≡ from6 g n img.now }
 {
     let pages = chip_read::first_page(g, n);
-    tell(6, sound_links::rule_6(g, img, table, pages, survey.level, survey.root))?;
+    let links = sound_links::rule_6(g, img, table, pages, survey.level, survey.root);
+    tell(6, links)?;
     if g.table == Geometry::PLAIN_TABLE {
         return Ok(());
     }

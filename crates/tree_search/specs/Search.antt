@@ -13,4 +13,3 @@ ahead k (e ∷ es) = pick (ltb (chosen k (e ∷ es)).key k) (suc (place k (e ∷
 unfoldable pub holds : ℕ → List Entry → Bool
 holds k [] = false
 holds k (e ∷ es) = eqb (chosen k (e ∷ es)).key k
-

@@ -21,5 +21,5 @@ returns-clause-value c =
     let root : ◌≡◌ {A = Finding} c.rule_4.result Good = told_good _ _ _ c.tell-2.ensures c.in_ok-tell-2.was in
     let nodes : ◌≡◌ {A = Finding} c.rule_5-nodes.result Good = told_good _ _ _ c.tell-3.ensures c.in_ok-tell-3.was in
     let by_nodes : from5 c.args.g c.args.n c.args.img.now ≡ from6 c.args.g c.args.n c.args.img.now =
-        sym (or_good 5 _ _ _ (search (rules, verdict_laws)) refl) in
+    sym (or_good 5 _ _ _ (search (rules, verdict_laws)) refl) in
     (or_good 3 _ _ _ (search rules) (or_good 4 _ _ _ (search rules) (c.from_rule_6.ensures ∙ sym by_nodes)), search (rules, verdict_laws))
