@@ -1,9 +1,10 @@
 -- Lookup, in the form in which the code has the premises. Assumes nothing.
-use Rattle.std.specs.Prelude.{ℕ, ◌≡◌, refl, List, Option, Some, None}
+use Rattle.std.specs.Prelude.{ℕ, ◌≡◌, refl, List, Option, Some, None, Err}
 use Rattle.std.proofs.Common.{sym, ◌∙◌}
 use Rattle.std.proofs.Math.Path.{ap}
 use Rattle.geometry.specs.declared.Geometry.{Geometry}
-use Rattle.geometry.specs.Findings.{Sound, broken_at}
+use Rattle.geometry.specs.declared.Broken.{Broken}
+use Rattle.geometry.specs.Findings.{Sound}
 use Rattle.model.specs.Image.{Chip, chip_of}
 use Rattle.model.specs.Tree.{sought}
 use Rattle.model.specs.Rules.{verdict}
@@ -47,10 +48,10 @@ pub weighed_is : (g : Geometry) (n : ℕ) (img : List ℕ) (j : Judgement) (t u 
 weighed_is g n img j t u x = record { before = t; after = u; judged = x }
 
 module _ (g : Geometry) (n : ℕ) (img : List ℕ) (k : ℕ) (j : Judgement) (x : Weighed g n img j) where
-  pub lookup_broken : (a : Answer) (r p : ℕ) → j.verdict ≡ broken_at r p → told a img ≡ damaged img r p
+  pub lookup_broken : (a : Answer) (b : Broken) → j.verdict ≡ Err b → told a img ≡ damaged img b.rule b.page
       → told a img ≡ by_verdict (verdict g n img) (damaged img) (answered (sought (chip_of g n img) k) img)
-  lookup_broken a r p e h =
-      judged_broken g n img (damaged img) _ j x.before x.after x.judged (told a img) r p e h
+  lookup_broken a b e h =
+      judged_broken g n img (damaged img) _ j x.before x.after x.judged (told a img) b.rule b.page e h
 
   pub lookup_done : (f : Option ℕ) (a : Answer) → j.verdict ≡ Sound → f ≡ sought (chip_with g img j.survey.level
       j.survey.root) k

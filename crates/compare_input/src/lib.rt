@@ -22,11 +22,9 @@ fn play_part(mu: &mut [u8], plain: &mut [u8], line: &mut [u8], part: &[u8], run:
     ensures ran { (rest : List ℕ) → ran (state_of run line.old mu.old plain.old)
         (part.now ++ rest) ≡ ran (state_of result line.new mu.new plain.new) rest }
 {
-    let mut at: usize = 0;
     let mut state = run;
-    while at < part.len() {
-        state = compare_machine::feed(&mut *mu, &mut *plain, &mut *line, state, part[at]);
-        at += 1;
+    for b in part {
+        state = compare_machine::feed(&mut *mu, &mut *plain, &mut *line, state, *b);
     }
     state
 }
@@ -47,6 +45,7 @@ fn play_input<R: Read>(
         (state_of run line.old mu.old plain.old) (state_of r line.new mu.new plain.new)) }
 {
     let mut state = run;
+    // Stays a while: the reader and the run say where it ends, no range counts the parts.
     while compare_machine::is_going(state) {
         let n = from.read(&mut *part)?;
         if n == 0 {

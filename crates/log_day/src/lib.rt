@@ -22,12 +22,7 @@ fn write_out<W: Write>(to: &mut W, out: &[u8], run: Run) -> io::Result<Run>
         (take run.wrote out.now)) }
 {
     to.write_all(&out[..run.wrote])?;
-    Ok(Run {
-        filled: run.filled,
-        tally: run.tally,
-        over: run.over,
-        wrote: 0,
-    })
+    Ok(Run { wrote: 0, ..run })
 }
 
 // A part that was read is fed, and what it is answered by is written.
@@ -47,6 +42,7 @@ fn play_read<W: Write>(
 {
     let mut at: usize = 0;
     let mut state = run;
+    // Stays a while: the part is used up in pieces as long as the output has room for, no range counts them.
     while at < part.len() {
         let played = log_feed::play_part(&mut *img, &mut *line, &mut *out, part, at, state);
         at = played.next;
@@ -73,6 +69,7 @@ fn play_input<R: Read, W: Write>(
         (state_of run line.old img.old) (state_of r line.new img.new)) }
 {
     let mut state = run;
+    // Stays a while: the reader and the run say where it ends, no range counts the parts.
     while !state.over {
         let n = from.read(&mut *part)?;
         if n == 0 {

@@ -1,10 +1,11 @@
 -- Opening and the calls with a record, in the form in which the code has the premises. Assumes nothing.
-use Rattle.std.specs.Prelude.{ℕ, ◌-◌, min, Bool, true, false, not, ◌≡◌, List, take, Option}
+use Rattle.std.specs.Prelude.{ℕ, ◌-◌, min, Bool, true, false, not, ◌≡◌, List, take, Option, Err}
 use Rattle.std.proofs.Math.Path.{sym, ap}
 use Rattle.std.proofs.Common.{◌∙◌}
 use borrow.Author.Tests.{not-true, not-false, eqb-true}
 use Rattle.geometry.specs.declared.Geometry.{Geometry}
-use Rattle.geometry.specs.Findings.{Sound, broken_at}
+use Rattle.geometry.specs.declared.Broken.{Broken}
+use Rattle.geometry.specs.Findings.{Sound}
 use Rattle.geometry.specs.Tests.{and_right}
 use Rattle.model.specs.Bytes.{height_at}
 use Rattle.model.specs.Image.{blocks_of}
@@ -31,14 +32,14 @@ module _ (g : Geometry) (n : ℕ) (img : List ℕ) (j : Judgement) (t u : List �
   pub survey_judged : j.survey ≡ survey_of g n img
   survey_judged = x.survey
 
-  pub opening_broken : (a : Answer) (r p : ℕ) → a ≡ Damaged r p → j.verdict ≡ broken_at r p
+  pub opening_broken : (a : Answer) (b : Broken) → a ≡ Damaged b.rule b.page → j.verdict ≡ Err b
       → told a img ≡ opening_in g n img
   unfolding opening_in
-  opening_broken a r p ea e = judged_broken g n img (damaged img) (gives 0 0 0 0 img) j t u x (told a img) r p e (ap (λ (y : Answer). told y img) ea)
+  opening_broken a b ea e = judged_broken g n img (damaged img) (gives 0 0 0 0 img) j t u x (told a img) b.rule b.page e (ap (λ (y : Answer). told y img) ea)
 
-  pub opened_broken : (o : Opened) (r p : ℕ) → o ≡ no_record → j.verdict ≡ broken_at r p → o ≡ opened_blocks g n img
+  pub opened_broken : (o : Opened) (b : Broken) → o ≡ no_record → j.verdict ≡ Err b → o ≡ opened_blocks g n img
   unfolding opened_blocks
-  opened_broken o r p eo e = judged_broken g n img (λ r p. no_record) (opened_in g n img) j t u x o r p e eo
+  opened_broken o b eo e = judged_broken g n img (λ r p. no_record) (opened_in g n img) j t u x o b.rule b.page e eo
 
   pub opening_sound : (a : Answer) → a ≡ Done 0 0 0 → j.verdict ≡ Sound → told a img ≡ opening_in g n img
   unfolding opening_in

@@ -1,7 +1,7 @@
 // Request 8, "Open once, call often": opening, which judges an image and hands back its record, and lookup and listing
 // with a record. With a record nothing is judged: one page is read, and the record is STALE where that page is not the
 // root that it names.
-#![tactic(auto)]
+#![tactic(auto, using(crate::specs::Openings::opening_laws))]
 
 ghost use Rattle.std.specs.Prelude.{◌≡◌, ◌-◌, ◌≤◌, ◌<◌, min, length};
 ghost use Rattle.model.specs.Bytes.{height_at};
