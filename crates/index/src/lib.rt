@@ -1,7 +1,7 @@
 // The index as Rattle calls, on the small-block chip (0) or the large-page chip (1). No call asks anything of its
 // caller, and each contract is one equation: the answer, its numbers and the image afterwards are those of the
 // definition, for every image.
-#![tactic(auto, using(crate::specs::ByNumber::index_laws, crate::specs::Opened::opened_laws))]
+#![tactic(auto)]
 
 ghost use Rattle.std.specs.Prelude.{◌≡◌};
 ghost use Rattle.model.specs.Calls.{format_of, lookup_of, patrol_of};

@@ -1,0 +1,19 @@
+use borrow.Author.Rules.{rules}
+use Rattle.index.specs.Opened.{opened_laws}
+use Rattle.index.proofs.delete_opened.Statement.{statement}
+use Rattle.index.proofs.delete_opened.Tie as tie
+
+ruleset all = (rules, opened_laws)
+
+pub delete_opened_spec : {M : Type 1} → statement M
+delete_opened_spec =
+    tie.close
+    (tie.spec
+    (λ c κs. search all)
+    (λ c. search all)
+    (λ c. search all)
+    (λ c. search all)
+    (λ c κs. search all)
+    (λ c. search all)
+    (λ c. search all)
+    (λ c. search all))
