@@ -9,11 +9,18 @@ ghost use Rattle.std.specs.Prelude.{◌≡◌, ◌*◌, ◌≤◌, length};
 use call_answers::Row;
 use std::io;
 
+fn number(rt: &impl Print, n: u32) -> io::Result<()> {
+    print!(rt; " {n}")
+}
+
 fn tell(rt: &impl Print, w: Row) -> io::Result<()> {
-    println!(rt;
-        " {} {} {} {} {} {}",
-        w.answer, w.address, w.programmed, w.erased, w.rule, w.page
-    )
+    number(rt, w.answer)?;
+    number(rt, w.address)?;
+    number(rt, w.programmed)?;
+    number(rt, w.erased)?;
+    number(rt, w.rule)?;
+    number(rt, w.page)?;
+    println!(rt)
 }
 
 fn bring(rt: &impl Print, kind: u32, img: &mut [u8], text: &[u8]) -> io::Result<()> {

@@ -20,13 +20,26 @@ struct Bench {
     full: u32,
 }
 
+fn number(rt: &impl Print, n: u32) -> io::Result<()> {
+    print!(rt; " {n}")
+}
+
+fn line(rt: &impl Print) -> io::Result<()> {
+    println!(rt)
+}
+
 fn tell(rt: &impl Print, a: Answer) -> io::Result<()> {
     let w = call_answers::row_of(a);
-    println!(rt; " {} {} {} {}", w.answer, w.address, w.programmed, w.erased)
+    number(rt, w.answer)?;
+    number(rt, w.address)?;
+    number(rt, w.programmed)?;
+    number(rt, w.erased)?;
+    line(rt)
 }
 
 fn entry(rt: &impl Print, e: Entry) -> io::Result<()> {
-    print!(rt; " {} {}", e.key, e.addr)
+    number(rt, e.key)?;
+    number(rt, e.addr)
 }
 
 // The page on which the root is.
@@ -35,9 +48,11 @@ fn root_page(bench: Bench, img: &[u8]) -> u32 {
 }
 
 fn show_head(rt: &impl Print, bench: Bench, img: &[u8], page: u32, level: u32) -> io::Result<()> {
-    let seq = chip_read::seq_at(bench.geometry, img, page);
-    let height = chip_read::height_at(bench.geometry, img, page);
-    print!(rt; "  page {page} {seq} {height} {level}")
+    print!(rt; "  page")?;
+    number(rt, page)?;
+    number(rt, chip_read::seq_at(bench.geometry, img, page))?;
+    number(rt, chip_read::height_at(bench.geometry, img, page))?;
+    number(rt, level)
 }
 
 // How many entries a node has, its first and its last.
@@ -47,7 +62,7 @@ fn show_ends(rt: &impl Print, img: &[u8], at: usize, n: usize) -> io::Result<()>
     print!(rt; " {n}")?;
     entry(rt, chip_read::entry_at(img, at))?;
     entry(rt, chip_read::entry_at(img, at + 8 * (n - 1)))?;
-    println!(rt)
+    line(rt)
 }
 
 // How many entries a node has, and each of them.
@@ -58,7 +73,7 @@ fn show_entries(rt: &impl Print, img: &[u8], at: usize, n: usize) -> io::Result<
     for i in 0..n {
         entry(rt, chip_read::entry_at(img, at + 8 * i))?;
     }
-    println!(rt)
+    line(rt)
 }
 
 fn show_leaf(rt: &impl Print, bench: Bench, img: &[u8], page: u32) -> io::Result<()> {
@@ -87,7 +102,8 @@ fn show_page(rt: &impl Print, bench: Bench, img: &[u8], page: u32) -> io::Result
 }
 
 fn holds(bench: Bench, img: &[u8], key: u32) -> bool {
-    call_answers::row_of(index::lookup(bench.kind, img, key)).answer == 0
+    let w = call_answers::row_of(index::lookup(bench.kind, img, key));
+    w.answer == 0
 }
 
 // How many of the keys 1 to n are found.
@@ -95,10 +111,14 @@ fn found(rt: &impl Print, bench: Bench, img: &[u8], n: u32) -> io::Result<()> {
     let mut held: u32 = 0;
     for key in 0..n {
         if holds(bench, img, key + 1) {
-            held += 1;
+            if held < n {
+                held += 1;
+            }
         }
     }
-    println!(rt; "keys held {held}")
+    print!(rt; "keys held")?;
+    number(rt, held)?;
+    line(rt)
 }
 
 // An insert with words of its own.
@@ -114,12 +134,16 @@ fn remove(bench: Bench, img: &mut [u8], key: u32, allowance: u32) -> Answer {
 }
 
 fn insert(rt: &impl Print, bench: Bench, img: &mut [u8], key: u32) -> io::Result<()> {
-    print!(rt; "insert {key}:")?;
+    print!(rt; "insert")?;
+    number(rt, key)?;
+    print!(rt; ":")?;
     tell(rt, put(bench, &mut *img, key, key, 4294967295))
 }
 
 fn show_root(rt: &impl Print, bench: Bench, img: &[u8]) -> io::Result<()> {
-    println!(rt; "  root on page {}", root_page(bench, img))
+    print!(rt; "  root on page")?;
+    number(rt, root_page(bench, img))?;
+    line(rt)
 }
 
 // As many keys as a root of level 1 stores, from 1 on: a page each.
@@ -137,26 +161,30 @@ fn format(rt: &impl Print, bench: Bench, img: &mut [u8]) -> io::Result<()> {
 }
 
 fn show_erased(rt: &impl Print, bench: Bench, img: &[u8], page: u32) -> io::Result<()> {
-    print!(rt; "  erased page {page}")?;
+    print!(rt; "  erased page")?;
+    number(rt, page)?;
     if chip_read::page_erased(bench.geometry, img, page) {
-        println!(rt; " yes")
+        println!(rt; " yes")?;
     } else {
-        println!(rt; " no")
+        println!(rt; " no")?;
     }
+    Ok(())
 }
 
 // Whether the first page of each of the three blocks is erased.
 fn show_blocks(rt: &impl Print, bench: Bench, img: &[u8]) -> io::Result<()> {
     show_erased(rt, bench, img, 0)?;
-    show_erased(rt, bench, img, u32::from(bench.geometry.pages))?;
-    show_erased(rt, bench, img, 2 * u32::from(bench.geometry.pages))
+    show_erased(rt, bench, img, bench.geometry.pages as u32)?;
+    show_erased(rt, bench, img, 2 * (bench.geometry.pages as u32))
 }
 
 // One key more with an allowance of 1: one store and no more.
 fn stopped(rt: &impl Print, bench: Bench, img: &mut [u8], key: u32) -> io::Result<()> {
     format(rt, bench, &mut *img)?;
     fill(rt, bench, &mut *img)?;
-    print!(rt; "insert {key} with allowance 1:")?;
+    print!(rt; "insert")?;
+    number(rt, key)?;
+    print!(rt; " with allowance 1:")?;
     tell(rt, put(bench, &mut *img, key, key, 1))?;
     show_blocks(rt, bench, &*img)?;
     found(rt, bench, &*img, key)
@@ -198,7 +226,9 @@ fn show_root_leaf(rt: &impl Print, bench: Bench, img: &[u8]) -> io::Result<()> {
 }
 
 fn delete(rt: &impl Print, bench: Bench, img: &mut [u8], key: u32) -> io::Result<()> {
-    print!(rt; "delete {key}:")?;
+    print!(rt; "delete")?;
+    number(rt, key)?;
+    print!(rt; ":")?;
     tell(rt, remove(bench, &mut *img, key, 4294967295))?;
     show_root(rt, bench, &*img)?;
     show_root_leaf(rt, bench, &*img)
@@ -213,12 +243,16 @@ fn comes_and_goes(rt: &impl Print, bench: Bench, img: &mut [u8]) -> io::Result<(
 
 fn flip(img: &mut [u8], at: usize, bit: u8) {
     if at < img.len() {
-        img[at] ^= bit;
+        img[at] = img[at] ^ bit;
     }
 }
 
 fn patrol(rt: &impl Print, bench: Bench, img: &mut [u8], page: u32, half: u32) -> io::Result<()> {
-    print!(rt; "patrol of page {page} half {half}:")?;
+    print!(rt; "patrol of page")?;
+    number(rt, page)?;
+    print!(rt; " half")?;
+    number(rt, half)?;
+    print!(rt; ":")?;
     tell(rt, index::patrol(bench.kind, &mut *img, page, half))
 }
 
@@ -262,7 +296,8 @@ fn patrols(
 
 // All calls on bytes that are no index.
 fn refused(rt: &impl Print, bench: Bench, img: &mut [u8]) -> io::Result<()> {
-    println!(rt; "length {}", img.len())?;
+    print!(rt; "length {}", img.len())?;
+    line(rt)?;
     print!(rt; "  lookup:")?;
     tell(rt, index::lookup(bench.kind, &*img, 7))?;
     print!(rt; "  insert:")?;

@@ -22,9 +22,11 @@ fn play_part(mu: &mut [u8], plain: &mut [u8], line: &mut [u8], part: &[u8], run:
     ensures ran { (rest : List ℕ) → ran (state_of run line.old mu.old plain.old)
         (part.now ++ rest) ≡ ran (state_of result line.new mu.new plain.new) rest }
 {
+    let mut at: usize = 0;
     let mut state = run;
-    for b in part {
-        state = compare_machine::feed(&mut *mu, &mut *plain, &mut *line, state, *b);
+    while at < part.len() {
+        state = compare_machine::feed(&mut *mu, &mut *plain, &mut *line, state, part[at]);
+        at += 1;
     }
     state
 }

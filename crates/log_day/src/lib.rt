@@ -22,7 +22,12 @@ fn write_out<W: Write>(to: &mut W, out: &[u8], run: Run) -> io::Result<Run>
         (take run.wrote out.now)) }
 {
     to.write_all(&out[..run.wrote])?;
-    Ok(Run { wrote: 0, ..run })
+    Ok(Run {
+        filled: run.filled,
+        tally: run.tally,
+        over: run.over,
+        wrote: 0,
+    })
 }
 
 // A part that was read is fed, and what it is answered by is written.
@@ -42,7 +47,7 @@ fn play_read<W: Write>(
 {
     let mut at: usize = 0;
     let mut state = run;
-    // Stays a while: the part is used up in pieces as long as the output has room for, no range counts them.
+    // Stays a while: the part is used up in pieces as long as the output has room, no range counts them.
     while at < part.len() {
         let played = log_feed::play_part(&mut *img, &mut *line, &mut *out, part, at, state);
         at = played.next;
