@@ -1,8 +1,8 @@
 """Runs the definitions of crates/geometry/specs and crates/model/specs as they stand, and those of texts (crates/text_lines, text_decimals, text_carrying).
 
 A small translator for the part of antt that these files use: clauses by patterns, records, data, `pick`, `let`, `λ`.
-Arguments are worked out only where they are needed, as in mathematics. `blank`, `written`, `least`, `arg` and `fresh_code`,
-and the library's `get_or`, `set`, `replicate`, `bit_xor`, `ones`, `ones_in`, `count_trailing_zeros`, are replaced by quick Python of the same
+A finding's words (`Good`, `Bad`, `Sound`) are taken as they are written. Arguments are worked out only where they are needed,
+as in mathematics. `blank`, `written`, `least`, `arg` and `fresh_code`, and the library's `is_none`, `get_or`, `set`, `replicate`, `bit_xor`, `ones`, `ones_in`, `count_trailing_zeros`, are replaced by quick Python of the same
 meaning (`plain_code` is `fresh_code` as it stands); a few values are kept once known.
 """
 import re
@@ -68,7 +68,7 @@ class Function:
         return result(*args[self.arity:]) if len(args) > self.arity else result
 
 
-CONSTRUCTORS = {"zero": 0, "suc": 1, "true": 0, "false": 0, "[]": 0, "none": 0, "some": 1}
+CONSTRUCTORS = {"zero": 0, "suc": 1, "true": 0, "false": 0, "[]": 0, "None": 0, "Some": 1, "Ok": 1, "Err": 1}
 OPS = {"+": lambda a, b: a + b, "-": lambda a, b: max(a - b, 0), "*": lambda a, b: a * b,
        "/": lambda a, b: a // b if b else 0, "%": lambda a, b: a % b if b else a, "^": lambda a, b: a ** b, "⊕": lambda a, b: a ^ b}
 
@@ -244,7 +244,7 @@ def match(p, value, env):
 class Definitions:
     def __init__(self, root):
         self.names = dict(self.library())
-        for crate, files in (("geometry", ["Bounds", "Tests", "Geometry"]),
+        for crate, files in (("geometry", ["Bounds", "Tests", "Findings", "Geometry"]),
                              ("model", ["Bytes", "Codes", "Count", "Image", "Tree", "Next", "Rules", "Page", "Stores", "Edit", "Collect", "Update", "Calls", "Listing"]),
                              ("text_lines", ["Lines"]), ("text_decimals", ["Decimals"]), ("text_carrying", ["Carrying"])):
             for f in files:
@@ -266,6 +266,7 @@ class Definitions:
         yield "count_trailing_zeros", number(lambda k, n: next((i for i in range(k) if n >> i & 1), k))
         yield "ones", Function(1, lambda n: bin(force(n)).count("1"))
         yield "not", Function(1, lambda b: not force(b))
+        yield "is_none", Function(1, lambda o: force(o)[0] == "None")
         yield "length", Function(1, lambda l: len(force(l)))
         yield "take", Function(2, lambda n, l: force(l)[:force(n)])
         yield "drop", Function(2, lambda n, l: force(l)[force(n):])
@@ -277,8 +278,8 @@ class Definitions:
         yield "zero", 0
         yield "suc", Function(1, lambda n: force(n) + 1)
         yield "[]", ()
-        for name, arity in (("none", 0), ("some", 1), ("Good", 0), ("Bad", 1), ("Sound", 0), ("Broken", 2), ("program", 2), ("erase", 1),
-                            ("Of", 1), ("Unknown", 0), ("records", 1), ("bad", 1), ("Clean", 0), ("DataMended", 1), ("CodeMended", 1), ("Beyond", 0)):
+        for name, arity in (("None", 0), ("Some", 1), ("Err", 1), ("Good", 0), ("Bad", 1), ("Sound", 0), ("program", 2), ("erase", 1),
+                            ("Of", 1), ("records", 1), ("bad", 1), ("Clean", 0), ("DataMended", 1), ("CodeMended", 1), ("Beyond", 0)):
             CONSTRUCTORS[name] = arity
             yield name, Function(arity, lambda *a, name=name: (name,) + a) if arity else (name,)
 
@@ -386,6 +387,12 @@ def deep_entries(x):
     if isinstance(x, tuple):
         return tuple(Record({k: force(v) for k, v in force(e).fields.items()}) for e in x)
     return x
+
+
+def told(verdict):
+    """A verdict as the tests write it: that it is sound, or the broken rule and its page."""
+    verdict = deep(verdict)
+    return ("Broken", verdict[1]["rule"], verdict[1]["page"]) if verdict[0] == "Err" else verdict
 
 
 def put(l, i, v):

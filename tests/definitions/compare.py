@@ -12,7 +12,7 @@ HERE = os.path.dirname(os.path.abspath(__file__))
 sys.path[:0] = [HERE, os.path.dirname(HERE)]
 import damage
 import reference
-from antt import Definitions, deep, force
+from antt import Definitions, deep, force, told
 
 NAMES = "answer", "address", "programmed", "erased", "rule", "page", "image"
 
@@ -94,7 +94,7 @@ def compare(seconds, seed, name):
             img = reference.with_free(rng, m, fuzz, edges.pop() if edges else geometry.r8_least - rng.randrange(2))
         elif u < .4:
             img = reference.damaged(rng, m, img) if u < .3 else reference.loose(rng, m, fuzz, 3)
-        verdict = tuple(force(x) for x in d["verdict"](chip, m.B(img), img))
+        verdict = told(d["verdict"](chip, m.B(img), img))
         broke = m.first_damage(img)
         same("verdict", verdict, ("Broken",) + broke if broke else ("Sound",), img)
         key = "sound" if broke is None else damage.clause(m, img)

@@ -15,7 +15,7 @@ import images
 import logs
 import reference
 import replay
-from antt import deep, force
+from antt import deep, force, told
 from compare import outcome, same
 
 FILES = [("model", "Plain"), ("compare_scores", "Ratio"), ("compare_scores", "Scores"), ("compare_scores", "Compare")]
@@ -40,7 +40,7 @@ def add(met, kind):
 def judged(d, plain, m, img, met):
     """The verdict; whether the image is sound."""
     broke = m.first_damage(img)
-    same("verdict", tuple(force(x) for x in d["verdict"](plain, m.B(img), img)), ("Broken",) + broke if broke else ("Sound",), img)
+    same("verdict", told(d["verdict"](plain, m.B(img), img)), ("Broken",) + broke if broke else ("Sound",), img)
     add(met, "sound" if broke is None else damage.clause(m, img))
     return broke is None
 

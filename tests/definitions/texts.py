@@ -32,7 +32,7 @@ def numbers(d, rng, turns):
             word = rng.choice([b"", b"0" + word, word[:at] + bytes([rng.choice([0, 9, 32, 43, 45, 47, 48, 58, 255])]) + word[at:]])
         theirs = read(word)
         ours = deep(d["number_of"](word))
-        same("number %r" % word, ours, ("none",) if theirs is None else ("some", theirs), b"")
+        same("number %r" % word, ours, ("None",) if theirs is None else ("Some", theirs), b"")
     return 2 * turns
 
 

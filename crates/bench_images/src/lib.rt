@@ -21,14 +21,6 @@ fn put_number(img: &mut [u8; 50688], at: usize, b: u8)
     put(&mut *img, at + 3, 0);
 }
 
-fn erase_all(img: &mut [u8; 50688]) {
-    let mut i: usize = 0;
-    while i < 50688 {
-        img[i] = 255;
-        i += 1;
-    }
-}
-
 // A programmed page without nodes.
 pub fn put_page(img: &mut [u8; 50688], page: u32, seq: u8, height: u8) {
     let at = geometry::page_base(Geometry::small(), page) + 512;
@@ -66,7 +58,7 @@ fn put_two(img: &mut [u8; 50688], page: u32, level: u32, addr: u8, other: u8) {
 
 // Two leaves on pages 0 and 1, and a root of height 2 on page 1.
 pub fn put_tree(img: &mut [u8; 50688]) {
-    erase_all(&mut *img);
+    img.fill(255);
     put_page(&mut *img, 0, 1, 0);
     put_one(&mut *img, 0, 1, 10, 110);
     put_page(&mut *img, 1, 2, 2);
@@ -76,14 +68,14 @@ pub fn put_tree(img: &mut [u8; 50688]) {
 
 // A root of height 3 on page 3 over nodes of level 2 on two pages, which name each a leaf's page.
 fn put_high(img: &mut [u8; 50688], left: u8, left_leaf: u8, right: u8, right_leaf: u8) {
-    erase_all(&mut *img);
+    img.fill(255);
     put_page(&mut *img, 0, 1, 0);
     put_page(&mut *img, 1, 2, 0);
     put_page(&mut *img, 2, 3, 0);
-    put_one(&mut *img, left as u32, 2, 10, left_leaf);
-    put_one(&mut *img, right as u32, 2, 20, right_leaf);
-    put_one(&mut *img, left_leaf as u32, 1, 10, 110);
-    put_one(&mut *img, right_leaf as u32, 1, 20, 120);
+    put_one(&mut *img, u32::from(left), 2, 10, left_leaf);
+    put_one(&mut *img, u32::from(right), 2, 20, right_leaf);
+    put_one(&mut *img, u32::from(left_leaf), 1, 10, 110);
+    put_one(&mut *img, u32::from(right_leaf), 1, 20, 120);
     put_page(&mut *img, 3, 4, 3);
     put_two(&mut *img, 3, 3, left, right);
 }
@@ -100,15 +92,9 @@ pub fn put_crossed(img: &mut [u8; 50688]) {
 
 // All pages programmed, without nodes.
 fn put_pages(img: &mut [u8; 50688]) {
-    erase_all(&mut *img);
-    let mut page: u32 = 0;
-    let mut seq: u8 = 1;
-    while page < 96 {
-        put_page(&mut *img, page, seq, 0);
-        page += 1;
-        if seq < 255 {
-            seq += 1;
-        }
+    img.fill(255);
+    for page in 0..96u8 {
+        put_page(&mut *img, u32::from(page), page + 1, 0);
     }
 }
 
@@ -126,19 +112,17 @@ fn put_sixteen(img: &mut [u8; 50688], from: u8, page: u32)
     requires { from < 100 }
 {
     put_count(&mut *img, page, 2, 16);
-    let mut i: u8 = 0;
-    while i < 16 {
+    for i in 0..16u8 {
         let leaf = from + i;
-        put_page(&mut *img, leaf as u32, leaf + 1, 0);
-        put_one(&mut *img, leaf as u32, 1, leaf, 0);
-        put_entry(&mut *img, page, 2, i as usize, leaf, leaf);
-        i += 1;
+        put_page(&mut *img, u32::from(leaf), leaf + 1, 0);
+        put_one(&mut *img, u32::from(leaf), 1, leaf, 0);
+        put_entry(&mut *img, page, 2, usize::from(i), leaf, leaf);
     }
 }
 
 // 35 live pages of 96: 32 leaves, two nodes of level 2, a root of height 3.
 pub fn put_crowded(img: &mut [u8; 50688]) {
-    erase_all(&mut *img);
+    img.fill(255);
     put_page(&mut *img, 32, 33, 0);
     put_page(&mut *img, 33, 34, 0);
     put_page(&mut *img, 34, 35, 3);
@@ -161,19 +145,17 @@ fn put_code(img: &mut [u8; 50688], page: u32, half: usize)
 
 // Fitting codes on every programmed page.
 pub fn put_codes(img: &mut [u8; 50688]) {
-    let mut page: u32 = 0;
-    while page < 96 {
+    for page in 0..96 {
         if !chip_read::page_erased(Geometry::small(), &*img, page) {
             put_code(&mut *img, page, 0);
             put_code(&mut *img, page, 1);
         }
-        page += 1;
     }
 }
 
 // One bit of the image turned over.
 pub fn flip(img: &mut [u8; 50688], at: usize, bit: u8) {
     if at < 50688 {
-        img[at] = img[at] ^ bit;
+        img[at] ^= bit;
     }
 }

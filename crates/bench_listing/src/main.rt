@@ -9,26 +9,20 @@ ghost use Rattle.std.specs.Prelude.{◌≡◌, ◌≤◌, length};
 use call_answers::Answer;
 use std::io;
 
-fn number(rt: &impl Print, n: u32) -> io::Result<()> {
-    print!(rt; " {n}")
-}
-
 // The numbers of a buffer.
 fn numbers(rt: &impl Print, buffer: &[u32]) -> io::Result<()> {
     for n in buffer {
-        number(rt, *n)?;
+        print!(rt; " {n}")?;
     }
     println!(rt)
 }
 
 fn tell(rt: &impl Print, a: Answer) -> io::Result<()> {
     let w = call_answers::row_of(a);
-    number(rt, w.answer)?;
-    number(rt, w.address)?;
-    number(rt, w.programmed)?;
-    number(rt, w.erased)?;
-    number(rt, w.rule)?;
-    number(rt, w.page)
+    print!(rt;
+        " {} {} {} {} {} {}",
+        w.answer, w.address, w.programmed, w.erased, w.rule, w.page
+    )
 }
 
 // A listing from low to high with the first numbers of a buffer.
@@ -43,10 +37,7 @@ fn list_into(
 ) -> io::Result<()>
     requires { (lent ≤ 9) × (length buffer.old ≡ 9) }
 {
-    number(rt, low)?;
-    number(rt, high)?;
-    number(rt, lent as u32)?;
-    print!(rt; ":")?;
+    print!(rt; " {low} {high} {lent}:")?;
     tell(rt, index::list(kind, img, low, high, &mut buffer[..lent]))?;
     print!(rt; ",")?;
     numbers(rt, &*buffer)

@@ -4,17 +4,10 @@
 
 use std::io;
 
-fn number(rt: &impl Print, n: u32) -> io::Result<()> {
-    print!(rt; " {n}")
-}
-
 // One image: lookup with key 20.
 fn case(rt: &impl Print, img: &[u8]) -> io::Result<()> {
     let w = call_answers::row_of(index::lookup(0, img, 20));
-    number(rt, w.answer)?;
-    number(rt, w.rule)?;
-    number(rt, w.page)?;
-    println!(rt)
+    println!(rt; " {} {} {}", w.answer, w.rule, w.page)
 }
 
 // The same with fitting codes.

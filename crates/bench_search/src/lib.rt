@@ -9,5 +9,5 @@ ghost use Rattle.model.specs.Tree.{place};
 pub fn bench_chosen_index(node: &[u8], n: u8, key: u32) -> usize
     ensures { result ≡ place key (entries_at node.now 0 n) }
 {
-    tree_search::chosen_index(node, 0, n as usize, key)
+    tree_search::chosen_index(node, 0, usize::from(n), key)
 }

@@ -7,7 +7,7 @@ use Rattle.std.proofs.Common.{◌∙◌, arith}
 use mathlib.Core.List.{List}
 use borrow.Author.Tests.{lt-leb, le-leb}
 use Rattle.geometry.specs.declared.Geometry.{Geometry}
-use Rattle.geometry.specs.declared.Verdict.TheVariants.{Broken}
+use Rattle.geometry.specs.Findings.{broken_at}
 use Rattle.geometry.specs.Shape.{Known, is_small, is_large}
 use Rattle.geometry.proofs.Shape.{shape}
 use Rattle.geometry.specs.Tests.{pick}
@@ -42,7 +42,7 @@ module _ (g : Geometry) (img old : List ℕ) (rest : Outcome) (n : ℕ) (en : n 
     lent_short h = sym (rw (← (some_blocks g img n en some), lt-leb (words_of g n) (length old) h))
 
     -- DAMAGED
-    pub lent_broken : (rule page : ℕ) → words_of g n ≤ length old → verdict g n img ≡ Broken rule page
+    pub lent_broken : (rule page : ℕ) → words_of g n ≤ length old → verdict g n img ≡ broken_at rule page
         → reply (damaged img rule page) old ≡ with_words g img old (judged_call g img rest)
     unfolding with_words by_verdict leaves_words
     lent_broken rule page h e =

@@ -1,6 +1,6 @@
 // The account of an update: its fresh allowance, ROOM, the record and the lent words that it leaves, and the answer
 // that its stores give.
-#![tactic(auto)]
+#![tactic(auto, using(crate::specs::Accounting::account_laws))]
 
 ghost use Rattle.std.specs.Prelude.{◌≡◌, false, ◌+◌, ◌*◌, ◌-◌, ◌≤◌, ◌<◌, ltb, length};
 ghost use Rattle.geometry.specs.Tests.{◌&◌};
@@ -61,7 +61,7 @@ pub fn needed(g: Geometry, k: u32) -> u32
     if g.pages == 0 {
         return k;
     }
-    2 * (g.pages as u32) - 1 + k
+    2 * u32::from(g.pages) - 1 + k
 }
 
 // ROOM, not for one page, by the erased pages alone where they are enough, else by the lent words of live pages.

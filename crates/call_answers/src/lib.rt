@@ -1,5 +1,5 @@
 // What a call answers, by name, and document 01's numbers for it.
-#![tactic(auto)]
+#![tactic(auto, using(crate::specs::Answers::answers_laws))]
 
 ghost use Rattle.std.specs.Prelude.{◌≡◌};
 ghost use Rattle.call_answers.specs.Answers.{plain, row_of};

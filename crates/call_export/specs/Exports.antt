@@ -1,22 +1,23 @@
 -- Laws by which the export's code is proved. Assumes nothing.
-use Rattle.std.specs.Prelude.{ℕ, zero, suc, ◌+◌, ◌-◌, ◌*◌, ◌<◌, ◌≤◌, ◌≡◌, set}
+use Rattle.std.specs.Prelude.{ℕ, zero, suc, ◌+◌, ◌-◌, ◌*◌, ◌<◌, ◌≤◌, ◌≡◌, set, Err}
 use Rattle.std.proofs.Math.Path.{refl, sym, ap}
-use Rattle.std.proofs.Common.{subst, ◌∙◌, zero-add, add-one, sub-one, length-append, le-leb}
+use Rattle.std.specs.Int.{w32}
+use Rattle.std.proofs.Common.{subst, ◌∙◌, Fits, zero-add, add-one, sub-one, length-append, le-leb}
 use mathlib.Core.List.{List, [], ◌∷◌, ◌++◌, append_assoc, append-nil}
 use native.Mathlib.Omega.{arith}
 use Rattle.std.proofs.Math.ListN.{length, drop}
 use Rattle.std.proofs.Math.Seq.{sets, sets-eq, length-sets}
 use Rattle.std.proofs.lemmas.Bool.{lt-leb}
 use Rattle.geometry.specs.declared.Geometry.{Geometry}
+use Rattle.geometry.specs.declared.Broken.{Broken}
 use Rattle.geometry.specs.declared.Entry.{Entry}
-use Rattle.geometry.specs.declared.Verdict.TheVariants.{Sound, Broken}
+use Rattle.geometry.specs.Findings.{Sound}
 use Rattle.geometry.specs.Shape.{Known}
 use Rattle.geometry.proofs.Shape.{shape}
 use Rattle.geometry.specs.Bounds.{four_bytes}
 use Rattle.model.specs.Bytes.{node_place, node_count, node_at}
 use Rattle.model.specs.Image.{Nodes, Chip}
 use Rattle.model.specs.Tree.{gather, under, map_of}
-use Rattle.model.specs.Rules.{verdict}
 use Rattle.model.specs.Calls.{Outcome, gives, by_verdict, judged}
 use Rattle.call_answers.specs.declared.Answer.TheVariants.{Length, Damaged}
 use Rattle.call_answers.specs.declared.Row.{Row}
@@ -40,8 +41,8 @@ module _ (n k at r : ℕ) (ek : k ≡ n) where
   pub value_place : r ≡ at + length (decimal k) → r ≡ at + length (decimal n)
   value_place e = e ∙ rw ek refl
 
-  pub value_short : r ≡ at + length (decimal k) → k < four_bytes → r ≤ at + 10
-  value_short e h = let x = decimal_short 9 k (omega (arith, h)) in omega (arith, x, e)
+  pub value_short : r ≡ at + length (decimal k) → Fits w32 n → r ≤ at + 10
+  value_short e h = let x = decimal_short 9 k (omega (arith, ek, h.fits)) in omega (arith, x, e)
 
   pub value_bytes : (b c : List ℕ) → c ≡ sets b at (decimal k) → c ≡ sets b at (decimal n)
   value_bytes b c e = e ∙ rw ek refl
@@ -255,10 +256,10 @@ module _ (g : Geometry) (n : ℕ) (img : List ℕ) (j : Judgement) (t u : List �
   sound_few known e = subst (λ (c : Chip). length (map_of c) < four_bytes) (sym (chip_is g n img j.survey x.survey))
       (few_map g n img known (sym x.verdict ∙ e))
 
-  pub exported_broken : (r p : ℕ) (b : List ℕ) (w : Row) → j.verdict ≡ Broken r p → w ≡ row_of (Damaged r p)
+  pub exported_broken : (d : Broken) (b : List ℕ) (w : Row) → j.verdict ≡ Err d → w ≡ row_of (Damaged d.rule d.page)
       → told_by w b ≡ exported_in g n img b
   unfolding exported_in by_verdict
-  exported_broken r p b w e f = ap (λ (y : Row). told_by y b) f ∙ sym (simp (← x.verdict, e))
+  exported_broken d b w e f = ap (λ (y : Row). told_by y b) f ∙ sym (simp (← x.verdict, e))
 
   pub exported_sound : (b : List ℕ) (o : Outcome) → j.verdict ≡ Sound
       → o ≡ exports (map_of (chip_with g img j.survey.level j.survey.root)) b → o ≡ exported_in g n img b

@@ -1,5 +1,5 @@
 // Export of request 13: judged first, then the text of the map, measured before any byte of it is written.
-#![tactic(auto)]
+#![tactic(auto, using(crate::specs::Exports::exporter_laws))]
 
 ghost use Rattle.std.specs.Prelude.{[], ◌∷◌, ◌≡◌, ◌+◌, ◌*◌, ◌≤◌, ◌<◌, length};
 ghost use Rattle.std.proofs.lemmas.List.Edits.{sets};
@@ -14,7 +14,7 @@ ghost use Rattle.text_carrying.specs.Carrying.{text_of, word, exports, exporting
 ghost use Rattle.call_export.specs.Exporter.{line_text, after, exported_in};
 
 use call_answers::{Answer, Row};
-use geometry::{Entry, Geometry, Verdict};
+use geometry::{Broken, Entry, Geometry};
 
 // How far the writer has come: records so far, and the place of the next line.
 #[derive(Clone, Copy)]
@@ -23,19 +23,14 @@ pub struct Written {
     pub at: usize,
 }
 
-fn wide(x: u32) -> u64
-    ensures { (result ≡ x) × (result < four_bytes) }
-{
-    x as u64
-}
-
 // A number's digits from a place on. Gives the place after them.
+#[tactic(auto, using(crate::specs::Exports::value_laws))]
 fn put_value(text: &mut [u8], at: usize, n: u32) -> usize
     requires { at ≤ 1000000000011 }
     ensures place { (result ≡ at + length (decimal n)) × (result ≤ at + 10) }
     ensures bytes { text.new ≡ sets text.old at (decimal n) }
 {
-    text_decimals::put_number(&mut *text, at, wide(n))
+    text_decimals::put_number(&mut *text, at, u64::from(n))
 }
 
 // A record's line from a place on. Gives the place after it. Nothing is put outside the text.
@@ -52,15 +47,16 @@ fn put_record(text: &mut [u8], at: usize, entry: Entry) -> usize
 }
 
 // One record more.
+#[tactic(auto, using(crate::specs::Exports::record_laws))]
 fn write_record(text: &mut [u8], w: Written, entry: Entry) -> Written
     requires { (w.at ≤ 22 * w.records) × (w.records < four_bytes) }
     ensures count { (result ≡ after w (entry ∷ [])) × (result.at ≤ 22 * result.records) }
     ensures bytes { text.new ≡ sets text.old w.at (text_of (entry ∷ [])) }
 {
-    let end = put_record(&mut *text, w.at, entry);
+    let at = put_record(&mut *text, w.at, entry);
     Written {
         records: w.records + 1,
-        at: end,
+        at,
     }
 }
 
@@ -86,11 +82,9 @@ fn write_under(
     let at = chip_read::node_place(g, entry.addr, level);
     let n = chip_read::node_count(g, img, entry.addr, level);
     let mut so_far = w;
-    let mut i: usize = 0;
-    while i < n {
+    for i in 0..n {
         let below = chip_read::entry_at(img, at + 8 * i);
         so_far = write_under(g, img, &mut *text, so_far, level - 1, below);
-        i += 1;
     }
     so_far
 }
@@ -136,8 +130,8 @@ fn export_blocks(g: Geometry, img: &[u8], table: &mut [u8], n: u16, text: &mut [
     let verdict = judgement.verdict;
     let survey = judgement.survey;
     match verdict {
-        Verdict::Broken(rule, page) => call_answers::row_of(Answer::Damaged(rule, page)),
-        Verdict::Sound => write_tree(g, img, &mut *text, survey.level, survey.root),
+        Err(Broken { rule, page }) => call_answers::row_of(Answer::Damaged(rule, page)),
+        Ok(()) => write_tree(g, img, &mut *text, survey.level, survey.root),
     }
 }
 

@@ -1,20 +1,18 @@
 -- What the code of format does, in the form in which it has the premises. Assumes nothing.
-use Rattle.std.specs.Prelude.{◌≡◌, refl, Bool, true, false, List, [], ◌∷◌, ◌++◌, ℕ, ◌+◌, ◌-◌, ◌*◌, ◌≤◌, length, take}
+use Rattle.std.specs.Prelude.{◌≡◌, refl, Bool, true, false, List, [], ◌∷◌, ◌++◌, ℕ, ◌+◌, ◌-◌, ◌≤◌, take}
 use Rattle.std.proofs.Common.{sym, ap, ◌∙◌, arith, add-one, leb-true}
 use Rattle.geometry.specs.declared.Geometry.{Geometry}
-use Rattle.geometry.specs.Geometry.{page_bytes, page_base}
+use Rattle.geometry.specs.Geometry.{page_bytes}
 use Rattle.geometry.specs.Tests.{pick, and_left, and_right}
 use Rattle.geometry.specs.Bounds.{longest_page}
-use Rattle.model.specs.Bytes.{byte_at}
 use Rattle.model.specs.Image.{blocks_of, good_length}
 use Rattle.model.specs.Page.{built, sealed}
-use Rattle.model.specs.Stores.{Store, program, erase, apply_store, apply_all}
+use Rattle.model.specs.Stores.{program, erase, apply_store, apply_all}
 use Rattle.model.specs.Update.{erasures, format_stores}
 use Rattle.model.specs.Calls.{gives, format}
 use Rattle.call_answers.specs.Answers.{told}
 use Rattle.call_answers.specs.declared.Answer.TheVariants.{Done, Length}
 use Rattle.chip_read.specs.Chip.{good_blocks}
-use Rattle.theory_lists.specs.Written.{length_written}
 use Rattle.chip_store.specs.TwoStores.{program_cut}
 use Rattle.chip_store.specs.Runs.{all_append}
 use Rattle.chip_page.specs.Page.{blanks, bare}
@@ -33,19 +31,6 @@ erased_more g img d o b e f = f ∙ rw (e, add-one) (sym (all_append g (erasures
 pub erased_done : (g : Geometry) (img d : List ℕ) (b n : ℕ) → d ≡ apply_all g (erasures b) img → b ≤ n → n ≤ b
     → d ≡ apply_all g (erasures n) img
 erased_done g img d b n e h k = let q : b ≡ n = omega arith in rw (← q) e
-
-length_store : (g : Geometry) (s : Store) (img : List ℕ) → length (apply_store g s img) ≡ length img
-unfolding apply_store
-length_store g (program p bs) img = length_written img (page_base g p) (byte_at bs) (page_bytes g)
-length_store g (erase b) img = length_written img (page_base g (g.pages * b)) (λ k. 255) (page_base g g.pages)
-
-length_all : (g : Geometry) (ss : List Store) (img : List ℕ) → length (apply_all g ss img) ≡ length img
-unfolding apply_all
-length_all g [] img = refl
-length_all g (s ∷ ss) img = length_all g ss (apply_store g s img) ∙ length_store g s img
-
-pub erased_same : (g : Geometry) (img d : List ℕ) (b : ℕ) → d ≡ apply_all g (erasures b) img → length d ≡ length img
-erased_same g img d b e = rw e (length_all g (erasures b) img)
 
 -- ---- the page
 pub empty_is : (g : Geometry) (b c : List ℕ) → c ≡ sealed g (bare g 0 (g.top - 0) b) 1 1 → b ≡ blanks longest_page
@@ -71,15 +56,15 @@ pub format_length : (g : Geometry) (img : List ℕ) (n : ℕ) → n ≡ good_blo
 unfolding good_blocks format
 format_length g img n e z = rw (short g img (good_length g img) refl (sym e ∙ z)) refl
 
-pub format_done : (g : Geometry) (img d o bs : List ℕ) (n : ℕ) → o ≡ apply_store g (program 0 bs) d
+pub format_done : (g : Geometry) (img d o bs : List ℕ) (n k : ℕ) → o ≡ apply_store g (program 0 bs) d
     → d ≡ apply_all g (erasures n) img → take (page_bytes g) bs ≡ built g 1 1 (λ j. [])
-    → n ≡ good_blocks g img → (n ≡ 0 → ⊥) → told (Done 0 1 n) o ≡ format g img
+    → n ≡ good_blocks g img → k ≡ n → (n ≡ 0 → ⊥) → told (Done 0 1 k) o ≡ format g img
 unfolding good_blocks format format_stores apply_all
-format_done g img d o bs n e f b c z =
+format_done g img d o bs n k e f b c ek z =
     let good = long g img (good_length g img) refl (λ q. z (c ∙ q)) in
     let m : n ≡ blocks_of g img = c ∙ rw good refl in
     let i : o ≡ apply_all g (erasures (blocks_of g img) ++ (program 0 (built g 1 1 (λ j. [])) ∷ [])) img
     = e ∙ program_cut g 0 bs d ∙ rw (b, f, m) (sym (all_append g (erasures (blocks_of g img)) (program 0 (built g 1 1 (λ j. [])) ∷ []) img)) in
-    rw good (λ k. gives 0 0 1 (m k) (i k))
+    rw good (λ t. gives 0 0 1 ((ek ∙ m) t) (i t))
 
-pub ruleset format_laws = (erased_none, erased_more, erased_done, erased_same, empty_is, format_length, format_done)
+pub ruleset format_laws = (erased_none, erased_more, erased_done, empty_is, format_length, format_done)

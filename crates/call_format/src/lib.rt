@@ -1,5 +1,5 @@
 // Format: every block erased, page 0 programmed as an empty root.
-#![tactic(auto)]
+#![tactic(auto, using(crate::specs::Formats::format_laws))]
 
 ghost use Rattle.std.specs.Prelude.{◌≡◌, [], ◌≤◌, take};
 ghost use Rattle.geometry.specs.Geometry.{page_bytes};
@@ -17,10 +17,8 @@ use geometry::Geometry;
 fn erase_all(g: Geometry, img: &mut [u8], n: u16)
     ensures { img.new ≡ apply_all g (erasures n) img.old }
 {
-    let mut b: u16 = 0;
-    while b < n {
+    for b in 0..n {
         chip_store::erase_block(g, &mut *img, b);
-        b += 1;
     }
 }
 
@@ -45,5 +43,5 @@ pub fn format(g: Geometry, img: &mut [u8]) -> Answer
     erase_all(g, &mut *img, n);
     let bytes = empty_root(g);
     chip_store::program_page(g, &mut *img, 0, &bytes);
-    Answer::Done(0, 1, n as u32)
+    Answer::Done(0, 1, u32::from(n))
 }

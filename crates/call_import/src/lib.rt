@@ -1,6 +1,6 @@
 // Import of request 13: LENGTH first, then the text to its end, then format and an insert for each pair of a lent
 // slice.
-#![tactic(auto)]
+#![tactic(auto, using(crate::specs::Imports::importer_laws))]
 
 ghost use Rattle.std.specs.Prelude.{◌≡◌, ◌+◌, ◌≤◌, min, eqb, length, take};
 ghost use Rattle.geometry.specs.Tests.{bit};
@@ -19,17 +19,14 @@ use text_reader::Spot;
 fn sum(a: u32, b: u32) -> u32
     ensures { result ≡ word (a + b) }
 {
-    ((a as u64 + b as u64) % 4294967296) as u32
+    a.wrapping_add(b)
 }
 
 // The records that an insert with this answer has stored.
 fn records_of(answer: u32) -> u32
     ensures { result ≡ bit (eqb answer 0) }
 {
-    if answer == 0 {
-        return 1;
-    }
-    0
+    u32::from(answer == 0)
 }
 
 // An insert's row after those of the records before.
@@ -65,12 +62,9 @@ pub fn store_pairs(g: Geometry, img: &mut [u8], pairs: &[Entry], n: usize, s: Ro
     ensures { told_by result img.new ≡ store_all g (told_by s img.old)
         (take n pairs.now) }
 {
-    let mut i: usize = 0;
     let mut t = s;
-    while i < n {
-        let e = pairs[i];
-        t = store_one(g, img, t, e);
-        i = i + 1;
+    for e in &pairs[..n] {
+        t = store_one(g, &mut *img, t, *e);
     }
     t
 }
@@ -100,18 +94,14 @@ pub fn begin(g: Geometry, img: &mut [u8], t: Spot, end: usize) -> Row
     if t.at < end {
         return refuse_line(4097);
     }
-    let a = call_format::format(g, &mut *img);
-    call_answers::row_of(a)
+    call_answers::row_of(call_format::format(g, &mut *img))
 }
 
 // The pairs that the reader has filled, of a slice of 4,096.
 pub fn turns(t: Spot) -> usize
     ensures { (result ≡ min t.count 4096) × (result ≤ 4096) }
 {
-    if 4096 < t.count {
-        return 4096;
-    }
-    t.count as usize
+    (t.count as usize).min(4096)
 }
 
 // The array of pairs that the reader fills and the inserter walks.

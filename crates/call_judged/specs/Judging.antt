@@ -4,7 +4,7 @@ use Rattle.std.specs.Prelude.{ℕ, ◌*◌, ◌≤◌, ◌≡◌, List, length}
 use Rattle.std.proofs.Math.Path.{sym}
 use Rattle.std.proofs.Common.{◌∙◌, arith}
 use Rattle.geometry.specs.declared.Geometry.{Geometry}
-use Rattle.geometry.specs.declared.Verdict.TheVariants.{Sound, Broken}
+use Rattle.geometry.specs.Findings.{Sound, broken_at}
 use Rattle.model.specs.Image.{chip_of}
 use Rattle.model.specs.Rules.{verdict}
 use Rattle.model.specs.Calls.{by_verdict, judged}
@@ -17,7 +17,7 @@ use Rattle.sound_verdict.specs.Verdict.{Roomy, Judged}
 -- an image of n blocks, in a call of any kind
 module _ {A : Type 0} (g : Geometry) (n : ℕ) (img : List ℕ)
     (broken : ℕ → ℕ → A) (rest : A) (j : Judgement) (t u : List ℕ) (x : Judged g n img j t u) where
-  pub judged_broken : (o : A) (r p : ℕ) → j.verdict ≡ Broken r p → o ≡ broken r p
+  pub judged_broken : (o : A) (r p : ℕ) → j.verdict ≡ broken_at r p → o ≡ broken r p
       → o ≡ by_verdict (verdict g n img) broken rest
   unfolding by_verdict
   judged_broken o r p e h = h ∙ sym (simp (← x.verdict, e))

@@ -2,8 +2,7 @@
 use Rattle.std.specs.Prelude.{ℕ, zero, suc, ◌+◌, ◌*◌, ◌<◌, ◌≤◌, ◌≡◌, refl, List, length}
 use Rattle.std.proofs.Common.{ap, ◌∙◌, arith, mul-zero, zero-mul, lit≤}
 use Rattle.geometry.specs.declared.Geometry.{Geometry}
-use Rattle.geometry.specs.declared.Finding.TheVariants.{Good}
-use Rattle.geometry.specs.declared.Verdict.TheVariants.{Sound}
+use Rattle.geometry.specs.Findings.{Good, Sound}
 use Rattle.geometry.specs.Geometry.{small, large, first_slot, slots_of, half, root_slots, root_most}
 use Rattle.geometry.specs.Shape.{Known, is_small, is_large, shape_core}
 use Rattle.geometry.proofs.Shape.{shape}

@@ -1,22 +1,21 @@
 -- A listing, in the form in which the code has the premises. Assumes nothing.
 use Rattle.std.specs.Prelude.{ℕ, zero, suc, ◌+◌, ◌-◌, ◌*◌, ◌/◌, min, ◌<◌, ◌≤◌, Bool, true, false, ◌≡◌, leb, take, drop}
 use Rattle.std.proofs.Math.Path.{refl, sym, ap}
-use Rattle.std.proofs.Common.{◌∙◌, lit<, length-append, take_all, arith, lt_of_le_of_lt, sub-one, add-one}
+use Rattle.std.proofs.Common.{◌∙◌, Fits, length-append, take_all, arith, sub-one, add-one}
+use Rattle.std.specs.Int.{w32}
 use mathlib.Core.List.{List, [], ◌∷◌, ◌++◌}
 use Rattle.std.proofs.Math.ListN.{length, length-take}
 use Rattle.std.proofs.Math.Seq.{take-nil}
 use borrow.Author.Tests.{lt-leb, le-leb}
 use Rattle.geometry.specs.declared.Geometry.{Geometry}
 use Rattle.geometry.specs.declared.Entry.{Entry}
-use Rattle.geometry.specs.declared.Verdict.TheVariants.{Sound, Broken}
+use Rattle.geometry.specs.Findings.{Sound, broken_at}
 use Rattle.geometry.specs.Shape.{Known}
 use Rattle.geometry.proofs.Shape.{shape}
 use Rattle.geometry.specs.Tests.{pick}
-use Rattle.geometry.specs.Bounds.{four_bytes}
 use Rattle.model.specs.Bytes.{entries_at, node_place, node_count, node_at}
 use Rattle.model.specs.Image.{Nodes, Chip, chip_of}
 use Rattle.model.specs.Tree.{gather, place}
-use Rattle.model.specs.Rules.{verdict}
 use Rattle.model.specs.Calls.{Outcome, by_verdict, judged}
 use Rattle.model.specs.Listing.{up_to, reached, ranged, ranged_of, written_of, lists, listing, as_outcome}
 use Rattle.call_answers.specs.declared.Answer.TheVariants.{Done, Length, Damaged}
@@ -35,15 +34,15 @@ use Rattle.call_list.specs.Few.{most_pairs_lem}
 
 -- ---- one pair
 module _ (b : List ℕ) (i low : ℕ) (e : Entry) where
-  pub below_count : e.key < low → i ≡ i + length (not_below low e)
+  pub below_count : e.key < low → length (not_below low e) ≡ 0
   unfolding not_below
-  below_count h = rw (lt-leb low e.key h) (omega arith)
+  below_count h = rw (lt-leb low e.key h) refl
 
   pub below_buffer : e.key < low → b ≡ put_pairs b i (not_below low e)
   unfolding not_below put_pairs
   below_buffer h = rw (lt-leb low e.key h) refl
 
-  pub pair_count : low ≤ e.key → i + 1 ≡ i + length (not_below low e)
+  pub pair_count : low ≤ e.key → length (not_below low e) ≡ 1
   unfolding not_below
   pair_count h = rw (le-leb low e.key h) refl
 
@@ -211,26 +210,26 @@ module _ (g : Geometry) (img : List ℕ) (l p low high x : ℕ) (b d : List ℕ)
   unfolding whole
   tree_most = rw tree_count (take_most pairs_most (ranged_of (chip_with g img l p) low high))
 
-  pub tree_exist : x < four_bytes
-  tree_exist = lt_of_le_of_lt tree_most (lit< tt)
+  pub tree_exist : Fits w32 x
+  tree_exist = let h = tree_most in record { fits = omega (arith, h) }
 
-  pub tree_written : (w : ℕ) → w ≤ x → w < four_bytes
-  tree_written w h = lt_of_le_of_lt h tree_exist
+  pub tree_written : (w m : ℕ) → w ≡ min x m → Fits w32 w
+  tree_written w m e = let h = tree_most in record { fits = omega (arith, h) }
 
-  pub tree_done : (w x' w' : ℕ) → w ≡ min x (length d / 2) → x' ≡ x → w' ≡ w
-      → told (Done x' w' 0) d ≡ as_outcome (lists (take pairs_most (ranged_of (chip_with g img l p) low high)) b)
+  pub tree_done : (w : ℕ) → w ≡ min x (length d / 2)
+      → told (Done x w 0) d ≡ as_outcome (lists (take pairs_most (ranged_of (chip_with g img l p) low high)) b)
   unfolding whole
-  tree_done w x' w' ew ex' ew' =
+  tree_done w ew =
       let q : x ≡ length whole = tree_count in
       let f : d ≡ put_pairs b 0 whole = y.buffer ∙ rw tree_is refl in
       let len : length d ≡ length b = pairs_same b d 0 whole f in
       let v : w ≡ written_of whole b = ew ∙ rw (q, len) refl in
-      (λ i. told (Done ((ex' ∙ q) i) ((ew' ∙ v) i) 0) ((f ∙ put_all whole b) i))
+      (λ i. told (Done (q i) (v i) 0) ((f ∙ put_all whole b) i))
 
 -- ---- a judged image
 module _ (g : Geometry) (n : ℕ) (img : List ℕ) (low high : ℕ) (j : Judgement) (t u : List ℕ) (x : Judged g n img j t u)
   where
-    pub listed_broken : (r p : ℕ) (b : List ℕ) → j.verdict ≡ Broken r p
+    pub listed_broken : (r p : ℕ) (b : List ℕ) → j.verdict ≡ broken_at r p
         → told (Damaged r p) b ≡ as_outcome (listed_in g n img low high b)
     unfolding listed_in by_verdict
     listed_broken r p b e = sym (simp (← x.verdict, e))

@@ -1,6 +1,6 @@
 // The pairs between two keys, in a lent buffer: judged first, then one walk that goes down nothing but what may hold
 // such pairs.
-#![tactic(auto)]
+#![tactic(auto, using(crate::specs::Listings::listing_laws))]
 
 ghost use Rattle.std.specs.Prelude.{◌≡◌, ◌+◌, ◌/◌, min, ◌≤◌, ◌<◌, length, take};
 ghost use Rattle.geometry.specs.Shape.{Known};
@@ -12,7 +12,7 @@ ghost use Rattle.open_record.specs.Opened.{pairs_most};
 ghost use Rattle.call_list.specs.Listing.{put_pair, put_pairs, not_below, Lists, listed_in};
 
 use call_answers::Answer;
-use geometry::{Entry, Geometry, Verdict};
+use geometry::{Broken, Entry, Geometry};
 
 // Pair i of the buffer, if it has room for both numbers.
 fn put_pair(pairs: &mut [u32], i: usize, entry: Entry)
@@ -62,33 +62,16 @@ fn list_under(
     let at = chip_read::node_place(g, entry.addr, level);
     let n = chip_read::node_count(g, img, entry.addr, level);
     let mut count = exist;
-    let mut i = tree_search::chosen_index(img, at, n, low);
-    while i < n {
+    let first = tree_search::chosen_index(img, at, n, low);
+    for i in first..n {
         let below = chip_read::entry_at(img, at + 8 * i);
-        if high < below.key {
+        let past = high < below.key;
+        if past {
             return count;
         }
         count = list_under(g, img, &mut *pairs, count, level - 1, below, low, high);
-        i += 1;
     }
     count
-}
-
-// How many pairs are written into a buffer of so many numbers.
-fn written_of(exist: usize, numbers: usize) -> usize
-    ensures { (result ≡ min exist (numbers / 2)) × (result ≤ exist) }
-{
-    if exist < numbers / 2 {
-        return exist;
-    }
-    numbers / 2
-}
-
-fn narrow(x: usize) -> u32
-    requires { x < four_bytes }
-    ensures { result ≡ x }
-{
-    x as u32
 }
 
 // The pairs between two keys of a tree, from its root, no more than 536,870,912 of them: so a walk ends soon on every
@@ -109,8 +92,8 @@ pub fn list_tree(
 {
     let top = Entry { key: 0, addr: root };
     let exist = list_under(g, img, &mut *pairs, 0, level + 1, top, low, high);
-    let written = written_of(exist, pairs.len());
-    Answer::Done(narrow(exist), narrow(written), 0)
+    let written = exist.min(pairs.len() / 2);
+    Answer::Done(exist as u32, written as u32, 0)
 }
 
 // A listing on n blocks, with a lent table for the judge.
@@ -131,8 +114,8 @@ fn list_blocks(
     let verdict = judgement.verdict;
     let survey = judgement.survey;
     match verdict {
-        Verdict::Broken(rule, page) => Answer::Damaged(rule, page),
-        Verdict::Sound => list_tree(g, img, &mut *pairs, survey.level, survey.root, low, high),
+        Err(Broken { rule, page }) => Answer::Damaged(rule, page),
+        Ok(()) => list_tree(g, img, &mut *pairs, survey.level, survey.root, low, high),
     }
 }
 

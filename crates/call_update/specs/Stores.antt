@@ -1,5 +1,5 @@
 -- The stores of an update, in the form in which the code has the premises. Assumes nothing.
-use Rattle.std.specs.Prelude.{ℕ, suc, ◌+◌, ◌-◌, ◌<◌, ◌≤◌, Bool, true, false, ◌≡◌, refl, List, [], ◌∷◌}
+use Rattle.std.specs.Prelude.{ℕ, suc, ◌+◌, ◌-◌, ◌<◌, ◌≤◌, Bool, true, false, ◌≡◌, refl, List, [], ◌∷◌, Some, None, Option, is_none}
 use Rattle.std.proofs.Math.Path.{sym}
 use Rattle.std.proofs.Common.{ap, subst, ◌∙◌, arith, ltb-true}
 use Rattle.geometry.specs.declared.Geometry.{Geometry}
@@ -7,16 +7,13 @@ use Rattle.geometry.specs.Tests.{pick, and_left}
 use Rattle.model.specs.Image.{Chip}
 use Rattle.model.specs.Stores.{Store}
 use Rattle.model.specs.Tree.{sought}
-use Rattle.model.specs.Update.{is_none, fills, crown_height}
+use Rattle.model.specs.Update.{fills, crown_height}
 use Rattle.call_answers.specs.declared.Answer.TheVariants.{Height, Absent}
 use Rattle.call_answers.specs.Answers.{told}
 use Rattle.chip_read.specs.Chip.{chip_with}
 use Rattle.chip_store.specs.declared.Budget.{Budget}
 use Rattle.tree_plan.specs.declared.Plan.{Plan}
 use Rattle.tree_plan.specs.Plan.{Plans}
-use Rattle.tree_search.specs.declared.Found.{Found}
-use Rattle.tree_search.specs.declared.Found.TheVariants.{At, Nothing}
-use Rattle.tree_search.specs.Search.{found}
 use Rattle.open_record.specs.declared.Opened.{Opened}
 use Rattle.open_record.specs.Opened.{level_by, chip_by}
 use Rattle.live_beside.specs.Beside.{Held, page_by}
@@ -56,16 +53,14 @@ module _ (g : Geometry) (i : List ℕ) (k l : ℕ) (o : Opened) (el : l ≡ leve
     plan_few low = let w : p.needs ≤ l + 2 = pl.few in omega (arith, w, el, low)
 
   -- ABSENT and one page
-  module _ (f : Found) (ef : found f ≡ sought (chip_with g i l o.root) k) where
-    found_is : found f ≡ sought (chip_by g i o) k
+  module _ (f : Option ℕ) (ef : f ≡ sought (chip_with g i l o.root) k) where
+    found_is : f ≡ sought (chip_by g i o) k
     found_is = ef ∙ ap (λ (m : ℕ). sought (chip_with g i m o.root) k) el
 
-    pub absent_no : (a : ℕ) → f ≡ At a → false ≡ is_none (sought (chip_by g i o) k)
-    unfolding found
+    pub absent_no : (a : ℕ) → f ≡ Some a → false ≡ is_none (sought (chip_by g i o) k)
     absent_no a e = sym (simp (← found_is, e))
 
-    pub absent_is : f ≡ Nothing → true ≡ is_none (sought (chip_by g i o) k)
-    unfolding found
+    pub absent_is : f ≡ None → true ≡ is_none (sought (chip_by g i o) k)
     absent_is e = sym (simp (← found_is, e))
 
 pub delete_asks : (g : Geometry) (i : List ℕ) (k : ℕ) (o : Opened) (v : Bool) → v ≡ is_none (sought (chip_by g i o) k)

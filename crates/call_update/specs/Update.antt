@@ -1,11 +1,11 @@
 -- Insert and delete as one: what an update asks before its stores, the stores, and what they leave. Definitions alone;
 -- assumes nothing.
-use Rattle.std.specs.Prelude.{ℕ, ◌+◌, ◌<◌, List, [], ◌∷◌, ◌++◌, ltb}
+use Rattle.std.specs.Prelude.{ℕ, ◌+◌, ◌<◌, List, [], ◌∷◌, ◌++◌, ltb, is_none}
 use Rattle.geometry.specs.declared.Geometry.{Geometry}
 use Rattle.geometry.specs.Tests.{pick}
 use Rattle.geometry.specs.Bounds.{four_bytes}
 use Rattle.model.specs.Tree.{sought}
-use Rattle.model.specs.Update.{is_none, needs, too_high}
+use Rattle.model.specs.Update.{needs, too_high}
 use Rattle.model.specs.Stores.{Store}
 use Rattle.call_answers.specs.declared.Answer.TheVariants.{Height, Absent}
 use Rattle.call_answers.specs.Answers.{told}

@@ -4,7 +4,7 @@ use Rattle.std.proofs.Math.Path.{sym}
 use Rattle.std.proofs.Common.{ap, ◌∙◌, add-one, lt-ltb, le-ltb, Fits}
 use Rattle.std.specs.Int.{w8}
 use Rattle.geometry.specs.declared.Geometry.{Geometry}
-use Rattle.geometry.specs.declared.Verdict.TheVariants.{Sound, Broken}
+use Rattle.geometry.specs.Findings.{Sound, broken_at}
 use Rattle.geometry.specs.Tests.{◌&◌}
 use Rattle.geometry.specs.Shape.{Known}
 use Rattle.geometry.proofs.Shape.{shape}
@@ -112,7 +112,7 @@ module _ (u : Update) (g : Geometry) (img old : List ℕ) (x n : ℕ) (en : n �
     update_short m h em = lent_short g img old _ n en some (rw (← em) h) ∙ live_is u g img old x
 
     module _ (room : words_of g n ≤ length old) (j : Judgement) (t tbl : List ℕ) (d : Judged g n img j t tbl) where
-      pub update_broken : (rule page : ℕ) → j.verdict ≡ Broken rule page
+      pub update_broken : (rule page : ℕ) → j.verdict ≡ broken_at rule page
           → reply (told (Damaged rule page) img) old ≡ update_live u g img old x
       update_broken rule page e = lent_broken g img old _ n en some rule page room (sym d.verdict ∙ e)
           ∙ live_is u g img old x

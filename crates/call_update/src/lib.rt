@@ -1,11 +1,10 @@
 // An update (insert or delete) with lent words of live pages: refused, or made under its allowance. Judged first.
-#![tactic(auto)]
+#![tactic(auto, using(crate::specs::Stores::asks_laws, crate::specs::Stores::store_laws, crate::specs::Updates::update_laws))]
 
-ghost use Rattle.std.specs.Prelude.{◌≡◌, ◌+◌, ◌≤◌, ◌<◌, length};
+ghost use Rattle.std.specs.Prelude.{◌≡◌, ◌+◌, ◌≤◌, ◌<◌, length, is_none};
 ghost use Rattle.geometry.specs.Shape.{Known};
 ghost use Rattle.chip_store.specs.Run.{Countable};
 ghost use Rattle.model.specs.Tree.{sought};
-ghost use Rattle.model.specs.Update.{is_none};
 ghost use Rattle.call_answers.specs.Answers.{told};
 ghost use Rattle.chip_read.specs.Chip.{good_blocks};
 ghost use Rattle.call_account.specs.Account.{Sized, Makes};
@@ -23,10 +22,9 @@ use call_account::{Made, Renewed};
 use call_answers::Answer;
 use chip_store::Budget;
 use chip_survey::Survey;
-use geometry::{Geometry, Verdict};
+use geometry::{Broken, Geometry};
 use open_record::Opened;
 use tree_root::Own;
-use tree_search::Found;
 
 // The insert of a key and an address, or the delete of a key.
 #[derive(Clone, Copy)]
@@ -63,10 +61,7 @@ fn is_absent(g: Geometry, img: &[u8], o: Opened, key: u32) -> bool
     ensures { result ≡ is_none (sought (chip_by g img.now o) key) }
 {
     let level = chip_survey::level_by(g, o.height);
-    match tree_descent::find_key(g, img, level, o.root, key) {
-        Found::At(_) => false,
-        Found::Nothing => true,
-    }
+    tree_descent::find_key(g, img, level, o.root, key).is_none()
 }
 
 // ABSENT, and one page.
@@ -266,8 +261,8 @@ fn update_blocks(
     let verdict = judgement.verdict;
     let survey = judgement.survey;
     match verdict {
-        Verdict::Broken(rule, page) => Answer::Damaged(rule, page),
-        Verdict::Sound => update_judged(
+        Err(Broken { rule, page }) => Answer::Damaged(rule, page),
+        Ok(()) => update_judged(
             g,
             &mut *img,
             &mut *table,
@@ -280,8 +275,8 @@ fn update_blocks(
     }
 }
 
-// The update on at most 64 blocks, with a short table: it is cleared at every call.
-fn update_few(
+// The update with a table of N places: it is cleared at every call.
+fn update_sized<const N: usize>(
     g: Geometry,
     img: &mut [u8],
     lent: &mut [u32],
@@ -290,33 +285,16 @@ fn update_few(
     allowance: u32,
 ) -> Answer
     requires known { (Known g) × (Small u) }
-    requires n_value { (n ≡ good_blocks g img.old) × (n ≤ 64) × (n ≡ 0 → ⊥) × (words_of g n ≤ length lent.old) }
+    requires n_value { (n ≡ good_blocks g img.old) × (n ≤ 1024) × (n ≡ 0 → ⊥) × (N ≤ 65536) × (Roomy g n N)
+        × (words_of g n ≤ length lent.old) }
     ensures { reply (told result img.new) lent.new
         ≡ update_live u g img.old lent.old allowance }
 {
-    let mut table: [u8; 4096] = [0; 4096];
+    let mut table: [u8; N] = [0; N];
     update_blocks(g, &mut *img, &mut table, &mut *lent, n, u, allowance)
 }
 
-// The update on at most 1,024 blocks.
-fn update_many(
-    g: Geometry,
-    img: &mut [u8],
-    lent: &mut [u32],
-    n: u16,
-    u: Update,
-    allowance: u32,
-) -> Answer
-    requires known { (Known g) × (Small u) }
-    requires n_value { (n ≡ good_blocks g img.old) × (n ≤ 1024) × (n ≡ 0 → ⊥) × (words_of g n ≤ length lent.old) }
-    ensures { reply (told result img.new) lent.new
-        ≡ update_live u g img.old lent.old allowance }
-{
-    let mut table: [u8; 65536] = [0; 65536];
-    update_blocks(g, &mut *img, &mut table, &mut *lent, n, u, allowance)
-}
-
-// The update on a chip of a known geometry.
+// The update on a chip of a known geometry: at most 64 blocks have a short table.
 pub fn update_on(g: Geometry, img: &mut [u8], lent: &mut [u32], u: Update, allowance: u32) -> Answer
     requires { (Known g) × (Small u) }
     ensures { reply (told result img.new) lent.new
@@ -330,7 +308,7 @@ pub fn update_on(g: Geometry, img: &mut [u8], lent: &mut [u32], u: Update, allow
         return Answer::Length;
     }
     if n <= 64 {
-        return update_few(g, &mut *img, &mut *lent, n, u, allowance);
+        return update_sized::<4096>(g, &mut *img, &mut *lent, n, u, allowance);
     }
-    update_many(g, &mut *img, &mut *lent, n, u, allowance)
+    update_sized::<65536>(g, &mut *img, &mut *lent, n, u, allowance)
 }

@@ -13,20 +13,13 @@ ghost use Rattle.camera.specs.Camera.{put_numbers, report_row, report_of, return
 use call_answers::{Answer, Row};
 use open_record::Opened;
 
-fn long(v: u32) -> u64
-    ensures { result ≡ v }
-{
-    v as u64
-}
-
 // Six numbers of 32 bits, least byte first, from the buffer's start on.
+#[tactic(auto, using(crate::specs::Results::camera_laws))]
 fn put_numbers(buf: &mut [u8], numbers: [u32; 6])
     ensures { buf.new ≡ put_numbers buf.old 0 numbers }
 {
-    let mut i: usize = 0;
-    while i < 6 {
-        chip_page::put_u32(&mut *buf, 4 * i, long(numbers[i]));
-        i += 1;
+    for (i, v) in numbers.iter().enumerate() {
+        chip_page::put_u32(&mut *buf, 4 * i, u64::from(*v));
     }
 }
 

@@ -1,16 +1,16 @@
 -- A half by words, in the form in which the code has the premises. Assumes nothing.
-use Rattle.std.specs.Prelude.{◌≡◌, Bool, true, false, List, ℕ, ◌+◌, ◌-◌, ◌*◌, ◌/◌, ◌%◌, ◌^◌, ◌<◌}
-use Rattle.std.proofs.Common.{sym, ap, ap₂, ◌∙◌, mul-zero, mul-one, arith, Fits}
+use Rattle.std.specs.Prelude.{◌≡◌, Bool, true, false, List, ℕ, ◌+◌, ◌-◌, ◌*◌, ◌<◌}
+use Rattle.std.proofs.Common.{sym, ap₂, ◌∙◌, arith, Fits}
 use Rattle.std.specs.Int.{w8}
 use Rattle.std.specs.Int.Bits.{bit_xor}
 use Rattle.geometry.specs.Tests.{pick}
 use Rattle.geometry.specs.Bounds.{four_bytes}
 use Rattle.model.specs.Bytes.{byte_at}
-use Rattle.model.specs.Codes.{◌⊕◌, xor_below, number_e, number_g, fresh_code}
-use Rattle.theory_codes.specs.Xor.{xor_is, none_right, none_left_lem, below}
+use Rattle.model.specs.Codes.{◌⊕◌, number_e, number_g, fresh_code}
+use Rattle.theory_codes.specs.Xor.{xor_is, below}
 use Rattle.theory_codes.specs.Below.{xor_below_lem}
 use Rattle.chip_codes.specs.Rows.{bit_of, over_bits}
-use Rattle.chip_codes.specs.Words.{word_at, odd_ones, all_words, odd_words, in_word, E-by-words, G-by-words, folded}
+use Rattle.chip_codes.specs.Words.{word_at, odd_ones, all_words, odd_words, in_word, E-by-words, G-by-words}
 
 -- E, of the exclusive or of the numbers of the words with odd ones, and of all words
 unfoldable pub number_of : ℕ → ℕ → ℕ
@@ -53,53 +53,6 @@ if_odd_is w n r e t = rw (← e, t)
 
 pub if_even_is : (w n : ℕ) (r : Bool) → r ≡ odd_ones w → r ≡ false → 0 ≡ pick (odd_ones w) n 0
 if_even_is w n r e t = rw (← e, t)
-
--- ---- folds
-
-pick_one : (b : Bool) (x : ℕ) → x * pick b 1 0 ≡ pick b x 0
-pick_one true x = mul-one x
-pick_one false x = mul-zero x
-
-in_more : (p w r q : ℕ) → r ≡ pick (odd_ones (w / 2 ^ (2 ^ p) % 2 ^ (2 ^ p))) (2 ^ p) 0 → q ≡ in_word (2 ^ p)
-    (bit_xor (w / 2 ^ (2 ^ p)) w) → bit_xor r q ≡ in_word (2 ^ p * 2) w
-in_more p w r q e f =
-    xor_is r q
-    ∙ ap₂ ◌⊕◌ (e ∙ sym (pick_one (odd_ones (w / 2 ^ (2 ^ p) % 2 ^ (2 ^ p))) (2 ^ p))) (f
-    ∙ ap (in_word (2 ^ p)) (xor_is (w / 2 ^ (2 ^ p)) w))
-    ∙ sym (folded p w)
-
-in_one : (w : ℕ) → in_word 1 w ≡ 0
-unfolding over_bits xor_below
-in_one w = none (bit_of w 0)
-  where
-    none : (b : Bool) → pick b 0 0 ⊕ 0 ≡ 0
-    none true = none_left_lem 0
-    none false = none_left_lem 0
-
-pub in_2_is : (w r : ℕ) → r ≡ pick (odd_ones (w / 2 % 2)) 1 0 → r ≡ in_word 2 w
-in_2_is w r e = sym (ap (λ (x : ℕ). bit_xor x 0) e ∙ xor_is (pick (odd_ones (w / 2 % 2)) 1 0) 0
-    ∙ none_right (pick (odd_ones (w / 2 % 2)) 1 0)
-    ∙ sym e) ∙ in_more 0 w r 0 e (sym (in_one (bit_xor (w / 2) w)))
-
-pub in_4_is : (w r q : ℕ) → r ≡ pick (odd_ones (w / 4 % 4)) 2 0 → q ≡ in_word 2 (bit_xor (w / 4) w)
-    → bit_xor r q ≡ in_word 4 w
-in_4_is = in_more 1
-
-pub in_8_is : (w r q : ℕ) → r ≡ pick (odd_ones (w / 16 % 16)) 4 0 → q ≡ in_word 4 (bit_xor (w / 16) w)
-    → bit_xor r q ≡ in_word 8 w
-in_8_is = in_more 2
-
-pub in_16_is : (w r q : ℕ) → r ≡ pick (odd_ones (w / 256 % 256)) 8 0 → q ≡ in_word 8 (bit_xor (w / 256) w)
-    → bit_xor r q ≡ in_word 16 w
-in_16_is = in_more 3
-
-pub in_32_is : (w r q : ℕ) → r ≡ pick (odd_ones (w / 65536 % 65536)) 16 0 → q ≡ in_word 16 (bit_xor (w / 65536) w)
-    → bit_xor r q ≡ in_word 32 w
-in_32_is = in_more 4
-
-pub in_64_is : (w r q : ℕ) → r ≡ pick (odd_ones (w / four_bytes % four_bytes)) 32 0
-    → q ≡ in_word 32 (bit_xor (w / four_bytes) w) → bit_xor r q ≡ in_word 64 w
-in_64_is = in_more 5
 
 -- ---- E, G and the code
 
@@ -151,12 +104,6 @@ pub ruleset half_laws = (
   eight_is,
   if_odd_is,
   if_even_is,
-  in_2_is,
-  in_4_is,
-  in_8_is,
-  in_16_is,
-  in_32_is,
-  in_64_is,
   number_is_lem,
   number_below,
   rest_is,

@@ -2,5 +2,5 @@
 pub mod Rows
 pub mod Words
 pub mod Halves
-pub mod Sums
+pub mod Folds
 pub mod Parts

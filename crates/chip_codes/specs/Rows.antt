@@ -1,5 +1,5 @@
 -- The numbers of set bits, row by row: a row of 2 ^ p bits is one number. Assumes nothing.
-use Rattle.std.specs.Prelude.{◌≡◌, refl, Bool, true, false, ℕ, zero, suc, ◌+◌, ◌-◌, ◌*◌, ◌/◌, ◌%◌, ◌^◌, ◌<◌, eqb}
+use Rattle.std.specs.Prelude.{◌≡◌, refl, Bool, true, false, ℕ, zero, suc, ◌+◌, ◌*◌, ◌/◌, ◌%◌, ◌^◌, ◌<◌, eqb}
 use Rattle.std.proofs.Common.{sym, ◌∙◌, add-zero, mul-zero, mul_comm, mod-lt, arith, lit<, pow_pos}
 use Rattle.std.proofs.Math.Path.{ap, ap₂}
 use Rattle.std.proofs.Math.Nat.{mod-one, zero-div}

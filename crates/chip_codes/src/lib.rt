@@ -1,88 +1,67 @@
 // The code of a half, eight bytes at a time.
-#![tactic(auto)]
+#![tactic(auto, using(crate::specs::Halves::half_laws))]
 
-ghost use Rattle.std.specs.Prelude.{◌≡◌, ◌+◌, ◌*◌, ◌-◌, ◌≤◌, ◌<◌, length};
+ghost use Rattle.std.specs.Prelude.{◌≡◌, ◌+◌, ◌*◌, ◌-◌, ◌^◌, ◌≤◌, ◌<◌, ℕ, length, slice_index};
 ghost use Rattle.geometry.specs.Tests.{pick};
 ghost use Rattle.model.specs.Bytes.{byte_at};
-ghost use Rattle.model.specs.Codes.{fresh_code};
-ghost use Rattle.chip_codes.specs.Words.{word_at, odd_ones, in_word};
+ghost use Rattle.model.specs.Codes.{◌⊕◌, xor_below, fresh_code};
+ghost use Rattle.chip_codes.specs.Words.{word_at, word_in, odd_ones, in_word};
 ghost use Rattle.chip_codes.specs.Halves.{number_of, rest_of, sealed};
-ghost use Rattle.chip_codes.specs.Sums.{Summed, rows_of};
 ghost use Rattle.chip_codes.specs.Parts.{Copied};
-
-fn long(b: u8) -> u64
-    ensures { (result ≡ b) × (result < 256) }
-{
-    b as u64
-}
 
 // Eight bytes as one number, least byte first.
 fn eight(img: &[u8], at: usize) -> u64
     requires { at + 8 ≤ length img.now }
     ensures { result ≡ word_at img.now at 8 }
 {
-    long(img[at])
-        + 256 * long(img[at + 1])
-        + 65536 * long(img[at + 2])
-        + 16777216 * long(img[at + 3])
-        + 4294967296 * long(img[at + 4])
-        + 1099511627776 * long(img[at + 5])
-        + 281474976710656 * long(img[at + 6])
-        + 72057594037927936 * long(img[at + 7])
+    u64::from_le_bytes([
+        img[at],
+        img[at + 1],
+        img[at + 2],
+        img[at + 3],
+        img[at + 4],
+        img[at + 5],
+        img[at + 6],
+        img[at + 7],
+    ])
 }
 
 // Whether the ones of a word are odd in number.
 fn odd(w: u64) -> bool
     ensures { result ≡ odd_ones w }
 {
-    u64::count_ones(w) % 2 == 1
+    w.count_ones() % 2 == 1
 }
 
 // The number, where the ones of the word are odd.
 fn if_odd(w: u64, n: u64) -> u64
     ensures { result ≡ pick (odd_ones w) n 0 }
 {
-    if odd(w) {
-        return n;
-    }
-    0
+    if odd(w) { n } else { 0 }
 }
 
-// The numbers of a word's set bits, of 2, 4, .. 64 bits, by exclusive or.
-fn in_2(w: u64) -> u64
-    ensures { result ≡ in_word 2 w }
+// A number of one bit.
+fn power(k: u64) -> u64
+    requires { k < 64 }
+    ensures { result ≡ 2 ^ k }
 {
-    if_odd(w / 2 % 2, 1)
+    1 << k
 }
 
-fn in_4(w: u64) -> u64
-    ensures { result ≡ in_word 4 w }
-{
-    if_odd(w / 4 % 4, 2) ^ in_2(w / 4 ^ w)
-}
-
-fn in_8(w: u64) -> u64
-    ensures { result ≡ in_word 8 w }
-{
-    if_odd(w / 16 % 16, 4) ^ in_4(w / 16 ^ w)
-}
-
-fn in_16(w: u64) -> u64
-    ensures { result ≡ in_word 16 w }
-{
-    if_odd(w / 256 % 256, 8) ^ in_8(w / 256 ^ w)
-}
-
-fn in_32(w: u64) -> u64
-    ensures { result ≡ in_word 32 w }
-{
-    if_odd(w / 65536 % 65536, 16) ^ in_16(w / 65536 ^ w)
-}
-
+// The numbers of a word's set bits by exclusive or. The word is folded in two until one bit is left: the upper half
+// tells of one bit of the numbers, and goes onto the lower half for the others.
 fn in_64(w: u64) -> u64
     ensures { result ≡ in_word 64 w }
 {
-    if_odd(w / 4294967296 % 4294967296, 32) ^ in_32(w / 4294967296 ^ w)
+    let mut numbers = 0;
+    let mut left = w;
+    for p in (0..6).rev() {
+        let half = power(p);
+        let upper = left >> half;
+        numbers ^= if_odd(upper % power(half), half);
+        left ^= upper;
+    }
+    numbers
 }
 
 // E, of the words with odd ones and of all words.
@@ -111,128 +90,46 @@ fn seal(rows: u64, all: u64) -> u32
     (16777215 - (e + 2048 * g)) as u32
 }
 
-// Some words by exclusive or: all of them, and those whose number has bit 0, bit 1, .. bit 4.
-#[derive(Clone, Copy)]
-struct Sums {
-    all: u64,
-    first: u64,
-    second: u64,
-    third: u64,
-    fourth: u64,
-    fifth: u64,
-}
-
-// The sums of 1, 2, 4, .. 32 words, without a loop: so all loads and sums stand in one line.
-fn words_1(img: &[u8], at: usize) -> Sums
-    requires { at + 8 ≤ length img.now }
-    ensures { Summed img.now at 0 result }
+// The words from `half` on by exclusive or; each of them goes onto the word that stands `half` before it.
+fn fold(words: &mut [u64; 32], half: usize) -> u64
+    requires { half ≤ 16 }
+    ensures upper { result ≡ xor_below (λ i. slice_index words.old (half + i)) half }
+    ensures lower { (i : ℕ) → i < half
+        → slice_index words.new i ≡ slice_index words.old (half + i) ⊕ slice_index words.old i }
 {
-    let w = eight(img, at);
-    Sums {
-        all: w,
-        first: 0,
-        second: 0,
-        third: 0,
-        fourth: 0,
-        fifth: 0,
+    let mut upper = 0;
+    for i in 0..half {
+        upper ^= words[half + i];
+        words[i] ^= words[half + i];
     }
+    upper
 }
 
-fn words_2(img: &[u8], at: usize) -> Sums
-    requires { at + 16 ≤ length img.now }
-    ensures { Summed img.now at 1 result }
-{
-    let lo = words_1(img, at);
-    let hi = words_1(img, at + 8);
-    Sums {
-        all: hi.all ^ lo.all,
-        first: hi.all,
-        second: hi.second ^ lo.second,
-        third: hi.third ^ lo.third,
-        fourth: hi.fourth ^ lo.fourth,
-        fifth: hi.fifth ^ lo.fifth,
-    }
-}
-
-fn words_4(img: &[u8], at: usize) -> Sums
-    requires { at + 32 ≤ length img.now }
-    ensures { Summed img.now at 2 result }
-{
-    let lo = words_2(img, at);
-    let hi = words_2(img, at + 16);
-    Sums {
-        all: hi.all ^ lo.all,
-        first: hi.first ^ lo.first,
-        second: hi.all,
-        third: hi.third ^ lo.third,
-        fourth: hi.fourth ^ lo.fourth,
-        fifth: hi.fifth ^ lo.fifth,
-    }
-}
-
-fn words_8(img: &[u8], at: usize) -> Sums
-    requires { at + 64 ≤ length img.now }
-    ensures { Summed img.now at 3 result }
-{
-    let lo = words_4(img, at);
-    let hi = words_4(img, at + 32);
-    Sums {
-        all: hi.all ^ lo.all,
-        first: hi.first ^ lo.first,
-        second: hi.second ^ lo.second,
-        third: hi.all,
-        fourth: hi.fourth ^ lo.fourth,
-        fifth: hi.fifth ^ lo.fifth,
-    }
-}
-
-fn words_16(img: &[u8], at: usize) -> Sums
-    requires { at + 128 ≤ length img.now }
-    ensures { Summed img.now at 4 result }
-{
-    let lo = words_8(img, at);
-    let hi = words_8(img, at + 64);
-    Sums {
-        all: hi.all ^ lo.all,
-        first: hi.first ^ lo.first,
-        second: hi.second ^ lo.second,
-        third: hi.third ^ lo.third,
-        fourth: hi.all,
-        fifth: hi.fifth ^ lo.fifth,
-    }
-}
-
-fn words_32(img: &[u8], at: usize) -> Sums
+// The 32 words of the 256 bytes from `at`.
+fn words_of(img: &[u8], at: usize) -> [u64; 32]
     requires { at + 256 ≤ length img.now }
-    ensures { Summed img.now at 5 result }
+    ensures { (i : ℕ) → i < 32 → slice_index result i ≡ word_in img.now at i }
 {
-    let lo = words_16(img, at);
-    let hi = words_16(img, at + 128);
-    Sums {
-        all: hi.all ^ lo.all,
-        first: hi.first ^ lo.first,
-        second: hi.second ^ lo.second,
-        third: hi.third ^ lo.third,
-        fourth: hi.fourth ^ lo.fourth,
-        fifth: hi.all,
+    let mut words = [0; 32];
+    for i in 0..32 {
+        words[i] = eight(img, at + 8 * i);
     }
+    words
 }
 
-// The numbers of the words with odd ones, by their bits.
-fn rows_of(s: Sums) -> u64
-    ensures { (result ≡ rows_of s) × (result < 32) }
-{
-    if_odd(s.fifth, 16)
-        ^ (if_odd(s.fourth, 8) ^ (if_odd(s.third, 4) ^ (if_odd(s.second, 2) ^ if_odd(s.first, 1))))
-}
-
-// The code of the 256 bytes from `at` inside the image.
+// The code of the 256 bytes from `at` inside the image. Their words are folded in two until one is left, as `in_64`
+// folds a word.
 fn half_code(img: &[u8], at: usize) -> u32
     requires { at + 256 ≤ length img.now }
     ensures { result ≡ fresh_code img.now at }
 {
-    let s = words_32(img, at);
-    seal(rows_of(s), s.all)
+    let mut words = words_of(img, at);
+    let mut rows = 0;
+    for k in (0..5).rev() {
+        let half = power(k);
+        rows ^= if_odd(fold(&mut words, half as usize), half);
+    }
+    seal(rows, words[0])
 }
 
 // The byte at an index; one outside the image reads as 0.
@@ -251,10 +148,8 @@ fn part_at(img: &[u8], at: usize) -> [u8; 256]
     ensures { Copied img.now at result 256 }
 {
     let mut part = [0u8; 256];
-    let mut i: usize = 0;
-    while i < 256 {
+    for i in 0..256 {
         part[i] = byte_at(img, at + i);
-        i += 1;
     }
     part
 }

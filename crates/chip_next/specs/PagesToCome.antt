@@ -1,14 +1,18 @@
 -- Laws of the pages to come, in the form in which the code has the premises. Assumes nothing.
 use Prim.Native.Nat.{ℕ, zero, suc, ◌+◌, ◌-◌, ◌*◌, ◌/◌, ◌%◌, ◌<◌, ◌≤◌}
-use Rattle.std.specs.Prelude.{Bool, true, false, ◌≡◌, List, eqb, ltb, get_or, set, length}
+use Rattle.std.specs.Prelude.{Bool, true, false, ◌≡◌, List, eqb, ltb, get_or, set, take, length, ◌||◌}
 use Rattle.std.proofs.Math.Path.{refl, sym}
-use Rattle.std.proofs.Common.{ap, ◌∙◌, Fits, length-set, get_or-set_same, get_or-set_other, div-le_self, mul-le-mul_left}
+use Rattle.std.proofs.Common.{ap, ◌∙◌, Fits, length-set, get_or-set_same, get_or-set_other, div-le_self, mul-le-mul_left, take-suc}
+use Rattle.std.proofs.Math.Seq.{take-length}
 use Rattle.std.specs.Int.{w16}
+use Rattle.std.specs.List.{list_any}
+use Rattle.std.proofs.Math.Decide.{ℕ_discrete}
+use Rattle.std.proofs.lemmas.List.Folds.{list_any-append}
 use native.Mathlib.Omega.{arith}
 use Rattle.std.proofs.Math.Nat.{div-zero, mod-zero}
 use Rattle.std.proofs.Math.Numerals.{sub-one, add-one}
 use borrow.Author.Tests.{eq-eqb, ne_eqb, lt-ltb, le-ltb, le-leb, lt-leb}
-use Rattle.geometry.specs.Tests.{◌&◌, and_true, and_false}
+use Rattle.geometry.specs.Tests.{pick, ◌&◌, and_true, and_false}
 use Rattle.geometry.specs.Bounds.{four_bytes}
 use Rattle.model.specs.Count.{least}
 use Rattle.model.specs.Next.{mixed, first_in, round, next_block, next_page, after}
@@ -19,25 +23,41 @@ use Rattle.theory_counts.specs.Scan.{scan_laws}
 use Rattle.chip_next.specs.Coming.{free, whole, whole_after, seen, Coming, erased_from}
 
 -- ---- is_free
+eqb_swap : (x y : ℕ) → eqb x y ≡ eqb y x
+eqb_swap x y = elim (ℕ_discrete x y) [
+  | yes e ↦ eq-eqb x y e ∙ sym (eq-eqb y x (sym e))
+  | no e ↦ ne_eqb x y e ∙ sym (ne_eqb y x (λ z. e (sym z)))
+]
+
+any_more : (a b : Bool) (r : Bool) → pick b false (pick a false r) ≡ pick (a || (b || false)) false r
+any_more true true r = refl
+any_more true false r = refl
+any_more false true r = refl
+any_more false false r = refl
+
+-- page q is free where it is none of the first i pages chosen, and erased
 module _ (er : ℕ → Bool) (ps : List ℕ) (q : ℕ) where
-  pub free_start : (i : ℕ) → free er ps i q ≡ free er ps i q
-  free_start i = refl
-
-  pub free_stop : (i k : ℕ) → free er ps i q ≡ free er ps k q → 0 < k → get_or ps (k - 1) 0 ≡ q → false ≡ free er ps i q
+  free_any : (i : ℕ) → i ≤ length ps → free er ps i q ≡ pick (list_any (λ y. eqb y q) (take i ps)) false (er q)
   unfolding free
-  free_stop i zero e h g = absurd (omega arith)
-  free_stop i (suc k) e h g = sym (e ∙ rw (eq-eqb q (get_or ps k 0) (sym (rw sub-one at g))))
+  free_any zero h = refl
+  free_any (suc i) h =
+      rw (take-suc ps i 0 h, list_any-append, eqb_swap q (get_or ps i 0), free_any i (omega arith))
+      (any_more (list_any (λ y. eqb y q) (take i ps)) (eqb (get_or ps i 0) q) (er q))
 
-  pub free_go : (i k : ℕ) → free er ps i q ≡ free er ps k q → 0 < k → (get_or ps (k - 1) 0 ≡ q → ⊥)
-      → free er ps i q ≡ free er ps (k - 1) q
-  unfolding free
-  free_go i zero e h g = absurd (omega arith)
-  free_go i (suc k) e h g = e ∙ rw (ne_eqb q (get_or ps k 0) (λ z. g (rw sub-one (sym z))), sub-one)
+  free_all : free er ps (length ps) q ≡ pick (list_any (λ y. eqb y q) ps) false (er q)
+  free_all = free_any (length ps) (omega arith) ∙ rw take-length
 
-  pub free_end : (i k : ℕ) (r : Bool) → free er ps i q ≡ free er ps k q → k ≤ 0 → r ≡ er q → r ≡ free er ps i q
-  unfolding free
-  free_end i zero r e h er' = er' ∙ sym e
-  free_end i (suc k) r e h er' = absurd (omega arith)
+  module _ (t : Bool) (e : t ≡ list_any (λ y. eqb y q) ps) where
+    pub free_taken : t ≡ true → false ≡ free er ps (length ps) q
+    free_taken w = sym (free_all ∙ rw (← e, w))
+
+    pub free_clear : t ≡ false → er q ≡ free er ps (length ps) q
+    free_clear w = sym (free_all ∙ rw (← e, w))
+
+-- the first k pages chosen by themselves
+free_cut : (er : ℕ → Bool) (ps : List ℕ) (k : ℕ) → k ≤ length ps
+    → free er (take k ps) (length (take k ps)) ≡ free er ps k
+free_cut er ps k h = λ z q. (free_all er (take k ps) q ∙ sym (free_any er ps q k h)) z
 
 -- ---- the block of a page
 pub quotient : (a b x y : ℕ) → x ≡ a → y ≡ b → x / y ≡ a / b
@@ -157,6 +177,11 @@ module _ (p n : ℕ) where
   erased_suc er x (suc i) q = erased_suc (after x er) (next_after p n (after x er) x) i q
 
   module _ (er : ℕ → Bool) (x : ℕ) where
+    -- the page after one, where the pages chosen lie in a longer list
+    after_cut : (k page y : ℕ) (ps : List ℕ) → k ≤ length ps
+        → y ≡ next_after p n (free er (take k ps) (length (take k ps))) page → y ≡ next_after p n (free er ps k) page
+    after_cut k page y ps h ey = ey ∙ ap (λ (f : ℕ → Bool). next_after p n f page) (free_cut er ps k h)
+
     -- the code's test of a page, and the erased pages once the chosen ones are programmed
     free_from : (k : ℕ) (ps : List ℕ) → Coming p n er x k ps → (q : ℕ) → free er ps k q ≡ erased_from p n er x k q
     unfolding free erased_from
@@ -181,18 +206,20 @@ module _ (p n : ℕ) where
     page_one = refl
 
     pub page_more : (k page y : ℕ) (ps : List ℕ) → Coming p n er x k ps → page ≡ page_from p n er x (k - 1) → 1 ≤ k
-        → y ≡ next_after p n (free er ps k) page
+        → y ≡ next_after p n (free er (take k ps) (length (take k ps))) page → length ps ≡ 256 → k < 256
         → y ≡ page_from p n er x (k + 1 - 1)
-    page_more k page y ps c e h ey = let q : k + 1 - 1 ≡ k = omega arith in rw q (next_from k page y ps c e h ey)
+    page_more k page y ps c e h ey len l =
+        let q : k + 1 - 1 ≡ k = omega arith in
+        rw q (next_from k page y ps c e h (after_cut k page y ps (omega arith) ey))
 
     pub coming_more : (k page y : ℕ) (ps : List ℕ) → Coming p n er x k ps → page ≡ page_from p n er x (k - 1) → 1 ≤ k
-        → y ≡ next_after p n (free er ps k) page
+        → y ≡ next_after p n (free er (take k ps) (length (take k ps))) page
         → length ps ≡ 256 → k < 256 → Coming p n er x (k + 1) (set ps k y)
     coming_more k page y ps c e some ey len h = record {
       at = λ i j. by_lt i k
           (λ b. get_or-set_other ps k i y 0 (omega arith) ∙ c.at i b)
           (λ b. let q : i ≡ k = omega arith in rw q (get_or-set_same ps k y 0 (omega arith)
-          ∙ next_from k page y ps c e some ey));
+          ∙ next_from k page y ps c e some (after_cut k page y ps (omega arith) ey)));
     }
 
     pub coming_done : (k m : ℕ) (ps : List ℕ) → Coming p n er x k ps → m ≤ k → Coming p n er x m ps
@@ -202,7 +229,7 @@ module _ (p n : ℕ) where
 pub set_length : (ps : List ℕ) (k x m : ℕ) → length ps ≡ m → length (set ps k x) ≡ m
 set_length ps k x m e = length-set ps k x ∙ e
 
-pub ruleset free_laws = (free_start, free_stop, free_go, free_end)
+pub ruleset free_laws = (free_taken, free_clear)
 
 pub ruleset whole_laws = (whole_no, whole_is, next_mixed, round_later, round_start, next_round)
 

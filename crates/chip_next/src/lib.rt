@@ -1,6 +1,6 @@
 // Which page next, and the pages to come. A page counts as erased if it is so on the image and is not among the pages
-// already chosen, the first i of `taken`.
-#![tactic(auto)]
+// already chosen, `taken`.
+#![tactic(auto, using(crate::specs::PagesToCome::next_laws))]
 
 ghost use Rattle.std.specs.Prelude.{◌≡◌, suc, ◌+◌, ◌/◌, ◌%◌, ◌≤◌, ◌<◌, max, min, eqb, length};
 ghost use Rattle.geometry.specs.Bounds.{four_bytes};
@@ -15,18 +15,10 @@ ghost use Rattle.chip_next.specs.Coming.{free, whole, whole_after, seen, Coming}
 use geometry::Geometry;
 
 // Whether a page is erased and not yet chosen.
-fn is_free(g: Geometry, img: &[u8], taken: &[u32; 256], i: usize, page: u32) -> bool
-    requires { i ≤ 256 }
-    ensures { result ≡ free (erased g img.now) taken.now i page }
+fn is_free(g: Geometry, img: &[u8], taken: &[u32], page: u32) -> bool
+    ensures { result ≡ free (erased g img.now) taken.now (length taken.now) page }
 {
-    let mut k: usize = i;
-    while 0 < k {
-        k -= 1;
-        if taken[k] == page {
-            return false;
-        }
-    }
-    chip_read::page_erased(g, img, page)
+    !taken.contains(&page) && chip_read::page_erased(g, img, page)
 }
 
 // The block that holds a page.
@@ -41,42 +33,38 @@ fn block_of(g: Geometry, page: u32) -> usize
 }
 
 // Whether a block is block `from` or a later one, and its first page is free.
-fn is_whole(g: Geometry, img: &[u8], taken: &[u32; 256], i: usize, from: usize, block: u16) -> bool
-    requires { i ≤ 256 }
-    ensures { result ≡ whole g.pages (free (erased g img.now) taken.now i) from block }
+fn is_whole(g: Geometry, img: &[u8], taken: &[u32], from: usize, block: u16) -> bool
+    ensures { result ≡ whole g.pages (free (erased g img.now) taken.now (length taken.now)) from block }
 {
     if geometry::wide(block) < from {
         return false;
     }
-    is_free(g, img, taken, i, chip_read::page_of(g, block, 0))
+    is_free(g, img, taken, chip_read::page_of(g, block, 0))
 }
 
 // The lowest such block, or n.
-fn first_whole(g: Geometry, img: &[u8], taken: &[u32; 256], i: usize, from: usize, n: u16) -> u16
-    requires { i ≤ 256 }
-    ensures { result ≡ least n (whole g.pages (free (erased g img.now) taken.now i) from) }
+fn first_whole(g: Geometry, img: &[u8], taken: &[u32], from: usize, n: u16) -> u16
+    ensures { result ≡ least n (whole g.pages (free (erased g img.now) taken.now (length taken.now)) from) }
 {
-    let mut block: u16 = 0;
-    while block < n {
-        if is_whole(g, img, taken, i, from, block) {
+    for block in 0..n {
+        if is_whole(g, img, taken, from, block) {
             return block;
         }
-        block += 1;
     }
-    block
+    n
 }
 
 // The first block met whose first page is free, from the one after block `from` on, round past the end to the start.
-fn round_block(g: Geometry, img: &[u8], taken: &[u32; 256], i: usize, n: u16, from: usize) -> u16
-    requires { (i ≤ 256) × (from < four_bytes) }
-    ensures { result ≡ whole_after g.pages n (free (erased g img.now) taken.now i) from }
+fn round_block(g: Geometry, img: &[u8], taken: &[u32], n: u16, from: usize) -> u16
+    requires { from < four_bytes }
+    ensures { result ≡ whole_after g.pages n (free (erased g img.now) taken.now (length taken.now)) from }
 {
     let after = from + 1;
-    let later = first_whole(g, img, taken, i, after, n);
+    let later = first_whole(g, img, taken, after, n);
     if later < n {
         return later;
     }
-    first_whole(g, img, taken, i, 0, n)
+    first_whole(g, img, taken, 0, n)
 }
 
 pub fn no_pages() -> [u32; 256]
@@ -93,8 +81,7 @@ fn next_block(g: Geometry, img: &[u8], n: u16, last: u32) -> u16
     if mixed < n {
         return mixed;
     }
-    let none = no_pages();
-    round_block(g, img, &none, 0, n, block_of(g, last))
+    round_block(g, img, &[], n, block_of(g, last))
 }
 
 // The next page of an image of n blocks whose page with the largest number is `last`.
@@ -119,13 +106,13 @@ fn ends_block(g: Geometry, page: u32) -> bool
 
 // The page after a chosen one: the next of its block; past the block's end page 0 of the first wholly erased block
 // after it, round past the end to the start.
-fn page_after(g: Geometry, img: &[u8], taken: &[u32; 256], i: usize, n: u16, page: u32) -> u32
-    requires { (i ≤ 256) × (page < 4294967295) }
-    ensures { (result ≡ next_after g.pages n (free (erased g img.now) taken.now i) page) ×
+fn page_after(g: Geometry, img: &[u8], taken: &[u32], n: u16, page: u32) -> u32
+    requires { page < 4294967295 }
+    ensures { (result ≡ next_after g.pages n (free (erased g img.now) taken.now (length taken.now)) page) ×
         (result ≤ max (page + 1) 4294836225) }
 {
     if ends_block(g, page) {
-        let block = round_block(g, img, taken, i, n, block_of(g, page));
+        let block = round_block(g, img, taken, n, block_of(g, page));
         return chip_read::first_page(g, block);
     }
     page + 1
@@ -137,8 +124,7 @@ pub fn next_after(g: Geometry, img: &[u8], n: u16, page: u32) -> u32
     ensures { (result ≡ next_after g.pages n (erased g img.now) page) ×
         (result ≤ max (page + 1) 4294836225) }
 {
-    let none = no_pages();
-    page_after(g, img, &none, 0, n, page)
+    page_after(g, img, &[], n, page)
 }
 
 // The first pages to come, as many as `count`, the next one given.
@@ -149,11 +135,9 @@ pub fn coming_from(g: Geometry, img: &[u8], n: u16, next: u32, count: usize) -> 
     let mut taken = no_pages();
     taken[0] = next;
     let mut page = next;
-    let mut i: usize = 1;
-    while i < count {
-        page = page_after(g, img, &taken, i, n, page);
+    for i in 1..count {
+        page = page_after(g, img, &taken[..i], n, page);
         taken[i] = page;
-        i += 1;
     }
     taken
 }
@@ -174,8 +158,7 @@ pub fn next_erased(g: Geometry, img: &[u8], n: u16, root: u32, next: u32) -> u32
     ensures { result ≡ next_erased g.pages n (erased g img.now) root next }
 {
     if starts_block(g, next) {
-        let none = no_pages();
-        let block = round_block(g, img, &none, 0, n, block_of(g, root));
+        let block = round_block(g, img, &[], n, block_of(g, root));
         return chip_read::first_page(g, block);
     }
     next
@@ -185,9 +168,5 @@ pub fn next_erased(g: Geometry, img: &[u8], n: u16, root: u32, next: u32) -> u32
 pub fn next_by(g: Geometry, n: u16, next: u32) -> u32
     ensures { (result ≡ min (pages_of g n) next) × (result ≤ 4294836225) }
 {
-    let pages = chip_read::first_page(g, n);
-    if pages < next {
-        return pages;
-    }
-    next
+    chip_read::first_page(g, n).min(next)
 }

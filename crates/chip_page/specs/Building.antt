@@ -1,5 +1,5 @@
 -- Laws of pages being built, in the form in which the code has the premises. Assumes nothing.
-use Rattle.std.specs.Prelude.{ℕ, zero, suc, ◌+◌, ◌-◌, ◌*◌, ◌/◌, ◌%◌, ◌<◌, ◌≤◌, ◌≡◌, refl, List, [], ◌∷◌, ◌++◌, take, length, get_or, set, replicate}
+use Rattle.std.specs.Prelude.{ℕ, zero, suc, ◌+◌, ◌*◌, ◌/◌, ◌%◌, ◌<◌, ◌≤◌, ◌≡◌, refl, List, [], ◌∷◌, ◌++◌, take, length, get_or, set, replicate}
 use Rattle.std.proofs.Common.{sym, ap, ◌∙◌, length-set, length-take-le, take-suc, get_or-take, arith, add-one}
 use Rattle.std.proofs.Math.Seq.{set_out}
 use Rattle.geometry.specs.declared.Geometry.{Geometry}
@@ -35,9 +35,9 @@ put_snoc b at (e ∷ es) x =
     put_snoc (put_entry b at e) (at + 8) es x ∙ (let q : at + 8 + 8 * length es ≡ at + 8 * suc (length es) =
     omega arith in rw q)
 
-pub put_start : (b : List ℕ) (at : ℕ) (es : List Entry) → b ≡ put_entries b at (take 0 es)
+pub put_start : (b : List ℕ) (at : ℕ) → b ≡ put_entries b at []
 unfolding put_entries
-put_start b at es = refl
+put_start b at = refl
 
 pub put_more : (b m d : List ℕ) (at : ℕ) (es : List Entry) (k c : ℕ) → m ≡ put_entries b at (take k es)
     → d ≡ put_entry m (at + 8 * k) (get_or es k no_entry)

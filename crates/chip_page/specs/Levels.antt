@@ -22,23 +22,21 @@ unfolding laid_level
 level_out g b l t k es et ek h = rw (lt-leb l g.top (omega arith))
 
 -- ---- no node at the levels above
-pub bare_start : (g : Geometry) (from : ℕ) (b : List ℕ) → b ≡ bare g from 0 b
+pub bare_start : (g : Geometry) (from : ℕ) (b : List ℕ) → b ≡ bare g from (from - from) b
 unfolding bare
-bare_start g from b = refl
+bare_start g from b = let q : from - from ≡ 0 = omega arith in rw q
 
-pub bare_more : (g : Geometry) (from k : ℕ) (b m d : List ℕ) → m ≡ bare g from k b → d ≡ put_level g m (from + k + 1) []
-    → d ≡ bare g from (k + 1) b
+pub bare_more : (g : Geometry) (from k : ℕ) (b m d : List ℕ) → m ≡ bare g from (k - from) b
+    → d ≡ put_level g m (k + 1) [] → from ≤ k → d ≡ bare g from (k + 1 - from) b
 unfolding bare
-bare_more g from k b m d e f = f ∙ rw (e, add-one (from + k), add-one k)
+bare_more g from k b m d e f h =
+    let q : k + 1 - from ≡ suc (k - from) = omega arith in
+    let r : suc (from + (k - from)) ≡ k + 1 = omega arith in
+    f ∙ rw (q, r, ← e)
 
-pub bare_done : (g : Geometry) (from k n t l i : ℕ) (b m : List ℕ) → m ≡ bare g from k b → t ≡ g.top → l ≡ from → i ≡ k
-    → k ≤ t - l → t - l ≤ i → m ≡ bare g from (g.top - from) b
-bare_done g from k n t l i b m e et el ei h j = let q : k ≡ g.top - from = omega arith in e ∙ rw q
-
-pub bare_none : (g : Geometry) (from t l : ℕ) (b : List ℕ) → t ≡ g.top → l ≡ from → t < l → b ≡ bare g from
-    (g.top - from) b
-unfolding bare
-bare_none g from t l b et el h = let q : g.top - from ≡ 0 = omega arith in rw q
+pub bare_done : (g : Geometry) (from k : ℕ) (b m : List ℕ) → m ≡ bare g from (k - from) b → k - from ≤ g.top - from
+    → g.top ≤ k → m ≡ bare g from (g.top - from) b
+bare_done g from k b m e h j = let q : k - from ≡ g.top - from = omega arith in e ∙ rw q
 
 length_bare : (g : Geometry) (from n : ℕ) (b : List ℕ) → length (bare g from n b) ≡ length b
 unfolding bare
@@ -66,9 +64,9 @@ pub only_there : (g : Geometry) (l k : ℕ) (es : List Entry) (b m d : List ℕ)
 unfolding put_levels
 only_there g l k es b m d e f q = f ∙ rw (e, add-one) (rw (ne_eqb (suc k) l (λ r. q (add-one k ∙ r))))
 
-pub only_done : (g : Geometry) (parts : ℕ → List Entry) (k t i : ℕ) (b m : List ℕ) → m ≡ put_levels g parts k b
-    → t ≡ g.top → i ≡ k → k ≤ t → t ≤ i → m ≡ put_levels g parts g.top b
-only_done g parts k t i b m e et ei h j = let q : k ≡ g.top = omega arith in e ∙ rw q
+pub only_done : (g : Geometry) (parts : ℕ → List Entry) (k : ℕ) (b m : List ℕ) → m ≡ put_levels g parts k b
+    → k ≤ g.top → g.top ≤ k → m ≡ put_levels g parts g.top b
+only_done g parts k b m e h j = let q : k ≡ g.top = omega arith in e ∙ rw q
 
 length_levels : (g : Geometry) (parts : ℕ → List Entry) (n : ℕ) (b : List ℕ) → length (put_levels g parts n b) ≡ length b
 unfolding put_levels
@@ -161,4 +159,4 @@ unfolding blanks
 page_is g parts from seq h b c ec eb le e =
     rw (ec, rest_is g parts from b e, eb) (page_cut g longest_page seq h parts le)
 
-pub ruleset level_laws = (level_in, level_out, bare_start, bare_more, bare_done, bare_none, bare_same, only_start, only_here, only_there, only_done, levels_same, close_is, only_is)
+pub ruleset level_laws = (level_in, level_out, bare_start, bare_more, bare_done, bare_same, only_start, only_here, only_there, only_done, levels_same, close_is, only_is)

@@ -1,7 +1,6 @@
 -- A node as the entries that its bytes hold. Assumes nothing.
-use Rattle.std.specs.Prelude.{ℕ, zero, suc, ◌+◌, ◌-◌, ◌*◌, ◌<◌, ◌≤◌, Bool, true, false, not, ◌≡◌, refl, List, [], ◌∷◌, length, get_or}
-use Rattle.std.proofs.Common.{ap, arith, sub-one}
-use Rattle.std.proofs.Math.Nat.{min-eq_left, min-eq_right}
+use Rattle.std.specs.Prelude.{ℕ, zero, suc, ◌+◌, ◌-◌, ◌*◌, ◌<◌, ◌≤◌, min, Bool, true, false, not, ◌≡◌, refl, List, [], ◌∷◌, length, get_or}
+use Rattle.std.proofs.Common.{ap, arith, sub-one, add-one}
 use Rattle.std.proofs.lemmas.Bool.{not-true, not-false}
 use Rattle.geometry.specs.declared.Geometry.{Geometry}
 use Rattle.geometry.specs.Geometry.{in_table, root_slots}
@@ -14,17 +13,10 @@ pub count_none : (g : Geometry) (img : List ℕ) (p l : ℕ) (b : Bool) → b �
 unfolding node_count
 count_none g img p l b e q = simp (← e, not-true b q)
 
-pub count_over : (g : Geometry) (img : List ℕ) (p l n f : ℕ) (b : Bool) → b ≡ in_table g l → not b ≡ false
-    → n ≡ count_at g img p l → f ≡ root_slots g l
-    → f < n → f + 1 ≡ node_count g img p l
+pub count_some : (g : Geometry) (img : List ℕ) (p l n f : ℕ) (b : Bool) → b ≡ in_table g l → not b ≡ false
+    → n ≡ count_at g img p l → f ≡ root_slots g l → min n (f + 1) ≡ node_count g img p l
 unfolding node_count
-count_over g img p l n f b e q en ef h = simp (← e, not-false b q, ← en, ← ef, min-eq_right {n = suc f} {m = n} h) (omega arith)
-
-pub count_on : (g : Geometry) (img : List ℕ) (p l n f : ℕ) (b : Bool) → b ≡ in_table g l → not b ≡ false
-    → n ≡ count_at g img p l → f ≡ root_slots g l
-    → n ≤ f → n ≡ node_count g img p l
-unfolding node_count
-count_on g img p l n f b e q en ef h = simp (← e, not-false b q, ← en, ← ef, min-eq_left {n = n} {m = suc f} (omega arith))
+count_some g img p l n f b e q en ef = simp (← e, not-false b q, ← en, ← ef, add-one)
 
 -- the entries
 pub node_is : (g : Geometry) (img : List ℕ) (p l : ℕ) → node_at g img p l ≡ entries_at img (node_place g p l)
@@ -94,4 +86,4 @@ pub addr_is : (img : List ℕ) (at : ℕ) → (entry_at img at).addr ≡ u32_at 
 unfolding entry_at
 addr_is img at = refl
 
-pub ruleset node_laws = (count_none, count_over, count_on, node_read)
+pub ruleset node_laws = (count_none, count_some, node_read)

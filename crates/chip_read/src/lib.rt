@@ -1,5 +1,5 @@
 // What is read of an image. Every read is total: a byte outside the image reads as 0.
-#![tactic(auto)]
+#![tactic(auto, using(crate::specs::AllReads::chip_laws))]
 
 ghost use Rattle.std.specs.Prelude.{◌≡◌, ◌+◌, ◌*◌, ◌-◌, ◌≤◌, ◌<◌, eqb, length};
 ghost use Rattle.geometry.specs.Tests.{◌&◌};
@@ -12,32 +12,15 @@ ghost use Rattle.geometry.specs.Bounds.{four_bytes};
 
 use geometry::{Entry, Geometry};
 
-fn widen(x: u16) -> u32
-    ensures { (result ≡ x) × (result < 65536) }
-{
-    x as u32
-}
-
-fn wide(b: u8) -> u32
-    ensures { (result ≡ b) × (result < 256) }
-{
-    b as u32
-}
-
 // The byte at an index.
 fn wide_at(img: &[u8], at: usize) -> u32
     ensures { (result ≡ byte_at img.now at) × (result < 256) }
 {
     if at < img.len() {
-        return wide(img[at]);
+        u32::from(img[at])
+    } else {
+        0
     }
-    0
-}
-
-fn long(x: u32) -> u64
-    ensures { (result ≡ x) × (result < four_bytes) }
-{
-    x as u64
 }
 
 // The number inside the image; it is the largest where its bytes are all 255.
@@ -46,10 +29,7 @@ pub fn raw_u32(img: &[u8], at: usize) -> u32
     ensures value { result ≡ u32_at img.now at }
     ensures result_value { eqb result 4294967295 ≡ blank img.now at 4 }
 {
-    wide(img[at])
-        + 256 * wide(img[at + 1])
-        + 65536 * wide(img[at + 2])
-        + 16777216 * wide(img[at + 3])
+    u32::from_le_bytes([img[at], img[at + 1], img[at + 2], img[at + 3]])
 }
 
 // The number across the image's end.
@@ -93,10 +73,7 @@ pub fn entry_at(img: &[u8], at: usize) -> Entry
     }
     let key = read_u32(img, at);
     let addr = read_u32(img, at + 4);
-    Entry {
-        key: key,
-        addr: addr,
-    }
+    Entry { key, addr }
 }
 
 // Whether the n bytes from `at` are all 255, one by one from the last down.
@@ -104,9 +81,7 @@ fn bytes_blank(img: &[u8], at: usize, n: usize) -> bool
     requires { at + n < 1152921504606846976 }
     ensures { result ≡ blank img.now at n }
 {
-    let mut k: usize = n;
-    while 0 < k {
-        k -= 1;
+    for k in (0..n).rev() {
         if wide_at(img, at + k) != 255 {
             return false;
         }
@@ -119,28 +94,7 @@ fn eight(img: &[u8], at: usize) -> u64
     requires { at + 8 ≤ length img.now }
     ensures { eqb result 18446744073709551615 ≡ blank img.now at 8 }
 {
-    long(raw_u32(img, at)) + 4294967296 * long(raw_u32(img, at + 4))
-}
-
-// The bits that two numbers share; the largest number where both are.
-fn both(a: u64, b: u64) -> u64
-    ensures { eqb result 18446744073709551615 ≡ (eqb a 18446744073709551615 & eqb b 18446744073709551615) }
-{
-    a & b
-}
-
-fn sixteen(img: &[u8], at: usize) -> u64
-    requires { at + 16 ≤ length img.now }
-    ensures { eqb result 18446744073709551615 ≡ blank img.now at 16 }
-{
-    both(eight(img, at), eight(img, at + 8))
-}
-
-fn thirty_two(img: &[u8], at: usize) -> u64
-    requires { at + 32 ≤ length img.now }
-    ensures { eqb result 18446744073709551615 ≡ blank img.now at 32 }
-{
-    both(sixteen(img, at), sixteen(img, at + 16))
+    u64::from(raw_u32(img, at)) + 4294967296 * u64::from(raw_u32(img, at + 4))
 }
 
 // Whether 64 bytes are all 255: eight numbers, one test.
@@ -148,7 +102,11 @@ fn line_blank(img: &[u8], at: usize) -> bool
     requires { at + 64 ≤ length img.now }
     ensures { result ≡ blank img.now at 64 }
 {
-    both(thirty_two(img, at), thirty_two(img, at + 32)) == 18446744073709551615
+    let mut all = u64::MAX;
+    for i in 0..8 {
+        all &= eight(img, at + 8 * i);
+    }
+    all == u64::MAX
 }
 
 // Whether eight bytes are all 255.
@@ -156,22 +114,33 @@ fn eight_blank(img: &[u8], at: usize) -> bool
     requires { at + 8 ≤ length img.now }
     ensures { result ≡ blank img.now at 8 }
 {
-    eight(img, at) == 18446744073709551615
+    eight(img, at) == u64::MAX
 }
 
-// Whether n bytes inside the image are all 255, 64 at once from the last down.
-fn lines_blank(img: &[u8], at: usize, n: usize) -> bool
-    requires { (at + n ≤ length img.now) × (at + n < 1152921504606846976) }
-    ensures { result ≡ blank img.now at n }
+// Whether n times eight bytes inside the image are all 255, eight at once from the last down.
+fn words_blank(img: &[u8], at: usize, n: usize) -> bool
+    requires { (at + 8 * n ≤ length img.now) × (at + 8 * n < 1152921504606846976) }
+    ensures { result ≡ blank img.now at (8 * n) }
 {
-    let mut k: usize = n;
-    while 64 <= k {
-        k -= 64;
-        if !line_blank(img, at + k) {
+    for k in (0..n).rev() {
+        if !eight_blank(img, at + 8 * k) {
             return false;
         }
     }
-    bytes_blank(img, at, k)
+    true
+}
+
+// Whether n times 64 bytes inside the image are all 255, 64 at once from the last down.
+fn lines_blank(img: &[u8], at: usize, n: usize) -> bool
+    requires { (at + 64 * n ≤ length img.now) × (at + 64 * n < 1152921504606846976) }
+    ensures { result ≡ blank img.now at (64 * n) }
+{
+    for k in (0..n).rev() {
+        if !line_blank(img, at + 64 * k) {
+            return false;
+        }
+    }
+    true
 }
 
 // Whether the n bytes from `at` are all 255, from the last down: a programmed page shows in its spare bytes. What is
@@ -183,17 +152,11 @@ fn all_blank(img: &[u8], at: usize, n: usize) -> bool
     if img.len() < at + n {
         return bytes_blank(img, at, n);
     }
-    let mut k: usize = n;
-    while k % 64 != 0 {
-        if k < 8 {
-            return bytes_blank(img, at, k);
-        }
-        k -= 8;
-        if !eight_blank(img, at + k) {
-            return false;
-        }
-    }
-    lines_blank(img, at, k)
+    let lines = n / 64;
+    let words = n / 8;
+    bytes_blank(img, at + 8 * words, n % 8)
+        && words_blank(img, at + 64 * lines, words % 8)
+        && lines_blank(img, at, lines)
 }
 
 // Whether all bytes of a page are 255.
@@ -254,12 +217,7 @@ pub fn node_count(g: Geometry, img: &[u8], page: u32, level: u32) -> usize
     if !geometry::in_table(g, level) {
         return 0;
     }
-    let n = count_at(g, img, page, level);
-    let full = geometry::root_slots(g, level);
-    if full < n {
-        return full + 1;
-    }
-    n
+    count_at(g, img, page, level).min(geometry::root_slots(g, level) + 1)
 }
 
 // The byte at which the node at a level begins.
@@ -274,24 +232,21 @@ pub fn node_place(g: Geometry, page: u32, level: u32) -> usize
 pub fn first_page(g: Geometry, block: u16) -> u32
     ensures { (result ≡ g.pages * block) × (result < 4294836226) }
 {
-    widen(g.pages) * widen(block)
+    u32::from(g.pages) * u32::from(block)
 }
 
 // Page j of a block.
 pub fn page_of(g: Geometry, block: u16, j: u16) -> u32
     ensures { result ≡ g.pages * block + j }
 {
-    first_page(g, block) + widen(j)
+    first_page(g, block) + u32::from(j)
 }
 
 // The last page of a block.
 pub fn last_page(g: Geometry, block: u16) -> u32
     ensures { result ≡ g.pages * block + (g.pages - 1) }
 {
-    if g.pages == 0 {
-        return page_of(g, block, 0);
-    }
-    page_of(g, block, g.pages - 1)
+    page_of(g, block, g.pages.saturating_sub(1))
 }
 
 // Whether the last page of a block is erased.
@@ -305,7 +260,7 @@ pub fn last_erased(g: Geometry, img: &[u8], block: u16) -> bool
 fn block_bytes(g: Geometry) -> usize
     ensures { (result ≡ block_bytes g) × (result < 562949953421312) }
 {
-    geometry::page_base(g, widen(g.pages))
+    geometry::page_base(g, u32::from(g.pages))
 }
 
 // The blocks of an image.

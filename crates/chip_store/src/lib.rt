@@ -1,5 +1,5 @@
 // The two stores, and stores under an allowance. Only `program_page` and `erase_block` write an image.
-#![tactic(auto)]
+#![tactic(auto, using(crate::specs::TwoStores::store_laws))]
 
 ghost use Rattle.std.specs.Prelude.{◌≡◌, [], ◌∷◌, ◌+◌, ◌*◌, ◌<◌, ◌≤◌, length, set, take};
 ghost use Rattle.geometry.specs.Geometry.{page_bytes, page_base};
@@ -32,24 +32,8 @@ fn copy_bytes(img: &mut [u8], at: usize, bytes: &[u8], n: usize)
     requires { at + n < 1152921504606846976 }
     ensures { img.new ≡ written img.old at (byte_at bytes.now) n }
 {
-    let mut j: usize = 0;
-    while j < n {
-        put(&mut *img, at + j, byte_of(bytes, j));
-        j += 1;
-    }
-}
-
-// Fills a part with the first bytes of a buffer.
-fn copy_part(part: &mut [u8], bytes: &[u8])
-    requires { length part.old ≤ length bytes.now }
-    ensures { part.new ≡ written part.old 0 (byte_at bytes.now)
-        (length part.old) }
-{
-    let n = part.len();
-    let mut j: usize = 0;
-    while j < n {
-        part[j] = bytes[j];
-        j += 1;
+    for j in 0..n {
+        put(img, at + j, byte_of(bytes, j));
     }
 }
 
@@ -59,15 +43,11 @@ fn copy(img: &mut [u8], at: usize, bytes: &[u8], n: usize)
     ensures { img.new ≡ written img.old at (byte_at bytes.now) n }
 {
     let end = at + n;
-    if img.len() < end {
-        copy_bytes(&mut *img, at, bytes, n);
+    if img.len() < end || bytes.len() < n {
+        copy_bytes(img, at, bytes, n);
         return;
     }
-    if bytes.len() < n {
-        copy_bytes(&mut *img, at, bytes, n);
-        return;
-    }
-    copy_part(&mut img[at..end], bytes);
+    img[at..end].copy_from_slice(&bytes[..n]);
 }
 
 // n bytes of 255, one by one, where the image is too short for them.
@@ -75,22 +55,8 @@ fn blank_bytes(img: &mut [u8], at: usize, n: usize)
     requires { at + n < 1152921504606846976 }
     ensures { img.new ≡ written img.old at (λ k. 255) n }
 {
-    let mut j: usize = 0;
-    while j < n {
-        put(&mut *img, at + j, 255);
-        j += 1;
-    }
-}
-
-// Fills a part with 255.
-fn blank_part(part: &mut [u8])
-    ensures { part.new ≡ written part.old 0 (λ k. 255) (length part.old) }
-{
-    let n = part.len();
-    let mut j: usize = 0;
-    while j < n {
-        part[j] = 255;
-        j += 1;
+    for j in 0..n {
+        put(img, at + j, 255);
     }
 }
 
@@ -101,10 +67,10 @@ fn blank(img: &mut [u8], at: usize, n: usize)
 {
     let end = at + n;
     if img.len() < end {
-        blank_bytes(&mut *img, at, n);
+        blank_bytes(img, at, n);
         return;
     }
-    blank_part(&mut img[at..end]);
+    img[at..end].fill(255);
 }
 
 // Programs one page, whole.
@@ -113,30 +79,16 @@ pub fn program_page(g: Geometry, img: &mut [u8], page: u32, bytes: &[u8])
 {
     let at = geometry::page_base(g, page);
     let n = geometry::page_bytes(g);
-    copy(&mut *img, at, bytes, n);
-}
-
-// The first page of a block.
-fn first_page(g: Geometry, block: u16) -> u32
-    ensures { result ≡ g.pages * block }
-{
-    (g.pages as u32) * (block as u32)
-}
-
-// The bytes of a block.
-fn block_bytes(g: Geometry) -> usize
-    ensures { (result ≡ page_base g g.pages) × (result < 562949953421312) }
-{
-    geometry::page_base(g, g.pages as u32)
+    copy(img, at, bytes, n);
 }
 
 // Erases one block: all its bytes become 255.
 pub fn erase_block(g: Geometry, img: &mut [u8], block: u16)
     ensures { img.new ≡ apply_store g (Store.erase block) img.old }
 {
-    let at = geometry::page_base(g, first_page(g, block));
-    let n = block_bytes(g);
-    blank(&mut *img, at, n);
+    let at = geometry::page_base(g, chip_read::first_page(g, block));
+    let n = geometry::page_base(g, u32::from(g.pages));
+    blank(img, at, n);
 }
 
 // What is left of an allowance, what was made of it, and whether a store was asked for that was not made.
@@ -169,9 +121,9 @@ pub fn put_page(g: Geometry, img: &mut [u8], b: Budget, page: u32, bytes: &[u8])
     if b.left == 0 {
         return halted(b);
     }
-    let free = chip_read::page_erased(g, &*img, page);
+    let free = chip_read::page_erased(g, img, page);
     if free {
-        program_page(g, &mut *img, page, bytes);
+        program_page(g, img, page, bytes);
         return Budget {
             left: b.left - 1,
             programmed: b.programmed + 1,
@@ -190,7 +142,7 @@ pub fn put_erase(g: Geometry, img: &mut [u8], b: Budget, block: u16) -> Budget
     if b.left == 0 {
         return halted(b);
     }
-    erase_block(g, &mut *img, block);
+    erase_block(g, img, block);
     Budget {
         left: b.left - 1,
         programmed: b.programmed,

@@ -3,9 +3,9 @@ use Rattle.std.specs.Prelude.{ℕ, ◌+◌, ◌-◌, ◌*◌, ◌<◌, ◌≤◌
 use Rattle.std.proofs.Common.{sym, ◌∙◌, arith}
 use Rattle.std.proofs.Math.Path.{ap}
 use Rattle.std.proofs.Math.Nat.{max-eq_left, max-eq_right}
-use borrow.Author.Tests.{le-leb, lt-ltb, le-ltb, ltb-true, ltb-false}
+use borrow.Author.Tests.{le-leb, ltb-true, ltb-false}
 use Rattle.geometry.specs.declared.Geometry.{Geometry}
-use Rattle.geometry.specs.declared.Finding.TheVariants.{Good, Bad}
+use Rattle.geometry.specs.Findings.{Good, Bad}
 use Rattle.geometry.specs.Tests.{pick}
 use Rattle.model.specs.Bytes.{erased, seq_at, height_at}
 use Rattle.model.specs.Count.{count, peak, arg}
@@ -19,17 +19,12 @@ use Rattle.chip_survey.specs.declared.Seen.{Seen}
 use Rattle.chip_survey.specs.declared.Survey.{Survey}
 use Rattle.chip_survey.specs.Survey.{seen_to, survey_of}
 
+-- for `tree_insert`, which compares by hand
 pub larger_right : (a b : ℕ) → a < b → b ≡ max a b
 larger_right a b h = sym (max-eq_right {n = a} {m = b} (omega arith))
 
 pub larger_left : (a b : ℕ) → b ≤ a → a ≡ max a b
 larger_left a b h = sym (max-eq_left {n = a} {m = b} h)
-
-pub holder_new : (n m p q : ℕ) → m < n → p ≡ pick (ltb m n) p q
-holder_new n m p q h = sym (rw (lt-ltb m n h) refl)
-
-pub holder_old : (n m p q : ℕ) → n ≤ m → q ≡ pick (ltb m n) p q
-holder_old n m p q h = sym (rw (le-ltb m n h) refl)
 
 pub seen_start : (g : Geometry) (img : List ℕ) → record { root = 0; score = 0; most = 0; last = 0; erased = 0 }
     ≡ seen_to g img 0
@@ -212,4 +207,4 @@ module _ (g : Geometry) (n : ℕ) (img : List ℕ) (s : Survey) (e : s ≡ surve
   unfolding survey_of
   makes f = λ i. f (e i).most (chip_with g img (e i).level (e i).root)
 
-pub ruleset survey_laws = (larger_right, larger_left, holder_new, holder_old, seen_start, seen_end, see_erased, see_flat, see_older, see_newer, page_there, height_none, height_some, survey_is, root_missing, root_there)
+pub ruleset survey_laws = (seen_start, seen_end, see_erased, see_flat, see_older, see_newer, page_there, height_none, height_some, survey_is, root_missing, root_there)

@@ -1,5 +1,5 @@
 // One pass over the pages of an image: the root, the largest number, the erased pages. And R4.
-#![tactic(auto)]
+#![tactic(auto, using(crate::specs::Pass::survey_laws))]
 
 ghost use Rattle.std.specs.Prelude.{◌≡◌, ◌+◌, ◌-◌, ◌≤◌, ◌<◌, max, min, false, ltb};
 ghost use Rattle.geometry.specs.Tests.{pick};
@@ -32,56 +32,22 @@ pub struct Survey {
     pub erased: u32,
 }
 
-fn larger(a: u32, b: u32) -> u32
-    ensures { result ≡ max a b }
-{
-    if a < b {
-        return b;
-    }
-    a
-}
-
-// The page of the larger of two numbers, the former one's unless the new one is larger.
-fn holder(seq: u32, most: u32, page: u32, last: u32) -> u32
-    ensures { result ≡ pick (ltb most seq) page last }
-{
-    if most < seq {
-        return page;
-    }
-    last
-}
-
 // What is seen with one programmed page more.
 pub fn see_page(g: Geometry, img: &[u8], page: u32, height: u32, seq: u32, seen: Seen) -> Seen
     requires { (seen ≡ seen_to g img.now page) × (erased g img.now page ≡ false) ×
         (height ≡ height_at g img.now page) × (seq ≡ seq_at g img.now page) }
     ensures { (result ≡ seen_to g img.now (page + 1)) × (result.erased ≡ seen.erased) }
 {
-    let most = larger(seq, seen.most);
-    let last = holder(seq, seen.most, page, seen.last);
-    if height == 0 {
-        return Seen {
-            root: seen.root,
-            score: seen.score,
-            most: most,
-            last: last,
-            erased: seen.erased,
-        };
-    }
-    if seq <= seen.score {
-        return Seen {
-            root: seen.root,
-            score: seen.score,
-            most: most,
-            last: last,
-            erased: seen.erased,
-        };
+    let most = seen.most.max(seq);
+    let last = if seen.most < seq { page } else { seen.last };
+    if height == 0 || seq <= seen.score {
+        return Seen { most, last, ..seen };
     }
     Seen {
         root: page,
         score: seq,
-        most: most,
-        last: last,
+        most,
+        last,
         erased: seen.erased,
     }
 }
@@ -93,11 +59,8 @@ fn see(g: Geometry, img: &[u8], page: u32, seen: Seen) -> Seen
 {
     if chip_read::page_erased(g, img, page) {
         return Seen {
-            root: seen.root,
-            score: seen.score,
-            most: seen.most,
-            last: seen.last,
             erased: seen.erased + 1,
+            ..seen
         };
     }
     let height = chip_read::height_at(g, img, page);
@@ -116,10 +79,8 @@ fn see_all(g: Geometry, img: &[u8], pages: u32) -> Seen
         last: 0,
         erased: 0,
     };
-    let mut page: u32 = 0;
-    while page < pages {
+    for page in 0..pages {
         seen = see(g, img, page, seen);
-        page += 1;
     }
     seen
 }
@@ -137,10 +98,7 @@ pub fn height_of(g: Geometry, img: &[u8], page: u32) -> u32
 pub fn less_one(x: u32) -> u32
     ensures { result ≡ x - 1 }
 {
-    if x == 0 {
-        return 0;
-    }
-    x - 1
+    x.saturating_sub(1)
 }
 
 // The levels below a root of a height, no more than below the highest root.
@@ -148,11 +106,8 @@ pub fn level_by(g: Geometry, height: u32) -> u32
     ensures { result ≡ min (height - 1) (g.top - 1) }
 {
     let level = less_one(height);
-    let most = less_one(g.top as u32);
-    if most < level {
-        return most;
-    }
-    level
+    let most = less_one(u32::from(g.top));
+    level.min(most)
 }
 
 // The survey of n blocks.
@@ -164,8 +119,8 @@ pub fn take_survey(g: Geometry, img: &[u8], n: u16) -> Survey
     let level = less_one(height);
     Survey {
         root: seen.root,
-        height: height,
-        level: level,
+        height,
+        level,
         most: seen.most,
         last: seen.last,
         erased: seen.erased,
@@ -178,7 +133,7 @@ pub fn rule_4(g: Geometry, img: &[u8], n: u16, survey: Survey) -> Finding
     ensures { result ≡ r4 g n img.now }
 {
     if survey.height == 0 {
-        return Finding::Bad(0);
+        return Err(0);
     }
-    Finding::Good
+    Ok(())
 }

@@ -1,11 +1,10 @@
 -- Laws of collection, in the form in which the code has the premises. Assumes nothing.
 use Prim.Native.Nat.{ℕ, zero, suc, ◌+◌, ◌-◌, ◌*◌, ◌<◌, ◌≤◌, min}
-use Rattle.std.specs.Prelude.{true, false, not, ◌≡◌, refl, ltb, length, get_or}
+use Rattle.std.specs.Prelude.{true, false, not, ◌≡◌, refl, ltb, length, get_or, None, Some}
 use Rattle.std.proofs.lemmas.Bool.{false≢true, not-true, not-false}
 use Rattle.std.proofs.Math.Path.{sym, ap}
 use Rattle.std.proofs.Common.{subst, ◌∙◌, Fits, arith, mul-le-mul_left, add-one, eq-eqb, ne_eqb, lt-ltb, le-ltb}
 use mathlib.Core.List.{List, [], ◌∷◌}
-use Rattle.std.proofs.Math.Option.{none, some}
 use Rattle.std.specs.Int.{w16}
 use Rattle.std.proofs.Math.Nat.{min-le_left}
 use Rattle.std.proofs.Math.Numerals.{sub-one}
@@ -165,6 +164,44 @@ module _ (g : Geometry) (n l v : ℕ) (b : Budget) (i tbl ws : List ℕ) (h : Ke
     sweep_on (suc j) d k o y w two eq z f =
         makes_then g n Beside Beside _ (sweep_by g n v j) b c d i m o _ _ tbl u y ws x w (rw eq at one) (rw sub-one at two) f
 
+-- a sweep under way, as a loop has it: what the last `left` pages make from here on is what the whole sweep makes
+pub record Sweeping (g : Geometry) (n l v : ℕ) (h : Kept) (b : Budget) (i tbl ws : List ℕ)
+    (left : ℕ) (k : Kept) (c : Budget) (m u x : List ℕ) : Type 0 where
+  pub rest : (d : Budget) (a : Kept) (o y w : List ℕ)
+      → Sweeps g n l (sweep_by g n v left (beside_in k l (table_in u x)) m) c d m o a u y x w
+      → Sweeps g n l (sweep_by g n v g.pages (beside_in h l (table_in tbl ws)) i) b d i o a tbl y ws w
+
+pub sweeping_start : (g : Geometry) (n l v : ℕ) (h : Kept) (b : Budget) (i tbl ws : List ℕ) (left : ℕ) → left ≡ g.pages
+    → Sweeping g n l v h b i tbl ws left h b i tbl ws
+sweeping_start g n l v h b i tbl ws left e = rw e (record { rest = λ d a o y w z. z })
+
+module _ (g : Geometry) (n l v : ℕ) (h : Kept) (b : Budget) (i tbl ws : List ℕ) (j : ℕ) (k : Kept) (c : Budget)
+    (m u x : List ℕ) (s : Sweeping g n l v h b i tbl ws (g.pages - j) k c m u x) where
+  pub sweeping_end : g.pages ≤ j
+      → Sweeps g n l (sweep_by g n v g.pages (beside_in h l (table_in tbl ws)) i) b c i m k tbl u ws x
+  sweeping_end e = s.rest c k m u x (sweep_none g n l v c m u x k (g.pages - j) (omega arith))
+
+  module _ (q : ℕ) (d : Budget) (a : Kept) (o y w : List ℕ)
+      (one : Sweeps g n l (page_by g n q (beside_in k l (table_in u x)) m) c d m o a u y x w)
+      (eq : q ≡ g.pages * v + j) (low : j < g.pages) where
+    place : q ≡ g.pages * v + (g.pages - (g.pages - j))
+    place = omega (arith, eq, low)
+
+    more : g.pages - j ≡ 0 → ⊥
+    more e = omega (arith, e, low)
+
+    pub sweeping_halt : c.stopped ≡ false → d.stopped ≡ true
+        → Sweeps g n l (sweep_by g n v g.pages (beside_in h l (table_in tbl ws)) i) b d i o a tbl y ws w
+    sweeping_halt e f = s.rest d a o y w (sweep_halt g n l v c m u x k q d a o y w one (g.pages - j) place more e f)
+
+    pub sweeping_on : d.stopped ≡ false → Sweeping g n l v h b i tbl ws (g.pages - (j + 1)) a d o y w
+    sweeping_on f =
+        let less : g.pages - (j + 1) ≡ g.pages - j - 1 = omega arith in
+        record {
+          rest = λ d' a' o' y' w' two. s.rest d' a' o' y' w'
+              (sweep_on g n l v c m u x k q d a o y w one (g.pages - j) d' a' o' y' w' (rw less at two) place more f);
+        }
+
 -- ---- clear
 pub begins : (g : Geometry) (n x y : ℕ) (o : Opened) → x ≡ min (pages_of g n) o.next → y ≡ o.most
     → Begins g n o (record { root = o.root; most = y; next = x })
@@ -201,7 +238,7 @@ module _ (g : Geometry) (n v l : ℕ) (s : Opened) (b c : Budget) (i o tbl u ws 
   swept = subst (λ (y : Beside). Makes Beside g n (sweep_by g n v g.pages y i) b c i o (beside_in k l (table_in u x)) tbl u ws x) start sw
 
   pub clear_halt : b.stopped ≡ false → c.stopped ≡ true
-      → Clears g n (clear_by g n (some v) (holding s (table_in tbl ws)) i) b (record { budget = c; opened = s }) i o tbl u
+      → Clears g n (clear_by g n (Some v) (holding s (table_in tbl ws)) i) b (record { budget = c; opened = s }) i o tbl u
       ws x
   unfolding clear_by
   clear_halt e f = record { made = makes_halt g n Beside Held _ (erase_by g n v s) b c i o _ _ tbl u ws x swept e f; low = low }
@@ -222,7 +259,7 @@ module _ (g : Geometry) (n v l : ℕ) (s : Opened) (b c : Budget) (i o tbl u ws 
   }
 
   pub clear_done : (d : Swept) (p : List ℕ) → Wipes g n v s k c d o p → c.stopped ≡ false
-      → Clears g n (clear_by g n (some v) (holding s (table_in tbl ws)) i) b d i p tbl u ws x
+      → Clears g n (clear_by g n (Some v) (holding s (table_in tbl ws)) i) b d i p tbl u ws x
   unfolding clear_by
   clear_done d p w f = record {
     made = makes_then g n Beside Held _ (erase_by g n v s) b c d.budget i o p _ _ tbl u u ws x x swept (wiped d p w f) f;
@@ -234,11 +271,11 @@ module _ (g : Geometry) (n : ℕ) (i tbl ws : List ℕ) (v : Best) (bs : Bests (
   abbrev t : Table
   t = table_in tbl ws
 
-  none_is : v.found ≡ false → none ≡ victim_by g n t i
+  none_is : v.found ≡ false → None ≡ victim_by g n t i
   unfolding best_of
   none_is e = sym (rw e refl) ∙ victim_is g n i ws v bs
 
-  some_is : v.found ≡ true → some v.block ≡ victim_by g n t i
+  some_is : v.found ≡ true → Some v.block ≡ victim_by g n t i
   unfolding best_of
   some_is e = sym (rw e refl) ∙ victim_is g n i ws v bs
 
@@ -247,7 +284,7 @@ module _ (g : Geometry) (n : ℕ) (i tbl ws : List ℕ) (v : Best) (bs : Bests (
   unfolding clear_by
   clear_none f low = record { made = rw (← none_is (not-true v.found f)) (makes_still g n Held (holding s t) b i tbl ws); low = low }
 
-  pub clear_some : (r : Swept) (o u x : List ℕ) → Clears g n (clear_by g n (some v.block) (holding s t) i) b r i o tbl
+  pub clear_some : (r : Swept) (o u x : List ℕ) → Clears g n (clear_by g n (Some v.block) (holding s t) i) b r i o tbl
       u ws x → not v.found ≡ false
       → Clears g n (clear_by g n (victim_by g n t i) (holding s t) i) b r i o tbl u ws x
   clear_some r o u x w f = rw (← some_is (not-false v.found f)) w
@@ -297,4 +334,39 @@ module _ (g : Geometry) (n k : ℕ) (i tbl ws : List ℕ) (b : Budget) (s : Open
         low = two.low;
       }
 
-pub ruleset collect_laws = (onward, remarks, page_dead, page_live, move_halt, move_done, sweep_none, sweep_halt, sweep_on, begins, most_room, next_room, wipes, clear_halt, clear_done, clear_none, clear_some, collect_none, collect_enough, collect_halt, collect_on)
+-- a collection under way, as a loop has it: what at most `left` rounds make from here on is what the whole makes
+pub record Rounds (g : Geometry) (n k m : ℕ) (s : Opened) (b : Budget) (i tbl ws : List ℕ)
+    (left : ℕ) (c : Swept) (h u x : List ℕ) : Type 0 where
+  pub rest : (r : Swept) (o y w : List ℕ) → Collects g n k left c.budget r c.opened h o u y x w
+      → Collects g n k m b r s i o tbl y ws w
+
+pub rounds_start : (g : Geometry) (n k m : ℕ) (s : Opened) (b : Budget) (i tbl ws : List ℕ) (left : ℕ) → left ≡ m
+    → Rounds g n k m s b i tbl ws left (record { budget = b; opened = s }) i tbl ws
+rounds_start g n k m s b i tbl ws left e = rw e (record { rest = λ r o y w z. z })
+
+module _ (g : Geometry) (n k m : ℕ) (s : Opened) (b : Budget) (i tbl ws : List ℕ) (j : ℕ) (c : Swept)
+    (h u x : List ℕ) (z : Rounds g n k m s b i tbl ws (m - j) c h u x) (low : c.opened.height < 256) where
+  pub rounds_end : m ≤ j → Collects g n k m b c s i h tbl u ws x
+  rounds_end e = z.rest c h u x (collect_none g n k h u x c.budget c.opened (m - j) (omega arith) low)
+
+  module _ (w : ℕ) (ew : w ≡ g.pages + k) (left : j < m) where
+    again : m - j ≡ 0 → ⊥
+    again e = omega (arith, e, left)
+
+    pub rounds_enough : w ≤ c.opened.erased → Collects g n k m b c s i h tbl u ws x
+    rounds_enough e = z.rest c h u x (collect_enough g n k h u x c.budget c.opened w ew (m - j) e again low)
+
+    module _ (d : Swept) (o y v : List ℕ) (one : Clears g n (clear_by g n (victim_by g n (table_in u x) h)
+        (holding c.opened (table_in u x)) h) c.budget d h o u y x v) (few : c.opened.erased < w) where
+      pub rounds_halt : c.budget.stopped ≡ false → d.budget.stopped ≡ true → Collects g n k m b d s i o tbl y ws v
+      rounds_halt e f = z.rest d o y v (collect_halt g n k h u x c.budget c.opened w ew d o y v one few (m - j) again e f)
+
+      pub rounds_on : d.budget.stopped ≡ false → Rounds g n k m s b i tbl ws (m - (j + 1)) d o y v
+      rounds_on f =
+          let less : m - (j + 1) ≡ m - j - 1 = omega arith in
+          record {
+            rest = λ r p t q two. z.rest r p t q
+                (collect_on g n k h u x c.budget c.opened w ew d o y v one few (m - j) r p t q (rw less at two) again f);
+          }
+
+pub ruleset collect_laws = (onward, remarks, page_dead, page_live, move_halt, move_done, sweeping_start, sweeping_end, sweeping_halt, sweeping_on, begins, most_room, next_room, wipes, clear_halt, clear_done, clear_none, clear_some, rounds_start, rounds_end, rounds_enough, rounds_halt, rounds_on)

@@ -1,10 +1,9 @@
 // Collection: the victim's live pages moved, lowest first, then the victim erased, while too few pages are erased.
 // Each store on the image as it then stands. The lent tables follow each move, and the record each erase: no tree is
 // walked, and the image is surveyed anew only where the block erased may have held the largest number.
-#![tactic(auto)]
+#![tactic(auto, using(crate::specs::Collecting::collect_laws))]
 
-ghost use Rattle.std.specs.Prelude.{◌≡◌, false, ◌+◌, ◌≤◌, ◌<◌, max, get_or};
-ghost use Rattle.std.proofs.Math.Option.{some};
+ghost use Rattle.std.specs.Prelude.{◌≡◌, false, ◌+◌, ◌≤◌, ◌<◌, max, get_or, Some};
 ghost use Rattle.geometry.specs.Geometry.{page_bytes};
 ghost use Rattle.geometry.specs.Bounds.{four_bytes, longest_page};
 ghost use Rattle.chip_store.specs.Run.{Countable};
@@ -49,7 +48,7 @@ fn kept_after(g: Geometry, img: &[u8], n: u16, h: Kept) -> Kept
     Kept {
         root: h.next,
         most: h.most + 1,
-        next: next,
+        next,
     }
 }
 
@@ -154,7 +153,7 @@ fn sweep_page(
     )
 }
 
-// Moves the live ones of the last `left` pages of block v, in rising order.
+// Moves the live pages of block v, in rising order.
 fn sweep(
     g: Geometry,
     img: &mut [u8],
@@ -164,43 +163,33 @@ fn sweep(
     b: Budget,
     level: u32,
     v: u16,
-    left: u16,
     h: Kept,
 ) -> Carried
-    requires { (left ≤ g.pages) × (level < 255) × (page_bytes g ≤ longest_page) × (h.most + left < 8589934592) ×
-        (h.next + left < four_bytes) × (Countable b) × (b.stopped ≡ false) }
-    ensures { Sweeps g n level (sweep_by g n v left
+    requires { (level < 255) × (page_bytes g ≤ longest_page) × (h.most + g.pages < 8589934592) ×
+        (h.next + g.pages < four_bytes) × (Countable b) × (b.stopped ≡ false) }
+    ensures { Sweeps g n level (sweep_by g n v g.pages
         (beside_in h level (table_in table.old words.old)) img.old) b result.budget
         img.old img.new result.kept table.old table.new words.old words.new }
 {
-    if left == 0 {
-        return Carried { budget: b, kept: h };
+    let mut w = Carried { budget: b, kept: h };
+    for j in 0..g.pages {
+        let page = chip_read::page_of(g, v, j);
+        w = sweep_page(
+            g,
+            &mut *img,
+            &mut *table,
+            &mut *words,
+            n,
+            w.budget,
+            level,
+            page,
+            w.kept,
+        );
+        if w.budget.stopped {
+            return w;
+        }
     }
-    let page = chip_read::page_of(g, v, g.pages - left);
-    let w = sweep_page(g, &mut *img, &mut *table, &mut *words, n, b, level, page, h);
-    let r = w.budget;
-    let k = w.kept;
-    if r.stopped {
-        return w;
-    }
-    sweep(
-        g,
-        &mut *img,
-        &mut *table,
-        &mut *words,
-        n,
-        r,
-        level,
-        v,
-        left - 1,
-        k,
-    )
-}
-
-fn long(x: u32) -> u64
-    ensures { (result ≡ x) × (result < four_bytes) }
-{
-    x as u64
+    w
 }
 
 // What is kept at the start of a sweep, by the record.
@@ -209,11 +198,11 @@ fn begin(g: Geometry, n: u16, o: Opened) -> Kept
     ensures pages_bound { (result.most + g.pages < 8589934592) × (result.next + g.pages < four_bytes) }
 {
     let next = chip_next::next_by(g, n, o.next);
-    let most = long(o.most);
+    let most = u64::from(o.most);
     Kept {
         root: o.root,
-        most: most,
-        next: next,
+        most,
+        next,
     }
 }
 
@@ -243,23 +232,12 @@ fn clear_block(
 ) -> Swept
     requires { (o.erased < 4294901760) × (o.height < 256) × (page_bytes g ≤ longest_page) × (Countable b) ×
         (b.stopped ≡ false) }
-    ensures { Clears g n (clear_by g n (some v) (holding o (table_in table.old words.old))
+    ensures { Clears g n (clear_by g n (Some v) (holding o (table_in table.old words.old))
         img.old) b result img.old img.new table.old table.new words.old words.new }
 {
     let h = begin(g, n, o);
     let level = chip_survey::level_by(g, o.height);
-    let w = sweep(
-        g,
-        &mut *img,
-        &mut *table,
-        &mut *words,
-        n,
-        b,
-        level,
-        v,
-        g.pages,
-        h,
-    );
+    let w = sweep(g, &mut *img, &mut *table, &mut *words, n, b, level, v, h);
     let r = w.budget;
     let k = w.kept;
     if r.stopped {
@@ -302,7 +280,7 @@ pub fn enough(g: Geometry, k: u32) -> u32
     requires { k < 65536 }
     ensures { result ≡ g.pages + k }
 {
-    (g.pages as u32) + k
+    u32::from(g.pages) + k
 }
 
 // Collects while fewer pages are erased than a block's and k more, in at most m rounds. The record that comes back is
@@ -323,23 +301,26 @@ pub fn collect(
     ensures { Collects g n k m b result o img.old img.new table.old
         table.new words.old words.new }
 {
-    if m == 0 {
-        return Swept {
-            budget: b,
-            opened: o,
-        };
+    let mut w = Swept {
+        budget: b,
+        opened: o,
+    };
+    for round in 0..m {
+        if enough(g, k) <= w.opened.erased {
+            return w;
+        }
+        w = clear(
+            g,
+            &mut *img,
+            &mut *table,
+            &mut *words,
+            n,
+            w.budget,
+            w.opened,
+        );
+        if w.budget.stopped {
+            return w;
+        }
     }
-    if enough(g, k) <= o.erased {
-        return Swept {
-            budget: b,
-            opened: o,
-        };
-    }
-    let w = clear(g, &mut *img, &mut *table, &mut *words, n, b, o);
-    let r = w.budget;
-    let t = w.opened;
-    if r.stopped {
-        return w;
-    }
-    collect(g, &mut *img, &mut *table, &mut *words, n, r, k, m - 1, t)
+    w
 }

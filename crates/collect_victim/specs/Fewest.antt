@@ -1,9 +1,8 @@
 -- Laws of the victim, in the form in which the code has the premises. Assumes nothing.
-use Rattle.std.specs.Prelude.{ℕ, suc, ◌+◌, ◌-◌, ◌*◌, ◌<◌, ◌≤◌, Bool, true, false, not, ◌≡◌, refl, List}
+use Rattle.std.specs.Prelude.{ℕ, suc, ◌+◌, ◌-◌, ◌*◌, ◌<◌, ◌≤◌, Bool, true, false, not, ◌≡◌, refl, List, None, Option, Some}
 use Rattle.std.proofs.lemmas.Bool.{false≢true}
 use Rattle.std.proofs.Math.Path.{sym, ap}
 use Rattle.std.proofs.Common.{◌∙◌, arith, add-one}
-use Rattle.std.proofs.Math.Option.{Option, none, some}
 use borrow.Author.Tests.{not-true, not-false, lt-ltb, le-ltb}
 use Rattle.geometry.specs.declared.Geometry.{Geometry}
 use Rattle.model.specs.Bytes.{erased}
@@ -31,7 +30,7 @@ module _ (full : ℕ → Bool) (lives : ℕ → ℕ) where
     below = λ f. let h : r.block < k = b.below f in omega arith;
   }
 
-  take : (k l : ℕ) (r : Best) → Bests full lives k r → l ≡ lives k → better full lives k (best_of r) ≡ some k
+  take : (k l : ℕ) (r : Best) → Bests full lives k r → l ≡ lives k → better full lives k (best_of r) ≡ Some k
       → Bests full lives (suc k) (record { found = true; block = k; lives = l })
   unfolding best_of victim
   take k l r b el e = record {
@@ -42,15 +41,15 @@ module _ (full : ℕ → Bool) (lives : ℕ → ℕ) where
 
   unfull : (k : ℕ) (o : Option ℕ) → full k ≡ false → better full lives k o ≡ o
   unfolding better
-  unfull k none e = rw e
-  unfull k (some v) e = rw e
+  unfull k None e = rw e
+  unfull k (Some v) e = rw e
 
-  first : (k : ℕ) (r : Best) → full k ≡ true → r.found ≡ false → better full lives k (best_of r) ≡ some k
+  first : (k : ℕ) (r : Best) → full k ≡ true → r.found ≡ false → better full lives k (best_of r) ≡ Some k
   unfolding better best_of
   first k r e f = rw (f, e)
 
   fewer : (k : ℕ) (r : Best) → full k ≡ true → r.found ≡ true → lives k < lives r.block → better full lives k
-      (best_of r) ≡ some k
+      (best_of r) ≡ Some k
   unfolding better best_of
   fewer k r e f h = rw (f, e, lt-ltb (lives k) (lives r.block) h)
 

@@ -1,6 +1,5 @@
 -- The victim as the code finds it. Definitions alone; assumes nothing.
-use Rattle.std.specs.Prelude.{ℕ, ◌<◌, Bool, true, ◌≡◌, List}
-use Rattle.std.proofs.Math.Option.{Option, none, some}
+use Rattle.std.specs.Prelude.{ℕ, ◌<◌, Bool, true, ◌≡◌, List, None, Option, Some}
 use Rattle.geometry.specs.declared.Geometry.{Geometry}
 use Rattle.geometry.specs.Tests.{pick}
 use Rattle.model.specs.Bytes.{erased}
@@ -18,7 +17,7 @@ unfoldable pub ones_by : Geometry → List ℕ → ℕ → ℕ
 ones_by g words b = block_ones g words b
 
 unfoldable pub best_of : Best → Option ℕ
-best_of r = pick r.found (some r.block) none
+best_of r = pick r.found (Some r.block) None
 
 pub record Bests (full : ℕ → Bool) (lives : ℕ → ℕ) (n : ℕ) (r : Best) : Type 0 where
   pub best : best_of r ≡ victim full lives n

@@ -1,5 +1,5 @@
 // What collection looks at: the live pages of each block in the lent words, and the victim.
-#![tactic(auto)]
+#![tactic(auto, using(crate::specs::Fewest::victim_laws))]
 
 ghost use Rattle.std.specs.Prelude.{◌+◌};
 ghost use Rattle.collect_victim.specs.Victim.{Bests, full_in, ones_by};
@@ -23,8 +23,8 @@ fn better(g: Geometry, img: &[u8], words: &[u32], block: u16, best: Best) -> Bes
     let lives = live_fill::block_ones(g, words, block);
     let won = Best {
         found: true,
-        block: block,
-        lives: lives,
+        block,
+        lives,
     };
     if !best.found {
         if chip_read::last_erased(g, img, block) {
@@ -50,10 +50,8 @@ pub fn find_victim(g: Geometry, img: &[u8], words: &[u32], n: u16) -> Best
         block: 0,
         lives: 0,
     };
-    let mut block: u16 = 0;
-    while block < n {
+    for block in 0..n {
         best = better(g, img, words, block, best);
-        block += 1;
     }
     best
 }

@@ -5,8 +5,7 @@ use Rattle.geometry.specs.Geometry.{small}
 use Rattle.geometry.specs.Tests.{pick, ◌&◌}
 use Rattle.model.specs.Calls.{Outcome}
 use Rattle.log_lines.specs.declared.Order.{Order}
-use Rattle.log_lines.specs.declared.Line.{Line}
-use Rattle.log_lines.specs.declared.Line.TheVariants.{Of, Other}
+use Rattle.log_lines.specs.Line.{Line, Of, Other}
 use Rattle.log_lines.specs.Forms.{parsed}
 use Rattle.log_lines.specs.Replay.{obeyed, most_lines, form_after}
 use Rattle.log_lines.specs.Short.{longest}

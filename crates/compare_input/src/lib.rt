@@ -47,6 +47,7 @@ fn play_input<R: Read>(
         (state_of run line.old mu.old plain.old) (state_of r line.new mu.new plain.new)) }
 {
     let mut state = run;
+    // Stays a while: the reader and the run say where it ends, no range counts the parts.
     while compare_machine::is_going(state) {
         let n = from.read(&mut *part)?;
         if n == 0 {

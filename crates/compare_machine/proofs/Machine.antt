@@ -5,8 +5,7 @@ use Rattle.geometry.specs.Geometry.{small, plain}
 use Rattle.geometry.specs.Tests.{pick, ◌&◌}
 use Rattle.model.specs.Calls.{Outcome}
 use Rattle.text_lines.specs.Lines.{Pieces, lines}
-use Rattle.log_lines.specs.declared.Line.{Line}
-use Rattle.log_lines.specs.declared.Line.TheVariants.{Of, Other}
+use Rattle.log_lines.specs.Line.{Line, Of, Other}
 use Rattle.log_lines.specs.Replay.{obeyed, blank_image, error_after, most_lines, form_after}
 use Rattle.log_lines.specs.Short.{longest}
 use Rattle.log_lines.specs.Bytewise.{Whole, whole_more, lines_rest, lines_line, Foreign, long_foreign}

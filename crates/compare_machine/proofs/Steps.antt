@@ -17,8 +17,7 @@ use Rattle.call_answers.specs.declared.Row.{Row}
 use Rattle.call_answers.specs.Answers.{row_of, told, told_by}
 use Rattle.log_lines.specs.declared.Order.{Order}
 use Rattle.log_lines.specs.declared.Order.TheVariants.{Format, Insert, Delete, Lookup, Limited}
-use Rattle.log_lines.specs.declared.Line.{Line}
-use Rattle.log_lines.specs.declared.Line.TheVariants.{Of, Other}
+use Rattle.log_lines.specs.Line.{Line, Of, Other}
 use Rattle.log_lines.specs.Replay.{obeyed, numbers_text, error_after, form_after}
 use Rattle.log_lines.specs.Bytewise.{part_length, form_late, form_as}
 use Rattle.compare_scores.specs.declared.Score.{Score}

@@ -6,8 +6,7 @@ use Rattle.geometry.specs.Tests.{pick, ◌&◌}
 use Rattle.model.specs.Calls.{Outcome}
 use Rattle.text_lines.specs.Lines.{lines}
 use Rattle.log_lines.specs.declared.Order.{Order}
-use Rattle.log_lines.specs.declared.Line.{Line}
-use Rattle.log_lines.specs.declared.Line.TheVariants.{Of, Other}
+use Rattle.log_lines.specs.Line.{Line, Of, Other}
 use Rattle.log_lines.specs.Replay.{obeyed, blank_image, error_after, form_after}
 use Rattle.log_lines.specs.Short.{longest}
 use Rattle.compare_scores.specs.declared.Score.{Score}

@@ -5,7 +5,7 @@
 ghost use Rattle.std.specs.Prelude.{◌≡◌, true, false, ◌+◌, ◌<◌, ◌≤◌, length, take};
 ghost use Rattle.std.proofs.lemmas.List.Edits.{sets};
 ghost use Rattle.call_answers.specs.Answers.{told};
-ghost use Rattle.log_lines.specs.declared.Line.TheVariants.{Of};
+ghost use Rattle.log_lines.specs.Line.{Of};
 ghost use Rattle.log_lines.specs.Replay.{error_after, form_after};
 ghost use Rattle.compare_scores.specs.Scores.{plain_obeyed};
 ghost use Rattle.compare_scores.specs.Scoring.{outcome_of, Within};
@@ -15,7 +15,7 @@ ghost use Rattle.compare_machine.specs.Run.{start_of, state_of, run_of, refused_
 
 use call_answers::{Answer, Row};
 use compare_scores::Score;
-use log_lines::{Line, Order};
+use log_lines::Order;
 use log_play::LARGEST_ALLOWANCE;
 
 // How a run stands.
@@ -145,7 +145,7 @@ fn close_line(mu: &mut [u8], plain: &mut [u8], line: &[u8], s: Score) -> Run
         return refuse(s);
     }
     let form = log_lines::parse_line(line);
-    let Line::Of(order) = form else {
+    let Some(order) = form else {
         return refuse(s);
     };
     play(&mut *mu, &mut *plain, s, order)

@@ -4,8 +4,7 @@ use Rattle.std.specs.Prelude.{ℕ, not, List, [], ◌∷◌}
 use Rattle.geometry.specs.Geometry.{small, plain}
 use Rattle.geometry.specs.Tests.{pick, ◌&◌}
 use Rattle.text_lines.specs.Lines.{lines}
-use Rattle.log_lines.specs.declared.Line.{Line}
-use Rattle.log_lines.specs.declared.Line.TheVariants.{Of, Other}
+use Rattle.log_lines.specs.Line.{Line, Of, Other}
 use Rattle.log_lines.specs.Replay.{obeyed, blank_image, numbers_text, error_after, form_after}
 use Rattle.compare_scores.specs.declared.Score.{Score}
 use Rattle.compare_scores.specs.Ratio.{ratio}

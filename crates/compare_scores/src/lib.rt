@@ -1,5 +1,5 @@
 // The score of a log that both trees are played on, and the ratio that is reported (request 12).
-#![tactic(auto)]
+#![tactic(auto, using(crate::proofs::Laws::score_laws))]
 
 ghost use Rattle.std.specs.Prelude.{◌≡◌};
 ghost use Rattle.compare_scores.specs.Ratio.{greatest, ratio};
@@ -42,6 +42,7 @@ pub fn greatest(a: u64, b: u64) -> u64
 {
     let mut x = a;
     let mut y = b;
+    // Stays a while: Euclid's steps end where nothing is left over, no range counts them.
     while y != 0 {
         let rest = x % y;
         x = y;
@@ -67,35 +68,23 @@ pub fn ratio_of(a: u64, b: u64) -> Ratio
 pub fn stops(row: Row) -> bool
     ensures { result ≡ stops (outcome_of row) }
 {
-    if row.answer < 5 {
-        return false;
-    }
-    row.answer <= 7
+    matches!(row.answer, 5..=7)
 }
 
 fn is_update(order: Order) -> bool
     ensures { result ≡ is_update order }
 {
-    match order {
-        Order::Format => false,
-        Order::Insert(_, _) => true,
-        Order::Delete(_) => true,
-        Order::Lookup(_) => false,
-        Order::Limited(_, _, _) => true,
-    }
+    matches!(
+        order,
+        Order::Insert(_, _) | Order::Delete(_) | Order::Limited(_, _, _)
+    )
 }
 
 // An update that both trees answer by 0.
 fn counts(order: Order, mu: Row, plain: Row) -> bool
     ensures { result ≡ counts order (outcome_of mu) (outcome_of plain) }
 {
-    if !is_update(order) {
-        return false;
-    }
-    if mu.answer != 0 {
-        return false;
-    }
-    plain.answer == 0
+    is_update(order) && mu.answer == 0 && plain.answer == 0
 }
 
 // The score after an order that neither tree stops at.
@@ -106,15 +95,13 @@ pub fn after_line(s: Score, order: Order, mu: Row, plain: Row) -> Score
     if !counts(order, mu, plain) {
         return Score {
             lines: s.lines + 1,
-            updates: s.updates,
-            mu: s.mu,
-            plain: s.plain,
+            ..s
         };
     }
     Score {
         lines: s.lines + 1,
         updates: s.updates + 1,
-        mu: s.mu + mu.programmed as u64,
-        plain: s.plain + plain.programmed as u64,
+        mu: s.mu + u64::from(mu.programmed),
+        plain: s.plain + u64::from(plain.programmed),
     }
 }

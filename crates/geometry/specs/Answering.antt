@@ -1,5 +1,5 @@
 -- What each function here answers, law by law. Assumes nothing.
-use Rattle.std.specs.Prelude.{ℕ, zero, suc, ◌-◌, ◌*◌, ◌/◌, ◌<◌, ◌≤◌, Bool, false, ◌≡◌, List, T, eqb, leb, ltb, get_or, length}
+use Rattle.std.specs.Prelude.{ℕ, zero, suc, ◌-◌, ◌*◌, ◌/◌, ◌<◌, ◌≤◌, Bool, false, ◌≡◌, List, T, eqb, leb, ltb, get_or, length, None, Some}
 use Rattle.std.proofs.Math.Path.{refl}
 use Rattle.std.proofs.Common.{sym, ◌∙◌, Fits, ltb→lt, arith, mul-le-mul_left, lt_of_le_of_lt, le_of_lt}
 use Rattle.std.specs.Int.{w64}
@@ -8,7 +8,6 @@ use borrow.Author.Tests.{eq-eqb, ne_eqb, lt-ltb, le-ltb, le-leb}
 use Rattle.geometry.specs.Tests.{and_true, and_false}
 use Rattle.geometry.specs.Table.{at, every}
 use Rattle.geometry.specs.declared.Geometry.{Geometry}
-use Rattle.geometry.specs.declared.Chosen.TheVariants.{Of, Unknown}
 use Rattle.geometry.specs.Geometry.{small, large, chosen_of, slots, page_bytes, page_base, small_first, small_slots, large_first, large_slots, plain_slots, by_table, first_slot, slots_of, half, root_slots, root_most, in_table}
 use Rattle.geometry.specs.Bounds.{four_bytes}
 
@@ -123,13 +122,13 @@ slots_large_256 k h = below_256 large_slots tt k h
 
 -- the geometry by its number
 module _ (kind : ℕ) (g : Geometry) where
-  pub chosen_small : g ≡ small → kind ≡ 0 → Of g ≡ chosen_of kind
+  pub chosen_small : g ≡ small → kind ≡ 0 → Some g ≡ chosen_of kind
   chosen_small e z = rw (e, z)
 
-  pub chosen_large : g ≡ large → kind ≡ 1 → Of g ≡ chosen_of kind
+  pub chosen_large : g ≡ large → kind ≡ 1 → Some g ≡ chosen_of kind
   chosen_large e z = rw (e, z)
 
-pub chosen_none : (kind : ℕ) → (kind ≡ 0 → ⊥) → (kind ≡ 1 → ⊥) → Unknown ≡ chosen_of kind
+pub chosen_none : (kind : ℕ) → (kind ≡ 0 → ⊥) → (kind ≡ 1 → ⊥) → None ≡ chosen_of kind
 chosen_none zero n f = absurd (n refl)
 chosen_none (suc zero) n f = absurd (f refl)
 chosen_none (suc (suc kind)) n f = refl

@@ -1,8 +1,6 @@
 -- The numbers of a geometry, and document 01's table of levels. Definitions alone; assumes nothing.
-use Rattle.std.specs.Prelude.{ℕ, zero, suc, ◌+◌, ◌-◌, ◌*◌, ◌/◌, Bool, List, [], ◌∷◌, eqb, leb, ltb, get_or}
+use Rattle.std.specs.Prelude.{ℕ, zero, suc, ◌+◌, ◌-◌, ◌*◌, ◌/◌, Bool, List, [], ◌∷◌, eqb, leb, ltb, get_or, None, Option, Some}
 use Rattle.geometry.specs.declared.Geometry.{Geometry}
-use Rattle.geometry.specs.declared.Chosen.{Chosen}
-use Rattle.geometry.specs.declared.Chosen.TheVariants.{Of, Unknown}
 use Rattle.geometry.specs.Tests.{pick, ◌&◌}
 
 -- the small-block chip: 32 pages of 512 main and 16 spare bytes, heights 1 to 5
@@ -18,10 +16,10 @@ abbrev pub plain : Geometry
 plain = record { pages = 32; main = 512; spare = 16; top = 5; worn = 4294967000; table = 2 }
 
 -- "The caller says which geometry by a number, 0 or 1"
-abbrev pub chosen_of : ℕ → Chosen
-chosen_of zero = Of small
-chosen_of (suc zero) = Of large
-chosen_of (suc (suc kind)) = Unknown
+abbrev pub chosen_of : ℕ → Option Geometry
+chosen_of zero = Some small
+chosen_of (suc zero) = Some large
+chosen_of (suc (suc kind)) = None
 
 abbrev pub page_bytes : Geometry → ℕ
 page_bytes g = g.main + g.spare

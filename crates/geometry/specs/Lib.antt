@@ -3,5 +3,6 @@ pub mod Bounds
 pub mod Tests
 pub mod Table
 pub mod Geometry
+pub mod Findings
 pub mod Shape
 pub mod Answering

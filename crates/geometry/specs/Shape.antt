@@ -1,14 +1,12 @@
 -- The halving rule over the table, and what theorems may know of a geometry: linear facts, proved once for each
 -- geometry. Assumes nothing.
-use Rattle.std.specs.Prelude.{ℕ, zero, suc, ◌+◌, ◌-◌, ◌*◌, ◌<◌, ◌≤◌, Bool, true, false, ◌≡◌, refl, List, [], ◌∷◌, T, eqb, leb, ltb, get_or, length}
+use Rattle.std.specs.Prelude.{ℕ, zero, suc, ◌+◌, ◌-◌, ◌*◌, ◌<◌, ◌≤◌, Bool, true, false, ◌≡◌, refl, List, [], ◌∷◌, T, eqb, leb, ltb, get_or, length, None, Option, Some}
 use Rattle.std.proofs.Common.{ap, subst, lit<, lit≤, ne_eqb, ltb-true, ltb-false, arith, suc-mul, mul-le-mul_right}
 use Rattle.std.proofs.Math.Dec.{eqb→eq, leb→le, ltb→lt}
 use Rattle.std.proofs.Math.ListN.{get_or-eq_default}
 use Rattle.geometry.specs.Tests.{pick}
 use Rattle.geometry.specs.Table.{at, every}
 use Rattle.geometry.specs.declared.Geometry.{Geometry}
-use Rattle.geometry.specs.declared.Chosen.{Chosen}
-use Rattle.geometry.specs.declared.Chosen.TheVariants.{Of, Unknown}
 use Rattle.geometry.specs.Geometry.{small, large, plain, chosen_of, slots, page_bytes, halves, code_place, page_base, plain_slots, first_slot, slots_of, half, root_slots, root_most}
 use Rattle.geometry.specs.Bounds.{longest_page}
 
@@ -179,11 +177,11 @@ page_most _ is_small = lit≤ tt
 page_most _ is_large = lit≤ tt
 
 -- a number below 2 is that of a geometry, and that geometry is known
-abbrev geometry_of : Chosen → Geometry
-geometry_of (Of g) = g
-geometry_of Unknown = small
+abbrev geometry_of : Option Geometry → Geometry
+geometry_of (Some g) = g
+geometry_of None = small
 
-pub chosen_known : (kind : ℕ) (g : Geometry) → chosen_of kind ≡ Of g → Known g
+pub chosen_known : (kind : ℕ) (g : Geometry) → chosen_of kind ≡ Some g → Known g
 chosen_known zero g e = subst Known (ap geometry_of e) is_small
 chosen_known (suc zero) g e = subst Known (ap geometry_of e) is_large
 chosen_known (suc (suc kind)) g e = subst Known (ap geometry_of e) is_small

@@ -1,7 +1,7 @@
 // The geometry of a chip as a value, what is read off it, and the types that every layer shares.
-#![tactic(auto)]
+#![tactic(auto, using(crate::specs::Answering::geometry_laws))]
 
-ghost use Rattle.std.specs.Prelude.{◌≡◌, ◌<◌, ◌≤◌};
+ghost use Rattle.std.specs.Prelude.{◌≡◌, ◌<◌, ◌≤◌, get_or};
 ghost use Rattle.geometry.specs.Geometry.{small, large, plain, chosen_of, page_bytes, halves, code_place, page_base, slots, first_slot, slots_of, half, root_slots, root_most, in_table};
 ghost use Rattle.geometry.specs.Bounds.{four_bytes};
 
@@ -87,24 +87,15 @@ impl Geometry {
     }
 }
 
-// A geometry by its number.
-#[derive(Clone, Copy)]
-pub enum Chosen {
-    Of(Geometry),
-    Unknown,
-}
-
-// 0 the small chip, 1 the large one.
-pub fn choose(kind: u32) -> Chosen
+// The geometry by its number: 0 the small chip, 1 the large one.
+pub fn choose(kind: u32) -> Option<Geometry>
     ensures { result ≡ chosen_of kind }
 {
-    if kind == 0 {
-        return Chosen::Of(Geometry::small());
+    match kind {
+        0 => Some(Geometry::small()),
+        1 => Some(Geometry::large()),
+        _ => None,
     }
-    if kind == 1 {
-        return Chosen::Of(Geometry::large());
-    }
-    Chosen::Unknown
 }
 
 // One slot: a key, and the caller's address (in a leaf) or a page number (above).
@@ -115,18 +106,17 @@ pub struct Entry {
 }
 
 // What one rule finds: nothing, or the page that breaks it.
-#[derive(Clone, Copy)]
-pub enum Finding {
-    Good,
-    Bad(u32),
+pub type Finding = Result<(), u32>;
+
+// A broken rule, and the page that breaks it.
+#[derive(Clone, Copy, PartialEq, Eq)]
+pub struct Broken {
+    pub rule: u32,
+    pub page: u32,
 }
 
 // What all rules find: nothing, or the first broken rule and its page.
-#[derive(Clone, Copy)]
-pub enum Verdict {
-    Sound,
-    Broken(u32, u32),
-}
+pub type Verdict = Result<(), Broken>;
 
 // What a patrol of one half finds: nothing, the number of the data bit or of the code's bit that it mended, or more
 // than it can mend.
@@ -154,14 +144,14 @@ pub fn index(x: u32) -> usize
 pub fn page_bytes(g: Geometry) -> usize
     ensures { (result ≡ page_bytes g) × (result < 131072) }
 {
-    wide(g.main) + wide(g.spare)
+    usize::from(g.main) + usize::from(g.spare)
 }
 
 // The 256-byte halves of a page's main bytes.
 pub fn halves(g: Geometry) -> usize
     ensures { (result ≡ halves g) × (result < 256) }
 {
-    wide(g.main) / 256
+    usize::from(g.main) / 256
 }
 
 // The byte of a page at which the code of half i stands.
@@ -169,7 +159,7 @@ pub fn code_place(g: Geometry, i: usize) -> usize
     requires { i ≤ 256 }
     ensures { (result ≡ code_place g i) × (result < 132000) }
 {
-    wide(g.main) + 5 + wide(g.top) + 3 * i
+    usize::from(g.main) + 5 + usize::from(g.top) + 3 * i
 }
 
 // The byte at which a page begins.
@@ -189,50 +179,34 @@ const LARGE_SLOTS: [usize; 8] = [0, 128, 64, 32, 16, 8, 4, 0];
 
 const PLAIN_SLOTS: [usize; 6] = [0, 64, 64, 64, 64, 64];
 
+// A table's entry for a level; 0 for a level that it has not.
+fn in_row(table: &[usize], level: u32) -> usize
+    ensures { result ≡ get_or table.now level 0 }
+{
+    table.get(index(level)).copied().unwrap_or(0)
+}
+
 // The first slot of a level; 0 for a level that the geometry has not.
 pub fn first_slot(g: Geometry, level: u32) -> usize
     ensures { (result ≡ first_slot g level) × (result < 256) }
 {
-    let l = index(level);
-    if g.table == Geometry::SMALL_TABLE {
-        if l < 6 {
-            return SMALL_FIRST[l];
-        }
-        return 0;
+    match g.table {
+        Geometry::SMALL_TABLE => in_row(&SMALL_FIRST, level),
+        Geometry::LARGE_TABLE => in_row(&LARGE_FIRST, level),
+        _ => 0,
     }
-    if g.table == Geometry::LARGE_TABLE {
-        if l < 8 {
-            return LARGE_FIRST[l];
-        }
-        return 0;
-    }
-    0
 }
 
 // The slots of a node below the root; 0 for a level that the geometry has not.
 pub fn slots_of(g: Geometry, level: u32) -> usize
     ensures { (result ≡ slots_of g level) × (result < 256) }
 {
-    let l = index(level);
-    if g.table == Geometry::SMALL_TABLE {
-        if l < 6 {
-            return SMALL_SLOTS[l];
-        }
-        return 0;
+    match g.table {
+        Geometry::SMALL_TABLE => in_row(&SMALL_SLOTS, level),
+        Geometry::LARGE_TABLE => in_row(&LARGE_SLOTS, level),
+        Geometry::PLAIN_TABLE => in_row(&PLAIN_SLOTS, level),
+        _ => 0,
     }
-    if g.table == Geometry::LARGE_TABLE {
-        if l < 8 {
-            return LARGE_SLOTS[l];
-        }
-        return 0;
-    }
-    if g.table == Geometry::PLAIN_TABLE {
-        if l < 6 {
-            return PLAIN_SLOTS[l];
-        }
-        return 0;
-    }
-    0
 }
 
 // Half of a level's slots.
@@ -246,19 +220,14 @@ pub fn half(g: Geometry, level: u32) -> usize
 pub fn slots(g: Geometry) -> usize
     ensures { (result ≡ slots g) × (result < 8192) }
 {
-    wide(g.main) / 8
+    usize::from(g.main) / 8
 }
 
 // The slots of a node as root: from its first slot to the end of the main bytes.
 pub fn root_slots(g: Geometry, level: u32) -> usize
     ensures { (result ≡ root_slots g level) × (result < 8192) }
 {
-    let all = slots(g);
-    let first = first_slot(g, level);
-    if all < first {
-        return 0;
-    }
-    all - first
+    slots(g).saturating_sub(first_slot(g, level))
 }
 
 // The most entries stored as root.
@@ -266,14 +235,8 @@ pub fn root_most(g: Geometry, level: u32) -> usize
     ensures { (result ≡ root_most g level) × (result < 8192) }
 {
     let full = root_slots(g, level);
-    if g.table == Geometry::PLAIN_TABLE {
-        return full;
-    }
-    if index(level) < wide(g.top) {
-        if full == 0 {
-            return 0;
-        }
-        return full - 1;
+    if g.table != Geometry::PLAIN_TABLE && level < u32::from(g.top) {
+        return full.saturating_sub(1);
     }
     full
 }
@@ -282,8 +245,5 @@ pub fn root_most(g: Geometry, level: u32) -> usize
 pub fn in_table(g: Geometry, level: u32) -> bool
     ensures { result ≡ in_table g level }
 {
-    if level == 0 {
-        return false;
-    }
-    index(level) <= wide(g.top)
+    level != 0 && level <= u32::from(g.top)
 }

@@ -1,10 +1,8 @@
 -- A geometry by its number: the calls, and what they ask of a geometry. Assumes nothing.
-use Rattle.std.specs.Prelude.{◌≡◌, List, ℕ, ◌≤◌}
+use Rattle.std.specs.Prelude.{◌≡◌, List, ℕ, ◌≤◌, None, Option, Some}
 use Rattle.std.proofs.Common.{sym, ◌∙◌}
 use Rattle.std.proofs.Math.Path.{ap}
 use Rattle.geometry.specs.declared.Geometry.{Geometry}
-use Rattle.geometry.specs.declared.Chosen.{Chosen}
-use Rattle.geometry.specs.declared.Chosen.TheVariants.{Of, Unknown}
 use Rattle.geometry.specs.Geometry.{chosen_of, page_bytes}
 use Rattle.geometry.specs.Shape.{Known, page_most, chosen_known}
 use Rattle.geometry.proofs.Shape.{shape}
@@ -17,7 +15,7 @@ use Rattle.call_answers.specs.Answers.{row_of, told_by, told}
 use Rattle.live_words.specs.Live.{Reply, reply, insert_live, delete_live, insert_live_of, delete_live_of}
 use Rattle.text_carrying.specs.Carrying.{exporting, export_of, importing, import_of}
 
-module _ (kind : ℕ) (c : Chosen) (ec : c ≡ chosen_of kind) (g : Geometry) (e : c ≡ Of g) where
+module _ (kind : ℕ) (c : Option Geometry) (ec : c ≡ chosen_of kind) (g : Geometry) (e : c ≡ Some g) where
   pub of_known : Known g
   of_known = chosen_known kind g (sym ec ∙ e)
 
@@ -30,7 +28,7 @@ module _ (kind : ℕ) (c : Chosen) (ec : c ≡ chosen_of kind) (g : Geometry) (e
   -- a call of any kind
   pub called : {A : Type 0} (call : Geometry → A) (other o : A) → o ≡ call g → o ≡ chosen_call (chosen_of kind) call other
   unfolding chosen_call
-  called call other o h = h ∙ ap (λ (x : Chosen). chosen_call x call other) (sym e ∙ ec)
+  called call other o h = h ∙ ap (λ (x : Option Geometry). chosen_call x call other) (sym e ∙ ec)
 
   pub of_format : (img : List ℕ) (o : Outcome) → o ≡ format g img → o ≡ format_of kind img
   unfolding format_of
@@ -43,7 +41,7 @@ module _ (kind : ℕ) (c : Chosen) (ec : c ≡ chosen_of kind) (g : Geometry) (e
   pub of_list_lem : (img : List ℕ) (low high : ℕ) (b : List ℕ) (o : Outcome) → o ≡ as_outcome (listing g img low high b)
       → o ≡ as_outcome (list_of kind img low high b)
   unfolding list_of chosen_call
-  of_list_lem img low high b o h = h ∙ ap (λ (x : Chosen). as_outcome (chosen_call x (λ y. listing y img low high b) (lists_none 1 0 0 b))) (sym e ∙ ec)
+  of_list_lem img low high b o h = h ∙ ap (λ (x : Option Geometry). as_outcome (chosen_call x (λ y. listing y img low high b) (lists_none 1 0 0 b))) (sym e ∙ ec)
 
   pub of_insert : (img old : List ℕ) (k a al : ℕ) (r : Reply) → r ≡ insert_live g img old k a al
       → r ≡ insert_live_of kind img old k a al
@@ -69,10 +67,10 @@ module _ (kind : ℕ) (c : Chosen) (ec : c ≡ chosen_of kind) (g : Geometry) (e
   of_import img text o h = called (λ x. importing x img text) (refused 1 img) o h
 
 -- no such geometry. A `let .. else` leaves that the choice is no Of, whatever geometry
-module _ (kind : ℕ) (c : Chosen) (ec : c ≡ chosen_of kind) (e : c ≡ Unknown) (img : List ℕ) where
+module _ (kind : ℕ) (c : Option Geometry) (ec : c ≡ chosen_of kind) (e : c ≡ None) (img : List ℕ) where
   pub unknown : {A : Type 0} (call : Geometry → A) (other : A) → other ≡ chosen_call (chosen_of kind) call other
   unfolding chosen_call
-  unknown call other = ap (λ (x : Chosen). chosen_call x call other) (sym e ∙ ec)
+  unknown call other = ap (λ (x : Option Geometry). chosen_call x call other) (sym e ∙ ec)
 
   pub no_format : told Length img ≡ format_of kind img
   unfolding format_of
@@ -84,7 +82,7 @@ module _ (kind : ℕ) (c : Chosen) (ec : c ≡ chosen_of kind) (e : c ≡ Unknow
 
   pub no_list : (low high : ℕ) (b : List ℕ) → told Length b ≡ as_outcome (list_of kind img low high b)
   unfolding list_of chosen_call
-  no_list low high b = ap (λ (x : Chosen). as_outcome (chosen_call x (λ y. listing y img low high b) (lists_none 1 0 0 b))) (sym e ∙ ec)
+  no_list low high b = ap (λ (x : Option Geometry). as_outcome (chosen_call x (λ y. listing y img low high b) (lists_none 1 0 0 b))) (sym e ∙ ec)
 
   pub no_insert : (old : List ℕ) (k a al : ℕ) → reply (told Length img) old ≡ insert_live_of kind img old k a al
   unfolding insert_live_of

@@ -1,10 +1,8 @@
 -- A geometry by its number: the calls with a record. Assumes nothing.
-use Rattle.std.specs.Prelude.{◌≡◌, List, ℕ}
+use Rattle.std.specs.Prelude.{◌≡◌, List, ℕ, None, Option, Some}
 use Rattle.std.proofs.Common.{sym, ◌∙◌}
 use Rattle.std.proofs.Math.Path.{ap}
 use Rattle.geometry.specs.declared.Geometry.{Geometry}
-use Rattle.geometry.specs.declared.Chosen.{Chosen}
-use Rattle.geometry.specs.declared.Chosen.TheVariants.{Of, Unknown}
 use Rattle.geometry.specs.Geometry.{chosen_of}
 use Rattle.model.specs.Calls.{Outcome, refused, chosen_call}
 use Rattle.model.specs.Listing.{lists_none, as_outcome}
@@ -17,7 +15,7 @@ use Rattle.live_beside.specs.Update.{Returned, returned}
 use Rattle.live_beside.specs.Calls.{insert_with, delete_with, insert_with_of, delete_with_of}
 use Rattle.index.specs.ByNumber.{called, unknown, of_known, of_pages}
 
-module _ (kind : ℕ) (c : Chosen) (ec : c ≡ chosen_of kind) (g : Geometry) (e : c ≡ Of g) where
+module _ (kind : ℕ) (c : Option Geometry) (ec : c ≡ chosen_of kind) (g : Geometry) (e : c ≡ Some g) where
   pub of_opening : (img : List ℕ) (o : Outcome) → o ≡ opening g img → o ≡ opening_of kind img
   unfolding opening_of
   of_opening img o h = called kind c ec g e (λ x. opening x img) (refused 1 img) o h
@@ -35,7 +33,7 @@ module _ (kind : ℕ) (c : Chosen) (ec : c ≡ chosen_of kind) (g : Geometry) (e
       → o ≡ as_outcome (list_with g img r low high b)
       → o ≡ as_outcome (list_with_of kind img r low high b)
   unfolding list_with_of chosen_call
-  of_list_with img r low high b o h = h ∙ ap (λ (x : Chosen). as_outcome (chosen_call x (λ y. list_with y img r low high b) (lists_none 1 0 0 b))) (sym e ∙ ec)
+  of_list_with img r low high b o h = h ∙ ap (λ (x : Option Geometry). as_outcome (chosen_call x (λ y. list_with y img r low high b) (lists_none 1 0 0 b))) (sym e ∙ ec)
 
   pub of_insert_with : (img old : List ℕ) (o : Opened) (k a al : ℕ) (r : Returned) → r ≡ insert_with g img old o k a al
       → r ≡ insert_with_of kind img old o k a al
@@ -48,7 +46,7 @@ module _ (kind : ℕ) (c : Chosen) (ec : c ≡ chosen_of kind) (g : Geometry) (e
   of_delete_with img old o k al r h = called kind c ec g e (λ x. delete_with x img old o k al) (returned (refused 1 img) o old) r h
 
 -- no such geometry
-module _ (kind : ℕ) (c : Chosen) (ec : c ≡ chosen_of kind) (e : c ≡ Unknown) (img : List ℕ) where
+module _ (kind : ℕ) (c : Option Geometry) (ec : c ≡ chosen_of kind) (e : c ≡ None) (img : List ℕ) where
   pub no_opening : (a : Answer) → a ≡ Length → told a img ≡ opening_of kind img
   unfolding opening_of
   no_opening a f = ap (λ (x : Answer). told x img) f ∙ unknown kind c ec e img (λ x. opening x img) (refused 1 img)
@@ -64,7 +62,7 @@ module _ (kind : ℕ) (c : Chosen) (ec : c ≡ chosen_of kind) (e : c ≡ Unknow
   pub no_list_with : (r : Opened) (low high : ℕ) (b : List ℕ)
       → told Length b ≡ as_outcome (list_with_of kind img r low high b)
   unfolding list_with_of chosen_call
-  no_list_with r low high b = ap (λ (x : Chosen). as_outcome (chosen_call x (λ y. list_with y img r low high b) (lists_none 1 0 0 b))) (sym e ∙ ec)
+  no_list_with r low high b = ap (λ (x : Option Geometry). as_outcome (chosen_call x (λ y. list_with y img r low high b) (lists_none 1 0 0 b))) (sym e ∙ ec)
 
   pub no_insert_with : (old : List ℕ) (o : Opened) (k a al : ℕ) → returned (told Length img) o old ≡ insert_with_of kind
       img old o k a al

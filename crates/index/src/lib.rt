@@ -15,15 +15,13 @@ ghost use Rattle.live_beside.specs.Calls.{insert_with_of, delete_with_of};
 
 use call_account::Renewed;
 use call_answers::{Answer, Row};
-use geometry::Chosen;
 use open_calls::Opening;
 use open_record::Opened;
 
 pub fn format(kind: u32, img: &mut [u8]) -> Answer
     ensures { told result img.new ≡ format_of kind img.old }
 {
-    let chosen = geometry::choose(kind);
-    let Chosen::Of(g) = chosen else {
+    let Some(g) = geometry::choose(kind) else {
         return Answer::Length;
     };
     call_format::format(g, &mut *img)
@@ -32,8 +30,7 @@ pub fn format(kind: u32, img: &mut [u8]) -> Answer
 pub fn lookup(kind: u32, img: &[u8], key: u32) -> Answer
     ensures { told result img.now ≡ lookup_of kind img.now key }
 {
-    let chosen = geometry::choose(kind);
-    let Chosen::Of(g) = chosen else {
+    let Some(g) = geometry::choose(kind) else {
         return Answer::Length;
     };
     call_lookup::lookup_on(g, img, key)
@@ -44,8 +41,7 @@ pub fn list(kind: u32, img: &[u8], low: u32, high: u32, pairs: &mut [u32]) -> An
     ensures { told result pairs.new ≡ as_outcome (list_of kind img.now low high
         pairs.old) }
 {
-    let chosen = geometry::choose(kind);
-    let Chosen::Of(g) = chosen else {
+    let Some(g) = geometry::choose(kind) else {
         return Answer::Length;
     };
     call_list::list_on(g, img, low, high, &mut *pairs)
@@ -62,8 +58,7 @@ pub fn insert(
     ensures { reply (told result img.new) lent.new ≡ insert_live_of kind img.old
         lent.old key address allowance }
 {
-    let chosen = geometry::choose(kind);
-    let Chosen::Of(g) = chosen else {
+    let Some(g) = geometry::choose(kind) else {
         return Answer::Length;
     };
     call_insert::insert_on(g, &mut *img, &mut *lent, key, address, allowance)
@@ -73,8 +68,7 @@ pub fn delete(kind: u32, img: &mut [u8], lent: &mut [u32], key: u32, allowance: 
     ensures { reply (told result img.new) lent.new ≡ delete_live_of kind img.old
         lent.old key allowance }
 {
-    let chosen = geometry::choose(kind);
-    let Chosen::Of(g) = chosen else {
+    let Some(g) = geometry::choose(kind) else {
         return Answer::Length;
     };
     call_delete::delete_on(g, &mut *img, &mut *lent, key, allowance)
@@ -85,8 +79,7 @@ pub fn open(kind: u32, img: &[u8]) -> Opening
     ensures { (told result.answer img.now ≡ opening_of kind img.now) ×
         (result.opened ≡ opened_of kind img.now) }
 {
-    let chosen = geometry::choose(kind);
-    let Chosen::Of(g) = chosen else {
+    let Some(g) = geometry::choose(kind) else {
         return open_calls::refused(Answer::Length);
     };
     open_calls::open_on(g, img)
@@ -96,8 +89,7 @@ pub fn open(kind: u32, img: &[u8]) -> Opening
 pub fn lookup_opened(kind: u32, img: &[u8], o: Opened, key: u32) -> Answer
     ensures { told result img.now ≡ lookup_with_of kind img.now o key }
 {
-    let chosen = geometry::choose(kind);
-    let Chosen::Of(g) = chosen else {
+    let Some(g) = geometry::choose(kind) else {
         return Answer::Length;
     };
     open_calls::lookup_opened_on(g, img, o, key)
@@ -115,8 +107,7 @@ pub fn list_opened(
     ensures { told result pairs.new ≡ as_outcome (list_with_of kind img.now o low high
         pairs.old) }
 {
-    let chosen = geometry::choose(kind);
-    let Chosen::Of(g) = chosen else {
+    let Some(g) = geometry::choose(kind) else {
         return Answer::Length;
     };
     open_calls::list_opened_on(g, img, o, low, high, &mut *pairs)
@@ -135,8 +126,7 @@ pub fn insert_opened(
     ensures { returned (told result.answer img.new) result.opened lent.new ≡ insert_with_of kind
         img.old lent.old o key address allowance }
 {
-    let chosen = geometry::choose(kind);
-    let Chosen::Of(g) = chosen else {
+    let Some(g) = geometry::choose(kind) else {
         return Renewed {
             answer: Answer::Length,
             opened: o,
@@ -157,8 +147,7 @@ pub fn delete_opened(
     ensures { returned (told result.answer img.new) result.opened lent.new ≡ delete_with_of kind
         img.old lent.old o key allowance }
 {
-    let chosen = geometry::choose(kind);
-    let Chosen::Of(g) = chosen else {
+    let Some(g) = geometry::choose(kind) else {
         return Renewed {
             answer: Answer::Length,
             opened: o,
@@ -170,8 +159,7 @@ pub fn delete_opened(
 pub fn patrol(kind: u32, img: &mut [u8], page: u32, half: u32) -> Answer
     ensures { told result img.new ≡ patrol_of kind img.old page half }
 {
-    let chosen = geometry::choose(kind);
-    let Chosen::Of(g) = chosen else {
+    let Some(g) = geometry::choose(kind) else {
         return Answer::Length;
     };
     call_patrol::patrol_on(g, &mut *img, page, half)
@@ -182,8 +170,7 @@ pub fn patrol(kind: u32, img: &mut [u8], page: u32, half: u32) -> Answer
 pub fn export_text(kind: u32, img: &[u8], text: &mut [u8]) -> Row
     ensures { told_by result text.new ≡ export_of kind img.now text.old }
 {
-    let chosen = geometry::choose(kind);
-    let Chosen::Of(g) = chosen else {
+    let Some(g) = geometry::choose(kind) else {
         return call_answers::row_of(Answer::Length);
     };
     call_export::export_on(g, img, &mut *text)
@@ -194,8 +181,7 @@ pub fn export_text(kind: u32, img: &[u8], text: &mut [u8]) -> Row
 pub fn import_text(kind: u32, img: &mut [u8], text: &[u8]) -> Row
     ensures { told_by result img.new ≡ import_of kind img.old text.now }
 {
-    let chosen = geometry::choose(kind);
-    let Chosen::Of(g) = chosen else {
+    let Some(g) = geometry::choose(kind) else {
         return call_answers::row_of(Answer::Length);
     };
     call_import::import_on(g, &mut *img, text)

@@ -1,6 +1,5 @@
 -- Collection by what is kept beside the image: its stores, and what is then kept. Definitions alone; assumes nothing.
-use Rattle.std.specs.Prelude.{ℕ, zero, suc, ◌+◌, ◌-◌, ◌*◌, ◌/◌, ◌%◌, min, Bool, not, List, [], ◌∷◌, ◌++◌, eqb, ltb}
-use Rattle.std.proofs.Math.Option.{Option, none, some}
+use Rattle.std.specs.Prelude.{ℕ, zero, suc, ◌+◌, ◌-◌, ◌*◌, ◌/◌, ◌%◌, min, Bool, not, List, [], ◌∷◌, ◌++◌, eqb, ltb, None, Option, Some}
 use Rattle.geometry.specs.declared.Geometry.{Geometry}
 use Rattle.geometry.specs.Tests.{pick, ◌&◌}
 use Rattle.geometry.specs.Bounds.{four_bytes}
@@ -75,8 +74,8 @@ erase_by g n v o h img = record {
 }
 
 unfoldable pub clear_by : Geometry → ℕ → Option ℕ → Held → List ℕ → Run Held
-clear_by g n none h img = still h img
-clear_by g n (some v) h img = and_then (sweep_by g n v g.pages (beside_by g n h) img) (erase_by g n v h.at)
+clear_by g n None h img = still h img
+clear_by g n (Some v) h img = and_then (sweep_by g n v g.pages (beside_by g n h) img) (erase_by g n v h.at)
 
 -- "The collector's live count is the count of ones of its words"
 abbrev pub victim_by : Geometry → ℕ → Table → List ℕ → Option ℕ

@@ -1,6 +1,6 @@
 -- Insert and delete by the record and the table, on every image: the outcome, the record and the words that are left.
 -- Definitions alone; assumes nothing.
-use Rattle.std.specs.Prelude.{ℕ, zero, suc, ◌+◌, ◌-◌, ◌%◌, min, Bool, List, [], ◌∷◌, ◌++◌, leb, ltb, length, take}
+use Rattle.std.specs.Prelude.{ℕ, zero, suc, ◌+◌, ◌-◌, ◌%◌, min, Bool, List, [], ◌∷◌, ◌++◌, leb, ltb, length, take, is_none}
 use Rattle.geometry.specs.declared.Geometry.{Geometry}
 use Rattle.geometry.specs.Tests.{pick, ◌&◌}
 use Rattle.geometry.specs.Bounds.{four_bytes}
@@ -9,7 +9,7 @@ use Rattle.model.specs.Image.{Chip, pages_of}
 use Rattle.model.specs.Tree.{sought, Place, places_of, live}
 use Rattle.model.specs.Page.{built}
 use Rattle.model.specs.Stores.{Store, program, apply_all, programs, erases}
-use Rattle.model.specs.Update.{is_none, needs, too_high, insert_list, insert_part, side_stores, crown_store, crown_height, delete_top, delete_part}
+use Rattle.model.specs.Update.{needs, too_high, insert_list, insert_part, side_stores, crown_store, crown_height, delete_top, delete_part}
 use Rattle.model.specs.Calls.{Outcome, gives, refused, roomless}
 use Rattle.chip_store.specs.Careful.{made_of}
 use Rattle.live_words.specs.Words.{words_of, filled, all_ones}

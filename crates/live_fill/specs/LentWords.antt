@@ -1,6 +1,6 @@
 -- The lent words, in the form in which the code has the premises. Assumes nothing.
 use Rattle.std.specs.Prelude.{ℕ, zero, suc, ◌+◌, ◌-◌, ◌*◌, ◌^◌, ◌<◌, ◌≤◌, Bool, not, ◌≡◌, refl, List, eqb, length, get_or, set}
-use Rattle.std.proofs.Common.{sym, ◌∙◌, lit<, length-set, pow_mono, ne_eqb, Fits, arith, pow-suc, lt_of_lt_of_le, lt_of_le_of_lt, le_of_lt, mul-le-mul_left, mul-le-mul_right, mul_assoc, sub-one}
+use Rattle.std.proofs.Common.{sym, ◌∙◌, lit<, length-set, pow_mono, Fits, arith, pow-suc, lt_of_lt_of_le, lt_of_le_of_lt, le_of_lt, mul-le-mul_left, mul-le-mul_right, mul_assoc, sub-one}
 use Rattle.std.specs.Int.Count.{ones}
 use Rattle.std.proofs.lemmas.Nat.{ones-le}
 use Rattle.std.proofs.Math.ListN.{get_or-eq_default}
@@ -79,12 +79,6 @@ all_most g n q r h e =
     omega (arith, b, c)
 
 -- ---- one word
-pub bit_dead : (x : ℕ) → x ≡ 0 → 0 ≡ bit (not (eqb x 0))
-bit_dead x e = rw e
-
-pub bit_live : (x : ℕ) → (x ≡ 0 → ⊥) → 1 ≡ bit (not (eqb x 0))
-bit_live x e = rw (ne_eqb x 0 e)
-
 pub bit_past : (tbl : List ℕ) (at : ℕ) → length tbl ≤ at → 0 ≡ bit (live_in tbl at)
 unfolding live_in
 bit_past tbl at h = rw (get_or-eq_default tbl 0 h)
@@ -161,6 +155,6 @@ fill_long f words x i e = rw e (length_filled f i words)
 
 pub ruleset counting = (words_below, words_fit, words_are, ones_past, ones_few, ones_start, ones_go, ones_end, ones_of_words, block_most, all_most)
 
-pub ruleset one_word = (bit_dead, bit_live, bit_past, bit_in, word_start, word_small, word_go, word_end, word_is)
+pub ruleset one_word = (bit_past, bit_in, word_start, word_small, word_go, word_end, word_is)
 
 pub ruleset words_laws = (counting, one_word, put_out, fresh, fill_start, fill_go, fill_end, fill_past, set_long, fill_long)

@@ -1,7 +1,7 @@
 // The lent words of request 7: one for each 32 pages, a bit for each page, set when it is live.
-#![tactic(auto)]
+#![tactic(auto, using(crate::specs::LentWords::words_laws))]
 
-ghost use Rattle.std.specs.Prelude.{◌≡◌, not, ◌+◌, ◌*◌, ◌≤◌, ◌<◌, eqb, length, get_or, set};
+ghost use Rattle.std.specs.Prelude.{true, ◌≡◌, not, ◌+◌, ◌*◌, ◌≤◌, ◌<◌, eqb, length, get_or, set};
 ghost use Rattle.std.specs.Int.Count.{ones};
 ghost use Rattle.geometry.specs.Tests.{bit};
 ghost use Rattle.geometry.specs.Bounds.{four_bytes};
@@ -25,17 +25,11 @@ pub fn words_of(g: Geometry, n: u16) -> usize
     block_words(g) * geometry::wide(n)
 }
 
-fn ones_of(x: u32) -> u32
-    ensures { (result ≡ ones x) × (result ≤ 32) }
-{
-    u32::count_ones(x)
-}
-
 fn ones_at(words: &[u32], at: usize) -> u32
     ensures { (result ≡ ones (get_or words.now at 0)) × (result ≤ 32) }
 {
     if at < words.len() {
-        return ones_of(words[at]);
+        return words[at].count_ones();
     }
     0
 }
@@ -45,11 +39,9 @@ fn ones_from(words: &[u32], at: usize, q: usize) -> u32
     requires { (at < 134217728) × (q < 134217728) }
     ensures { (result ≡ ones_from words.now at q) × (result ≤ 32 * q) }
 {
-    let mut i: usize = 0;
     let mut n: u32 = 0;
-    while i < q {
+    for i in 0..q {
         n += ones_at(words, at + i);
-        i += 1;
     }
     n
 }
@@ -75,10 +67,7 @@ pub fn all_ones(g: Geometry, words: &[u32], n: u16) -> u32
 fn bit_of(level: u8) -> u32
     ensures { (result ≡ bit (not (eqb level 0))) × (result ≤ 1) }
 {
-    if level == 0 {
-        return 0;
-    }
-    1
+    u32::from(level != 0)
 }
 
 fn bit_at(table: &[u8], at: usize) -> u32
@@ -90,38 +79,21 @@ fn bit_at(table: &[u8], at: usize) -> u32
     0
 }
 
-// The number with one bit more below.
-fn with_bit(w: u32, b: u32) -> u32
-    requires { (w < 2147483648) × (b ≤ 1) }
-    ensures { result ≡ 2 * w + b }
-{
-    2 * w + b
-}
-
-// The word of the 32 pages from `at` on, all inside the table.
-fn inner_word(table: &[u8], at: usize) -> u32
-    requires { at + 32 ≤ length table.now }
+// The word of the 32 pages from `at` on, a page outside the table dead: INSIDE where all are known to stand in it.
+fn word_from<const INSIDE: bool>(table: &[u8], at: usize) -> u32
+    requires start { at < four_bytes }
+    requires inside { INSIDE ≡ true → at + 32 ≤ length table.now }
     ensures { result ≡ word_of (live_in table.now) 32 at }
 {
     let mut w: u32 = 0;
-    let mut j: usize = 32;
-    while 0 < j {
-        j -= 1;
-        w = with_bit(w, bit_of(table[at + j]));
-    }
-    w
-}
-
-// The word of the 32 pages from `at` on; a page outside the table is dead.
-fn edge_word(table: &[u8], at: usize) -> u32
-    requires { at < four_bytes }
-    ensures { result ≡ word_of (live_in table.now) 32 at }
-{
-    let mut w: u32 = 0;
-    let mut j: usize = 32;
-    while 0 < j {
-        j -= 1;
-        w = with_bit(w, bit_at(table, at + j));
+    for j in (0..32).rev() {
+        let page = at + j;
+        let live = if INSIDE {
+            bit_of(table[page])
+        } else {
+            bit_at(table, page)
+        };
+        w = 2 * w + live;
     }
     w
 }
@@ -133,9 +105,9 @@ fn live_word(table: &[u8], i: usize) -> u32
 {
     let at = 32 * i;
     if at + 32 <= table.len() {
-        return inner_word(table, at);
+        return word_from::<true>(table, at);
     }
-    edge_word(table, at)
+    word_from::<false>(table, at)
 }
 
 // One word; outside the lent words nothing.
@@ -162,9 +134,7 @@ pub fn fill(words: &mut [u32], table: &[u8], m: usize)
     ensures words_after { words.new ≡ filled (live_in table.now) m words.old }
     ensures past { Past m words.old words.new }
 {
-    let mut i: usize = 0;
-    while i < m {
+    for i in 0..m {
         refresh(&mut *words, table, i);
-        i += 1;
     }
 }

@@ -1,5 +1,5 @@
 // What a move changes in the table of lowest live levels and in the lent words of live pages.
-#![tactic(auto)]
+#![tactic(auto, using(crate::specs::Marking::marks_laws))]
 
 ghost use Rattle.std.specs.Prelude.{◌≡◌, ◌<◌, length, set};
 ghost use Rattle.model.specs.Bytes.{node_at};
@@ -67,15 +67,13 @@ pub fn off_path(
     ensures past { Past m words.old words.new }
 {
     let mut page = root;
-    let mut below = level;
-    while 0 < below {
+    for below in (1..level + 1).rev() {
         if below + 1 < low {
             return;
         }
         unmark(&mut *table, &mut *words, m, page, below + 1);
         let entry = tree_search::chosen_entry(g, img, page, below + 1, key);
         page = entry.addr;
-        below -= 1;
     }
     if low <= 1 {
         unmark(&mut *table, &mut *words, m, page, 1);

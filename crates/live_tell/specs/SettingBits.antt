@@ -1,7 +1,8 @@
 -- The walk that sets bits, in the form in which the code has the premises. Assumes nothing.
 use Rattle.std.specs.Prelude.{ℕ, zero, suc, ◌+◌, ◌-◌, ◌*◌, ◌/◌, ◌%◌, ◌^◌, ◌<◌, ◌≤◌, min, Bool, ◌≡◌, List, [], ◌∷◌, length, get_or, set, take}
 use Rattle.std.proofs.Math.Path.{refl, sym}
-use Rattle.std.proofs.Common.{ap, ◌∙◌, length-set, ext_get_or, arith, mod-eq_of_lt, one-mul, lt-ltb, le-ltb}
+use Rattle.std.proofs.lemmas.List.{length-take-le, length-replicate, get_or-replicate, set-append_left, take-append-drop}
+use Rattle.std.proofs.Common.{ap, ◌∙◌, ◌++◌, replicate, drop, length-set, ext_get_or, arith, mod-eq_of_lt, one-mul, lt-ltb, le-ltb}
 use Rattle.std.specs.Int.Bits.{bit_or}
 use Rattle.std.proofs.Math.Pow.{pow-lt}
 use Rattle.geometry.specs.declared.Geometry.{Geometry}
@@ -13,7 +14,7 @@ use Rattle.chip_read.specs.Chip.{naming, chip_with}
 use Rattle.live_walk.specs.Stops.{Steps, Walked, Going, leaves_at, walked_none, walked_out, walked_leaf, walked_end, walked_leaves, walked_root, going_turn, going_start, leaves_start, leaves_go, level_two}
 use Rattle.live_words.specs.Words.{word_of, word, words_of, filled}
 use Rattle.live_words.specs.Filled.{length_filled, filled_in, filled_past}
-use Rattle.live_fill.specs.LentWords.{fill_start, fill_go, fill_end, fill_long}
+use Rattle.model.specs.Stores.{written}
 use Rattle.live_tell.specs.Counts.{Counted, count_laws}
 use Rattle.live_tell.specs.Telling.{mark_one, mark_all, nowhere, marked_live}
 
@@ -55,26 +56,28 @@ module _ (m : ℕ) (g : Geometry) (img : List ℕ) where
         → Walked (mark_all m) g img l p left left' t w
     marked_end at n i left' u w ea c = walked_end (mark_all m) (λ t p l. mark_one m t p) steps g img l p left t at n i left' u w ea c.count
 
-  pub marked_turn : (l at n left₀ : ℕ) (t₀ : List ℕ) (i left : ℕ) (t : List ℕ) (a r : ℕ) (u : List ℕ)
-      → Going (mark_all m) g img l at n left₀ t₀ i left t → a ≡ u32_at img (at + 8 * i + 4) → Walked (mark_all m) g img
-      (l - 1) a left r t u → i < n
+  pub marked_turn : (l at n left₀ : ℕ) (t₀ : List ℕ) (i left : ℕ) (t : List ℕ) (a r q : ℕ) (u : List ℕ)
+      → Going (mark_all m) g img l at n left₀ t₀ i left t → a ≡ u32_at img (at + 8 * i + 4)
+      → Walked (mark_all q) g img (l - 1) a left r t u → q ≡ m → i < n
       → Going (mark_all m) g img l at n left₀ t₀ (i + 1) r u
-  marked_turn = going_turn (mark_all m) (λ t p l. mark_one m t p) steps g img
+  marked_turn l at n left₀ t₀ i left t a r q u x ea y e =
+      going_turn (mark_all m) (λ t p l. mark_one m t p) steps g img l at n left₀ t₀ i left t a r u x ea (rw e at y)
 
-  pub marked_leaves : (p left at n k r : ℕ) (t u w : List ℕ) → at ≡ node_place g p 2 → Counted g img p 2 n
+  pub marked_leaves : (p left at n k r q : ℕ) (t u w : List ℕ) → at ≡ node_place g p 2 → Counted g img p 2 n
       → u ≡ mark_one m t p
-      → k ≡ min n (left - 1) → w ≡ mark_all m (leaves_at img at k) u → r ≡ left - 1 - k → (left ≡ 0 → ⊥)
+      → k ≡ min n (left - 1) → w ≡ mark_all q (leaves_at img at k) u → q ≡ m → r ≡ left - 1 - k → (left ≡ 0 → ⊥)
       → Walked (mark_all m) g img 2 p left r t w
-  marked_leaves p left at n k r t u w ea c eu ek ew er more =
-      rw er (walked_leaves (mark_all m) (λ t p l. mark_one m t p) steps g img p left at n k t u w ea c.count eu ek ew more)
+  marked_leaves p left at n k r q t u w ea c eu ek ew e er more =
+      rw er (walked_leaves (mark_all m) (λ t p l. mark_one m t p) steps g img p left at n k t u w ea c.count eu ek (rw e at ew) more)
 
   pub leaves_begin : (at : ℕ) (t : List ℕ) → t ≡ mark_all m (leaves_at img at 0) t
   leaves_begin = leaves_start (mark_all m) (λ t p l. mark_one m t p) steps img
 
-  pub leaves_turn : (at : ℕ) (t : List ℕ) (i a : ℕ) (u w : List ℕ) → u ≡ mark_all m (leaves_at img at i) t
-      → a ≡ u32_at img (at + 8 * i + 4) → w ≡ mark_one m u a
+  pub leaves_turn : (at : ℕ) (t : List ℕ) (i a q : ℕ) (u w : List ℕ) → u ≡ mark_all m (leaves_at img at i) t
+      → a ≡ u32_at img (at + 8 * i + 4) → w ≡ mark_one q u a → q ≡ m
       → w ≡ mark_all m (leaves_at img at (i + 1)) t
-  leaves_turn at t i a u w = leaves_go (mark_all m) (λ t p l. mark_one m t p) steps img at i a t u w
+  leaves_turn at t i a q u w eu ea ew e =
+      leaves_go (mark_all m) (λ t p l. mark_one m t p) steps img at i a t u w eu ea (rw e at ew)
 
   pub leaves_end : (at : ℕ) (t : List ℕ) (i k : ℕ) (u : List ℕ) → u ≡ mark_all m (leaves_at img at i) t → i ≤ k → k ≤ i
       → u ≡ mark_all m (leaves_at img at k) t
@@ -103,26 +106,28 @@ unfolding word_of nowhere
 no_bits zero at = refl
 no_bits (suc n) at = rw (no_bits n (at + 1)) refl
 
-pub clear_start : (words : List ℕ) → words ≡ filled nowhere 0 words
-clear_start words = fill_start nowhere words
-
-pub clear_go : (words x : List ℕ) (i : ℕ) → x ≡ filled nowhere i words → set x i 0 ≡ filled nowhere (i + 1) words
+all_clear : (words : List ℕ) → replicate (length words) 0 ≡ filled nowhere (length words) words
 unfolding word
-clear_go words x i e = fill_go nowhere words x (set x i 0) i (rw (no_bits 32 (32 * i)) refl) e
+all_clear words =
+    let k = length words in
+    ext_get_or 0 (replicate k 0) (filled nowhere k words) (length-replicate {A = ℕ} k 0 ∙ sym (length_filled nowhere k words))
+    (λ i h. each i (omega (arith, h, length-replicate {A = ℕ} k 0)))
+  where
+    each : (i : ℕ) → i < length words → get_or (replicate (length words) 0) i 0
+        ≡ get_or (filled nowhere (length words) words) i 0
+    each i h = get_or-replicate {A = ℕ} (length words) i 0 0 h
+        ∙ sym (filled_in nowhere (length words) words i h h ∙ no_bits 32 (32 * i))
 
-pub clear_end : (words x : List ℕ) (i m : ℕ) → x ≡ filled nowhere i words → i ≤ m → m ≤ i → x ≡ filled nowhere m words
-clear_end words x i m e h k = fill_end nowhere words x i m e h k
-
-pub clear_long : (words x : List ℕ) (i : ℕ) → x ≡ filled nowhere i words → length x ≡ length words
-clear_long words x i e = fill_long nowhere words x i e
+-- the first k words worked out, and others behind them
+filled_front : (f : ℕ → Bool) (k : ℕ) (front back : List ℕ) → k ≤ length front
+    → filled f k front ++ back ≡ filled f k (front ++ back)
+unfolding filled written
+filled_front f zero front back h = refl
+filled_front f (suc k) front back h =
+    sym (set-append_left (filled f k front) back (0 + k) (word f k) (omega (arith, h, length_filled f k front)))
+    ∙ ap (λ (l : List ℕ). set l (0 + k) (word f k)) (filled_front f k front back (omega arith))
 
 -- ---- no more words than are lent
-pub within_all : (m n : ℕ) → m ≤ n → m ≡ min m n
-within_all m n h = omega arith
-
-pub within_lent : (m n : ℕ) → n < m → n ≡ min m n
-within_lent m n h = omega arith
-
 filled_within : (f : ℕ → Bool) (m : ℕ) (old : List ℕ) → filled f (min m (length old)) old ≡ filled f m old
 filled_within f m old =
     let k = min m (length old) in
@@ -145,4 +150,27 @@ told g img n l p w m r old t u ew em et x =
     ∙ ap (λ (k : ℕ). filled (live xs) k old) em ∙ filled_within (live xs) w old
     ∙ ap (λ (k : ℕ). filled (live xs) k old) ew
 
-pub ruleset telling_laws = (going_start, level_two, count_laws, one_bit, bit_set, mark_far, mark_in, marked_none, marked_out, marked_leaf, marked_leaves, marked_end, marked_turn, leaves_begin, leaves_turn, leaves_end, leaves_same, mark_same, marked_same, clear_start, clear_go, clear_end, clear_long, within_all, within_lent, told)
+-- the same of the slice of the first m lent words: z these cleared, u these once all pages are marked
+pub told_front : (g : Geometry) (img : List ℕ) (n l p w m r : ℕ) (old z u : List ℕ) → w ≡ words_of g n
+    → m ≡ min w (length old) → z ≡ replicate (length (take m old)) 0
+    → Walked (mark_all (length z)) g img (l + 1) p 8388608 r z u
+    → u ++ drop m old ≡ filled (live (take 8388608 (places_of (chip_with g img l p)))) (words_of g n) old
+told_front g img n l p w m r old z u ew em ez x =
+    let f = live (take 8388608 (places_of (chip_with g img l p))) in
+    let front = take m old in
+    let long : length front ≡ m = length-take-le m old (omega arith) in
+    let some : m ≡ min w (length front) = omega arith in
+    let clear : z ≡ filled nowhere m front =
+    ez ∙ all_clear front ∙ ap (λ (q : ℕ). filled nowhere q front) long in
+    let many : length z ≡ m = ap (λ (y : List ℕ). length y) ez ∙ length-replicate {A = ℕ} (length front) 0 ∙ long in
+    let marked : u ≡ filled f m front =
+    told g img n l p w m r front z u ew some clear (rw many at x)
+    ∙ ap (λ (q : ℕ). filled f q front) (sym ew) ∙ sym (filled_within f w front)
+    ∙ ap (λ (q : ℕ). filled f q front) (sym some) in
+    ap (λ (y : List ℕ). y ++ drop m old) marked
+    ∙ filled_front f m front (drop m old) (omega arith)
+    ∙ ap (filled f m) (take-append-drop m old)
+    ∙ ap (λ (q : ℕ). filled f q old) em ∙ filled_within f w old
+    ∙ ap (λ (q : ℕ). filled f q old) ew
+
+pub ruleset telling_laws = (going_start, level_two, count_laws, one_bit, bit_set, mark_far, mark_in, marked_none, marked_out, marked_leaf, marked_leaves, marked_end, marked_turn, leaves_begin, leaves_turn, leaves_end, leaves_same, mark_same, marked_same, told_front)

@@ -1,21 +1,19 @@
 -- The walk, in the form in which the code has the premises. Assumes nothing.
-use Rattle.std.specs.Prelude.{ℕ, zero, suc, ◌+◌, ◌-◌, ◌*◌, ◌<◌, ◌≤◌, Bool, true, false, not, ◌≡◌, refl, List, [], ◌∷◌, ◌++◌, eqb, length, get_or, set}
-use Rattle.std.proofs.Common.{sym, ◌∙◌, length-set, get_or-set_same, get_or-set_other, arith, sub-one, ne_eqb}
+use Rattle.std.specs.Prelude.{ℕ, zero, suc, ◌+◌, ◌-◌, ◌*◌, ◌<◌, ◌≤◌, not, ◌≡◌, refl, List, [], ◌∷◌, ◌++◌, eqb, length, get_or, set}
+use Rattle.std.proofs.Common.{sym, ◌∙◌, length-set, arith, sub-one, ne_eqb}
 use Rattle.std.proofs.Math.ListN.{get_or-eq_default}
 use Rattle.std.proofs.Math.Seq.{set_out}
 use Rattle.std.proofs.Math.Nat.{min-eq_left, min-eq_right}
 use Rattle.geometry.specs.declared.Geometry.{Geometry}
 use Rattle.geometry.specs.declared.Entry.{Entry}
-use Rattle.geometry.specs.Tests.{bit}
 use Rattle.model.specs.Bytes.{u32_at, node_place, node_count, node_at}
 use Rattle.model.specs.Image.{Nodes}
 use Rattle.model.specs.Tree.{gather, Place, places}
 use Rattle.chip_read.specs.Chip.{entry_at, naming}
 use Rattle.chip_read.specs.Node.{node_read, entries_start, entries_turn, entries_past, addr_is}
-use Rattle.theory_counts.specs.Least.{by_lt}
 use Rattle.theory_counts.specs.Tally.{tally_laws}
 use Rattle.theory_counts.specs.Blocks.{within_laws}
-use Rattle.live_walk.specs.Table.{lower, note_one, note_all, rest, Zeros, live_in}
+use Rattle.live_walk.specs.Table.{lower, note_one, note_all, rest, live_in}
 use Rattle.live_walk.specs.Lows.{note_length}
 
 pub noted_past : (tbl : List ℕ) (p w : ℕ) → w ≡ p → length tbl ≤ w → 0 ≡ get_or tbl p 0
@@ -109,33 +107,13 @@ pub note_same : (t u : List ℕ) (p l : ℕ) → u ≡ note_one t p l → length
 unfolding note_one
 note_same t u p l e = rw e (length-set t p (lower (get_or t p 0) l))
 
--- clearing
-pub zeros_start : (tbl : List ℕ) → Zeros tbl 0
-zeros_start tbl = record { zeros = λ p h. absurd (omega arith) }
-
-pub zeros_go : (tbl : List ℕ) (i : ℕ) → Zeros tbl i → i < length tbl → Zeros (set tbl i 0) (i + 1)
-zeros_go tbl i z h = record {
-  zeros = λ p k. by_lt p i
-      (λ m. get_or-set_other tbl i p 0 0 (λ e. omega (arith, e, m)) ∙ z.zeros p m)
-      (λ m. (let w : p ≡ i = omega arith in rw w (get_or-set_same tbl i 0 0 h)));
-}
-
-pub zeros_end : (tbl tbl₀ : List ℕ) (n i : ℕ) → Zeros tbl i → n ≡ length tbl₀ → n ≤ i → Zeros tbl (length tbl₀)
-zeros_end tbl tbl₀ n i z e h = record { zeros = λ p k. z.zeros p (omega (arith, e, h, k)) }
-
 -- counting
 pub live_is : (tbl : List ℕ) (p r : ℕ) → r ≡ get_or tbl p 0 → not (eqb r 0) ≡ live_in tbl p
 unfolding live_in
 live_is tbl p r e = rw e
 
-pub bit_live : (tbl : List ℕ) (p : ℕ) (b : Bool) → b ≡ live_in tbl p → b ≡ true → 1 ≡ bit (live_in tbl p)
-bit_live tbl p b e q = simp (← e, q)
-
-pub bit_dead : (tbl : List ℕ) (p : ℕ) (b : Bool) → b ≡ live_in tbl p → b ≡ false → 0 ≡ bit (live_in tbl p)
-bit_dead tbl p b e q = simp (← e, q)
-
 pub ruleset noted_laws = (noted_past, noted_at, lower_first, lower_new, lower_old, note_past, note_at)
 
-pub ruleset live_laws = (live_is, bit_live, bit_dead, tally_laws, within_laws)
+pub ruleset live_laws = (live_is, tally_laws, within_laws)
 
-pub ruleset walk_laws = (noted_laws, walk_same, note_same, zeros_start, zeros_go, zeros_end, live_laws)
+pub ruleset walk_laws = (noted_laws, walk_same, note_same, live_laws)

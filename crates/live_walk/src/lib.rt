@@ -1,8 +1,8 @@
 // The live-page walk: from the root to all nodes it reaches. A lent table takes each page's lowest live level.
-#![tactic(auto)]
+#![tactic(auto, using(crate::specs::Walking::walk_laws, crate::specs::Stops::note_laws))]
 
-ghost use Rattle.std.specs.Prelude.{◌≡◌, ◌+◌, ◌*◌, ◌-◌, ◌≤◌, ◌<◌, min, length, get_or, take};
-ghost use Rattle.geometry.specs.Tests.{bit};
+ghost use Rattle.std.specs.Prelude.{true, ◌≡◌, ◌+◌, ◌*◌, ◌-◌, ◌≤◌, ◌<◌, min, length, get_or, take};
+ghost use Rattle.model.specs.Bytes.{u32_at};
 ghost use Rattle.model.specs.Count.{count};
 ghost use Rattle.model.specs.Next.{in_block};
 ghost use Rattle.model.specs.Tree.{places_of};
@@ -12,26 +12,13 @@ ghost use Rattle.live_walk.specs.Stops.{Walked, leaves_at};
 
 use geometry::Geometry;
 
-fn byte_of(b: u8) -> u32
-    ensures { (result ≡ b) × (result < 256) }
-{
-    b as u32
-}
-
-fn narrow(x: u32) -> u8
-    requires { x < 256 }
-    ensures { result ≡ x }
-{
-    x as u8
-}
-
 // The level noted for a page, 0 for none.
 pub fn noted(table: &[u8], page: u32) -> u32
     ensures { (result ≡ get_or table.now page 0) × (result < 256) }
 {
     let at = geometry::index(page);
     if at < table.len() {
-        return byte_of(table[at]);
+        return u32::from(table[at]);
     }
     0
 }
@@ -57,33 +44,30 @@ pub fn note(table: &mut [u8], page: u32, level: u32)
 {
     let at = geometry::index(page);
     if at < table.len() {
-        table[at] = narrow(lower_level(byte_of(table[at]), level));
+        table[at] = lower_level(u32::from(table[at]), level) as u8;
     }
 }
 
-// Notes the leaves that k entries from byte `at` name, all inside the image.
-fn note_inside(img: &[u8], table: &mut [u8], at: usize, k: usize)
-    requires { (k < 256) × (at + 8 * k ≤ length img.now) }
-    ensures { table.new ≡ note_all (leaves_at img.now at k) table.old }
+// The number at a byte: INSIDE where all of it is known to stand in the image.
+pub fn leaf_at<const INSIDE: bool>(img: &[u8], at: usize) -> u32
+    requires { INSIDE ≡ true → at + 4 ≤ length img.now }
+    ensures { result ≡ u32_at img.now at }
 {
-    let mut i: usize = 0;
-    while i < k {
-        let leaf = chip_read::raw_u32(img, at + 8 * i + 4);
-        note(&mut *table, leaf, 1);
-        i += 1;
+    if INSIDE {
+        return chip_read::raw_u32(img, at);
     }
+    chip_read::read_u32(img, at)
 }
 
-// The same where the image may end before the entries do.
-fn note_across(img: &[u8], table: &mut [u8], at: usize, k: usize)
-    requires { (k < 256) × (at < 1125899906842624) }
+// Notes the leaves that k entries from byte `at` name: INSIDE where all entries are known to stand in the image.
+fn note_each<const INSIDE: bool>(img: &[u8], table: &mut [u8], at: usize, k: usize)
+    requires bounds { (k < 256) × (at < 1125899906842624) }
+    requires inside { INSIDE ≡ true → at + 8 * k ≤ length img.now }
     ensures { table.new ≡ note_all (leaves_at img.now at k) table.old }
 {
-    let mut i: usize = 0;
-    while i < k {
-        let leaf = chip_read::read_u32(img, at + 8 * i + 4);
+    for i in 0..k {
+        let leaf = leaf_at::<INSIDE>(img, at + 8 * i + 4);
         note(&mut *table, leaf, 1);
-        i += 1;
     }
 }
 
@@ -92,11 +76,11 @@ fn note_entries(img: &[u8], table: &mut [u8], at: usize, k: usize)
     requires { (k < 256) × (at < 1125899906842624) }
     ensures { table.new ≡ note_all (leaves_at img.now at k) table.old }
 {
-    if img.len() < at + 8 * k {
-        note_across(img, &mut *table, at, k);
+    if at + 8 * k <= img.len() {
+        note_each::<true>(img, &mut *table, at, k);
         return;
     }
-    note_inside(img, &mut *table, at, k);
+    note_each::<false>(img, &mut *table, at, k);
 }
 
 // A node's count, but no more than are left.
@@ -104,11 +88,7 @@ pub fn at_most(n: usize, left: u32) -> usize
     requires { n < 256 }
     ensures { (result ≡ min n left) × (result < 256) × (result ≤ left) }
 {
-    let most = geometry::index(left);
-    if n < most {
-        return n;
-    }
-    most
+    n.min(geometry::index(left))
 }
 
 // What is left after k nodes.
@@ -153,11 +133,9 @@ fn note_nodes(g: Geometry, img: &[u8], table: &mut [u8], level: u32, page: u32, 
     let at = chip_read::node_place(g, page, level);
     let n = chip_read::node_count(g, img, page, level);
     let mut more = left - 1;
-    let mut i: usize = 0;
-    while i < n {
+    for i in 0..n {
         let below = chip_read::read_u32(img, at + 8 * i + 4);
         more = note_nodes(g, img, &mut *table, level - 1, below, more);
-        i += 1;
     }
     more
 }
@@ -167,12 +145,7 @@ pub fn clear(table: &mut [u8])
     ensures table_len_unchanged { length table.new ≡ length table.old }
     ensures zeros { Zeros table.new (length table.old) }
 {
-    let n = table.len();
-    let mut i: usize = 0;
-    while i < n {
-        table[i] = 0;
-        i += 1;
-    }
+    table.fill(0);
 }
 
 // Notes the nodes from a root on, no more than 8,388,608 of them: so a walk ends soon on every image.
@@ -192,25 +165,13 @@ pub fn is_live(table: &[u8], page: u32) -> bool
     noted(table, page) != 0
 }
 
-// 1 for a live page.
-fn live_bit(table: &[u8], page: u32) -> u32
-    ensures { (result ≡ bit (live_in table.now page)) × (result ≤ 1) }
-{
-    if is_live(table, page) {
-        return 1;
-    }
-    0
-}
-
 // The live pages below a number.
 pub fn live_pages(table: &[u8], pages: u32) -> u32
     ensures { (result ≡ count pages (live_in table.now)) × (result ≤ pages) }
 {
     let mut lives: u32 = 0;
-    let mut page: u32 = 0;
-    while page < pages {
-        lives = live_bit(table, page) + lives;
-        page += 1;
+    for page in 0..pages {
+        lives += u32::from(is_live(table, page));
     }
     lives
 }
@@ -220,10 +181,8 @@ pub fn lives_in(g: Geometry, table: &[u8], block: u16) -> u32
     ensures { (result ≡ in_block g.pages (live_in table.now) block) × (result ≤ g.pages) }
 {
     let mut lives: u32 = 0;
-    let mut j: u16 = 0;
-    while j < g.pages {
-        lives = live_bit(table, chip_read::page_of(g, block, j)) + lives;
-        j += 1;
+    for j in 0..g.pages {
+        lives += u32::from(is_live(table, chip_read::page_of(g, block, j)));
     }
     lives
 }

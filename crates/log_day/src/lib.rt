@@ -47,6 +47,7 @@ fn play_read<W: Write>(
 {
     let mut at: usize = 0;
     let mut state = run;
+    // Stays a while: the part is used up in pieces as long as the output has room, no range counts them.
     while at < part.len() {
         let played = log_feed::play_part(&mut *img, &mut *line, &mut *out, part, at, state);
         at = played.next;
@@ -73,6 +74,7 @@ fn play_input<R: Read, W: Write>(
         (state_of run line.old img.old) (state_of r line.new img.new)) }
 {
     let mut state = run;
+    // Stays a while: the reader and the run say where it ends, no range counts the parts.
     while !state.over {
         let n = from.read(&mut *part)?;
         if n == 0 {

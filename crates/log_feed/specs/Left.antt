@@ -9,8 +9,7 @@ use borrow.Author.Tests.{ltb-true}
 use Rattle.geometry.specs.Geometry.{small}
 use Rattle.geometry.specs.Tests.{pick}
 use Rattle.log_tally.specs.declared.Tally.{Tally}
-use Rattle.log_lines.specs.declared.Line.{Line}
-use Rattle.log_lines.specs.declared.Line.TheVariants.{Of, Other}
+use Rattle.log_lines.specs.Line.{Line, Of, Other}
 use Rattle.log_lines.specs.Forms.{parsed}
 use Rattle.log_lines.specs.Replay.{most_lines, form_after, form_at}
 use Rattle.log_machine.specs.declared.Run.{Run}

@@ -38,9 +38,8 @@ pub fn play_part(
         ≡ take result.run.wrote out.new ++ ran small (state_of result.run line.new img.new)
         (drop result.next part.now ++ rest) }
 {
-    let mut at = from;
     let mut state = run;
-    while at < part.len() {
+    for at in from..part.len() {
         if out.len() - state.wrote < 86 {
             return Played {
                 run: state,
@@ -48,10 +47,9 @@ pub fn play_part(
             };
         }
         state = log_machine::feed(&mut *img, &mut *line, &mut *out, state, part[at]);
-        at += 1;
     }
     Played {
         run: state,
-        next: at,
+        next: part.len(),
     }
 }

@@ -5,8 +5,7 @@ use Rattle.std.proofs.Math.Path.{refl}
 use Rattle.std.proofs.Common.{ap, sym, subst, ◌∙◌, append_assoc, append-nil, arith, length-append, length-take-le, lt-ltb, le-ltb, eqb-true}
 use Rattle.geometry.specs.Tests.{pick}
 use Rattle.text_lines.specs.Lines.{Pieces, before, pieces, lines}
-use Rattle.log_lines.specs.declared.Line.{Line}
-use Rattle.log_lines.specs.declared.Line.TheVariants.{Other}
+use Rattle.log_lines.specs.Line.{Line, Other}
 use Rattle.log_lines.specs.Forms.{parsed}
 use Rattle.log_lines.specs.Replay.{most_lines, form_after}
 use Rattle.log_lines.specs.Short.{longest, long_other}

@@ -4,7 +4,7 @@ use Rattle.geometry.specs.Tests.{◌&◌}
 use Rattle.text_lines.specs.Lines.{pieces}
 use Rattle.text_decimals.specs.Decimals.{number_of, digit, all_digits, value, proper, digits_of, decimal}
 use Rattle.log_lines.specs.declared.Order.TheVariants.{Format, Insert, Lookup, Limited}
-use Rattle.log_lines.specs.declared.Line.TheVariants.{Of, Other}
+use Rattle.log_lines.specs.Line.{Of, Other}
 use Rattle.log_lines.specs.Forms.{is_letter, given, form_of, parsed}
 use Rattle.log_lines.specs.Replay.{tabbed, line_text, last_line, error_line, form_after}
 

@@ -1,21 +1,16 @@
 -- Laws for the code that reads a line field by field. Assumes nothing.
-use Rattle.std.specs.Prelude.{ℕ, suc, ◌+◌, ◌-◌, ◌<◌, ◌≤◌, Bool, true, false, ◌≡◌, eqb, take, drop}
+use Rattle.std.specs.Prelude.{ℕ, suc, ◌+◌, ◌-◌, ◌<◌, ◌≤◌, Bool, true, false, ◌≡◌, eqb, take, drop, None, Option, Some}
 use Rattle.std.proofs.Math.Path.{refl, sym}
 use Rattle.std.proofs.Common.{◌∙◌, arith, length-drop, take_all, drop-drop, length-take-le, eq-eqb, ne_eqb}
 use mathlib.Core.List.{List, [], ◌∷◌, ◌++◌}
-use Rattle.std.proofs.Math.Option.{Option, none, some}
 use Rattle.std.proofs.Math.Decide.{dec_lt}
 use Rattle.std.proofs.Math.ListN.{length, get_or}
 use Rattle.geometry.specs.Tests.{pick}
 use Rattle.text_lines.specs.Lines.{pieces, fields, reach}
 use Rattle.text_lines.specs.Pieces.{reach_within, fields_more, fields_last}
 use Rattle.text_decimals.specs.Decimals.{number_of}
-use Rattle.text_decimals.specs.declared.Number.{Number}
-use Rattle.text_decimals.specs.declared.Number.TheVariants.{Value, Nothing}
-use Rattle.text_decimals.specs.Reading.{number_is}
 use Rattle.log_lines.specs.declared.Order.TheVariants.{Format, Insert, Delete, Lookup, Limited}
-use Rattle.log_lines.specs.declared.Line.{Line}
-use Rattle.log_lines.specs.declared.Line.TheVariants.{Of, Other}
+use Rattle.log_lines.specs.Line.{Line, Of, Other}
 use Rattle.log_lines.specs.Forms.{is_letter, given, form_of}
 
 -- ---- by the letter, after one, two and three numbers
@@ -55,41 +50,41 @@ form_letter l x [] = go (eqb l 68) (eqb l 76) (number_of x)
     go : (t u : Bool) (o : Option ℕ) → pick t (given o (λ k. Of (Delete k)))
         (pick u (given o (λ k. Of (Lookup k))) Other)
         ≡ given o (λ k. pick t (Of (Delete k)) (pick u (Of (Lookup k)) Other))
-    go true u none = refl
-    go false true none = refl
-    go false false none = refl
-    go true u (some k) = refl
-    go false true (some k) = refl
-    go false false (some k) = refl
+    go true u None = refl
+    go false true None = refl
+    go false false None = refl
+    go true u (Some k) = refl
+    go false true (Some k) = refl
+    go false false (Some k) = refl
 form_letter l x (y ∷ []) = go (eqb l 73) (number_of x) (number_of y)
   where
     go : (t : Bool) (o p : Option ℕ) → pick t (given o (λ k. given p (λ a. Of (Insert k a)))) Other ≡ given o
         (λ k. given p (λ a. pick t (Of (Insert k a)) Other))
-    go true none p = refl
-    go false none p = refl
-    go true (some k) none = refl
-    go false (some k) none = refl
-    go true (some k) (some a) = refl
-    go false (some k) (some a) = refl
+    go true None p = refl
+    go false None p = refl
+    go true (Some k) None = refl
+    go false (Some k) None = refl
+    go true (Some k) (Some a) = refl
+    go false (Some k) (Some a) = refl
 form_letter l x (y ∷ z ∷ []) = go (eqb l 83) (number_of x) (number_of y) (number_of z)
   where
     go : (t : Bool) (o p q : Option ℕ) → pick t (given o (λ k. given p (λ a. given q (λ m. Of (Limited k a m))))) Other
         ≡ given o (λ k. given p (λ a. given q (λ m. pick t (Of (Limited k a m)) Other)))
-    go true none p q = refl
-    go false none p q = refl
-    go true (some k) none q = refl
-    go false (some k) none q = refl
-    go true (some k) (some a) none = refl
-    go false (some k) (some a) none = refl
-    go true (some k) (some a) (some m) = refl
-    go false (some k) (some a) (some m) = refl
+    go true None p q = refl
+    go false None p q = refl
+    go true (Some k) None q = refl
+    go false (Some k) None q = refl
+    go true (Some k) (Some a) None = refl
+    go false (Some k) (Some a) None = refl
+    go true (Some k) (Some a) (Some m) = refl
+    go false (Some k) (Some a) (Some m) = refl
 form_letter l x (y ∷ z ∷ u ∷ us) = go (number_of x) (number_of y) (number_of z)
   where
     go : (o p q : Option ℕ) → Other ≡ given o (λ k. given p (λ a. given q (λ m. Other)))
-    go none p q = refl
-    go (some k) none q = refl
-    go (some k) (some a) none = refl
-    go (some k) (some a) (some m) = refl
+    go None p q = refl
+    go (Some k) None q = refl
+    go (Some k) (Some a) None = refl
+    go (Some k) (Some a) (Some m) = refl
 
 -- a first field that is not one byte
 form_word : (w : List ℕ) (xs : List (List ℕ)) → (length w ≡ 1 → ⊥) → form_of (w ∷ xs) ≡ Other
@@ -131,22 +126,22 @@ module _ (s : List ℕ) (from end : ℕ) (e : end ≡ from + reach 9 (drop from 
         go [] R = refl
         go (y ∷ E) R = refl
 
-    module _ (n : Number) (is : number_is n ≡ number_of (take (end - from) (drop from s))) where
-      pub form_none : n ≡ Nothing → Other ≡ number_then one more (fields (drop from s))
-      unfolding number_is given number_then
+    module _ (n : Option ℕ) (is : n ≡ number_of (take (end - from) (drop from s))) where
+      pub form_none : n ≡ None → Other ≡ number_then one more (fields (drop from s))
+      unfolding given number_then
       form_none e = elim (dec_lt end (length s)) [
         | yes h ↦ sym (rw (field_more h, many, ← is, e) refl)
         | no h ↦ sym (rw (field_last (omega arith), ← is, e) refl)
       ]
 
-      pub form_more : (k : ℕ) (r : Line) → n ≡ Value k → end < length s → r ≡ more k (fields (drop (end + 1) s))
+      pub form_more : (k : ℕ) (r : Line) → n ≡ Some k → end < length s → r ≡ more k (fields (drop (end + 1) s))
           → r ≡ number_then one more (fields (drop from s))
-      unfolding number_is given
+      unfolding given
       form_more k r e h f = f ∙ sym (rw (field_more h, many, ← is, e) refl)
 
-      pub form_last : (k : ℕ) (r : Line) → n ≡ Value k → length s ≤ end → r ≡ one k → r ≡ number_then one more
+      pub form_last : (k : ℕ) (r : Line) → n ≡ Some k → length s ≤ end → r ≡ one k → r ≡ number_then one more
           (fields (drop from s))
-      unfolding number_is given number_then
+      unfolding given number_then
       form_last k r e h f = f ∙ sym (rw (field_last h, ← is, e) refl)
 
   -- a field too many
@@ -155,8 +150,8 @@ module _ (s : List ℕ) (from end : ℕ) (e : end ≡ from + reach 9 (drop from 
   form_long one h = sym (rw (field_more h, many one (λ n ys. Other)) (go (number_of (take (end - from) (drop from s)))))
     where
       go : (o : Option ℕ) → given o (λ n. Other) ≡ Other
-      go none = refl
-      go (some n) = refl
+      go None = refl
+      go (Some n) = refl
 
 -- ---- the letter, at the line's first tab or end
 module _ (s : List ℕ) (end : ℕ) (e : end ≡ 0 + reach 9 (drop 0 s)) where

@@ -1,13 +1,11 @@
 -- Request 3: "F ..., `I key address`, `D key`, `L key`, and `S key address allowance`", "fields parted by tabs".
 -- Definitions alone; assumes nothing.
-use Rattle.std.specs.Prelude.{ℕ, Bool, false, List, [], ◌∷◌, eqb}
-use Rattle.std.proofs.Math.Option.{Option, none, some}
+use Rattle.std.specs.Prelude.{ℕ, Bool, false, List, [], ◌∷◌, eqb, None, Option, Some}
 use Rattle.geometry.specs.Tests.{pick}
 use Rattle.text_lines.specs.Lines.{fields}
 use Rattle.text_decimals.specs.Decimals.{number_of}
 use Rattle.log_lines.specs.declared.Order.TheVariants.{Format, Insert, Delete, Lookup, Limited}
-use Rattle.log_lines.specs.declared.Line.{Line}
-use Rattle.log_lines.specs.declared.Line.TheVariants.{Of, Other}
+use Rattle.log_lines.specs.Line.{Line, Of, Other}
 
 -- a field that is one letter
 unfoldable pub is_letter : ℕ → List ℕ → Bool
@@ -17,8 +15,8 @@ is_letter c (b ∷ d ∷ bs) = false
 
 -- what a field's number makes of a line; a field that is no number makes it one of another form
 unfoldable pub given : Option ℕ → (ℕ → Line) → Line
-given none f = Other
-given (some n) f = f n
+given None f = Other
+given (Some n) f = f n
 
 -- the first field is the letter alone, the others are its numbers; else it is "a line of any other form"
 unfoldable pub form_of : List (List ℕ) → Line

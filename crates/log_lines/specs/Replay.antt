@@ -11,8 +11,7 @@ use Rattle.log_tally.specs.declared.Tally.{Tally}
 use Rattle.log_tally.specs.Counted.{none_yet, counted}
 use Rattle.log_lines.specs.declared.Order.{Order}
 use Rattle.log_lines.specs.declared.Order.TheVariants.{Format, Insert, Delete, Lookup, Limited}
-use Rattle.log_lines.specs.declared.Line.{Line}
-use Rattle.log_lines.specs.declared.Line.TheVariants.{Of, Other}
+use Rattle.log_lines.specs.Line.{Line, Of, Other}
 use Rattle.log_lines.specs.Forms.{parsed}
 
 -- ---- an order on the image. "I and D have the largest allowance"

@@ -1,17 +1,15 @@
 -- A line that has a form is at most 34 bytes long: S, three tabs and three numbers of at most ten digits. Assumes
 -- nothing.
-use Rattle.std.specs.Prelude.{◌≡◌, refl, List, [], ◌∷◌, ◌++◌, Bool, true, false, ℕ, suc, ◌+◌, ◌<◌, ◌≤◌, length}
+use Rattle.std.specs.Prelude.{◌≡◌, refl, List, [], ◌∷◌, ◌++◌, Bool, true, false, ℕ, suc, ◌+◌, ◌<◌, ◌≤◌, length, None, Option, Some}
 use Rattle.std.proofs.Common.{subst, arith, length-append}
 use Rattle.std.proofs.lemmas.Bool.{false≢true}
-use Rattle.std.proofs.Math.Option.{Option, none, some}
 use Rattle.geometry.specs.Tests.{pick}
 use Rattle.text_lines.specs.Lines.{pieces}
 use Rattle.text_lines.specs.Pieces.{joined, pieces_join}
 use Rattle.text_decimals.specs.Decimals.{number_of}
 use Rattle.text_decimals.specs.Back.{number_short}
 use Rattle.log_lines.specs.declared.Order.TheVariants.{Format, Insert, Delete, Lookup, Limited}
-use Rattle.log_lines.specs.declared.Line.{Line}
-use Rattle.log_lines.specs.declared.Line.TheVariants.{Of, Other}
+use Rattle.log_lines.specs.Line.{Line, Of, Other}
 use Rattle.log_lines.specs.Forms.{is_letter, given, form_of, parsed}
 
 abbrev pub longest : ℕ
@@ -37,8 +35,8 @@ unfolding given
 given_short ds f n h = go (number_of ds) refl
   where
     go : (o : Option ℕ) → number_of ds ≡ o → Short (given o f) n
-    go none e = tt
-    go (some k) e = h (number_short ds k e) k
+    go None e = tt
+    go (Some k) e = h (number_short ds k e) k
 
 parts_length : (w r : List ℕ) → length ((w ++ (9 ∷ [])) ++ r) ≡ length w + suc (length r)
 parts_length w r = let a = length-append (w ++ (9 ∷ [])) r in let b = length-append w (9 ∷ []) in omega (arith, a, b)

@@ -1,13 +1,11 @@
 // A line of a day's log as an order.
-#![tactic(auto)]
+#![tactic(auto, using(crate::specs::FieldByField::letter_laws, crate::specs::FieldByField::line_laws))]
 
 ghost use Rattle.std.specs.Prelude.{◌≡◌, ◌≤◌, length, drop};
 ghost use Rattle.text_lines.specs.Lines.{fields};
 ghost use Rattle.log_lines.specs.Forms.{parsed};
 ghost use Rattle.log_lines.specs.Replay.{letter_of};
 ghost use Rattle.log_lines.specs.FieldByField.{form_alone, form_one, form_two, form_three, last_form, next_form, first_form};
-
-use text_decimals::Number;
 
 #[derive(Clone, Copy)]
 pub enum Order {
@@ -23,13 +21,6 @@ pub enum Order {
     Limited(u32, u32, u32),
 }
 
-#[derive(Clone, Copy)]
-pub enum Line {
-    Of(Order),
-    // a line of any other form
-    Other,
-}
-
 // The letter by which an order is answered.
 pub fn letter_of(order: Order) -> u8
     ensures { result ≡ letter_of order }
@@ -43,71 +34,63 @@ pub fn letter_of(order: Order) -> u8
     }
 }
 
-fn form_alone(letter: u8) -> Line
+fn form_alone(letter: u8) -> Option<Order>
     ensures { result ≡ form_alone letter }
 {
-    if letter == b'F' {
-        return Line::Of(Order::Format);
+    match letter {
+        b'F' => Some(Order::Format),
+        _ => None,
     }
-    Line::Other
 }
 
-fn form_one(letter: u8, key: u32) -> Line
+fn form_one(letter: u8, key: u32) -> Option<Order>
     ensures { result ≡ form_one letter key }
 {
-    if letter == b'D' {
-        return Line::Of(Order::Delete(key));
+    match letter {
+        b'D' => Some(Order::Delete(key)),
+        b'L' => Some(Order::Lookup(key)),
+        _ => None,
     }
-    if letter == b'L' {
-        return Line::Of(Order::Lookup(key));
-    }
-    Line::Other
 }
 
-fn form_two(letter: u8, key: u32, address: u32) -> Line
+fn form_two(letter: u8, key: u32, address: u32) -> Option<Order>
     ensures { result ≡ form_two letter key address }
 {
-    if letter == b'I' {
-        return Line::Of(Order::Insert(key, address));
+    match letter {
+        b'I' => Some(Order::Insert(key, address)),
+        _ => None,
     }
-    Line::Other
 }
 
-fn form_three(letter: u8, key: u32, address: u32, allowance: u32) -> Line
+fn form_three(letter: u8, key: u32, address: u32, allowance: u32) -> Option<Order>
     ensures { result ≡ form_three letter key address allowance }
 {
-    if letter == b'S' {
-        return Line::Of(Order::Limited(key, address, allowance));
+    match letter {
+        b'S' => Some(Order::Limited(key, address, allowance)),
+        _ => None,
     }
-    Line::Other
 }
 
 // The third number, from its place on, and the line's end.
-fn last_form(s: &[u8], from: usize, letter: u8, key: u32, address: u32) -> Line
+fn last_form(s: &[u8], from: usize, letter: u8, key: u32, address: u32) -> Option<Order>
     requires { from ≤ length s.now }
     ensures { result ≡ last_form letter key address (fields (drop from s.now)) }
 {
-    let end = text_lines::piece_end(s, from, 9);
+    let end = text_lines::piece_end(s, from, b'\t');
     if end < s.len() {
-        return Line::Other;
+        return None;
     }
-    let number = text_decimals::parse_number(&s[from..end]);
-    let Number::Value(allowance) = number else {
-        return Line::Other;
-    };
+    let allowance = text_decimals::parse_number(&s[from..end])?;
     form_three(letter, key, address, allowance)
 }
 
 // The second number, and what comes after it.
-fn next_form(s: &[u8], from: usize, letter: u8, key: u32) -> Line
+fn next_form(s: &[u8], from: usize, letter: u8, key: u32) -> Option<Order>
     requires { from ≤ length s.now }
     ensures { result ≡ next_form letter key (fields (drop from s.now)) }
 {
-    let end = text_lines::piece_end(s, from, 9);
-    let number = text_decimals::parse_number(&s[from..end]);
-    let Number::Value(address) = number else {
-        return Line::Other;
-    };
+    let end = text_lines::piece_end(s, from, b'\t');
+    let address = text_decimals::parse_number(&s[from..end])?;
     if end < s.len() {
         return last_form(s, end + 1, letter, key, address);
     }
@@ -115,15 +98,12 @@ fn next_form(s: &[u8], from: usize, letter: u8, key: u32) -> Line
 }
 
 // The first number, and what comes after it.
-fn first_form(s: &[u8], from: usize, letter: u8) -> Line
+fn first_form(s: &[u8], from: usize, letter: u8) -> Option<Order>
     requires { from ≤ length s.now }
     ensures { result ≡ first_form letter (fields (drop from s.now)) }
 {
-    let end = text_lines::piece_end(s, from, 9);
-    let number = text_decimals::parse_number(&s[from..end]);
-    let Number::Value(key) = number else {
-        return Line::Other;
-    };
+    let end = text_lines::piece_end(s, from, b'\t');
+    let key = text_decimals::parse_number(&s[from..end])?;
     if end < s.len() {
         return next_form(s, end + 1, letter, key);
     }
@@ -131,11 +111,11 @@ fn first_form(s: &[u8], from: usize, letter: u8) -> Line
 }
 
 // A line without its byte 10.
-pub fn parse_line(s: &[u8]) -> Line
+pub fn parse_line(s: &[u8]) -> Option<Order>
     ensures { result ≡ parsed s.now }
 {
-    if text_lines::piece_end(s, 0, 9) != 1 {
-        return Line::Other;
+    if text_lines::piece_end(s, 0, b'\t') != 1 {
+        return None;
     }
     let letter = s[0];
     if s.len() == 1 {

@@ -12,8 +12,7 @@ use Rattle.geometry.specs.Tests.{pick}
 use Rattle.text_lines.specs.Lines.{Pieces, lines}
 use Rattle.log_tally.specs.declared.Tally.{Tally}
 use Rattle.log_tally.specs.Counted.{none_yet}
-use Rattle.log_lines.specs.declared.Line.{Line}
-use Rattle.log_lines.specs.declared.Line.TheVariants.{Of, Other}
+use Rattle.log_lines.specs.Line.{Line, Of, Other}
 use Rattle.log_lines.specs.Replay.{obeyed, blank_image, answer_line, error_line, tally_after, ending, reply, most_lines, form_after, form_at, answers, replayed}
 use Rattle.log_lines.specs.Short.{longest}
 use Rattle.log_lines.specs.Bytewise.{Whole, whole_more, lines_rest, lines_line, Foreign, long_foreign}

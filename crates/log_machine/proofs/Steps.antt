@@ -17,8 +17,7 @@ use Rattle.call_answers.specs.Answers.{row_of, told}
 use Rattle.log_tally.specs.declared.Tally.{Tally}
 use Rattle.log_tally.specs.Counted.{counted, Within, within_more}
 use Rattle.log_lines.specs.declared.Order.{Order}
-use Rattle.log_lines.specs.declared.Line.{Line}
-use Rattle.log_lines.specs.declared.Line.TheVariants.{Of, Other}
+use Rattle.log_lines.specs.Line.{Line, Of, Other}
 use Rattle.log_lines.specs.Replay.{obeyed, line_text, letter_of, answer_line, error_line, last_line, ending, form_at}
 use Rattle.log_lines.specs.Bytewise.{part_length, form_late, form_as}
 use Rattle.log_machine.specs.declared.Run.{Run}

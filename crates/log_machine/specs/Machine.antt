@@ -9,8 +9,7 @@ use Rattle.geometry.specs.declared.Geometry.{Geometry}
 use Rattle.geometry.specs.Tests.{pick}
 use Rattle.log_tally.specs.declared.Tally.{Tally}
 use Rattle.log_tally.specs.Counted.{none_yet}
-use Rattle.log_lines.specs.declared.Line.{Line}
-use Rattle.log_lines.specs.declared.Line.TheVariants.{Of, Other}
+use Rattle.log_lines.specs.Line.{Line, Of, Other}
 use Rattle.log_lines.specs.Replay.{obeyed, blank_image, answer_line, error_line, tally_after, ending, form_at}
 use Rattle.log_lines.specs.Short.{longest}
 

@@ -4,7 +4,7 @@ use Rattle.geometry.specs.declared.Geometry.{Geometry}
 use Rattle.model.specs.Calls.{Outcome}
 use Rattle.log_tally.specs.declared.Tally.{Tally}
 use Rattle.log_lines.specs.declared.Order.{Order}
-use Rattle.log_lines.specs.declared.Line.TheVariants.{Of}
+use Rattle.log_lines.specs.Line.{Of}
 use Rattle.log_lines.specs.Forms.{parsed}
 use Rattle.log_lines.specs.Replay.{obeyed, answer_line, tally_after}
 

@@ -1,17 +1,17 @@
 // A day's log, fed byte by byte. What waits to be written stands at the start of a lent buffer; the line that has begun
 // stands in another one of 34 bytes, which is as long as a line with a form can be.
-#![tactic(auto)]
+#![tactic(auto, using(crate::proofs::Steps::step_laws))]
 
 ghost use Rattle.std.specs.Prelude.{◌≡◌, [], ◌+◌, ◌<◌, ◌≤◌, length, take};
 ghost use Rattle.std.proofs.lemmas.List.Edits.{sets};
 ghost use Rattle.geometry.specs.Geometry.{small};
 ghost use Rattle.log_tally.specs.Counted.{Within};
-ghost use Rattle.log_lines.specs.declared.Line.TheVariants.{Of};
+ghost use Rattle.log_lines.specs.Line.{Of};
 ghost use Rattle.log_lines.specs.Replay.{error_line, form_at};
 ghost use Rattle.log_machine.specs.Machine.{close, feed, finish};
 ghost use Rattle.log_machine.specs.Run.{start_of, state_of, run_of, refused_run, longer_from, Steady};
 
-use log_lines::{Line, Order};
+use log_lines::Order;
 use log_tally::Tally;
 
 #[derive(Clone, Copy)]
@@ -64,10 +64,10 @@ fn answer(img: &mut [u8], out: &mut [u8], t: Tally, wrote: usize, order: Order) 
 {
     let row = call_answers::row_of(log_play::obey(&mut *img, order));
     let numbers = [
-        row.answer as u64,
-        row.address as u64,
-        row.programmed as u64,
-        row.erased as u64,
+        u64::from(row.answer),
+        u64::from(row.address),
+        u64::from(row.programmed),
+        u64::from(row.erased),
     ];
     let next = log_replies::put_line(&mut *out, wrote, log_lines::letter_of(order), numbers, 4);
     let counted = log_tally::after_line(t, row.programmed, row.erased);
@@ -90,11 +90,12 @@ fn close_line(img: &mut [u8], line: &[u8], out: &mut [u8], t: Tally, wrote: usiz
     ensures most { result.wrote ≤ wrote + 86 }
     ensures within { Within result.tally }
 {
-    if 1000000 <= t.lines {
+    let full = 1000000 <= t.lines;
+    if full {
         return refuse(&mut *out, t, wrote);
     }
     let form = log_lines::parse_line(line);
-    let Line::Of(order) = form else {
+    let Some(order) = form else {
         return refuse(&mut *out, t, wrote);
     };
     answer(&mut *img, &mut *out, t, wrote, order)
@@ -117,7 +118,7 @@ fn lengthen(line: &mut [u8], out: &mut [u8], t: Tally, filled: usize, wrote: usi
             filled: filled + 1,
             tally: t,
             over: false,
-            wrote: wrote,
+            wrote,
         };
     }
     refuse(&mut *out, t, wrote)

@@ -1,5 +1,5 @@
 // One order of a log on the image of a small chip, through the index's calls.
-#![tactic(auto)]
+#![tactic(auto, using(crate::specs::SmallCalls::playing_laws))]
 
 ghost use Rattle.std.specs.Prelude.{◌≡◌};
 ghost use Rattle.geometry.specs.Geometry.{small};

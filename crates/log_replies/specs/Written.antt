@@ -43,32 +43,28 @@ module _ (ns buf : List ℕ) (at : ℕ) where
   place_starts = omega arith
 
   module _ (i end : ℕ) (e : end ≡ at + length (tabbed (take i ns))) where
-    pub fields_go : (mid out : List ℕ) (x n : ℕ) → i < n → n ≤ 4 → length ns ≡ 4 → x ≡ get_or ns i 0 → mid ≡ sets buf at
-        (tabbed (take i ns)) → out ≡ sets mid end (9 ∷ decimal x)
+    pub fields_go : (mid out : List ℕ) (x : ℕ) → i < length ns → x ≡ get_or ns i 0 → mid ≡ sets buf at (tabbed (take i ns))
+        → out ≡ sets mid end (9 ∷ decimal x)
         → out ≡ sets buf at (tabbed (take (i + 1) ns))
-    fields_go mid out x n h k l q f g =
-        g ∙ rw (e, f, q, tabbed_more ns i (omega arith)) (sym (sets_append buf at (tabbed (take i ns)) (9 ∷ decimal (get_or ns i 0))))
+    fields_go mid out x h q f g =
+        g ∙ rw (e, f, q, tabbed_more ns i h) (sym (sets_append buf at (tabbed (take i ns)) (9 ∷ decimal (get_or ns i 0))))
 
-    pub place_goes : (r x n : ℕ) → i < n → n ≤ 4 → length ns ≡ 4 → x ≡ get_or ns i 0 → r ≡ end + length (9 ∷ decimal x)
+    pub place_goes : (r x : ℕ) → i < length ns → x ≡ get_or ns i 0 → r ≡ end + length (9 ∷ decimal x)
         → r ≡ at + length (tabbed (take (i + 1) ns))
-    place_goes r x n h k l q g =
+    place_goes r x h q g =
         let m = length-append (tabbed (take i ns)) (9 ∷ decimal (get_or ns i 0)) in
-        rw (tabbed_more ns i (omega arith)) (g ∙ rw q (omega (arith, m, e)))
+        rw (tabbed_more ns i h) (g ∙ rw q (omega (arith, m, e)))
 
     pub most_goes : (r : ℕ) → end ≤ at + 21 * i → r ≤ end + 21 → r ≤ at + 21 * (i + 1)
     most_goes r h k = omega arith
 
-    pub most_ends : (n : ℕ) → end ≤ at + 21 * i → i ≤ n → n ≤ 4 → end ≤ at + 84
-    most_ends n h k l = omega arith
+    pub fields_end : (mid : List ℕ) → length ns ≤ i → mid ≡ sets buf at (tabbed (take i ns)) → mid ≡ sets buf at (tabbed ns)
+    fields_end mid p f = f ∙ rw (take_all i ns p) refl
 
-    pub fields_end : (mid : List ℕ) (n : ℕ) → i ≤ n → n ≤ i → mid ≡ sets buf at (tabbed (take i ns)) → mid ≡ sets buf at
-        (tabbed (take n ns))
-    fields_end mid n p q f = let z : n ≡ i = omega arith in rw z f
+    pub place_ends : length ns ≤ i → end ≡ at + length (tabbed ns)
+    place_ends p = e ∙ rw (take_all i ns p) refl
 
-    pub place_ends : (n : ℕ) → i ≤ n → n ≤ i → end ≡ at + length (tabbed (take n ns))
-    place_ends n p q = let z : n ≡ i = omega arith in rw z e
-
-pub ruleset fields_laws = (field_place, field_most, field_bytes, fields_start, place_starts, fields_go, place_goes, most_goes, most_ends, fields_end, place_ends)
+pub ruleset fields_laws = (field_place, field_most, field_bytes, fields_start, place_starts, fields_go, place_goes, most_goes, fields_end, place_ends)
 
 -- the letter, the numbers and byte 10
 module _ (l : ℕ) (ns : List ℕ) (at end : ℕ) (e : end ≡ at + 1 + length (tabbed ns)) where

@@ -1,5 +1,5 @@
 // Lines that answer a log, put into a lent buffer. A put outside the buffer changes nothing.
-#![tactic(auto)]
+#![tactic(auto, using(crate::specs::Written::fields_laws, crate::specs::Written::line_laws, crate::specs::Written::numbers_laws))]
 
 ghost use Rattle.std.specs.Prelude.{◌≡◌, ◌∷◌, ◌+◌, ◌≤◌, length, take};
 ghost use Rattle.std.proofs.lemmas.List.Edits.{sets};
@@ -25,10 +25,8 @@ fn put_fields(out: &mut [u8], at: usize, numbers: [u64; 4], n: usize) -> usize
     ensures bytes { out.new ≡ sets out.old at (tabbed (take n numbers)) }
 {
     let mut end = at;
-    let mut i: usize = 0;
-    while i < n {
-        end = put_field(&mut *out, end, numbers[i]);
-        i += 1;
+    for x in &numbers[..n] {
+        end = put_field(&mut *out, end, *x);
     }
     end
 }

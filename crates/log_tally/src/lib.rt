@@ -27,7 +27,7 @@ pub fn plus(sum: u64, more: u32) -> u64
     requires { sum ≤ 4294967295000000 }
     ensures { result ≡ sum + more }
 {
-    sum + more as u64
+    sum + u64::from(more)
 }
 
 // One line more: the record is changed in place.
@@ -41,11 +41,10 @@ pub fn add(t: &mut Tally, programmed: u32, erased: u32)
 }
 
 // The record after a line: it is lent to `add` and handed back.
-pub fn after_line(t: Tally, programmed: u32, erased: u32) -> Tally
+pub fn after_line(mut t: Tally, programmed: u32, erased: u32) -> Tally
     requires { Within t }
     ensures { result ≡ counted t programmed erased }
 {
-    let mut u = t;
-    add(&mut u, programmed, erased);
-    u
+    add(&mut t, programmed, erased);
+    t
 }

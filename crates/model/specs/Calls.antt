@@ -1,12 +1,8 @@
 -- "Answer numbers": the calls on every image. Each gives its answer, address, counts, rule, page and the image
 -- afterwards. Definitions alone; assumes nothing.
-use Rattle.std.specs.Prelude.{ℕ, ◌+◌, ◌-◌, ◌*◌, Bool, List, leb, ltb, length, take}
-use Rattle.std.proofs.Math.Option.{Option, none, some}
+use Rattle.std.specs.Prelude.{ℕ, ◌+◌, ◌-◌, ◌*◌, Bool, List, leb, ltb, length, take, None, Option, Some, Err, is_none}
 use Rattle.geometry.specs.declared.Geometry.{Geometry}
-use Rattle.geometry.specs.declared.Chosen.{Chosen}
-use Rattle.geometry.specs.declared.Chosen.TheVariants.{Of, Unknown}
-use Rattle.geometry.specs.declared.Verdict.{Verdict}
-use Rattle.geometry.specs.declared.Verdict.TheVariants.{Sound, Broken}
+use Rattle.geometry.specs.Findings.{Verdict, Sound}
 use Rattle.geometry.specs.declared.Patrol.{Patrol}
 use Rattle.geometry.specs.declared.Patrol.TheVariants.{Clean, DataMended, CodeMended, Beyond}
 use Rattle.geometry.specs.Geometry.{chosen_of, halves, code_place, page_base}
@@ -16,7 +12,7 @@ use Rattle.model.specs.Image.{Chip, chip_of, pages_of, blocks_of, good_length, m
 use Rattle.model.specs.Tree.{sought, live_pages}
 use Rattle.model.specs.Rules.{verdict}
 use Rattle.model.specs.Stores.{Store, apply_all, programs, erases}
-use Rattle.model.specs.Update.{is_none, needs, too_high, insert_stores, delete_stores, format_stores}
+use Rattle.model.specs.Update.{needs, too_high, insert_stores, delete_stores, format_stores}
 
 pub record Outcome : Type 0 where
   pub answer : ℕ
@@ -50,15 +46,15 @@ made g stores allowance img =
 -- a verdict, for a call of any kind: what it gives for a broken rule with its page, and what on a sound image
 unfoldable pub by_verdict : {A : Type 0} → Verdict → (ℕ → ℕ → A) → A → A
 by_verdict Sound broken rest = rest
-by_verdict (Broken rule page) broken rest = broken rule page
+by_verdict (Err b) broken rest = broken b.rule b.page
 
 -- LENGTH and DAMAGED come first, in a call of any kind
 unfoldable pub judged : {A : Type 0} → Geometry → List ℕ → A → (ℕ → ℕ → A) → A → A
 judged g img short broken rest = pick (good_length g img) (by_verdict (verdict g (blocks_of g img) img) broken rest) short
 
 unfoldable pub answered : Option ℕ → List ℕ → Outcome
-answered none img = refused 4 img
-answered (some a) img = gives 0 a 0 0 img
+answered None img = refused 4 img
+answered (Some a) img = gives 0 a 0 0 img
 
 -- one of the four calls, judged first
 abbrev pub judged_call : Geometry → List ℕ → Outcome → Outcome
@@ -132,9 +128,9 @@ patrol g img page half = pick (is_half g img page half)
     (patrolled img (page_base g page + 256 * half) (page_base g page + code_place g half)) (refused 1 img)
 
 -- "The caller says which geometry by a number, 0 or 1; another gives LENGTH", in a call of any kind
-unfoldable pub chosen_call : {A : Type 0} → Chosen → (Geometry → A) → A → A
-chosen_call (Of g) call short = call g
-chosen_call Unknown call short = short
+unfoldable pub chosen_call : {A : Type 0} → Option Geometry → (Geometry → A) → A → A
+chosen_call (Some g) call short = call g
+chosen_call None call short = short
 
 unfoldable pub format_of : ℕ → List ℕ → Outcome
 format_of kind img = chosen_call (chosen_of kind) (λ g. format g img) (refused 1 img)

@@ -1,7 +1,6 @@
 -- Collection: the victim, the moves, the erase, each on the image as it then stands. Definitions alone; assumes
 -- nothing.
-use Rattle.std.specs.Prelude.{ℕ, zero, suc, ◌+◌, ◌-◌, ◌*◌, Bool, List, [], ◌∷◌, ◌++◌, leb, ltb}
-use Rattle.std.proofs.Math.Option.{Option, none, some}
+use Rattle.std.specs.Prelude.{ℕ, zero, suc, ◌+◌, ◌-◌, ◌*◌, Bool, List, [], ◌∷◌, ◌++◌, leb, ltb, None, Option, Some}
 use Rattle.geometry.specs.declared.Geometry.{Geometry}
 use Rattle.geometry.specs.declared.Entry.{Entry}
 use Rattle.geometry.specs.Tests.{pick}
@@ -14,11 +13,11 @@ use Rattle.model.specs.Edit.{on_path, renamed, same}
 
 -- "the block without erased pages that has fewest live pages, lowest number on a tie", of the blocks below n
 unfoldable pub better : (ℕ → Bool) → (ℕ → ℕ) → ℕ → Option ℕ → Option ℕ
-better full lives b none = pick (full b) (some b) none
-better full lives b (some v) = pick (full b) (pick (ltb (lives b) (lives v)) (some b) (some v)) (some v)
+better full lives b None = pick (full b) (Some b) None
+better full lives b (Some v) = pick (full b) (pick (ltb (lives b) (lives v)) (Some b) (Some v)) (Some v)
 
 unfoldable pub victim : (ℕ → Bool) → (ℕ → ℕ) → ℕ → Option ℕ
-victim full lives zero = none
+victim full lives zero = None
 victim full lives (suc b) = better full lives b (victim full lives b)
 
 -- the live pages of a block
@@ -52,8 +51,8 @@ sweep_stores g n v (suc j) img = pick (live (places_of (chip_of g n img)) (g.pag
 
 -- "Then erase the victim"
 unfoldable pub clear_stores : Geometry → ℕ → Option ℕ → List ℕ → List Store
-clear_stores g n none img = []
-clear_stores g n (some v) img = sweep_stores g n v g.pages img ++ (erase v ∷ [])
+clear_stores g n None img = []
+clear_stores g n (Some v) img = sweep_stores g n v g.pages img ++ (erase v ∷ [])
 
 -- "While F < 32 + k, collect", in at most m rounds
 unfoldable pub collect_stores : Geometry → ℕ → ℕ → ℕ → List ℕ → List Store

@@ -1,7 +1,7 @@
 -- The pages of an update of request 12's plain tree, the wandering tree of document 004: one node to a page. It is read
 -- as the μ-Tree is, with the geometry `plain`; what differs is which pages an update programs. Definitions alone;
 -- assumes nothing.
-use Rattle.std.specs.Prelude.{ℕ, zero, suc, ◌+◌, ◌-◌, ◌*◌, min, Bool, true, false, List, [], ◌∷◌, ◌++◌, eqb, leb, ltb, length, take, drop}
+use Rattle.std.specs.Prelude.{ℕ, zero, suc, ◌+◌, ◌-◌, ◌*◌, min, Bool, true, false, List, [], ◌∷◌, ◌++◌, eqb, leb, ltb, length, take, drop, is_none}
 use Rattle.geometry.specs.declared.Geometry.{Geometry}
 use Rattle.geometry.specs.declared.Entry.{Entry}
 use Rattle.geometry.specs.Geometry.{half}
@@ -13,7 +13,7 @@ use Rattle.model.specs.Next.{ahead, nth}
 use Rattle.model.specs.Page.{built, only}
 use Rattle.model.specs.Stores.{Store, program}
 use Rattle.model.specs.Edit.{on_path, put_in, gains, splits, remove_in, kept, Top, collapse}
-use Rattle.model.specs.Update.{is_none, delete_list}
+use Rattle.model.specs.Update.{delete_list}
 use Rattle.model.specs.Calls.{Outcome, refused, made, judged_call, worn}
 
 -- ---- what stands above a changed node

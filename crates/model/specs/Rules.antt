@@ -1,12 +1,9 @@
 -- "A sound image": R1 to R7 and, by request 11, R8, one by one, each with the page that request 5 of document 02 names,
 -- and the verdict: the first broken rule. Definitions alone; assumes nothing.
-use Rattle.std.specs.Prelude.{ℕ, zero, suc, ◌+◌, ◌-◌, ◌*◌, Bool, true, false, not, List, [], ◌∷◌, eqb, leb, ltb, length}
+use Rattle.std.specs.Prelude.{ℕ, zero, suc, ◌+◌, ◌-◌, ◌*◌, Bool, true, false, not, List, [], ◌∷◌, eqb, leb, ltb, length, Err}
 use Rattle.geometry.specs.declared.Geometry.{Geometry}
 use Rattle.geometry.specs.declared.Entry.{Entry}
-use Rattle.geometry.specs.declared.Finding.{Finding}
-use Rattle.geometry.specs.declared.Finding.TheVariants.{Good, Bad}
-use Rattle.geometry.specs.declared.Verdict.{Verdict}
-use Rattle.geometry.specs.declared.Verdict.TheVariants.{Sound, Broken}
+use Rattle.geometry.specs.Findings.{Finding, Good, Bad, Verdict, Sound, broken_at}
 use Rattle.geometry.specs.Geometry.{halves, page_base, slots_of, root_most}
 use Rattle.geometry.specs.Tests.{pick, ◌&◌}
 use Rattle.model.specs.Bytes.{erased, seq_at, height_at, tail_at}
@@ -137,7 +134,7 @@ r8 p n c = unless (ample p (p * n - live_pages (p * n) c)) 0 Good
 -- the first broken rule and its page
 unfoldable pub or_else : ℕ → Finding → Verdict → Verdict
 or_else rule Good v = v
-or_else rule (Bad p) v = Broken rule p
+or_else rule (Bad p) v = broken_at rule p
 
 -- R7 and R8 are asked of a μ-Tree: by request 12 the sound images of the plain tree, table 2, "keep R1 to R6"
 unfoldable pub asked : Geometry → Finding → Finding
@@ -152,4 +149,4 @@ verdict g n img =
 
 abbrev pub is_sound : Verdict → Bool
 is_sound Sound = true
-is_sound (Broken r p) = false
+is_sound (Err b) = false

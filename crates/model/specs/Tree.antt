@@ -1,7 +1,6 @@
 -- The tree from the root down: its map, its live pages, descent. Level 0 is the pair itself. Definitions alone; assumes
 -- nothing.
-use Rattle.std.specs.Prelude.{ℕ, zero, suc, ◌+◌, ◌-◌, ◌/◌, min, Bool, true, false, List, [], ◌∷◌, ◌++◌, eqb, ltb, length, get_or}
-use Rattle.std.proofs.Math.Option.{Option, none, some}
+use Rattle.std.specs.Prelude.{ℕ, zero, suc, ◌+◌, ◌-◌, ◌/◌, min, Bool, true, false, List, [], ◌∷◌, ◌++◌, eqb, ltb, length, get_or, None, Option, Some}
 use Rattle.geometry.specs.declared.Entry.{Entry}
 use Rattle.geometry.specs.Tests.{pick}
 use Rattle.model.specs.Count.{count}
@@ -87,12 +86,12 @@ leaf r k (suc l) e = leaf r k l (chosen k (r e.addr (suc (suc l))))
 
 -- what a sorted list has under K
 unfoldable pub find : ℕ → List Entry → Option ℕ
-find k [] = none
-find k (e ∷ es) = pick (eqb e.key k) (some e.addr) (find k es)
+find k [] = None
+find k (e ∷ es) = pick (eqb e.key k) (Some e.addr) (find k es)
 
 -- what a leaf has under K: the entry that descent takes, if its key is K
 unfoldable pub find_in : ℕ → List Entry → Option ℕ
-find_in k [] = none
+find_in k [] = None
 find_in k (e ∷ es) = find k (chosen k (e ∷ es) ∷ [])
 
 -- what lookup finds of K

@@ -1,6 +1,5 @@
 -- The stores of insert, delete and format. Definitions alone; assumes nothing.
-use Rattle.std.specs.Prelude.{ℕ, zero, suc, ◌+◌, ◌*◌, Bool, true, false, List, [], ◌∷◌, ◌++◌, eqb, leb, ltb, length}
-use Rattle.std.proofs.Math.Option.{Option, none, some}
+use Rattle.std.specs.Prelude.{ℕ, zero, suc, ◌+◌, ◌*◌, Bool, List, [], ◌∷◌, ◌++◌, eqb, leb, ltb, length, is_none}
 use Rattle.geometry.specs.declared.Geometry.{Geometry}
 use Rattle.geometry.specs.declared.Entry.{Entry}
 use Rattle.geometry.specs.Geometry.{half, root_slots}
@@ -12,10 +11,6 @@ use Rattle.model.specs.Page.{built, only}
 use Rattle.model.specs.Stores.{Store, program, erase, apply_all}
 use Rattle.model.specs.Edit.{on_path, put_in, path_half, side_half, two, named, path_part, gains, splits, remove_in, kept, Top, collapse}
 use Rattle.model.specs.Collect.{collect_stores}
-
-abbrev pub is_none : {A : Type 0} → Option A → Bool
-is_none none = true
-is_none (some a) = false
 
 -- ---- k: "the pages an update needs: 1 + splits + 1 if it grows"
 -- the root's entries

@@ -1,11 +1,11 @@
 -- Opening and the calls with a record, in the form in which the code has the premises. Assumes nothing.
-use Rattle.std.specs.Prelude.{ℕ, ◌-◌, min, Bool, true, false, not, ◌≡◌, List, take}
+use Rattle.std.specs.Prelude.{ℕ, ◌-◌, min, Bool, true, false, not, ◌≡◌, List, take, Option, Err}
 use Rattle.std.proofs.Math.Path.{sym, ap}
 use Rattle.std.proofs.Common.{◌∙◌}
-use Rattle.std.proofs.Math.Option.{Option}
 use borrow.Author.Tests.{not-true, not-false, eqb-true}
 use Rattle.geometry.specs.declared.Geometry.{Geometry}
-use Rattle.geometry.specs.declared.Verdict.TheVariants.{Sound, Broken}
+use Rattle.geometry.specs.declared.Broken.{Broken}
+use Rattle.geometry.specs.Findings.{Sound}
 use Rattle.geometry.specs.Tests.{and_right}
 use Rattle.model.specs.Bytes.{height_at}
 use Rattle.model.specs.Image.{blocks_of}
@@ -18,8 +18,6 @@ use Rattle.call_answers.specs.declared.Answer.TheVariants.{Done, Length, Damaged
 use Rattle.call_answers.specs.Answers.{told}
 use Rattle.chip_read.specs.Chip.{good_blocks, chip_with}
 use Rattle.chip_read.specs.Blocks.{none_good, some_good, some_blocks}
-use Rattle.tree_search.specs.declared.Found.{Found}
-use Rattle.tree_search.specs.Search.{found}
 use Rattle.chip_survey.specs.Survey.{survey_of}
 use Rattle.sound_verdict.specs.declared.Judgement.{Judgement}
 use Rattle.sound_verdict.specs.Verdict.{Judged}
@@ -34,14 +32,14 @@ module _ (g : Geometry) (n : ℕ) (img : List ℕ) (j : Judgement) (t u : List �
   pub survey_judged : j.survey ≡ survey_of g n img
   survey_judged = x.survey
 
-  pub opening_broken : (a : Answer) (r p : ℕ) → a ≡ Damaged r p → j.verdict ≡ Broken r p
+  pub opening_broken : (a : Answer) (b : Broken) → a ≡ Damaged b.rule b.page → j.verdict ≡ Err b
       → told a img ≡ opening_in g n img
   unfolding opening_in
-  opening_broken a r p ea e = judged_broken g n img (damaged img) (gives 0 0 0 0 img) j t u x (told a img) r p e (ap (λ (y : Answer). told y img) ea)
+  opening_broken a b ea e = judged_broken g n img (damaged img) (gives 0 0 0 0 img) j t u x (told a img) b.rule b.page e (ap (λ (y : Answer). told y img) ea)
 
-  pub opened_broken : (o : Opened) (r p : ℕ) → o ≡ no_record → j.verdict ≡ Broken r p → o ≡ opened_blocks g n img
+  pub opened_broken : (o : Opened) (b : Broken) → o ≡ no_record → j.verdict ≡ Err b → o ≡ opened_blocks g n img
   unfolding opened_blocks
-  opened_broken o r p eo e = judged_broken g n img (λ r p. no_record) (opened_in g n img) j t u x o r p e eo
+  opened_broken o b eo e = judged_broken g n img (λ r p. no_record) (opened_in g n img) j t u x o b.rule b.page e eo
 
   pub opening_sound : (a : Answer) → a ≡ Done 0 0 0 → j.verdict ≡ Sound → told a img ≡ opening_in g n img
   unfolding opening_in
@@ -109,12 +107,12 @@ module _ (g : Geometry) (img : List ℕ) (o : Opened) (n : ℕ) (en : n ≡ good
       unfolding lookup_with
       lookup_stale f = call_stale s es h (refused 1 img) (refused 8 img) _ f
 
-      pub lookup_sought : (l : ℕ) (f : Found) (a : Answer) → l ≡ min (height_at g img o.root - 1) (g.top - 1)
-          → found f ≡ sought (chip_with g img l o.root) k
+      pub lookup_sought : (l : ℕ) (f : Option ℕ) (a : Answer) → l ≡ min (height_at g img o.root - 1) (g.top - 1)
+          → f ≡ sought (chip_with g img l o.root) k
           → a ≡ answer_of f → not s ≡ false → told a img ≡ lookup_with g img o k
       unfolding lookup_with
       lookup_sought l f a el ef ea e =
-          let c : found f ≡ sought (chip_by g img o) k =
+          let c : f ≡ sought (chip_by g img o) k =
           ef ∙ ap (λ (m : ℕ). sought (chip_with g img m o.root) k) (call_level s es h l el e) in
           ap (λ (y : Answer). told y img) ea ∙ answer_tells f img ∙ ap (λ (y : Option ℕ). answered y img) c
           ∙ call_rest s es h (refused 1 img) (refused 8 img) _ e

@@ -1,7 +1,7 @@
 // Request 8, "Open once, call often": opening, which judges an image and hands back its record, and lookup and listing
 // with a record. With a record nothing is judged: one page is read, and the record is STALE where that page is not the
 // root that it names.
-#![tactic(auto)]
+#![tactic(auto, using(crate::specs::Openings::opening_laws))]
 
 ghost use Rattle.std.specs.Prelude.{◌≡◌, ◌-◌, ◌≤◌, ◌<◌, min, length};
 ghost use Rattle.model.specs.Bytes.{height_at};
@@ -13,7 +13,7 @@ ghost use Rattle.open_calls.specs.Opening.{opening_in, opened_blocks};
 
 use call_answers::Answer;
 use chip_survey::Survey;
-use geometry::{Geometry, Verdict};
+use geometry::{Broken, Geometry};
 use open_record::Opened;
 
 // What opening answers, and the record: zeros where it is refused.
@@ -63,8 +63,8 @@ fn open_blocks(g: Geometry, img: &[u8], table: &mut [u8], n: u16) -> Opening
     let verdict = judgement.verdict;
     let survey = judgement.survey;
     match verdict {
-        Verdict::Broken(rule, page) => refused(Answer::Damaged(rule, page)),
-        Verdict::Sound => granted(g, img, n, survey),
+        Err(Broken { rule, page }) => refused(Answer::Damaged(rule, page)),
+        Ok(()) => granted(g, img, n, survey),
     }
 }
 

@@ -1,5 +1,5 @@
 // The record of request 8: taken from a survey, carried on by an update, and when it is STALE.
-#![tactic(auto)]
+#![tactic(auto, using(crate::specs::Recorded::recording_laws))]
 
 ghost use Rattle.std.specs.Prelude.{◌≡◌, ◌+◌, ◌-◌, ◌%◌, ◌≤◌, ◌<◌};
 ghost use Rattle.geometry.specs.Bounds.{four_bytes};
@@ -31,10 +31,10 @@ pub fn record_of(g: Geometry, img: &[u8], n: u16, s: Survey) -> Opened
     let next = chip_next::next_by(g, n, chip_next::next_page(g, img, n, s.last));
     Opened {
         root: s.root,
-        number: number,
+        number,
         most: s.most,
         height: s.height,
-        next: next,
+        next,
         erased: s.erased,
     }
 }
@@ -47,12 +47,6 @@ pub fn record_anew(g: Geometry, img: &[u8], n: u16) -> Opened
     record_of(g, img, n, s)
 }
 
-fn long(x: u32) -> u64
-    ensures { (result ≡ x) × (result < four_bytes) }
-{
-    x as u64
-}
-
 fn short(x: u64) -> u32
     ensures { result ≡ x % four_bytes }
 {
@@ -63,21 +57,7 @@ fn short(x: u64) -> u32
 fn less(x: u32, y: u64) -> u32
     ensures { (result ≡ x - y) × (result ≤ x) }
 {
-    if long(x) < y {
-        return 0;
-    }
-    x - (y as u32)
-}
-
-// How much the largest number has grown.
-fn grown(most: u64, before: u32) -> u64
-    ensures { result ≡ most - before }
-{
-    let old = long(before);
-    if most < old {
-        return 0;
-    }
-    most - old
+    u64::from(x).saturating_sub(y) as u32
 }
 
 // The erased pages once pages were moved out of a block, as many as the largest number has grown, and the block was
@@ -86,7 +66,8 @@ fn erased_after(g: Geometry, o: Opened, most: u64) -> u32
     requires { o.erased < 4294901760 }
     ensures { result ≡ o.erased - (most - o.most) + g.pages }
 {
-    less(o.erased, grown(most, o.most)) + (g.pages as u32)
+    let grown = most.saturating_sub(u64::from(o.most));
+    less(o.erased, grown) + u32::from(g.pages)
 }
 
 // The record after an erase, where the root has the largest number.
@@ -98,7 +79,7 @@ fn record_on(g: Geometry, img: &[u8], n: u16, o: Opened, root: u32, most: u64, n
     let after = chip_next::next_by(g, n, chip_next::next_erased(g, img, n, root, next));
     let newest = short(most);
     Opened {
-        root: root,
+        root,
         number: newest,
         most: newest,
         height: o.height,
@@ -121,7 +102,7 @@ pub fn record_erased(
     requires { (o.erased < 4294901760) × (o.height < 256) }
     ensures { (result ≡ record_swept g n o root most next img.now) × (result.height < 256) }
 {
-    if most != long(o.most) {
+    if most != u64::from(o.most) {
         return record_on(g, img, n, o, root, most, next);
     }
     if o.number == o.most {
@@ -143,12 +124,12 @@ pub fn record_made(
     requires { (m ≤ 256) × (page < 4294967295) × (level < 255) }
     ensures { result ≡ record_at g n o m page level img.now }
 {
-    let number = short(long(o.most) + long(m));
+    let number = o.most.wrapping_add(m);
     let coming = chip_next::next_by(g, n, chip_next::next_after(g, img, n, page));
-    let left = less(o.erased, long(m));
+    let left = o.erased.saturating_sub(m);
     Opened {
         root: page,
-        number: number,
+        number,
         most: number,
         height: level + 1,
         next: coming,

@@ -1,5 +1,5 @@
 -- What an update of the plain tree counts before its stores, on every image. Definitions alone; assumes nothing.
-use Rattle.std.specs.Prelude.{ℕ, suc, ◌≤◌, ◌≡◌, List, length}
+use Rattle.std.specs.Prelude.{ℕ, suc, ◌≤◌, true, false, ◌≡◌, List, length, Option, None, Some, is_none}
 use Rattle.geometry.specs.declared.Geometry.{Geometry}
 use Rattle.geometry.specs.declared.Entry.{Entry}
 use Rattle.model.specs.Bytes.{node_at}
@@ -7,7 +7,7 @@ use Rattle.model.specs.Count.{count}
 use Rattle.model.specs.Image.{Nodes, Chip}
 use Rattle.model.specs.Tree.{leaf, find_in, sought}
 use Rattle.model.specs.Edit.{remove_in, kept, edited, on_path}
-use Rattle.model.specs.Update.{is_none, delete_list}
+use Rattle.model.specs.Update.{delete_list}
 use Rattle.model.specs.Plain.{plain_cuts, plain_grows, none_left, emptied}
 use Rattle.tree_plan.specs.declared.Run.{Run}
 use Rattle.plain_calls.specs.declared.Loss.{Loss}
@@ -27,15 +27,25 @@ less_of r k l e = edited r k (remove_in k) (kept 0) l e
 abbrev pub emptied_below : Nodes → ℕ → ℕ → Entry → ℕ
 emptied_below r k l e = count l (λ j. none_left (on_path r k (remove_in k) (kept 0) l e (suc j)))
 
+-- what a delete does where the key stands there
 pub record Loses (g : Geometry) (img : List ℕ) (k l : ℕ) (e : Entry) (r : Loss) : Type 0 where
-  pub absent : r.absent ≡ is_none (find_in k (leaf (node_at g img) k l e))
+  pub stands : false ≡ is_none (find_in k (leaf (node_at g img) k l e))
   pub emptied : r.emptied ≡ emptied_below (node_at g img) k l e
   pub left : r.left ≡ length (less_of (node_at g img) k l e)
   pub few : r.emptied ≤ l
 
+-- the same, and nothing where the key is absent
+abbrev pub LosesSome : Geometry → List ℕ → ℕ → ℕ → Entry → Option Loss → Type 0
+LosesSome g img k l e None = true ≡ is_none (find_in k (leaf (node_at g img) k l e))
+LosesSome g img k l e (Some r) = Loses g img k l e r
+
 -- the same of the root
 pub record Sheds (c : Chip) (k : ℕ) (r : Loss) : Type 0 where
-  pub absent : r.absent ≡ is_none (sought c k)
+  pub stands : false ≡ is_none (sought c k)
   pub emptied : r.emptied ≡ emptied c k
   pub left : r.left ≡ length (delete_list c k 0 (suc c.level))
   pub few : r.emptied ≤ c.level
+
+abbrev pub ShedsSome : Chip → ℕ → Option Loss → Type 0
+ShedsSome c k None = true ≡ is_none (sought c k)
+ShedsSome c k (Some r) = Sheds c k r

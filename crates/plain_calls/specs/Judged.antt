@@ -1,11 +1,11 @@
 -- The plain tree's calls, in the form in which the code has the premises. Assumes nothing.
-use Rattle.std.specs.Prelude.{ℕ, suc, ◌+◌, ◌-◌, ◌<◌, ◌≤◌, Bool, true, false, ◌≡◌, refl, List, eqb, leb, ltb}
+use Rattle.std.specs.Prelude.{ℕ, suc, ◌+◌, ◌-◌, ◌<◌, ◌≤◌, Bool, true, false, ◌≡◌, refl, List, eqb, leb, ltb, is_none}
 use Rattle.std.proofs.Math.Path.{sym, ap}
 use Rattle.std.proofs.Common.{subst, ◌∙◌, arith, add-one, Fits}
 use borrow.Author.Tests.{lt-ltb, le-ltb, lt-leb, le-leb, eq-eqb, ne_eqb}
 use Rattle.std.specs.Int.{w8}
 use Rattle.geometry.specs.declared.Geometry.{Geometry}
-use Rattle.geometry.specs.declared.Verdict.TheVariants.{Sound, Broken}
+use Rattle.geometry.specs.Findings.{Sound, broken_at}
 use Rattle.geometry.specs.Geometry.{plain, page_bytes}
 use Rattle.geometry.specs.Shape.{plain_core}
 use Rattle.geometry.specs.Tests.{pick, bit, ◌&◌, and_true, and_false}
@@ -13,12 +13,11 @@ use Rattle.geometry.specs.Bounds.{four_bytes, longest_page}
 use Rattle.model.specs.Bytes.{byte_at, node_at, erased}
 use Rattle.model.specs.Count.{count}
 use Rattle.model.specs.Image.{Chip, chip_of, pages_of, max_seq}
-use Rattle.model.specs.Tree.{leaf, find_in}
+use Rattle.model.specs.Tree.{leaf, find_in, sought}
 use Rattle.model.specs.Calls.{Outcome, refused, damaged, judged_call, worn, format, lookup}
-use Rattle.model.specs.Update.{is_none}
 use Rattle.model.specs.Stores.{Store}
 use Rattle.model.specs.Plain.{plain_cuts, plain_grows, plain_high, plain_needs, plain_roomless, plain_insert_rest, plain_insert}
-use Rattle.model.specs.Plain.{emptied, plain_shrinks, plain_leaves, plain_delete_rest, plain_delete}
+use Rattle.model.specs.Plain.{plain_shrinks, plain_leaves, plain_delete_rest, plain_delete}
 use Rattle.call_answers.specs.declared.Answer.{Answer}
 use Rattle.call_answers.specs.declared.Answer.TheVariants.{Length, Damaged, Worn, Absent, Height, Room}
 use Rattle.call_answers.specs.Answers.{told}
@@ -187,15 +186,19 @@ module _ (g : Geometry) (n : ℕ) (s : Survey) (i : List ℕ) (es : s ≡ survey
     unfolding plain_delete_by
     delete_worn h = sym (rw (is_worn h))
 
+    pub delete_absent : true ≡ is_none (sought (chip_with g i s.level s.root) k) → s.most ≤ g.worn
+        → told Absent i ≡ plain_delete_by g n i k x
+    unfolding plain_delete_by
+    delete_absent q fresh =
+        let missing : true ≡ is_none (sought (chip_of g n i) k) =
+        subst (λ (y : Chip). true ≡ is_none (sought y k)) (chip_is g n i s es) q in
+        sym (rw (not_worn fresh, ← missing))
+
     module _ (r : Loss) (c : Sheds (chip_with g i s.level s.root) k r) (fresh : s.most ≤ g.worn) where
       shed : Sheds (chip_of g n i) k r
       shed = rw (chip_is g n i s es) at c
 
-      pub delete_absent : r.absent ≡ true → told Absent i ≡ plain_delete_by g n i k x
-      unfolding plain_delete_by
-      delete_absent q = sym (rw (not_worn fresh, ← shed.absent, q))
-
-      module _ (there : r.absent ≡ false) (v : Bool)
+      module _ (v : Bool)
           (ev : v ≡ ltb s.erased (suc (pick (leb 1 s.level & eqb r.left 1) 0 (s.level - r.emptied)))) where
         left_same : plain_roomless g n (chip_of g n i) (plain_leaves (chip_of g n i) k) ≡ v
         unfolding plain_leaves plain_shrinks
@@ -203,13 +206,13 @@ module _ (g : Geometry) (n : ℕ) (s : Survey) (i : List ℕ) (es : s ≡ survey
 
         pub delete_room : v ≡ true → told Room i ≡ plain_delete_by g n i k x
         unfolding plain_delete_by
-        delete_room q = sym (rw (not_worn fresh, ← shed.absent, there, left_same, q))
+        delete_room q = sym (rw (not_worn fresh, ← shed.stands, left_same, q))
 
         pub delete_stores_lem : (w : Outcome) → w ≡ made_with g (delete_stores_at g (chip_of g n i) k (pages_by g n i)
             (max_seq g n i) r.emptied) x i → v ≡ false
             → w ≡ plain_delete_by g n i k x
         unfolding plain_delete_by
-        delete_stores_lem w e q = e ∙ sym (rw (not_worn fresh, ← shed.absent, there, left_same, q, ← shed.emptied))
+        delete_stores_lem w e q = e ∙ sym (rw (not_worn fresh, ← shed.stands, left_same, q, ← shed.emptied))
 
 -- no more levels are emptied than there are
 pub sheds_few : (c : Chip) (k : ℕ) (r : Loss) → Sheds c k r → r.emptied ≤ c.level
@@ -235,17 +238,17 @@ module _ (img : List ℕ) (n : ℕ) (g : Geometry) (eg : g ≡ plain) (en : n �
     judgement : Judged plain n img j t u
     judgement = rw eg at d
 
-    call_broken : (rest : Outcome) (rule page : ℕ) → j.verdict ≡ Broken rule page → told (Damaged rule page) img
+    call_broken : (rest : Outcome) (rule page : ℕ) → j.verdict ≡ broken_at rule page → told (Damaged rule page) img
         ≡ judged_call plain img rest
     call_broken rest rule page e = judged_blocks plain img (refused 1 img) (damaged img) rest n blocks _ some
         (judged_broken plain n img (damaged img) rest j t u judgement _ rule page e refl)
 
-    pub insert_broken : (k a x rule page : ℕ) → j.verdict ≡ Broken rule page → told (Damaged rule page) img
+    pub insert_broken : (k a x rule page : ℕ) → j.verdict ≡ broken_at rule page → told (Damaged rule page) img
         ≡ plain_insert plain img k a x
     unfolding plain_insert
     insert_broken k a x rule page e = call_broken _ rule page e
 
-    pub delete_broken : (k x rule page : ℕ) → j.verdict ≡ Broken rule page → told (Damaged rule page) img
+    pub delete_broken : (k x rule page : ℕ) → j.verdict ≡ broken_at rule page → told (Damaged rule page) img
         ≡ plain_delete plain img k x
     unfolding plain_delete
     delete_broken k x rule page e = call_broken _ rule page e

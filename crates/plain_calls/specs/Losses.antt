@@ -1,8 +1,7 @@
 -- Counting the levels that a delete empties, in the form in which the code has the premises. Assumes nothing.
-use Rattle.std.specs.Prelude.{ℕ, zero, suc, ◌+◌, ◌-◌, ◌<◌, Bool, true, false, ◌≡◌, refl, List, [], ◌∷◌, eqb}
+use Rattle.std.specs.Prelude.{ℕ, zero, suc, ◌+◌, ◌-◌, ◌<◌, Bool, true, false, ◌≡◌, refl, List, [], ◌∷◌, eqb, Option, None, Some, is_none}
 use Rattle.std.proofs.Math.Path.{sym, ap}
 use Rattle.std.proofs.Common.{◌∙◌, length-append, arith, add-one, sub-one}
-use Rattle.std.proofs.Math.Option.{none, some}
 use Rattle.std.proofs.Math.ListN.{length}
 use Rattle.geometry.specs.declared.Geometry.{Geometry}
 use Rattle.geometry.specs.declared.Entry.{Entry}
@@ -18,12 +17,9 @@ use Rattle.model.specs.Plain.{none_left, emptied}
 use Rattle.theory_counts.specs.Tally.{count_same}
 use Rattle.chip_read.specs.Chip.{chip_with}
 use Rattle.chip_read.specs.Node.{node_length}
-use Rattle.tree_search.specs.declared.Found.{Found}
-use Rattle.tree_search.specs.declared.Found.TheVariants.{At, Nothing}
-use Rattle.tree_search.specs.Search.{found}
 use Rattle.tree_path.specs.Paths.{path_top, path_below}
 use Rattle.plain_calls.specs.declared.Loss.{Loss}
-use Rattle.plain_calls.specs.Counts.{less_of, emptied_below, Loses, Sheds}
+use Rattle.plain_calls.specs.Counts.{less_of, emptied_below, Loses, LosesSome, ShedsSome}
 
 -- ---- a node whose entry gives way to a list
 swap_length : (f : Entry → List Entry) (i : ℕ) (es : List Entry) → i < length es
@@ -50,25 +46,25 @@ splice_one f k [] z = refl
 splice_one f k (e ∷ es) z = let w = splice_length f k (e ∷ es) (omega arith) in omega (arith, w, z)
 
 -- ---- the leaf: it loses K, where K stands there
-one_there : (k a : ℕ) (x : Entry) (t : Bool) → eqb x.key k ≡ t → find k (x ∷ []) ≡ some a
+one_there : (k a : ℕ) (x : Entry) (t : Bool) → eqb x.key k ≡ t → find k (x ∷ []) ≡ Some a
     → length (remove k (x ∷ [])) ≡ 0
 unfolding find
 one_there k a x true e h = rw e
 one_there k a x false e h = let z : ◌≡◌ {A = ℕ} 0 1 = cc in absurd (omega arith)
 
-one_missing : (k : ℕ) (x : Entry) (t : Bool) → eqb x.key k ≡ t → find k (x ∷ []) ≡ none → length (remove k (x ∷ []))
+one_missing : (k : ℕ) (x : Entry) (t : Bool) → eqb x.key k ≡ t → find k (x ∷ []) ≡ None → length (remove k (x ∷ []))
     ≡ 1
 unfolding find
 one_missing k x true e h = let z : ◌≡◌ {A = ℕ} 0 1 = cc in absurd (omega arith)
 one_missing k x false e h = rw e
 
-remove_there : (k a : ℕ) (es : List Entry) → find_in k es ≡ some a → length (remove_in k es) ≡ length es - 1
+remove_there : (k a : ℕ) (es : List Entry) → find_in k es ≡ Some a → length (remove_in k es) ≡ length es - 1
 unfolding find_in remove_in splice
 remove_there k a [] h = refl
 remove_there k a (e ∷ es) h = let x = chosen k (e ∷ es) in
     splice_none (λ y. remove k (y ∷ [])) k (e ∷ es) (one_there k a x (eqb x.key k) refl h)
 
-remove_missing : (k : ℕ) (es : List Entry) → find_in k es ≡ none → length (remove_in k es) ≡ length es
+remove_missing : (k : ℕ) (es : List Entry) → find_in k es ≡ None → length (remove_in k es) ≡ length es
 unfolding find_in remove_in splice
 remove_missing k [] h = refl
 remove_missing k (e ∷ es) h = let x = chosen k (e ∷ es) in
@@ -77,31 +73,26 @@ remove_missing k (e ∷ es) h = let x = chosen k (e ∷ es) in
 pub less_none : (n : ℕ) → n ≡ 0 → 0 ≡ n - 1
 less_none n h = omega arith
 
-module _ (g : Geometry) (img : List ℕ) (k : ℕ) (e : Entry) (f : Found) (ef : found f ≡ find_in k
+module _ (g : Geometry) (img : List ℕ) (k : ℕ) (e : Entry) (f : Option ℕ) (ef : f ≡ find_in k
     (node_at g img e.addr 1)) (n : ℕ)
     (en : n ≡ node_count g img e.addr 1) where
-  pub leaf_there : (m a : ℕ) → m ≡ n - 1 → f ≡ At a → Loses g img k 0 e
-      (record { absent = false; emptied = 0; left = m })
-  unfolding leaf edited count found
+  pub leaf_there : (m a : ℕ) → m ≡ n - 1 → f ≡ Some a → Loses g img k 0 e
+      (record { emptied = 0; left = m })
+  unfolding leaf edited count
   leaf_there m a em q =
-      let there : find_in k (node_at g img e.addr 1) ≡ some a = sym ef ∙ rw q in
+      let there : find_in k (node_at g img e.addr 1) ≡ Some a = sym ef ∙ rw q in
       record {
-        absent = rw there;
+        stands = rw there;
         emptied = refl;
         left = em ∙ sym (remove_there k a (node_at g img e.addr 1) there ∙ rw (node_length, en));
         few = omega arith;
       }
 
-  pub leaf_missing : f ≡ Nothing → Loses g img k 0 e (record { absent = true; emptied = 0; left = n })
-  unfolding leaf edited count found
+  pub leaf_missing : f ≡ None → true ≡ is_none (find_in k (leaf (node_at g img) k 0 e))
+  unfolding leaf
   leaf_missing q =
-      let missing : find_in k (node_at g img e.addr 1) ≡ none = sym ef ∙ rw q in
-      record {
-        absent = rw missing;
-        emptied = refl;
-        left = sym (remove_missing k (node_at g img e.addr 1) missing ∙ rw (node_length, en));
-        few = omega arith;
-      }
+      let missing : find_in k (node_at g img e.addr 1) ≡ None = sym ef ∙ rw q in
+      rw missing
 
 -- ---- a node above level 1: it loses an entry where the one below is emptied
 none_kept : (c : List Entry) → length c ≡ 0 → (none_left c ≡ true) × ((l : ℕ) (e : Entry) → length (kept 0 l e c) ≡ 0)
@@ -141,25 +132,25 @@ module _ (r : Nodes) (k l : ℕ) (e : Entry) where
 module _ (g : Geometry) (img : List ℕ) (k : ℕ) (e x : Entry) (r : Loss) where
   one_level : (l n : ℕ) → Loses g img k l x r → x ≡ chosen k (node_at g img e.addr (suc (suc l)))
       → n ≡ node_count g img e.addr (suc (suc l))
-      → (r.left ≡ 0 → Loses g img k (suc l) e (record { absent = r.absent; emptied = r.emptied + 1; left = n - 1 }))
-      × ((r.left ≡ 0 → ⊥) → Loses g img k (suc l) e (record { absent = r.absent; emptied = r.emptied; left = n }))
+      → (r.left ≡ 0 → Loses g img k (suc l) e (record { emptied = r.emptied + 1; left = n - 1 }))
+      × ((r.left ≡ 0 → ⊥) → Loses g img k (suc l) e (record { emptied = r.emptied; left = n }))
   unfolding leaf
   one_level l n c ex en =
       let w : Loses g img k l (chosen k (node_at g img e.addr (suc (suc l)))) r = rw (← ex) c in
       let size : length (node_at g img e.addr (suc (suc l))) ≡ n = node_length g img e.addr (suc (suc l))
       ∙ sym en in (
         λ z.
-            let none : length (below (node_at g img) k l e) ≡ 0 = sym w.left ∙ z in
+            let empty : length (below (node_at g img) k l e) ≡ 0 = sym w.left ∙ z in
             record {
-              absent = w.absent;
-              emptied = sym (emptied_below_lem (node_at g img) k l e ∙ rw ((none_kept _ none).0, ← w.emptied) (omega arith));
-              left = sym (left_one (node_at g img) k l e none ∙ rw size);
+              stands = w.stands;
+              emptied = sym (emptied_below_lem (node_at g img) k l e ∙ rw ((none_kept _ empty).0, ← w.emptied) (omega arith));
+              left = sym (left_one (node_at g img) k l e empty ∙ rw size);
               few = omega (arith, w.few);
             },
         λ z.
             let some_left : length (below (node_at g img) k l e) ≡ 0 → ⊥ = λ h. z (w.left ∙ h) in
             record {
-              absent = w.absent;
+              stands = w.stands;
               emptied = sym (emptied_below_lem (node_at g img) k l e
                   ∙ rw ((some_kept _ some_left).0, ← w.emptied) (omega arith));
               left = sym (left_all (node_at g img) k l e some_left ∙ size);
@@ -170,7 +161,7 @@ module _ (g : Geometry) (img : List ℕ) (k : ℕ) (e x : Entry) (r : Loss) wher
   pub loss_emptied : (l n m : ℕ) → Loses g img k (l - 1) x r → x ≡ chosen k (node_at g img e.addr (l + 1))
       → n ≡ node_count g img e.addr (l + 1)
       → m ≡ n - 1 → r.left ≡ 0 → (l ≡ 0 → ⊥) → Loses g img k l e
-      (record { absent = r.absent; emptied = r.emptied + 1; left = m })
+      (record { emptied = r.emptied + 1; left = m })
   loss_emptied zero n m c ex en em z h = absurd (h refl)
   loss_emptied (suc l) n m c ex en em z h =
       rw em ((one_level l n (rw sub-one at c) (rw add-one at ex) (rw add-one at en)).0 z)
@@ -178,23 +169,32 @@ module _ (g : Geometry) (img : List ℕ) (k : ℕ) (e x : Entry) (r : Loss) wher
   pub loss_kept : (l n : ℕ) → Loses g img k (l - 1) x r → x ≡ chosen k (node_at g img e.addr (l + 1))
       → n ≡ node_count g img e.addr (l + 1)
       → (r.left ≡ 0 → ⊥) → (l ≡ 0 → ⊥) → Loses g img k l e
-      (record { absent = r.absent; emptied = r.emptied; left = n })
+      (record { emptied = r.emptied; left = n })
   loss_kept zero n c ex en z h = absurd (h refl)
   loss_kept (suc l) n c ex en z h = (one_level l n (rw sub-one at c) (rw add-one at ex) (rw add-one at en)).1 z
 
-pub loss_leaf : (g : Geometry) (img : List ℕ) (k l : ℕ) (e : Entry) (r : Loss) → Loses g img k 0 e r → l ≡ 0
-    → Loses g img k l e r
+-- where the key is absent below, it is absent here
+pub loss_missing : (g : Geometry) (img : List ℕ) (k l : ℕ) (e x : Entry)
+    → true ≡ is_none (find_in k (leaf (node_at g img) k (l - 1) x)) → x ≡ chosen k (node_at g img e.addr (l + 1))
+    → (l ≡ 0 → ⊥) → true ≡ is_none (find_in k (leaf (node_at g img) k l e))
+unfolding leaf
+loss_missing g img k zero e x h ex z = absurd (z refl)
+loss_missing g img k (suc l) e x h ex z = rw sub-one at h ∙ rw (ex, add-one)
+
+pub loss_leaf : (g : Geometry) (img : List ℕ) (k l : ℕ) (e : Entry) (r : Option Loss) → LosesSome g img k 0 e r → l ≡ 0
+    → LosesSome g img k l e r
 loss_leaf g img k l e r c h = rw h c
 
 -- ---- the root
-pub sheds : (g : Geometry) (img : List ℕ) (l p k : ℕ) (r : Loss) → Loses g img k l (record { key = 0; addr = p }) r
-    → Sheds (chip_with g img l p) k r
+pub sheds : (g : Geometry) (img : List ℕ) (l p k : ℕ) (r : Option Loss)
+    → LosesSome g img k l (record { key = 0; addr = p }) r → ShedsSome (chip_with g img l p) k r
 unfolding emptied delete_list
-sheds g img l p k r c = record {
-  absent = c.absent;
+sheds g img l p k None c = c
+sheds g img l p k (Some r) c = record {
+  stands = c.stands;
   emptied = c.emptied;
   left = c.left ∙ ap length (sym (path_top (node_at g img) k (remove_in k) (kept 0) l (record { key = 0; addr = p })));
   few = c.few;
 }
 
-pub ruleset loss_laws = (less_none, leaf_there, leaf_missing, loss_leaf, loss_emptied, loss_kept, sheds)
+pub ruleset loss_laws = (less_none, leaf_there, leaf_missing, loss_leaf, loss_emptied, loss_kept, loss_missing, sheds)

@@ -1,7 +1,7 @@
 // The plain tree of request 12 as Rattle calls: format, lookup, insert, delete. No call asks anything of its caller,
 // and each contract is one equation: the answer, its numbers and the image afterwards are those of the definition, for
 // every image.
-#![tactic(auto)]
+#![tactic(auto, using(crate::specs::Judged::count_laws, crate::specs::Judged::made_laws, crate::specs::Judged::rest_laws, crate::specs::Judged::call_laws, crate::specs::Losses::loss_laws))]
 
 ghost use Rattle.std.specs.Prelude.{◌≡◌, suc, ◌+◌, ◌-◌, ◌≤◌, ◌<◌, eqb, leb, ltb, length};
 ghost use Rattle.geometry.specs.Geometry.{plain, page_bytes};
@@ -14,19 +14,17 @@ ghost use Rattle.call_answers.specs.Answers.{told};
 ghost use Rattle.chip_read.specs.Chip.{chip_with, good_blocks};
 ghost use Rattle.chip_survey.specs.Survey.{survey_of};
 ghost use Rattle.plain_levels.specs.Levels.{insert_stores_at, delete_stores_at, pages_by, made_with, plain_insert_by, plain_delete_by};
-ghost use Rattle.plain_calls.specs.Counts.{Cuts, Loses, Sheds};
+ghost use Rattle.plain_calls.specs.Counts.{Cuts, LosesSome, ShedsSome};
 
 use call_answers::Answer;
 use chip_survey::Survey;
-use geometry::{Entry, Geometry, Verdict};
+use geometry::{Broken, Entry, Geometry};
 use tree_plan::Run;
-use tree_search::Found;
 
-// What a delete does to the node that an entry names: whether its key is absent, how many levels below are emptied, the
+// What a delete does to the node that an entry names, where its key stands there: how many levels below are emptied, the
 // entries left.
 #[derive(Clone, Copy)]
 pub struct Loss {
-    pub absent: bool,
     pub emptied: u32,
     pub left: usize,
 }
@@ -139,8 +137,8 @@ fn insert_blocks(
     let verdict = judgement.verdict;
     let survey = judgement.survey;
     match verdict {
-        Verdict::Broken(rule, page) => Answer::Damaged(rule, page),
-        Verdict::Sound => insert_judged(g, &mut *img, n, survey, key, addr, allowance),
+        Err(Broken { rule, page }) => Answer::Damaged(rule, page),
+        Ok(()) => insert_judged(g, &mut *img, n, survey, key, addr, allowance),
     }
 }
 
@@ -157,64 +155,48 @@ pub fn insert(img: &mut [u8], key: u32, addr: u32, allowance: u32) -> Answer
 }
 
 // ---- delete
-fn one_less(n: usize) -> usize
-    ensures { result ≡ n - 1 }
-{
-    if n == 0 {
-        return 0;
-    }
-    n - 1
-}
-
-// What a delete does to the leaf that an entry names.
-fn leaf_loss(g: Geometry, img: &[u8], key: u32, e: Entry) -> Loss
-    ensures { Loses g img.now key 0 e result }
+// What a delete does to the leaf that an entry names; nothing where its key is absent.
+fn leaf_loss(g: Geometry, img: &[u8], key: u32, e: Entry) -> Option<Loss>
+    ensures { LosesSome g img.now key 0 e result }
 {
     let n = chip_read::node_count(g, img, e.addr, 1);
     match tree_search::find_key(g, img, e.addr, 1, key) {
-        Found::At(_) => Loss {
-            absent: false,
+        Some(_) => Some(Loss {
             emptied: 0,
-            left: one_less(n),
-        },
-        Found::Nothing => Loss {
-            absent: true,
-            emptied: 0,
-            left: n,
-        },
+            left: n.saturating_sub(1),
+        }),
+        None => None,
     }
 }
 
 // What it does to the node that an entry names, with `below` levels under it: that loses an entry where the node below
 // is emptied.
-fn count_loss(g: Geometry, img: &[u8], key: u32, below: u32, e: Entry) -> Loss
+fn count_loss(g: Geometry, img: &[u8], key: u32, below: u32, e: Entry) -> Option<Loss>
     requires { below < 256 }
-    ensures { Loses g img.now key below e result }
+    ensures { LosesSome g img.now key below e result }
 {
     if below == 0 {
         return leaf_loss(g, img, key, e);
     }
     let n = chip_read::node_count(g, img, e.addr, below + 1);
     let x = tree_search::chosen_entry(g, img, e.addr, below + 1, key);
-    let r = count_loss(g, img, key, below - 1, x);
+    let r = count_loss(g, img, key, below - 1, x)?;
     if r.left != 0 {
-        return Loss {
-            absent: r.absent,
+        return Some(Loss {
             emptied: r.emptied,
             left: n,
-        };
+        });
     }
-    Loss {
-        absent: r.absent,
+    Some(Loss {
         emptied: r.emptied + 1,
-        left: one_less(n),
-    }
+        left: n.saturating_sub(1),
+    })
 }
 
 // What it does to the root at a page with `level` levels below it.
-fn root_loss(g: Geometry, img: &[u8], level: u32, root: u32, key: u32) -> Loss
+fn root_loss(g: Geometry, img: &[u8], level: u32, root: u32, key: u32) -> Option<Loss>
     requires { level < 256 }
-    ensures { Sheds (chip_with g img.now level root) key result }
+    ensures { ShedsSome (chip_with g img.now level root) key result }
 {
     count_loss(g, img, key, level, Entry { key: 0, addr: root })
 }
@@ -272,10 +254,9 @@ fn delete_judged(g: Geometry, img: &mut [u8], n: u16, s: Survey, key: u32, allow
     if g.worn < s.most {
         return Answer::Worn;
     }
-    let loss = root_loss(g, &*img, s.level, s.root, key);
-    if loss.absent {
+    let Some(loss) = root_loss(g, &*img, s.level, s.root, key) else {
         return Answer::Absent;
-    }
+    };
     if delete_roomless(s, loss) {
         return Answer::Room;
     }
@@ -299,8 +280,8 @@ fn delete_blocks(
     let verdict = judgement.verdict;
     let survey = judgement.survey;
     match verdict {
-        Verdict::Broken(rule, page) => Answer::Damaged(rule, page),
-        Verdict::Sound => delete_judged(g, &mut *img, n, survey, key, allowance),
+        Err(Broken { rule, page }) => Answer::Damaged(rule, page),
+        Ok(()) => delete_judged(g, &mut *img, n, survey, key, allowance),
     }
 }
 

@@ -1,6 +1,6 @@
 -- An update of the plain tree (request 12) level by level, as the code makes it, over any pages to come: page i is the
 -- i-th of them. Definitions alone; assumes nothing.
-use Rattle.std.specs.Prelude.{ℕ, zero, suc, ◌+◌, ◌-◌, ◌*◌, min, List, [], ◌∷◌, ◌++◌, eqb, leb, length, take, drop}
+use Rattle.std.specs.Prelude.{ℕ, zero, suc, ◌+◌, ◌-◌, ◌*◌, min, List, [], ◌∷◌, ◌++◌, eqb, leb, length, take, drop, is_none}
 use Rattle.geometry.specs.declared.Geometry.{Geometry}
 use Rattle.geometry.specs.declared.Entry.{Entry}
 use Rattle.geometry.specs.Geometry.{half}
@@ -10,7 +10,6 @@ use Rattle.model.specs.Tree.{following, sought}
 use Rattle.model.specs.Page.{built, only}
 use Rattle.model.specs.Stores.{Store, program, apply_all, programs, erases}
 use Rattle.model.specs.Edit.{on_path, put_in, remove_in, Top, collapse}
-use Rattle.model.specs.Update.{is_none}
 use Rattle.model.specs.Calls.{Outcome, gives, refused, worn}
 use Rattle.model.specs.Plain.{both, renewed, kept_on, none_left, plain_cuts, plain_high, plain_needs, plain_leaves, plain_roomless, emptied}
 use Rattle.chip_store.specs.Careful.{made_of}

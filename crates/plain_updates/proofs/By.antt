@@ -1,5 +1,5 @@
 -- On an image that holds the rules the code's way to an update of the plain tree is the definition's. Assumes nothing.
-use Rattle.std.specs.Prelude.{◌≡◌, refl, List, Bool, true, false, ℕ, ◌<◌, ◌≤◌}
+use Rattle.std.specs.Prelude.{◌≡◌, refl, List, Bool, true, false, ℕ, ◌<◌, ◌≤◌, is_none}
 use Rattle.std.proofs.Math.Path.{ap}
 use Rattle.std.proofs.Common.{sym, subst, ◌∙◌}
 use borrow.Author.Tests.{ltb-false}
@@ -12,7 +12,6 @@ use Rattle.model.specs.Image.{Chip, chip_of, pages_of}
 use Rattle.model.specs.Tree.{map_of, sought, erased_pages}
 use Rattle.model.specs.Stores.{Store}
 use Rattle.model.specs.Edit.{put, remove}
-use Rattle.model.specs.Update.{is_none}
 use Rattle.model.specs.Calls.{Outcome, made, refused, worn}
 use Rattle.model.specs.Plain.{plain_high, plain_needs, plain_insert_stores, plain_insert_rest, plain_leaves, plain_delete_stores, plain_delete_rest, plain_roomless}
 use Rattle.chip_store.specs.Careful.{Cautious}

@@ -1,6 +1,6 @@
 -- A deletion from the plain tree on bytes (request 12): each page but the last leaves the map, after the last one it is
 -- without K. Assumes nothing.
-use Rattle.std.specs.Prelude.{◌≡◌, Bool, eqb}
+use Rattle.std.specs.Prelude.{◌≡◌, Bool, eqb, is_none}
 use Rattle.std.proofs.Common.{sym, subst}
 use mathlib.Core.List.{List, [], ◌∷◌}
 use Rattle.std.proofs.Math.Bool.{true, false}
@@ -17,7 +17,6 @@ use Rattle.model.specs.Count.{count}
 use Rattle.model.specs.Image.{Chip, chip_of, pages_of, the_root, max_seq}
 use Rattle.model.specs.Tree.{map_of, sought}
 use Rattle.model.specs.Edit.{remove, remove_in, Top}
-use Rattle.model.specs.Update.{is_none}
 use Rattle.model.specs.Plain.{kept_on, Plan, none_left, emptied, kept_page, plain_less, plain_top, plain_leaves}
 use Rattle.model.specs.Plain.{kept_plans, delete_plans, plain_delete_stores}
 use Rattle.model.specs.Calls.{worn}

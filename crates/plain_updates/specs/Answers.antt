@@ -1,18 +1,16 @@
 -- The plain tree's calls (request 12) under demands 1 and 2, in the demands' words: which answers they give, and what
 -- those say of the map. Which number is given where several apply, the definitions say: LENGTH, DAMAGED, WORN, ABSENT,
 -- HEIGHT, ROOM, STOPPED, the first that applies. Assumes nothing.
-use Rattle.std.specs.Prelude.{◌≡◌, refl, List, [], ◌∷◌, Bool, false, ◌⊎◌, ℕ, ◌<◌, ◌≤◌}
+use Rattle.std.specs.Prelude.{◌≡◌, refl, List, [], ◌∷◌, Bool, false, ◌⊎◌, ℕ, ◌<◌, ◌≤◌, None, Option, Some, is_none}
 use Rattle.std.proofs.Math.Path.{ap}
 use Rattle.std.proofs.Common.{sym, subst, ◌∙◌, inl, inr}
 use Rattle.std.proofs.Math.Bool.{true}
-use Rattle.std.proofs.Math.Option.{Option, none, some}
 use native.Mathlib.Omega.{arith}
 use Rattle.geometry.specs.Geometry.{plain}
 use Rattle.geometry.specs.Tests.{pick, bit, and_right}
 use Rattle.geometry.specs.Bounds.{four_bytes}
 use Rattle.model.specs.Image.{blocks_of, Chip, chip_of}
 use Rattle.model.specs.Tree.{find, sought}
-use Rattle.model.specs.Update.{is_none}
 use Rattle.model.specs.Calls.{Outcome, refused, made, worn}
 use Rattle.model.specs.Plain.{plain_high, plain_insert_stores, plain_needs, plain_insert_rest, plain_insert}
 use Rattle.model.specs.Plain.{plain_roomless, plain_delete_stores, plain_leaves, plain_delete_rest, plain_delete}
@@ -77,14 +75,14 @@ module _ (img : List ℕ) (k : ℕ) where
       plain_map_sorted = rising four_bytes (map_at plain img) (map_rises plain n c (ready_held img ready).whole)
 
       -- what the map has, by what descent finds
-      by_sought : (is_none (sought c k) ≡ false → ⊥) → find k (map_at plain img) ≡ none
+      by_sought : (is_none (sought c k) ≡ false → ⊥) → find k (map_at plain img) ≡ None
       by_sought h = sym (plain_found img ready k k_low) ∙ go (sought c k) h
         where
-          go : (o : Option ℕ) → (is_none o ≡ false → ⊥) → o ≡ none
-          go none f = refl
-          go (some a) f = absurd (f refl)
+          go : (o : Option ℕ) → (is_none o ≡ false → ⊥) → o ≡ None
+          go None f = refl
+          go (Some a) f = absurd (f refl)
 
-      pub plain_insert_height : (a al : ℕ) → (plain_insert plain img k a al).answer ≡ 5 → find k (map_at plain img) ≡ none
+      pub plain_insert_height : (a al : ℕ) → (plain_insert plain img k a al).answer ≡ 5 → find k (map_at plain img) ≡ None
       unfolding plain_high plain_needs
       plain_insert_height a al h = by_sought (λ there.
           let grows = and_right _ _ (go (insert_met a al 5 (omega arith) (omega arith) h)) in
@@ -98,7 +96,7 @@ module _ (img : List ℕ) (k : ℕ) where
           go (inr (inr (inl e))) = absurd (omega (arith, e.0))
           go (inr (inr (inr e))) = absurd e
 
-      pub plain_delete_absent : (al : ℕ) → (plain_delete plain img k al).answer ≡ 4 → find k (map_at plain img) ≡ none
+      pub plain_delete_absent : (al : ℕ) → (plain_delete plain img k al).answer ≡ 4 → find k (map_at plain img) ≡ None
       plain_delete_absent al h = by_sought (λ there. true_false _ (go (delete_met al 4 (omega arith) (omega arith) h)) there)
         where
           go : Met 4 (plain_delete_tests img k 0 al) → is_none (sought c k) ≡ true
@@ -107,7 +105,7 @@ module _ (img : List ℕ) (k : ℕ) where
           go (inr (inr (inl e))) = absurd (omega (arith, e.0))
           go (inr (inr (inr e))) = absurd e
 
-      pub plain_absent_delete : (al : ℕ) → find k (map_at plain img) ≡ none
+      pub plain_absent_delete : (al : ℕ) → find k (map_at plain img) ≡ None
           → ((plain_delete plain img k al).answer ≡ 3) ⊎ ((plain_delete plain img k al).answer ≡ 4)
       plain_absent_delete al h = subst (λ (o : Outcome). (o.answer ≡ 3) ⊎ (o.answer ≡ 4)) (sym (plain_delete_is img k 0 al ready))
           (go (worn plain n img) (is_none (sought c k)) (ap is_none (plain_found img ready k k_low ∙ h)))

@@ -1,5 +1,5 @@
 -- On an image that holds the rules the code's way to an update of the plain tree is the definition's. Assumes nothing.
-use Rattle.std.specs.Prelude.{◌≡◌, List, false, ℕ, suc, ◌*◌, ◌<◌, ◌≤◌}
+use Rattle.std.specs.Prelude.{◌≡◌, List, false, ℕ, suc, ◌*◌, ◌<◌, ◌≤◌, is_none}
 use Rattle.std.proofs.Common.{arith}
 use Rattle.geometry.specs.Geometry.{plain, half, root_most}
 use Rattle.geometry.specs.Shape.{plain_core}
@@ -7,7 +7,6 @@ use Rattle.geometry.specs.Bounds.{four_bytes}
 use Rattle.model.specs.Count.{count}
 use Rattle.model.specs.Image.{Chip, chip_of, pages_of, max_seq}
 use Rattle.model.specs.Tree.{sought, erased_pages}
-use Rattle.model.specs.Update.{is_none}
 use Rattle.model.specs.Plain.{plain_cuts, plain_needs, plain_insert_stores, plain_leaves, emptied, plain_delete_stores}
 use Rattle.theory_counts.specs.Tally.{count_most}
 use Rattle.theory_images.specs.Held.{Held, height_most}

@@ -1,6 +1,6 @@
 -- A deletion's stores plan by plan are those level by level, over any pages to come that agree where they are named.
 -- Assumes nothing.
-use Rattle.std.specs.Prelude.{◌≡◌, refl, false, eqb, length}
+use Rattle.std.specs.Prelude.{◌≡◌, refl, false, eqb, length, is_none}
 use Rattle.std.proofs.Math.Path.{ap}
 use Rattle.std.proofs.Common.{sym, ◌∙◌, arith, eq-eqb, ne_eqb}
 use mathlib.Core.List.{List, [], ◌∷◌, ◌++◌}
@@ -14,7 +14,6 @@ use Rattle.model.specs.Image.{Chip, the_root}
 use Rattle.model.specs.Tree.{sought}
 use Rattle.model.specs.Stores.{Store}
 use Rattle.model.specs.Edit.{remove_in, Top, collapse}
-use Rattle.model.specs.Update.{is_none}
 use Rattle.model.specs.Plain.{Plan, laid, emptied, kept_page, plain_less, plain_top, kept_plans, delete_plans, plain_leaves}
 use Rattle.theory_chips.specs.Whole.{Whole}
 use Rattle.theory_chips.specs.PlainDeletion.{emptied_low, all_emptied, top_stays, top_falls, stay_plans, fall_plans, empties, kept_count, stay_count, by_root, plans_count}

@@ -1,6 +1,6 @@
 -- A deletion from the plain tree on bytes (request 12): each page but the last leaves the map, after the last one it is
 -- without K. Assumes nothing.
-use Rattle.std.specs.Prelude.{◌≡◌, Bool}
+use Rattle.std.specs.Prelude.{◌≡◌, Bool, is_none}
 use Rattle.std.proofs.Common.{◌∙◌}
 use mathlib.Core.List.{List}
 use Rattle.std.proofs.Math.Bool.{true, false}
@@ -15,7 +15,6 @@ use Rattle.geometry.specs.Bounds.{four_bytes}
 use Rattle.model.specs.Image.{Chip, chip_of, pages_of, max_seq}
 use Rattle.model.specs.Tree.{sought}
 use Rattle.model.specs.Stores.{programs, erases}
-use Rattle.model.specs.Update.{is_none}
 use Rattle.model.specs.Plain.{Plan, emptied, plain_shrinks, plain_leaves}
 use Rattle.model.specs.Plain.{delete_plans, plain_delete_stores}
 use Rattle.theory_chips.specs.Whole.{Whole}

@@ -1,6 +1,6 @@
 -- An insertion into the plain tree on bytes (request 12): each page but the last leaves the map, after the last one it
 -- has K. Assumes nothing.
-use Rattle.std.specs.Prelude.{◌≡◌, true, false}
+use Rattle.std.specs.Prelude.{◌≡◌, true, false, is_none}
 use Rattle.std.proofs.Math.Path.{ap}
 use Rattle.std.proofs.Common.{◌∙◌, eq-eqb}
 use mathlib.Core.List.{List}
@@ -16,7 +16,7 @@ use Rattle.model.specs.Image.{Chip, chip_of, pages_of, max_seq}
 use Rattle.model.specs.Tree.{chosen, sought}
 use Rattle.model.specs.Stores.{programs, erases}
 use Rattle.model.specs.Edit.{splits}
-use Rattle.model.specs.Update.{is_none, root_node}
+use Rattle.model.specs.Update.{root_node}
 use Rattle.model.specs.Plain.{Plan, plain_grows, plain_cuts, plain_high, plain_needs}
 use Rattle.model.specs.Plain.{insert_plans, plain_insert_stores}
 use Rattle.theory_counts.specs.Cases.{by_eq, by_test, true_false}

@@ -1,10 +1,9 @@
 -- The plain tree's calls (request 12) in the demands' words: Ready, map_at, Holds, Kept, Began (crate theory_demands). The
 -- definitions `plain_insert`, `plain_delete`, `lookup` and `format` with the geometry `plain`; k, the key, and a, the
 -- address, are below 2^32; al is the store allowance. Assumes nothing.
-use Rattle.std.specs.Prelude.{◌≡◌, List, [], ◌∷◌, true, false, ℕ, suc, ◌<◌, ◌≤◌, length}
+use Rattle.std.specs.Prelude.{◌≡◌, List, [], ◌∷◌, true, false, ℕ, suc, ◌<◌, ◌≤◌, length, Option, is_none}
 use Rattle.std.proofs.Math.Path.{refl, ap, sym}
 use Rattle.std.proofs.Common.{subst, ◌∙◌, inl, arith, take_all}
-use Rattle.std.proofs.Math.Option.{Option}
 use Rattle.geometry.specs.declared.Entry.{Entry}
 use Rattle.geometry.specs.Geometry.{plain}
 use Rattle.geometry.specs.Shape.{plain_core}
@@ -14,7 +13,7 @@ use Rattle.model.specs.Image.{blocks_of, good_length, Chip, chip_of}
 use Rattle.model.specs.Tree.{map_of, find, sought}
 use Rattle.model.specs.Rules.{verdict}
 use Rattle.model.specs.Stores.{Store, apply_all, erases}
-use Rattle.model.specs.Update.{is_none, format_stores}
+use Rattle.model.specs.Update.{format_stores}
 use Rattle.model.specs.Calls.{Outcome, made, answered, lookup, worn, format}
 use Rattle.model.specs.Plain.{plain_high, plain_insert_stores, plain_needs, plain_roomless, plain_insert_rest, plain_insert}
 use Rattle.model.specs.Plain.{plain_delete_stores, plain_leaves, plain_delete_rest, plain_delete}

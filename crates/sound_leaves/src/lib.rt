@@ -1,5 +1,5 @@
 // The keys of a leaf, as R5 wants them.
-#![tactic(auto)]
+#![tactic(auto, using(crate::specs::LeafKeys::leaf_laws))]
 
 ghost use Rattle.std.specs.Prelude.{◌≡◌, ◌+◌, ◌*◌, ◌-◌, ◌≤◌, ◌<◌, eqb, leb, length};
 ghost use Rattle.geometry.specs.Bounds.{four_bytes};
@@ -7,17 +7,11 @@ ghost use Rattle.model.specs.Bytes.{u32_at, entries_at};
 ghost use Rattle.model.specs.Rules.{rising};
 ghost use Rattle.sound_leaves.specs.Leaves.{any_page, after};
 
-fn long(x: u32) -> u64
-    ensures { (result ≡ x) × (result < four_bytes) }
-{
-    x as u64
-}
-
 // The key at an index.
 pub fn key_at(img: &[u8], at: usize) -> u64
     ensures { (result ≡ u32_at img.now at) × (result < four_bytes) }
 {
-    chip_read::read_u32(img, at) as u64
+    u64::from(chip_read::read_u32(img, at))
 }
 
 // Key by key, from lo on and below hi: of a leaf across the image's end.
@@ -26,8 +20,7 @@ fn each_rises(img: &[u8], at: usize, n: usize, lo: u64, hi: u64) -> bool
     ensures { result ≡ rising any_page (entries_at img.now at n) lo hi }
 {
     let mut low = lo;
-    let mut i: usize = 0;
-    while i < n {
+    for i in 0..n {
         let key = key_at(img, at + 8 * i);
         if key < low {
             return false;
@@ -36,7 +29,6 @@ fn each_rises(img: &[u8], at: usize, n: usize, lo: u64, hi: u64) -> bool
             return false;
         }
         low = key + 1;
-        i += 1;
     }
     true
 }
@@ -59,12 +51,10 @@ fn falls(img: &[u8], at: usize, n: usize) -> u32
 {
     let mut before = chip_read::raw_u32(img, at);
     let mut count: u32 = 0;
-    let mut i: usize = 1;
-    while i < n {
+    for i in 1..n {
         let key = chip_read::raw_u32(img, at + 8 * i);
         count += fall(before, key);
         before = key;
-        i += 1;
     }
     count
 }
@@ -80,10 +70,10 @@ pub fn keys_rise(img: &[u8], at: usize, n: usize, lo: u64, hi: u64) -> bool
     if img.len() < at + 8 * n {
         return each_rises(img, at, n, lo, hi);
     }
-    if long(chip_read::raw_u32(img, at)) < lo {
+    if u64::from(chip_read::raw_u32(img, at)) < lo {
         return false;
     }
-    if hi <= long(chip_read::raw_u32(img, at + 8 * (n - 1))) {
+    if hi <= u64::from(chip_read::raw_u32(img, at + 8 * (n - 1))) {
         return false;
     }
     falls(img, at, n) == 0

@@ -5,8 +5,7 @@ use Rattle.std.proofs.Common.{sym, ◌∙◌, arith, ne_eqb, ltb-true}
 use mathlib.Core.List.{List, [], ◌∷◌}
 use Rattle.geometry.specs.declared.Geometry.{Geometry}
 use Rattle.geometry.specs.declared.Entry.{Entry}
-use Rattle.geometry.specs.declared.Finding.{Finding}
-use Rattle.geometry.specs.declared.Finding.TheVariants.{Good, Bad}
+use Rattle.geometry.specs.Findings.{Finding, Good, Bad}
 use Rattle.geometry.specs.Tests.{◌&◌, and_left, and_right}
 use Rattle.geometry.specs.Bounds.{four_bytes}
 use Rattle.model.specs.Image.{Nodes, Chip}

@@ -8,7 +8,7 @@ use borrow.Author.Tests.{not-true, not-false, eq-eqb, ne_eqb, lt-ltb, le-ltb, le
 use native.Mathlib.Omega.{arith}
 use Rattle.geometry.specs.declared.Geometry.{Geometry}
 use Rattle.geometry.specs.declared.Entry.{Entry}
-use Rattle.geometry.specs.declared.Finding.TheVariants.{Good, Bad}
+use Rattle.geometry.specs.Findings.{Good, Bad}
 use Rattle.geometry.specs.Tests.{pick, ◌&◌, and_true, and_false}
 use Rattle.model.specs.Bytes.{u32_at, entries_at, node_place, node_count, node_at}
 use Rattle.model.specs.Image.{Nodes}

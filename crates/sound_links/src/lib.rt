@@ -1,5 +1,5 @@
 // R6: where a page has live nodes at several levels, each upper one names the page.
-#![tactic(auto)]
+#![tactic(auto, using(crate::specs::RuleSix::loose_laws))]
 
 ghost use Rattle.std.specs.Prelude.{◌≡◌, ◌+◌, ◌*◌, ◌-◌, ◌<◌, length};
 ghost use Rattle.model.specs.Bytes.{entries_at, node_at};
@@ -16,12 +16,10 @@ fn names_page(img: &[u8], at: usize, n: usize, page: u32) -> bool
     requires { at + 8 * n < 1152921504606846976 }
     ensures { result ≡ names_page page (entries_at img.now at n) }
 {
-    let mut i: usize = 0;
-    while i < n {
+    for i in 0..n {
         if chip_read::read_u32(img, at + 8 * i + 4) == page {
             return true;
         }
-        i += 1;
     }
     false
 }
@@ -66,11 +64,9 @@ fn lowest_loose(g: Geometry, img: &[u8], table: &[u8], level: u32, page: u32, lo
     }
     let at = chip_read::node_place(g, page, level);
     let n = chip_read::node_count(g, img, page, level);
-    let mut i: usize = 0;
-    while i < n {
+    for i in 0..n {
         let below = chip_read::read_u32(img, at + 8 * i + 4);
         low = lowest_loose(g, img, table, level - 1, below, low);
-        i += 1;
     }
     low
 }
@@ -84,7 +80,7 @@ pub fn rule_6(g: Geometry, img: &[u8], table: &[u8], pages: u32, level: u32, roo
 {
     let page = lowest_loose(g, img, table, level + 1, root, pages);
     if page < pages {
-        return Finding::Bad(page);
+        return Err(page);
     }
-    Finding::Good
+    Ok(())
 }

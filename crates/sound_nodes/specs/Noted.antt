@@ -2,8 +2,7 @@
 -- nothing.
 use Rattle.std.specs.Prelude.{ℕ, ◌+◌, ◌-◌, ◌*◌, ◌≡◌, List}
 use Rattle.geometry.specs.declared.Geometry.{Geometry}
-use Rattle.geometry.specs.declared.Finding.{Finding}
-use Rattle.geometry.specs.declared.Finding.TheVariants.{Good}
+use Rattle.geometry.specs.Findings.{Finding, Good}
 use Rattle.model.specs.Bytes.{u32_at, entries_at, node_at}
 use Rattle.model.specs.Image.{Chip}
 use Rattle.model.specs.Tree.{following, gather, Place, places}

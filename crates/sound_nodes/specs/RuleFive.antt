@@ -6,8 +6,7 @@ use Rattle.std.specs.Int.{w64}
 use borrow.Author.Tests.{not-true, not-false, eq-eqb, ne_eqb, lt-ltb, le-ltb, lt-leb, le-leb}
 use Rattle.geometry.specs.declared.Geometry.{Geometry}
 use Rattle.geometry.specs.declared.Entry.{Entry}
-use Rattle.geometry.specs.declared.Finding.{Finding}
-use Rattle.geometry.specs.declared.Finding.TheVariants.{Good, Bad}
+use Rattle.geometry.specs.Findings.{Finding, Good, Bad}
 use Rattle.geometry.specs.Geometry.{slots_of, root_most}
 use Rattle.geometry.specs.Tests.{pick, ◌&◌, and_true, and_false}
 use Rattle.geometry.specs.Bounds.{four_bytes}

@@ -1,5 +1,5 @@
 // R5: the nodes from the root down, and the first bad page. The levels met are noted in a lent table.
-#![tactic(auto)]
+#![tactic(auto, using(crate::specs::RuleFive::judge_laws))]
 
 ghost use Rattle.std.specs.Prelude.{◌≡◌, ◌+◌, ◌*◌, ◌-◌, ◌/◌, ◌%◌, ◌≤◌, ◌<◌, leb, length, get_or};
 ghost use Rattle.model.specs.Bytes.{erased, entries_at, node_at};
@@ -65,8 +65,7 @@ fn all_rising(
         hi }
 {
     let mut low = lo;
-    let mut i: usize = 0;
-    while i < n {
+    for i in 0..n {
         let key = sound_leaves::key_at(img, at + 8 * i);
         if key < low {
             return false;
@@ -79,7 +78,6 @@ fn all_rising(
             return false;
         }
         low = key + 1;
-        i += 1;
     }
     true
 }
@@ -173,6 +171,7 @@ fn root_own(g: Geometry, img: &[u8], pages: u32, level: u32, page: u32, programm
 }
 
 // A leaf: its page if it is bad.
+#[tactic(auto, using(crate::specs::RuleFive::judge_laws, crate::specs::Levels::level_laws))]
 fn judge_leaf(
     g: Geometry,
     img: &[u8],
@@ -188,13 +187,14 @@ fn judge_leaf(
     ensures table_len_unchanged { length table.new ≡ length table.old }
 {
     if !leaf_own(g, img, pages, page, lo, hi) {
-        return Finding::Bad(page);
+        return Err(page);
     }
     live_walk::note(&mut *table, page, 1);
-    Finding::Good
+    Ok(())
 }
 
 // The leaf that the i-th of n entries from byte `at` names.
+#[tactic(auto, using(crate::specs::RuleFive::judge_laws, crate::specs::Levels::level_laws))]
 fn leaf_at(
     g: Geometry,
     img: &[u8],
@@ -218,20 +218,20 @@ fn leaf_at(
 }
 
 // The sum of the first keys of k lines of 64 bytes, from byte `at` on.
+#[tactic(auto, using(crate::specs::Ahead::ahead_laws))]
 fn line_keys(img: &[u8], at: usize, k: usize) -> u64
     requires { (k < 256) × (at < 1125899906842624) }
     ensures { result < 1099511627776 }
 {
     let mut sum: u64 = 0;
-    let mut i: usize = 0;
-    while i < k {
+    for i in 0..k {
         sum += sound_leaves::key_at(img, at + 64 * i);
-        i += 1;
     }
     sum
 }
 
 // The sum of the first key of each line of a leaf and of its page's number: so both its keys and its count are read.
+#[tactic(auto, using(crate::specs::Ahead::ahead_laws))]
 fn leaf_keys(g: Geometry, img: &[u8], page: u32) -> u64
     ensures { result < 2199023255552 }
 {
@@ -243,6 +243,7 @@ fn leaf_keys(g: Geometry, img: &[u8], page: u32) -> u64
 // Gives hi. In an image that is too long for the processor's caches it first reads the lines of the leaves that n
 // entries from byte `at` name: so they come from memory side by side, and not one leaf after another. Their sum is
 // below the divisor, but the compiler does not see that, and reads them.
+#[tactic(auto, using(crate::specs::Ahead::ahead_laws))]
 fn read_ahead(g: Geometry, img: &[u8], at: usize, n: usize, hi: u64) -> u64
     requires { (n < 256) × (at + 8 * n < 1152921504606846976) }
     ensures { result ≡ hi }
@@ -251,16 +252,15 @@ fn read_ahead(g: Geometry, img: &[u8], at: usize, n: usize, hi: u64) -> u64
         return hi;
     }
     let mut sum: u64 = 0;
-    let mut i: usize = 0;
-    while i < n {
+    for i in 0..n {
         let page = chip_read::read_u32(img, at + 8 * i + 4);
         sum += leaf_keys(g, img, page);
-        i += 1;
     }
     hi + sum / 1152921504606846976
 }
 
 // The first bad page of the leaves that n entries from byte `at` name.
+#[tactic(auto, using(crate::specs::RuleFive::judge_laws, crate::specs::Levels::level_laws))]
 fn judge_leaves(
     g: Geometry,
     img: &[u8],
@@ -276,22 +276,14 @@ fn judge_leaves(
     ensures noted { Noted result table.old table.new (left g img.now 1 at n 0) }
     ensures table_len_unchanged { length table.new ≡ length table.old }
 {
-    let mut i: usize = 0;
-    while i < n {
-        let found = leaf_at(g, img, &mut *table, pages, at, n, hi, i);
-        match found {
-            Finding::Bad(leaf) => {
-                return Finding::Bad(leaf);
-            }
-            Finding::Good => {
-                i += 1;
-            }
-        }
+    for i in 0..n {
+        leaf_at(g, img, &mut *table, pages, at, n, hi, i)?;
     }
-    Finding::Good
+    Ok(())
 }
 
 // The same, after their lines are read.
+#[tactic(auto, using(crate::specs::Ahead::ahead_laws))]
 fn judge_ahead(
     g: Geometry,
     img: &[u8],
@@ -313,6 +305,7 @@ fn judge_ahead(
 
 // The first bad page of the node at a level of a page and of all below it.
 #[cycle(judge_entries_judge_node_node_under)]
+#[tactic(auto, using(crate::specs::RuleFive::judge_laws, crate::specs::Levels::level_laws))]
 fn judge_node(
     g: Geometry,
     img: &[u8],
@@ -332,14 +325,14 @@ fn judge_node(
     ensures table_len_unchanged { length table.new ≡ length table.old }
 {
     if level == 0 {
-        return Finding::Good;
+        return Ok(());
     }
     if !node_own(g, img, pages, level, page, lo, hi, programmed) {
-        return Finding::Bad(page);
+        return Err(page);
     }
     live_walk::note(&mut *table, page, level);
     if level == 1 {
-        return Finding::Good;
+        return Ok(());
     }
     let at = chip_read::node_place(g, page, level);
     let n = chip_read::node_count(g, img, page, level);
@@ -348,6 +341,7 @@ fn judge_node(
 
 // The node at level `below` that the i-th of n entries from byte `at` names, and all below it.
 #[cycle(judge_entries_judge_node_node_under)]
+#[tactic(auto, using(crate::specs::RuleFive::judge_laws, crate::specs::Levels::level_laws))]
 fn node_under(
     g: Geometry,
     img: &[u8],
@@ -385,6 +379,7 @@ fn node_under(
 
 // The first bad page below the n entries from byte `at`, their nodes at level `below`.
 #[cycle(judge_entries_judge_node_node_under)]
+#[tactic(auto, using(crate::specs::RuleFive::judge_laws, crate::specs::Levels::level_laws))]
 fn judge_entries(
     g: Geometry,
     img: &[u8],
@@ -406,22 +401,14 @@ fn judge_entries(
     if below == 1 {
         return judge_ahead(g, img, &mut *table, pages, at, n, hi);
     }
-    let mut i: usize = 0;
-    while i < n {
-        let found = node_under(g, img, &mut *table, pages, below, at, n, hi, i, programmed);
-        match found {
-            Finding::Bad(bad) => {
-                return Finding::Bad(bad);
-            }
-            Finding::Good => {
-                i += 1;
-            }
-        }
+    for i in 0..n {
+        node_under(g, img, &mut *table, pages, below, at, n, hi, i, programmed)?;
     }
-    Finding::Good
+    Ok(())
 }
 
 // From the root down. Where all is good its levels are noted.
+#[tactic(auto, using(crate::specs::RuleFive::judge_laws, crate::specs::Levels::level_laws))]
 fn judge_root(
     g: Geometry,
     img: &[u8],
@@ -438,7 +425,7 @@ fn judge_root(
     ensures table_len_unchanged { length table.new ≡ length table.old }
 {
     if !root_own(g, img, pages, level + 1, root, programmed) {
-        return Finding::Bad(root);
+        return Err(root);
     }
     live_walk::note(&mut *table, root, level + 1);
     let at = chip_read::node_place(g, root, level + 1);
@@ -457,6 +444,7 @@ fn judge_root(
 }
 
 // R5: from the root down. Where it is good the table then tells each page's lowest live level.
+#[tactic(auto, using(crate::specs::Levels::level_laws))]
 pub fn rule_5(
     g: Geometry,
     img: &[u8],

@@ -1,5 +1,5 @@
 -- R3, in the form in which the code has the premises. Assumes nothing.
-use Rattle.std.specs.Prelude.{ℕ, ◌+◌, ◌-◌, ◌*◌, ◌<◌, ◌≤◌, Bool, not, ◌≡◌, List, eqb, ltb, get_or}
+use Rattle.std.specs.Prelude.{ℕ, ◌+◌, ◌*◌, ◌<◌, ◌≤◌, Bool, not, ◌≡◌, List, eqb, ltb, get_or}
 use Rattle.std.proofs.Math.Bool.{true, false}
 use Rattle.std.proofs.lemmas.Bool.{false≢true}
 use Rattle.std.proofs.Math.Path.{refl}
@@ -7,7 +7,7 @@ use Rattle.std.proofs.Common.{sym, ◌∙◌, arith}
 use Rattle.std.proofs.Math.Numerals.{add-one}
 use borrow.Author.Tests.{not-false, eq-eqb, ne_eqb, lt-ltb, le-leb, lt-leb, eqb-true, ltb-true}
 use Rattle.geometry.specs.declared.Geometry.{Geometry}
-use Rattle.geometry.specs.declared.Finding.TheVariants.{Good}
+use Rattle.geometry.specs.Findings.{Good}
 use Rattle.geometry.specs.Tests.{pick}
 use Rattle.geometry.specs.Bounds.{four_bytes}
 use Rattle.model.specs.Bytes.{erased, seq_at}

@@ -1,9 +1,8 @@
 // R3: the sequence numbers of programmed pages differ. They do where the numbers of each block rise and the blocks'
 // ranges lie apart; where not, the crate sound_repeats looks at all of them.
-#![tactic(auto)]
+#![tactic(auto, using(crate::specs::RuleThree::number_laws))]
 
-ghost use Rattle.std.specs.Prelude.{◌≡◌, ◌+◌, ◌*◌, ◌-◌, ◌≤◌, ◌<◌, false, length, get_or};
-ghost use Rattle.geometry.specs.Bounds.{four_bytes};
+ghost use Rattle.std.specs.Prelude.{◌≡◌, ◌+◌, ◌*◌, ◌-◌, ◌≤◌, ◌<◌, false, length, get_or, IfSome};
 ghost use Rattle.model.specs.Bytes.{erased, seq_at};
 ghost use Rattle.model.specs.Rules.{r3};
 ghost use Rattle.sound_numbers.specs.Ranges.{extended, apart_of, Zero, Shows, Ranges, Clear, AllClear, Spaced, Over, Nearer};
@@ -19,11 +18,9 @@ pub struct Range {
     pub high: u32,
 }
 
-// Whether the ranges of some blocks lie apart, and a space, above floor and below ceiling, that none of them reaches
-// into.
+// A space, above floor and below ceiling, that the ranges of some blocks leave free.
 #[derive(Clone, Copy)]
 struct Space {
-    apart: bool,
     floor: u32,
     ceiling: u64,
 }
@@ -36,8 +33,7 @@ pub fn grow(g: Geometry, img: &[u8], page: u32, seq: u32, range: Range) -> Range
     if seq <= range.high {
         return Range {
             rising: false,
-            low: range.low,
-            high: range.high,
+            ..range
         };
     }
     if range.high == 0 {
@@ -47,11 +43,7 @@ pub fn grow(g: Geometry, img: &[u8], page: u32, seq: u32, range: Range) -> Range
             high: seq,
         };
     }
-    Range {
-        rising: range.rising,
-        low: range.low,
-        high: seq,
-    }
+    Range { high: seq, ..range }
 }
 
 // 0 if two ranges have no number in common, else 1.
@@ -75,18 +67,10 @@ fn apart_below(lows: &[u32], highs: &[u32], block: usize) -> bool
     let low = lows[block];
     let high = highs[block];
     let mut k: usize = 0;
-    let mut i: usize = 0;
-    while i < block {
+    for i in 0..block {
         k += overlap(lows[i], highs[i], low, high);
-        i += 1;
     }
     k == 0
-}
-
-fn long(x: u32) -> u64
-    ensures { (result ≡ x) × (result < four_bytes) }
-{
-    x as u64
 }
 
 // The lower of a ceiling and a range's beginning, if that is above `high`.
@@ -96,7 +80,7 @@ fn nearer(low: u32, high: u32, ceiling: u64) -> u64
     if low <= high {
         return ceiling;
     }
-    let wide = long(low);
+    let wide = u64::from(low);
     if ceiling <= wide {
         return ceiling;
     }
@@ -109,61 +93,49 @@ fn ceiling_above(lows: &[u32], block: usize, high: u32) -> u64
     ensures { Over lows.now block high result }
 {
     let mut ceiling: u64 = 4294967296;
-    let mut i: usize = 0;
-    while i < block {
+    for i in 0..block {
         ceiling = nearer(lows[i], high, ceiling);
-        i += 1;
     }
     ceiling
 }
 
-// The space above the range of a block that does not lie in the space before it.
-fn far_space(lows: &[u32], highs: &[u32], block: usize, low: u32, high: u32) -> Space
+// The space above the range of a block that does not lie in the space before it; none where ranges do not lie apart.
+fn far_space(lows: &[u32], highs: &[u32], block: usize, low: u32, high: u32) -> Option<Space>
     requires block_in_bounds { (block < length lows.now) × (block < length highs.now) }
     requires low_value { (low ≡ get_or lows.now block 0) × (high ≡ get_or highs.now block 0) × (1 ≤ high) × (low ≤ high) }
     requires all_clear { AllClear lows.now highs.now block }
-    ensures { Shows result.apart (Spaced lows.now highs.now (block + 1) result.floor
-        result.ceiling) }
+    ensures { IfSome result (λ s. Spaced lows.now highs.now (block + 1) s.floor s.ceiling) }
 {
-    let apart = apart_below(lows, highs, block);
-    let ceiling = ceiling_above(lows, block, high);
-    Space {
-        apart: apart,
-        floor: high,
-        ceiling: ceiling,
+    if !apart_below(lows, highs, block) {
+        return None;
     }
+    let ceiling = ceiling_above(lows, block, high);
+    Some(Space {
+        floor: high,
+        ceiling,
+    })
 }
 
 // With one block more. Most often its range lies in the space above that of the block before.
-fn next_space(lows: &[u32], highs: &[u32], block: usize, floor: u32, ceiling: u64) -> Space
-    requires { (block < length lows.now) × (block < length highs.now) × Spaced lows.now highs.now block floor
-        ceiling }
-    ensures { Shows result.apart (Spaced lows.now highs.now (block + 1) result.floor
-        result.ceiling) }
+fn next_space(lows: &[u32], highs: &[u32], block: usize, space: Space) -> Option<Space>
+    requires { (block < length lows.now) × (block < length highs.now) × Spaced lows.now highs.now block space.floor
+        space.ceiling }
+    ensures { IfSome result (λ s. Spaced lows.now highs.now (block + 1) s.floor s.ceiling) }
 {
     let low = lows[block];
     let high = highs[block];
     if high == 0 {
-        return Space {
-            apart: true,
-            floor: floor,
-            ceiling: ceiling,
-        };
+        return Some(space);
     }
     if high < low {
-        return Space {
-            apart: false,
-            floor: floor,
-            ceiling: ceiling,
-        };
+        return None;
     }
-    if floor < low {
-        if long(high) < ceiling {
-            return Space {
-                apart: true,
+    if space.floor < low {
+        if u64::from(high) < space.ceiling {
+            return Some(Space {
                 floor: high,
-                ceiling: ceiling,
-            };
+                ..space
+            });
         }
     }
     far_space(lows, highs, block, low, high)
@@ -174,17 +146,15 @@ fn all_apart(lows: &[u32], highs: &[u32], n: usize) -> bool
     requires { (n ≤ length lows.now) × (n ≤ length highs.now) }
     ensures { Shows result (AllClear lows.now highs.now n) }
 {
-    let mut floor: u32 = 0;
-    let mut ceiling: u64 = 4294967296;
-    let mut block: usize = 0;
-    while block < n {
-        let space = next_space(lows, highs, block, floor, ceiling);
-        if !space.apart {
-            return false;
+    let mut space = Space {
+        floor: 0,
+        ceiling: 4294967296,
+    };
+    for block in 0..n {
+        match next_space(lows, highs, block, space) {
+            Some(next) => space = next,
+            None => return false,
         }
-        floor = space.floor;
-        ceiling = space.ceiling;
-        block += 1;
     }
     true
 }
@@ -198,7 +168,7 @@ fn ranges_differ(g: Geometry, img: &[u8], n: u16, rising: bool, lows: &[u32], hi
     if !rising {
         return false;
     }
-    all_apart(lows, highs, geometry::wide(n))
+    all_apart(lows, highs, usize::from(n))
 }
 
 // R3, by the ranges of the blocks: the lowest page whose number a lower one has.
@@ -208,7 +178,7 @@ pub fn rule_3(g: Geometry, img: &[u8], n: u16, rising: bool, lows: &[u32], highs
     ensures { result ≡ r3 g n img.now }
 {
     if ranges_differ(g, img, n, rising, lows, highs) {
-        return Finding::Good;
+        return Ok(());
     }
     sound_repeats::first_repeated(g, img, n)
 }

@@ -4,7 +4,7 @@ use Rattle.std.proofs.Math.Bool.{true, false}
 use Rattle.std.proofs.Math.Path.{refl, sym}
 use Rattle.std.proofs.Common.{◌∙◌, arith}
 use borrow.Author.Tests.{not-true, not-false, le-leb, lt-leb, lt-ltb, le-ltb}
-use Rattle.geometry.specs.declared.Finding.TheVariants.{Good, Bad}
+use Rattle.geometry.specs.Findings.{Good, Bad}
 use Rattle.geometry.specs.Tests.{◌&◌, and_true, and_false}
 use Rattle.model.specs.Count.{least, any}
 use Rattle.model.specs.Next.{mixed, first_in}

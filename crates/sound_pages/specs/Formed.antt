@@ -1,9 +1,9 @@
 -- R1. Assumes nothing.
-use Rattle.std.specs.Prelude.{ℕ, ◌-◌, ◌*◌, ◌<◌, ◌≤◌, Bool, true, false, not, ◌≡◌, refl, List}
+use Rattle.std.specs.Prelude.{ℕ, ◌*◌, ◌<◌, ◌≤◌, Bool, true, false, not, ◌≡◌, refl, List}
 use Rattle.std.proofs.Common.{sym, ◌∙◌, arith}
 use borrow.Author.Tests.{not-true, not-false, le-leb, lt-leb}
 use Rattle.geometry.specs.declared.Geometry.{Geometry}
-use Rattle.geometry.specs.declared.Finding.{Finding}
+use Rattle.geometry.specs.Findings.{Finding}
 use Rattle.geometry.specs.Geometry.{halves, page_base}
 use Rattle.geometry.specs.Tests.{and_true, and_false}
 use Rattle.model.specs.Bytes.{erased, seq_at, height_at, tail_at}

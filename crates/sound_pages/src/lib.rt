@@ -1,5 +1,5 @@
 // R1 and R2: what each page and each block must look like.
-#![tactic(auto)]
+#![tactic(auto, using(crate::specs::RulesOneAndTwo::page_laws))]
 
 ghost use Rattle.std.specs.Prelude.{◌≡◌, ◌+◌, ◌*◌, ◌-◌, ◌≤◌, ◌<◌, false};
 ghost use Rattle.geometry.specs.Geometry.{halves};
@@ -17,14 +17,11 @@ fn codes_fit(g: Geometry, img: &[u8], b: usize) -> bool
     requires { b < 562949953421312 }
     ensures { result ≡ codes_fit g img.now b (halves g) }
 {
-    let n = geometry::halves(g);
-    let mut k: usize = 0;
-    while k < n {
+    for k in 0..geometry::halves(g) {
         let fresh = chip_codes::fresh_code(img, b + 256 * k);
         if chip_read::code_at(img, b + geometry::code_place(g, k)) != fresh {
             return false;
         }
-        k += 1;
     }
     true
 }
@@ -63,29 +60,24 @@ fn well_formed(g: Geometry, img: &[u8], page: u32) -> bool
 pub fn rule_1(g: Geometry, img: &[u8], n: u16) -> Finding
     ensures { result ≡ r1 g n img.now }
 {
-    let pages = chip_read::first_page(g, n);
-    let mut page: u32 = 0;
-    while page < pages {
+    for page in 0..chip_read::first_page(g, n) {
         if !well_formed(g, img, page) {
-            return Finding::Bad(page);
+            return Err(page);
         }
-        page += 1;
     }
-    Finding::Good
+    Ok(())
 }
 
 // The place in a block of its first erased page, or the block's pages.
 pub fn first_in(g: Geometry, img: &[u8], block: u16) -> u16
     ensures { (result ≡ first_in g.pages (erased g img.now) block) × (result ≤ g.pages) }
 {
-    let mut j: u16 = 0;
-    while j < g.pages {
+    for j in 0..g.pages {
         if chip_read::page_erased(g, img, chip_read::page_of(g, block, j)) {
             return j;
         }
-        j += 1;
     }
-    j
+    g.pages
 }
 
 // Whether no page of a block is programmed after the first erased one.
@@ -96,12 +88,10 @@ fn in_order(g: Geometry, img: &[u8], block: u16) -> bool
     if g.pages <= first {
         return true;
     }
-    let mut j: u16 = first + 1;
-    while j < g.pages {
+    for j in first + 1..g.pages {
         if !chip_read::page_erased(g, img, chip_read::page_of(g, block, j)) {
             return false;
         }
-        j += 1;
     }
     true
 }
@@ -110,14 +100,12 @@ fn in_order(g: Geometry, img: &[u8], block: u16) -> bool
 fn first_disorder(g: Geometry, img: &[u8], n: u16) -> u16
     ensures { (result ≡ least n (disorder g.pages (erased g img.now))) × (result ≤ n) }
 {
-    let mut block: u16 = 0;
-    while block < n {
+    for block in 0..n {
         if !in_order(g, img, block) {
             return block;
         }
-        block += 1;
     }
-    block
+    n
 }
 
 // Whether the first page of a block is programmed and the last one erased.
@@ -134,14 +122,12 @@ fn is_mixed(g: Geometry, img: &[u8], block: u16) -> bool
 pub fn first_mixed(g: Geometry, img: &[u8], n: u16) -> u16
     ensures { result ≡ least n (mixed g.pages (erased g img.now)) }
 {
-    let mut block: u16 = 0;
-    while block < n {
+    for block in 0..n {
         if is_mixed(g, img, block) {
             return block;
         }
-        block += 1;
     }
-    block
+    n
 }
 
 // Whether a block is mixed and another one than `first`.
@@ -159,14 +145,12 @@ fn second_mixed(g: Geometry, img: &[u8], n: u16) -> u16
     ensures { result ≡ second_mixed g.pages n (erased g img.now) }
 {
     let first = first_mixed(g, img, n);
-    let mut block: u16 = 0;
-    while block < n {
+    for block in 0..n {
         if other_mixed(g, img, block, first) {
             return block;
         }
-        block += 1;
     }
-    block
+    n
 }
 
 // R2: the first erased page before a programmed one, or the first page of the second mixed block.
@@ -175,11 +159,11 @@ pub fn rule_2(g: Geometry, img: &[u8], n: u16) -> Finding
 {
     let block = first_disorder(g, img, n);
     if block < n {
-        return Finding::Bad(chip_read::page_of(g, block, first_in(g, img, block)));
+        return Err(chip_read::page_of(g, block, first_in(g, img, block)));
     }
     let second = second_mixed(g, img, n);
     if second < n {
-        return Finding::Bad(chip_read::first_page(g, second));
+        return Err(chip_read::first_page(g, second));
     }
-    Finding::Good
+    Ok(())
 }

@@ -1,6 +1,6 @@
 // R3 on any image: the lowest page whose number a lower one has. The numbers are looked at in parts, from the lowest
 // up, each as large as a table of keys holds; a part is one pass over the pages.
-#![tactic(auto)]
+#![tactic(auto, using(crate::specs::ByParts::part_laws))]
 
 ghost use Rattle.std.specs.Prelude.{◌≡◌, ◌+◌, ◌*◌, ◌-◌, ◌≤◌, ◌<◌, length};
 ghost use Rattle.geometry.specs.Bounds.{four_bytes};
@@ -11,18 +11,12 @@ ghost use Rattle.sound_repeats.specs.Repeats.{within, Held, Sieved, Stops, Swept
 
 use geometry::{Finding, Geometry};
 
-fn long(x: u32) -> u64
-    ensures { (result ≡ x) × (result < four_bytes) }
-{
-    x as u64
-}
-
 // Whether a page is programmed and its number is `low` or more, and below `high`.
 fn is_within(g: Geometry, img: &[u8], page: u32, low: u64, high: u64) -> bool
     ensures value { result ≡ within (erased g img.now) (seq_at g img.now) low high page }
     ensures page_bound { seq_at g img.now page < four_bytes }
 {
-    let number = long(chip_read::seq_at(g, img, page));
+    let number = u64::from(chip_read::seq_at(g, img, page));
     if number < low {
         return false;
     }
@@ -36,27 +30,14 @@ fn is_within(g: Geometry, img: &[u8], page: u32, low: u64, high: u64) -> bool
 fn key_of(g: Geometry, img: &[u8], page: u32) -> u64
     ensures { (number_in result ≡ seq_at g img.now page) × (page_in result ≡ page) × (result < 18446744073709551616) }
 {
-    4294967296 * long(chip_read::seq_at(g, img, page)) + long(page)
+    4294967296 * u64::from(chip_read::seq_at(g, img, page)) + u64::from(page)
 }
 
-// 1 if a key's number is below a bound, else 0.
-fn is_below(key: u64, bound: u64) -> usize
-    ensures { result ≤ 1 }
-{
-    if key / 4294967296 < bound {
-        return 1;
-    }
-    0
-}
-
-// How many of the keys have a number below a bound.
+// How many of the keys have a number below a bound. A loop and no `filter`: that takes three times as long.
 fn below(keys: &[u64], bound: u64) -> usize {
-    let n = keys.len();
     let mut count: usize = 0;
-    let mut k: usize = 0;
-    while k < n {
-        count += is_below(keys[k], bound);
-        k += 1;
+    for key in keys {
+        count += usize::from(*key / 4294967296 < bound);
     }
     count
 }
@@ -69,13 +50,14 @@ fn bound_for(keys: &[u64], low: u64, high: u64) -> u64
     let most = keys.len() / 4 * 3;
     let mut from: u64 = low + 1;
     let mut to: u64 = high - 1;
+    // Stays a while: the step is by halves, and no range counts it.
     while from < to {
         let mid = to - (to - from) / 2;
         if below(keys, mid) <= most {
             from = mid;
-            continue;
+        } else {
+            to = mid - 1;
         }
-        to = mid - 1;
     }
     from
 }
@@ -87,16 +69,12 @@ fn keep(keys: &mut [u64], count: usize, bound: u64) -> usize
     ensures upper_bound { (result ≤ count) × (length keys.new ≡ length keys.old) }
 {
     let mut kept: usize = 0;
-    let mut k: usize = 0;
-    while k < count {
+    for k in 0..count {
         let key = keys[k];
-        if bound <= key / 4294967296 {
-            k += 1;
-            continue;
+        if key / 4294967296 < bound {
+            keys[kept] = key;
+            kept += 1;
         }
-        keys[kept] = key;
-        kept += 1;
-        k += 1;
     }
     kept
 }
@@ -123,6 +101,7 @@ fn gather(g: Geometry, img: &[u8], keys: &mut [u64], low: u64, best: u32) -> Par
     let mut count: usize = 0;
     let mut high: u64 = 4294967296;
     let mut page: u32 = 0;
+    // Stays a while: a page is looked at again where the bound comes down, and no range counts that.
     while page < best {
         if !is_within(g, img, page, low, high) {
             page += 1;
@@ -136,8 +115,8 @@ fn gather(g: Geometry, img: &[u8], keys: &mut [u64], low: u64, best: u32) -> Par
         }
         if high == low + 1 {
             return Part {
-                count: count,
-                high: high,
+                count,
+                high,
                 end: page,
             };
         }
@@ -145,8 +124,8 @@ fn gather(g: Geometry, img: &[u8], keys: &mut [u64], low: u64, best: u32) -> Par
         count = keep(&mut *keys, count, high);
     }
     Part {
-        count: count,
-        high: high,
+        count,
+        high,
         end: page,
     }
 }
@@ -158,6 +137,7 @@ fn lowest_page(g: Geometry, img: &[u8], pages: u32) -> u32
     let mut keys: [u64; 4096] = [0; 4096];
     let mut low: u64 = 0;
     let mut best: u32 = pages;
+    // Stays a while: a part ends where its keys fill the table, and no range counts the parts.
     while low < 4294967296 {
         let part = gather(g, img, &mut keys, low, best);
         best = sound_twins::lowest(&mut keys, part.count, part.end);
@@ -173,7 +153,7 @@ pub fn first_repeated(g: Geometry, img: &[u8], n: u16) -> Finding
     let pages = chip_read::first_page(g, n);
     let page = lowest_page(g, img, pages);
     if page < pages {
-        return Finding::Bad(page);
+        return Err(page);
     }
-    Finding::Good
+    Ok(())
 }

@@ -1,7 +1,7 @@
 -- What one pass over an image tells. Definitions alone; assumes nothing.
 use Rattle.std.specs.Prelude.{ℕ, ◌+◌, ◌-◌, ◌*◌, ◌<◌, ◌≤◌, Bool, true, false, ◌≡◌, List, leb, get_or}
 use Rattle.geometry.specs.declared.Geometry.{Geometry}
-use Rattle.geometry.specs.declared.Finding.TheVariants.{Good}
+use Rattle.geometry.specs.Findings.{Good}
 use Rattle.geometry.specs.Tests.{pick}
 use Rattle.model.specs.Bytes.{erased, seq_at}
 use Rattle.model.specs.Rules.{well_formed, in_order, r1, r2}

@@ -9,7 +9,7 @@ use Rattle.std.proofs.Math.Dec.{leb, ltb}
 use native.Mathlib.Omega.{arith}
 use borrow.Author.Tests.{not-true, not-false, le-leb, lt-leb, lt-ltb, le-ltb, leb-true, leb-false, ltb-true, eq-eqb, eqb-true}
 use Rattle.geometry.specs.declared.Geometry.{Geometry}
-use Rattle.geometry.specs.declared.Finding.TheVariants.{Good}
+use Rattle.geometry.specs.Findings.{Good}
 use Rattle.geometry.specs.Tests.{pick, ◌&◌, and_true, and_false, and_left, and_right}
 use Rattle.model.specs.Bytes.{erased, seq_at}
 use Rattle.model.specs.Count.{least}

@@ -1,7 +1,7 @@
 // One pass over the blocks of an image: the programmed pages, the numbers' range, the survey, R1 and R2 at once.
-#![tactic(auto)]
+#![tactic(auto, using(crate::specs::Scans::sight_laws))]
 
-ghost use Rattle.std.specs.Prelude.{◌≡◌, ◌+◌, ◌*◌, ◌-◌, ◌≤◌, ◌<◌, length};
+ghost use Rattle.std.specs.Prelude.{◌≡◌, ◌+◌, ◌*◌, ◌-◌, ◌≤◌, ◌<◌, length, MatchOption};
 ghost use Rattle.geometry.specs.Tests.{◌&◌};
 ghost use Rattle.chip_survey.specs.Survey.{seen_to};
 ghost use Rattle.sound_sight.specs.Sight.{Told, Fronted, Back, Late, Spoilt, Strip, Strips, Flaw, parted, Parts, Single, Double, Clear};
@@ -10,10 +10,9 @@ use chip_survey::{Seen, Survey};
 use geometry::Geometry;
 use sound_numbers::Range;
 
-// A block in numbers: whether it is as R1 and R2 want it, its programmed pages, what is seen up to its end, its range.
+// A block in numbers: its programmed pages, what is seen up to its end, its range.
 #[derive(Clone, Copy)]
 pub struct Block {
-    pub fine: bool,
     pub programmed: u16,
     pub seen: Seen,
     pub range: Range,
@@ -35,26 +34,17 @@ pub struct Sight {
     pub survey: Survey,
 }
 
-fn widen(x: u16) -> u32
-    ensures { (result ≡ x) × (result < 65536) }
-{
-    x as u32
-}
-
 fn both(a: bool, b: bool) -> bool
     ensures { result ≡ (a & b) }
 {
-    if a {
-        return b;
-    }
-    false
+    a && b
 }
 
-// The programmed pages before the first erased one.
-fn front(g: Geometry, img: &[u8], block: u16, before: Seen) -> Block
+// The programmed pages before the first erased one; none where one of them is not as R1 wants it.
+fn front(g: Geometry, img: &[u8], block: u16, before: Seen) -> Option<Block>
     requires { before ≡ seen_to g img.now (g.pages * block) }
-    ensures { Told result.fine (Fronted g img.now block result.programmed result.seen result.range)
-        (Spoilt g img.now block) }
+    ensures { MatchOption result (Spoilt g img.now block)
+        (λ b. Fronted g img.now block b.programmed b.seen b.range) }
 {
     let mut seen = before;
     let mut range = Range {
@@ -62,37 +52,28 @@ fn front(g: Geometry, img: &[u8], block: u16, before: Seen) -> Block
         low: 0,
         high: 0,
     };
-    let mut j: u16 = 0;
-    while j < g.pages {
+    for j in 0..g.pages {
         let page = chip_read::page_of(g, block, j);
         if chip_read::page_erased(g, img, page) {
-            return Block {
-                fine: true,
+            return Some(Block {
                 programmed: j,
-                seen: seen,
-                range: range,
-            };
+                seen,
+                range,
+            });
         }
         let height = chip_read::height_at(g, img, page);
         let seq = chip_read::seq_at(g, img, page);
         if !sound_pages::is_formed(g, img, page, height, seq) {
-            return Block {
-                fine: false,
-                programmed: j,
-                seen: seen,
-                range: range,
-            };
+            return None;
         }
         seen = chip_survey::see_page(g, img, page, height, seq, seen);
         range = sound_numbers::grow(g, img, page, seq, range);
-        j += 1;
     }
-    Block {
-        fine: true,
-        programmed: j,
-        seen: seen,
-        range: range,
-    }
+    Some(Block {
+        programmed: g.pages,
+        seen,
+        range,
+    })
 }
 
 // Whether the pages of a block from one on are erased.
@@ -100,12 +81,10 @@ fn rest_blank(g: Geometry, img: &[u8], block: u16, from: u16) -> bool
     requires { from ≤ g.pages }
     ensures { Told result (Back g img.now block from g.pages) (Late g img.now block from) }
 {
-    let mut j: u16 = from;
-    while j < g.pages {
+    for j in from..g.pages {
         if !chip_read::page_erased(g, img, chip_read::page_of(g, block, j)) {
             return false;
         }
-        j += 1;
     }
     true
 }
@@ -122,47 +101,28 @@ fn see_blank(g: Geometry, block: u16, programmed: u16, seen: Seen) -> Seen
     } }
 {
     let first = chip_read::first_page(g, block);
-    let more = widen(g.pages - programmed);
+    let more = u32::from(g.pages - programmed);
     Seen {
-        root: seen.root,
-        score: seen.score,
-        most: seen.most,
-        last: seen.last,
         erased: seen.erased + more,
+        ..seen
     }
 }
 
-// A block.
-fn scan_block(g: Geometry, img: &[u8], block: u16, before: Seen) -> Block
+// A block; none where it is not as R1 and R2 want it.
+fn scan_block(g: Geometry, img: &[u8], block: u16, before: Seen) -> Option<Block>
     requires { before ≡ seen_to g img.now (g.pages * block) }
-    ensures { Told result.fine (Strip g img.now block result.programmed result.seen result.range)
-        (Spoilt g img.now block) }
+    ensures { MatchOption result (Spoilt g img.now block)
+        (λ b. Strip g img.now block b.programmed b.seen b.range) }
 {
-    let f = front(g, img, block, before);
-    if !f.fine {
-        return f;
+    let f = front(g, img, block, before)?;
+    if g.pages <= f.programmed {
+        return Some(f);
     }
-    let programmed = f.programmed;
-    if g.pages <= programmed {
-        return f;
+    if !rest_blank(g, img, block, f.programmed + 1) {
+        return None;
     }
-    let seen = f.seen;
-    let range = f.range;
-    if !rest_blank(g, img, block, programmed + 1) {
-        return Block {
-            fine: false,
-            programmed: programmed,
-            seen: seen,
-            range: range,
-        };
-    }
-    let all = see_blank(g, block, programmed, seen);
-    Block {
-        fine: true,
-        programmed: programmed,
-        seen: all,
-        range: range,
-    }
+    let seen = see_blank(g, block, f.programmed, f.seen);
+    Some(Block { seen, ..f })
 }
 
 // The blocks, up to the first that breaks R1 or the order of R2.
@@ -189,29 +149,25 @@ fn scan_all(
         erased: 0,
     };
     let mut rising = true;
-    let mut block: u16 = 0;
-    while block < n {
-        let b = scan_block(g, img, block, seen);
-        if !b.fine {
+    for block in 0..n {
+        let Some(b) = scan_block(g, img, block, seen) else {
             return Scan {
                 fine: false,
-                rising: rising,
-                seen: seen,
+                rising,
+                seen,
             };
-        }
-        let range = b.range;
-        let at = geometry::wide(block);
+        };
+        let at = usize::from(block);
         programmed[at] = b.programmed;
-        lows[at] = range.low;
-        highs[at] = range.high;
-        rising = both(rising, range.rising);
+        lows[at] = b.range.low;
+        highs[at] = b.range.high;
+        rising = both(rising, b.range.rising);
         seen = b.seen;
-        block += 1;
     }
     Scan {
         fine: true,
-        rising: rising,
-        seen: seen,
+        rising,
+        seen,
     }
 }
 
@@ -230,14 +186,12 @@ fn first_parted(pages: u16, programmed: &[u16], from: u16, n: u16) -> u16
     requires { (from ≤ n) × (n ≤ length programmed.now) }
     ensures { Parts pages programmed.now from n result }
 {
-    let mut block: u16 = from;
-    while block < n {
-        if is_parted(pages, programmed[geometry::wide(block)]) {
+    for block in from..n {
+        if is_parted(pages, programmed[usize::from(block)]) {
             return block;
         }
-        block += 1;
     }
-    block
+    n
 }
 
 // Whether at most one block is programmed in part.
@@ -275,8 +229,8 @@ pub fn take_sight(
     let level = chip_survey::less_one(height);
     let survey = Survey {
         root: seen.root,
-        height: height,
-        level: level,
+        height,
+        level,
         most: seen.most,
         last: seen.last,
         erased: seen.erased,
@@ -285,13 +239,13 @@ pub fn take_sight(
         return Sight {
             fine: false,
             rising: false,
-            survey: survey,
+            survey,
         };
     }
     let single = is_single(g.pages, &*programmed, n);
     Sight {
         fine: single,
         rising: scan.rising,
-        survey: survey,
+        survey,
     }
 }

@@ -1,22 +1,20 @@
 -- The verdict: R1 to R8 in their order, in the form in which the code has the premises. Assumes nothing.
 use Prim.Native.Nat.{ℕ, zero, suc, ◌-◌, ◌*◌, ◌/◌, ◌%◌, ◌<◌, ◌≤◌}
-use Rattle.std.specs.Prelude.{Bool, true, false, not, ◌≡◌, refl, List, length}
+use Rattle.std.specs.Prelude.{Bool, true, false, not, ◌≡◌, refl, List, length, Err}
 use Rattle.std.proofs.Math.Path.{sym}
 use Rattle.std.proofs.Common.{ap, subst, ◌∙◌, arith, mul-le-mul, mod-lt, eq-eqb, ne_eqb}
 use Rattle.std.proofs.Math.Nat.{div-add-mod}
 use Rattle.std.proofs.lemmas.Bool.{not-true, not-false}
 use Rattle.geometry.specs.declared.Geometry.{Geometry}
-use Rattle.geometry.specs.declared.Finding.{Finding}
-use Rattle.geometry.specs.declared.Finding.TheVariants.{Good, Bad}
-use Rattle.geometry.specs.declared.Verdict.{Verdict}
-use Rattle.geometry.specs.declared.Verdict.TheVariants.{Sound, Broken}
+use Rattle.geometry.specs.declared.Broken.{Broken}
+use Rattle.geometry.specs.Findings.{Finding, Good, Bad, Verdict, Sound}
 use Rattle.model.specs.Bytes.{erased, seq_at}
 use Rattle.model.specs.Count.{arg}
 use Rattle.model.specs.Image.{Chip, chip_of, pages_of, root_of, root_score}
 use Rattle.model.specs.Rules.{r1, r2, r5, r6, asked, or_else, verdict}
 use Rattle.chip_read.specs.Chip.{chip_with}
 use Rattle.theory_counts.specs.Blocks.{some_pages, block_below}
-use Rattle.theory_counts.specs.Lowest.{broken_sound}
+use Rattle.theory_counts.specs.Lowest.{or_sound}
 use Rattle.theory_counts.specs.Peak.{arg_most, arg_less}
 use Rattle.chip_survey.specs.declared.Survey.{Survey}
 use Rattle.chip_survey.specs.Survey.{survey_of}
@@ -31,15 +29,22 @@ use Rattle.sound_links.specs.Judged.{r5_inside}
 use Rattle.sound_verdict.specs.declared.Judgement.{Judgement}
 use Rattle.sound_verdict.specs.Verdict.{from2, from3, Roomy, Surveyed, Tells, Never, Judged}
 
--- rule k and those after it: v is its finding
-module _ (k : ℕ) (f v : Finding) (w : Verdict) where
-  pub or_bad : (q : ℕ) → v ≡ f → v ≡ Bad q → Broken k q ≡ or_else k f w
-  unfolding or_else
-  or_bad q e b = sym (rw (← e, b) refl)
+-- rule k and those after it: v is what its finding f tells alone
+module _ (k : ℕ) (f : Finding) (v : Verdict) (e : v ≡ or_else k f Sound) where
+  pub told_good : v ≡ Sound → f ≡ Good
+  told_good h = (or_sound k f Sound (sym e ∙ h)).0
 
-  pub or_good : (u : Verdict) → v ≡ f → v ≡ Good → u ≡ w → u ≡ or_else k f w
+  pub told_bad : (b : Broken) (w : Verdict) → v ≡ Err b → Err b ≡ or_else k f w
   unfolding or_else
-  or_good u e q eu = eu ∙ sym (rw (← e, q) refl)
+  told_bad b w h = go f (sym h ∙ e)
+    where
+      go : (f : Finding) → Err b ≡ or_else k f Sound → Err b ≡ or_else k f w
+      go Good q = absurd (cc)
+      go (Bad p) q = q
+
+pub or_good : (k : ℕ) (f : Finding) (u w : Verdict) → f ≡ Good → u ≡ w → u ≡ or_else k f w
+unfolding or_else
+or_good k f u w h e = e ∙ sym (rw h refl)
 
 pub verdict_is : (g : Geometry) (n : ℕ) (img : List ℕ) (u : Verdict) → u ≡ or_else 1 (r1 g n img) (from2 g n img)
     → u ≡ verdict g n img
@@ -70,8 +75,8 @@ module _ (g : Geometry) (f : Finding) (d : g.table ≡ 2 → ⊥) where
   asked_or k u w e = e ∙ ap (λ (y : Finding). or_else k y w) (asked_is f refl)
 
 -- the table
-pub tells_broken : (c : Chip) (tbl : List ℕ) (k q : ℕ) → Tells c tbl (Broken k q)
-tells_broken c tbl k q = record { marked = λ e. absurd (broken_sound k q e) }
+pub tells_broken : (c : Chip) (tbl : List ℕ) (b : Broken) → Tells c tbl (Err b)
+tells_broken c tbl b = record { marked = λ e. cc }
 
 -- 65536 places have room for 1024 blocks of at most 64 pages, 4096 for 64 blocks
 pub roomy_many : (g : Geometry) (n m : ℕ) → g.pages ≤ 64 → n ≤ 1024 → 65536 ≤ m → Roomy g n m
@@ -143,16 +148,17 @@ programmed_is g n t img programmed x l e = record {
 }
 
 -- an image that R1 or R2 breaks
-pub never_broken : (k q : ℕ) → Never (Broken k q)
-never_broken k q = record { never = broken_sound k q }
+pub never_broken : (b : Broken) → Never (Err b)
+never_broken b = record { never = λ e. cc }
 
-pub order_breaks : (g : Geometry) (n : ℕ) (img : List ℕ) (v : Finding) (q : ℕ) → Flaw g n img → r1 g n img ≡ Good
-    → v ≡ r2 g.pages n (erased g img) → v ≡ Good
-    → Broken 2 q ≡ from2 g n img
-order_breaks g n img v q x e f h = absurd (x.flaw e (sym f ∙ h))
-
-pub passed_1 : (g : Geometry) (n : ℕ) (img : List ℕ) (v : Finding) → v ≡ r1 g n img → v ≡ Good → r1 g n img ≡ Good
-passed_1 g n img v e f = sym e ∙ f
+pub order_breaks : (g : Geometry) (n : ℕ) (img : List ℕ) (v : Verdict) → Flaw g n img → r1 g n img ≡ Good
+    → v ≡ or_else 2 (r2 g.pages n (erased g img)) Sound → (v ≡ from2 g n img) × Never v
+unfolding or_else
+order_breaks g n img v x e h = go (r2 g.pages n (erased g img)) (x.flaw e) h
+  where
+    go : (f : Finding) → (f ≡ Good → ⊥) → v ≡ or_else 2 f Sound → (v ≡ or_else 2 f (from3 g n img)) × Never v
+    go Good z q = absurd (z refl)
+    go (Bad p) z q = (q, record { never = λ s. cc })
 
 pub judged_never : (g : Geometry) (n : ℕ) (img t : List ℕ) (j : Judgement) → j.verdict ≡ verdict g n img
     → Never j.verdict → j.survey ≡ survey_of g n img
@@ -182,5 +188,5 @@ module _ (g : Geometry) (n : ℕ) (img : List ℕ) (t f : Bool) (s : Survey) (pr
         → length u ≡ length w
         → Judged g n img (record { verdict = v; survey = s }) w u
     sight_judged w u v ev y e =
-        judged_is g n img w u v s (verdict_is g n img v (or_good 1 _ Good _ v (sym c.formed) refl
-        (or_good 2 _ Good _ v (sym c.ordered) refl ev))) c.survey c.level y e
+        judged_is g n img w u v s (verdict_is g n img v (or_good 1 _ v _ c.formed
+        (or_good 2 _ v _ c.ordered ev))) c.survey c.level y e

@@ -1,8 +1,7 @@
 -- The verdict from each rule on, and what its code may count on. Definitions alone; assumes nothing.
 use Rattle.std.specs.Prelude.{ℕ, ◌*◌, ◌<◌, ◌≤◌, Bool, ◌≡◌, List, leb, length}
 use Rattle.geometry.specs.declared.Geometry.{Geometry}
-use Rattle.geometry.specs.declared.Verdict.{Verdict}
-use Rattle.geometry.specs.declared.Verdict.TheVariants.{Sound}
+use Rattle.geometry.specs.Findings.{Verdict, Sound}
 use Rattle.geometry.specs.Tests.{◌&◌}
 use Rattle.model.specs.Bytes.{erased}
 use Rattle.model.specs.Image.{Chip, chip_of, pages_of}

@@ -1,21 +1,21 @@
 // R7, R8, and the verdict: R1 to R8 in their order.
-#![tactic(auto)]
+#![tactic(auto, using(crate::proofs::Laws::verdict_laws))]
 
 ghost use Rattle.std.specs.Prelude.{◌≡◌, ◌+◌, ◌*◌, ◌-◌, ◌≤◌, ◌<◌, length};
-ghost use Rattle.geometry.specs.declared.Finding.{Finding};
+ghost use Rattle.geometry.specs.Findings.{Sound};
 ghost use Rattle.model.specs.Bytes.{erased, seq_at};
 ghost use Rattle.model.specs.Count.{any};
 ghost use Rattle.model.specs.Image.{chip_of};
-ghost use Rattle.model.specs.Rules.{r1, r7, r8, verdict};
+ghost use Rattle.model.specs.Rules.{r7, r8, or_else, verdict};
 ghost use Rattle.chip_survey.specs.Survey.{survey_of};
 ghost use Rattle.sound_numbers.specs.Ranges.{Shows, Ranges};
 ghost use Rattle.sound_sight.specs.Sight.{Told, Counted, Clear, Flaw};
 ghost use Rattle.live_walk.specs.Table.{Marked};
 ghost use Rattle.sound_links.specs.Loose.{Inside};
-ghost use Rattle.sound_verdict.specs.Verdict.{clearable, from2, from3, from4, from5, from6, from7, from8, Roomy, Surveyed, Tells, Never, Judged};
+ghost use Rattle.sound_verdict.specs.Verdict.{clearable, from3, from6, Roomy, Surveyed, Tells, Never, Judged};
 
 use chip_survey::Survey;
-use geometry::{Finding, Geometry, Verdict};
+use geometry::{Broken, Finding, Geometry, Verdict};
 use sound_sight::Sight;
 
 // A verdict, and the survey that came with it.
@@ -38,12 +38,10 @@ fn is_clearable(g: Geometry, img: &[u8], table: &[u8], block: u16, free: u32) ->
 fn some_clearable(g: Geometry, img: &[u8], table: &[u8], n: u16, free: u32) -> bool
     ensures { result ≡ any n (clearable g.pages (erased g img.now) table.now free) }
 {
-    let mut block: u16 = 0;
-    while block < n {
+    for block in 0..n {
         if is_clearable(g, img, table, block, free) {
             return true;
         }
-        block += 1;
     }
     false
 }
@@ -56,12 +54,12 @@ fn rule_7(g: Geometry, img: &[u8], table: &[u8], n: u16, survey: Survey) -> Find
 {
     let free = survey.erased;
     if geometry::wide(g.pages) <= geometry::index(free) {
-        return Finding::Good;
+        return Ok(());
     }
     if some_clearable(g, img, table, n, free) {
-        return Finding::Good;
+        return Ok(());
     }
-    Finding::Bad(0)
+    Err(0)
 }
 
 // R8: the pages that are not live are two blocks' at least.
@@ -74,104 +72,33 @@ fn rule_8(g: Geometry, img: &[u8], table: &[u8], n: u16, survey: Survey) -> Find
     let lives = live_walk::live_pages(table, pages);
     let dead = geometry::index(pages - lives);
     if 2 * geometry::wide(g.pages) <= dead {
-        return Finding::Good;
+        return Ok(());
     }
-    Finding::Bad(0)
+    Err(0)
 }
 
-fn from_rule_8(g: Geometry, img: &[u8], table: &[u8], n: u16, survey: Survey) -> Verdict
-    requires surveyed { Surveyed g n img.now survey (length table.now) }
-    requires marked { Marked (chip_of g n img.now) table.now }
-    ensures { result ≡ from8 g n img.now }
+// A rule's finding, as what all rules find.
+fn tell(rule: u32, found: Finding) -> Verdict
+    ensures { result ≡ or_else rule found Sound }
 {
-    match rule_8(g, img, table, n, survey) {
-        Finding::Bad(page) => Verdict::Broken(8, page),
-        Finding::Good => Verdict::Sound,
-    }
+    found.map_err(|page| Broken { rule, page })
 }
 
-// R7 and R8 are not asked of the plain tree.
-fn from_rule_7(g: Geometry, img: &[u8], table: &[u8], n: u16, survey: Survey) -> Verdict
-    requires surveyed { Surveyed g n img.now survey (length table.now) }
-    requires marked { Marked (chip_of g n img.now) table.now }
-    ensures { result ≡ from7 g n img.now }
-{
-    if g.table == Geometry::PLAIN_TABLE {
-        return Verdict::Sound;
-    }
-    match rule_7(g, img, table, n, survey) {
-        Finding::Bad(page) => Verdict::Broken(7, page),
-        Finding::Good => from_rule_8(g, img, table, n, survey),
-    }
-}
-
+// From R6 on, by the table that R5's walk left. R7 and R8 are not asked of the plain tree.
 fn from_rule_6(g: Geometry, img: &[u8], table: &[u8], n: u16, survey: Survey) -> Verdict
     requires surveyed { Surveyed g n img.now survey (length table.now) }
     requires marked { Marked (chip_of g n img.now) table.now }
     requires inside { Inside (chip_of g n img.now) (length table.now) }
     ensures { result ≡ from6 g n img.now }
 {
-    match sound_links::rule_6(
-        g,
-        img,
-        table,
-        chip_read::first_page(g, n),
-        survey.level,
-        survey.root,
-    ) {
-        Finding::Bad(page) => Verdict::Broken(6, page),
-        Finding::Good => from_rule_7(g, img, table, n, survey),
+    let pages = chip_read::first_page(g, n);
+    let links = sound_links::rule_6(g, img, table, pages, survey.level, survey.root);
+    tell(6, links)?;
+    if g.table == Geometry::PLAIN_TABLE {
+        return Ok(());
     }
-}
-
-fn from_rule_5(
-    g: Geometry,
-    img: &[u8],
-    table: &mut [u8],
-    n: u16,
-    survey: Survey,
-    programmed: &[u16],
-) -> Verdict
-    requires surveyed { Surveyed g n img.now survey (length table.old) }
-    requires counted { Counted g n img.now programmed.now }
-    requires n_in_bounds { n ≤ length programmed.now }
-    ensures value { (result ≡ from5 g n img.now) × Tells (chip_of g n img.now)
-        table.new result }
-    ensures table_len_unchanged { length table.new ≡ length table.old }
-{
-    match sound_nodes::rule_5(
-        g,
-        img,
-        &mut *table,
-        chip_read::first_page(g, n),
-        survey.level,
-        survey.root,
-        programmed,
-    ) {
-        Finding::Bad(page) => Verdict::Broken(5, page),
-        Finding::Good => from_rule_6(g, img, &*table, n, survey),
-    }
-}
-
-fn from_rule_4(
-    g: Geometry,
-    img: &[u8],
-    table: &mut [u8],
-    n: u16,
-    survey: Survey,
-    programmed: &[u16],
-) -> Verdict
-    requires surveyed { Surveyed g n img.now survey (length table.old) }
-    requires counted { Counted g n img.now programmed.now }
-    requires n_in_bounds { n ≤ length programmed.now }
-    ensures value { (result ≡ from4 g n img.now) × Tells (chip_of g n img.now)
-        table.new result }
-    ensures table_len_unchanged { length table.new ≡ length table.old }
-{
-    match chip_survey::rule_4(g, img, n, survey) {
-        Finding::Bad(page) => Verdict::Broken(4, page),
-        Finding::Good => from_rule_5(g, img, &mut *table, n, survey, programmed),
-    }
+    tell(7, rule_7(g, img, table, n, survey))?;
+    tell(8, rule_8(g, img, table, n, survey))
 }
 
 // From R3 on, by what the pass told.
@@ -195,22 +122,20 @@ fn from_rule_3(
         table.new result }
     ensures table_len_unchanged { length table.new ≡ length table.old }
 {
-    match sound_numbers::rule_3(g, img, n, rising, lows, highs) {
-        Finding::Bad(page) => Verdict::Broken(3, page),
-        Finding::Good => from_rule_4(g, img, &mut *table, n, survey, programmed),
-    }
-}
-
-// R2 of an image that it breaks.
-fn broken_order(g: Geometry, img: &[u8], n: u16) -> Verdict
-    requires flaw { Flaw g n img.now }
-    requires img_value { r1 g n img.now ≡ Finding.Good }
-    ensures { (result ≡ from2 g n img.now) × Never result }
-{
-    match sound_pages::rule_2(g, img, n) {
-        Finding::Bad(page) => Verdict::Broken(2, page),
-        Finding::Good => Verdict::Broken(2, 0),
-    }
+    tell(3, sound_numbers::rule_3(g, img, n, rising, lows, highs))?;
+    tell(4, chip_survey::rule_4(g, img, n, survey))?;
+    let pages = chip_read::first_page(g, n);
+    let nodes = sound_nodes::rule_5(
+        g,
+        img,
+        &mut *table,
+        pages,
+        survey.level,
+        survey.root,
+        programmed,
+    );
+    tell(5, nodes)?;
+    from_rule_6(g, img, &*table, n, survey)
 }
 
 // The verdict of an image that R1 or R2 breaks.
@@ -218,10 +143,8 @@ fn broken_pages(g: Geometry, img: &[u8], n: u16) -> Verdict
     requires { Flaw g n img.now }
     ensures { (result ≡ verdict g n img.now) × Never result }
 {
-    match sound_pages::rule_1(g, img, n) {
-        Finding::Bad(page) => Verdict::Broken(1, page),
-        Finding::Good => broken_order(g, img, n),
-    }
+    tell(1, sound_pages::rule_1(g, img, n))?;
+    tell(2, sound_pages::rule_2(g, img, n))
 }
 
 // Judges n blocks that R1 or R2 breaks.
@@ -232,10 +155,7 @@ fn judge_broken(g: Geometry, img: &[u8], n: u16) -> Judgement
 {
     let survey = chip_survey::take_survey(g, img, n);
     let verdict = broken_pages(g, img, n);
-    Judgement {
-        verdict: verdict,
-        survey: survey,
-    }
+    Judgement { verdict, survey }
 }
 
 // Judges n blocks by what the pass told.
@@ -271,32 +191,17 @@ fn judge_by(
         lows,
         highs,
     );
-    Judgement {
-        verdict: verdict,
-        survey: survey,
-    }
+    Judgement { verdict, survey }
 }
 
-// Judges at most 1,024 blocks.
-fn judge_many(g: Geometry, img: &[u8], table: &mut [u8], n: u16) -> Judgement
-    requires { (n ≤ 1024) × (Roomy g n (length table.old)) }
+// Judges at most MOST blocks, with lists of as many places: these are cleared at every call.
+fn judge_most<const MOST: usize>(g: Geometry, img: &[u8], table: &mut [u8], n: u16) -> Judgement
+    requires { (n ≤ MOST) × (MOST ≤ 1024) × (Roomy g n (length table.old)) }
     ensures { Judged g n img.now result table.old table.new }
 {
-    let mut programmed: [u16; 1024] = [0; 1024];
-    let mut lows: [u32; 1024] = [0; 1024];
-    let mut highs: [u32; 1024] = [0; 1024];
-    let sight = sound_sight::take_sight(g, img, n, &mut programmed, &mut lows, &mut highs);
-    judge_by(g, img, &mut *table, n, sight, &programmed, &lows, &highs)
-}
-
-// Judges at most 64 blocks, with shorter lists: these are cleared at every call.
-fn judge_few(g: Geometry, img: &[u8], table: &mut [u8], n: u16) -> Judgement
-    requires { (n ≤ 64) × (Roomy g n (length table.old)) }
-    ensures { Judged g n img.now result table.old table.new }
-{
-    let mut programmed: [u16; 64] = [0; 64];
-    let mut lows: [u32; 64] = [0; 64];
-    let mut highs: [u32; 64] = [0; 64];
+    let mut programmed: [u16; MOST] = [0; MOST];
+    let mut lows: [u32; MOST] = [0; MOST];
+    let mut highs: [u32; MOST] = [0; MOST];
     let sight = sound_sight::take_sight(g, img, n, &mut programmed, &mut lows, &mut highs);
     judge_by(g, img, &mut *table, n, sight, &programmed, &lows, &highs)
 }
@@ -308,9 +213,9 @@ pub fn judge_in(g: Geometry, img: &[u8], table: &mut [u8], n: u16) -> Judgement
     ensures { Judged g n img.now result table.old table.new }
 {
     if n <= 64 {
-        return judge_few(g, img, &mut *table, n);
+        return judge_most::<64>(g, img, &mut *table, n);
     }
-    judge_many(g, img, &mut *table, n)
+    judge_most::<1024>(g, img, &mut *table, n)
 }
 
 // The same with a table for the largest image.

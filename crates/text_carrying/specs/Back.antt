@@ -1,8 +1,7 @@
 -- A text that is read as records is the text of those records; their keys rise, and their numbers have 32 bits. And
 -- what a refused insert leaves to those after it. Assumes nothing.
-use Rattle.std.specs.Prelude.{◌≡◌, refl, List, [], ◌∷◌, ◌++◌, Bool, true, false, ℕ, suc, ◌+◌, ◌*◌, ◌<◌, ◌≤◌, leb, ltb, length}
+use Rattle.std.specs.Prelude.{◌≡◌, refl, List, [], ◌∷◌, ◌++◌, Bool, true, false, ℕ, suc, ◌+◌, ◌*◌, ◌<◌, ◌≤◌, leb, ltb, length, None, Option, Some}
 use Rattle.std.proofs.Common.{sym, subst, ◌∙◌, append_assoc, arith, length-append, leb-true, ltb-true, ne_eqb}
-use Rattle.std.proofs.Math.Option.{Option, none, some, some-injective, none-ne-some}
 use Rattle.geometry.specs.declared.Geometry.{Geometry}
 use Rattle.geometry.specs.declared.Entry.{Entry}
 use Rattle.geometry.specs.Tests.{pick}
@@ -38,27 +37,27 @@ pub record Fits (l : List ℕ) (e : Entry) : Type 0 where
   pub key_low : e.key < four_bytes
   pub addr_low : e.addr < four_bytes
 
-record_fits : (l : List ℕ) (e : Entry) → record_of (fields l) ≡ some e → Fits l e
+record_fits : (l : List ℕ) (e : Entry) → record_of (fields l) ≡ Some e → Fits l e
 unfolding record_of pair joined
 record_fits l e h = go (pieces 9 l).ended (pieces 9 l).rest (pieces_join 9 l) h
   where
-    both : (k a : List ℕ) (x y : Option ℕ) → number_of k ≡ x → number_of a ≡ y → pair x y ≡ some e → Fits (k ++ (9 ∷ a)) e
-    both k a none y p q i = absurd (none-ne-some e i)
-    both k a (some x) none p q i = absurd (none-ne-some e i)
-    both k a (some x) (some y) p q i =
-        let z = some-injective (record { key = x; addr = y }) e i in
+    both : (k a : List ℕ) (x y : Option ℕ) → number_of k ≡ x → number_of a ≡ y → pair x y ≡ Some e → Fits (k ++ (9 ∷ a)) e
+    both k a None y p q i = absurd (cc)
+    both k a (Some x) None p q i = absurd (cc)
+    both k a (Some x) (Some y) p q i =
+        let z : record { key = x; addr = y } ≡ e = cc in
         subst (Fits (k ++ (9 ∷ a))) z (record {
           same = rw (number_back k x p, number_back a y q) refl;
           key_low = let m = number_most k x p in omega (arith, m);
           addr_low = let m = number_most a y q in omega (arith, m);
         })
 
-    go : (E : List (List ℕ)) (R : List ℕ) → joined 9 E R ≡ l → record_of (E ++ (R ∷ [])) ≡ some e → Fits l e
-    go [] R j i = absurd (none-ne-some e i)
+    go : (E : List (List ℕ)) (R : List ℕ) → joined 9 E R ≡ l → record_of (E ++ (R ∷ [])) ≡ Some e → Fits l e
+    go [] R j i = absurd (cc)
     go (k ∷ []) R j i = subst (λ m. Fits m e) (sym (append_assoc k (9 ∷ []) R)
         ∙ j) (both k R (number_of k) (number_of R) refl refl i)
-    go (k ∷ x ∷ []) R j i = absurd (none-ne-some e i)
-    go (k ∷ x ∷ y ∷ E) R j i = absurd (none-ne-some e i)
+    go (k ∷ x ∷ []) R j i = absurd (cc)
+    go (k ∷ x ∷ y ∷ E) R j i = absurd (cc)
 
 -- what a text is read as, after i lines: its records' text is the text, their keys rise, and there are at most 4,096
 -- with those before
@@ -104,8 +103,8 @@ reads i low (l ∷ ls) rest = go (record_of (fields l)) refl (λ above. reads (s
         (read_lines (suc i) above ls rest))
         → Good i low ((l ++ (10 ∷ [])) ++ joined 10 ls rest)
         (read_line i low o (λ above. read_lines (suc i) above ls rest))
-    go none h ih = tt
-    go (some e) h ih = test e (ltb i most_records) (leb low e.key) refl refl (record_fits l e h) (ih (suc e.key))
+    go None h ih = tt
+    go (Some e) h ih = test e (ltb i most_records) (leb low e.key) refl refl (record_fits l e h) (ih (suc e.key))
 
 module _ (text : List ℕ) (es : List Entry) (h : read_text text ≡ records es) where
   read : Read 0 0 text es

@@ -1,7 +1,6 @@
 -- Request 13 of document 02, "Carry an index across": the text of a map, a text read line by line, and the calls export
 -- and import on every image. Definitions alone; assumes nothing.
-use Rattle.std.specs.Prelude.{ℕ, suc, ◌+◌, ◌%◌, Bool, List, [], ◌∷◌, ◌++◌, eqb, leb, ltb, length, drop}
-use Rattle.std.proofs.Math.Option.{Option, none, some}
+use Rattle.std.specs.Prelude.{ℕ, suc, ◌+◌, ◌%◌, Bool, List, [], ◌∷◌, ◌++◌, eqb, leb, ltb, length, drop, None, Option, Some}
 use Rattle.geometry.specs.declared.Geometry.{Geometry}
 use Rattle.geometry.specs.declared.Entry.{Entry}
 use Rattle.geometry.specs.Geometry.{chosen_of}
@@ -24,15 +23,15 @@ text_of (e ∷ es) = (record_text e ++ (10 ∷ [])) ++ text_of es
 
 -- ---- a text read: a line's record, if it fits the form
 unfoldable pub pair : Option ℕ → Option ℕ → Option Entry
-pair none a = none
-pair (some k) none = none
-pair (some k) (some a) = some (record { key = k; addr = a })
+pair None a = None
+pair (Some k) None = None
+pair (Some k) (Some a) = Some (record { key = k; addr = a })
 
 unfoldable pub record_of : List (List ℕ) → Option Entry
-record_of [] = none
-record_of (k ∷ []) = none
+record_of [] = None
+record_of (k ∷ []) = None
 record_of (k ∷ a ∷ []) = pair (number_of k) (number_of a)
-record_of (k ∷ a ∷ x ∷ xs) = none
+record_of (k ∷ a ∷ x ∷ xs) = None
 
 -- a text is read as its records, or refused "with its line number (the lowest if several)"
 pub data Reading : Type 0 where
@@ -49,8 +48,8 @@ most_records = 4096
 
 -- a line after i others, whose key must not be below low; then the lines after it
 unfoldable pub read_line : ℕ → ℕ → Option Entry → (ℕ → Reading) → Reading
-read_line i low none after = bad (suc i)
-read_line i low (some e) after = pick (ltb i most_records) (pick (leb low e.key) (with e (after (suc e.key))) (bad (suc i))) (bad (suc i))
+read_line i low None after = bad (suc i)
+read_line i low (Some e) after = pick (ltb i most_records) (pick (leb low e.key) (with e (after (suc e.key))) (bad (suc i))) (bad (suc i))
 
 -- "so is a last line without byte 10"
 unfoldable pub read_rest : ℕ → List ℕ → Reading

@@ -1,10 +1,9 @@
 -- What is written is read as the number, and what is read is written as it stood. Assumes nothing.
-use Rattle.std.specs.Prelude.{ℕ, zero, suc, ◌+◌, ◌-◌, ◌*◌, ◌/◌, ◌%◌, ◌<◌, ◌≤◌, ◌^◌, Bool, ◌≡◌, List, [], ◌∷◌, ◌++◌, length, get_or}
+use Rattle.std.specs.Prelude.{ℕ, zero, suc, ◌+◌, ◌-◌, ◌*◌, ◌/◌, ◌%◌, ◌<◌, ◌≤◌, ◌^◌, Bool, ◌≡◌, List, [], ◌∷◌, ◌++◌, length, get_or, None, Some}
 use Rattle.std.proofs.Math.Bool.{true, false}
 use Rattle.std.proofs.lemmas.Bool.{false≢true}
 use Rattle.std.proofs.Math.Path.{refl, subst}
 use Rattle.std.proofs.Common.{ap, sym, ◌∙◌, append_assoc, append-nil, arith, lit<, length-append}
-use Rattle.std.proofs.Math.Option.{none, some, some-injective, none-ne-some}
 use Rattle.std.proofs.Math.Decide.{dec_lt}
 use Rattle.std.proofs.Math.Dec.{leb}
 use Rattle.std.proofs.Math.ListN.{get_or-append}
@@ -100,10 +99,10 @@ unfolding proper
 decimal_proper zero = rw (decimal_one 0 (lit< tt)) refl
 decimal_proper (suc n) = proper_first (decimal (suc n)) (decimal_some (suc n)) (decimal_first (suc n) (omega arith))
 
-pub number_read : (n : ℕ) → n ≤ largest → number_of (decimal n) ≡ some n
+pub number_read : (n : ℕ) → n ≤ largest → number_of (decimal n) ≡ Some n
 unfolding number_of
 number_read n h = rw (and_both _ _ (and_both _ _ (decimal_digits n) (decimal_proper n)) (le-leb (value 0 (decimal n)) largest (rw (decimal_value n) h)))
-    (ap some (decimal_value n))
+    (ap Some (decimal_value n))
 
 -- ---- what is read is written as it stood
 value_back : (v : ℕ) (ds : List ℕ) → 1 ≤ v → all_digits ds ≡ true → decimal (value v ds) ≡ decimal v ++ ds
@@ -134,26 +133,26 @@ digits_back (b ∷ c ∷ bs) d p =
 
 module _ (ds : List ℕ) (n : ℕ) where
   -- bytes that are a number are its decimal, and it is not too large
-  number_is_lem : number_of ds ≡ some n → (decimal n ≡ ds) × (n ≤ largest)
+  number_is_lem : number_of ds ≡ Some n → (decimal n ≡ ds) × (n ≤ largest)
   unfolding number_of
   number_is_lem = go (all_digits ds & proper ds & leb (value 0 ds) largest) refl
     where
-      go : (t : Bool) → (all_digits ds & proper ds & leb (value 0 ds) largest) ≡ t → pick t (some (value 0 ds)) none
-          ≡ some n
+      go : (t : Bool) → (all_digits ds & proper ds & leb (value 0 ds) largest) ≡ t → pick t (Some (value 0 ds)) None
+          ≡ Some n
           → (decimal n ≡ ds) × (n ≤ largest)
       go true e h =
-          let q = some-injective (value 0 ds) n h in
+          let q : value 0 ds ≡ n = cc in
           let l = leb-true (value 0 ds) largest (and_right _ _ e) in
           (ap decimal (sym q) ∙ digits_back ds (and_left _ _ (and_left _ _ e)) (and_right _ _ (and_left _ _ e)), subst (λ m. m ≤ largest) q l)
-      go false e h = absurd (none-ne-some n h)
+      go false e h = absurd (cc)
 
-  pub number_back : number_of ds ≡ some n → decimal n ≡ ds
+  pub number_back : number_of ds ≡ Some n → decimal n ≡ ds
   number_back h = (number_is_lem h).0
 
-  pub number_most : number_of ds ≡ some n → n ≤ largest
+  pub number_most : number_of ds ≡ Some n → n ≤ largest
   number_most h = (number_is_lem h).1
 
   -- it has at most ten digits
-  pub number_short : number_of ds ≡ some n → length ds ≤ 10
+  pub number_short : number_of ds ≡ Some n → length ds ≤ 10
   number_short h = let m = number_most h in
       subst (λ l. length l ≤ 10) (number_back h) (decimal_short 9 n (omega (arith, m)))

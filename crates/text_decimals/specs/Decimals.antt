@@ -1,6 +1,5 @@
 -- "Numbers are decimal up to 4,294,967,295, without leading zeros". Definitions alone; assumes nothing.
-use Rattle.std.specs.Prelude.{ℕ, zero, suc, ◌+◌, ◌-◌, ◌*◌, ◌/◌, ◌%◌, Bool, true, false, List, [], ◌∷◌, ◌++◌, leb, ltb}
-use Rattle.std.proofs.Math.Option.{Option, none, some}
+use Rattle.std.specs.Prelude.{ℕ, zero, suc, ◌+◌, ◌-◌, ◌*◌, ◌/◌, ◌%◌, Bool, true, false, List, [], ◌∷◌, ◌++◌, leb, ltb, None, Option, Some}
 use Rattle.geometry.specs.Tests.{pick, ◌&◌}
 
 -- the bytes 48 to 57 are the digits 0 to 9
@@ -27,7 +26,7 @@ largest = 4294967295
 
 -- the number that bytes are
 unfoldable pub number_of : List ℕ → Option ℕ
-number_of bs = pick (all_digits bs & proper bs & leb (value 0 bs) largest) (some (value 0 bs)) none
+number_of bs = pick (all_digits bs & proper bs & leb (value 0 bs) largest) (Some (value 0 bs)) None
 
 -- the bytes of a number: its last digit stands after those of its tenth. `most` is above n
 unfoldable pub digits_of : ℕ → ℕ → List ℕ

@@ -1,59 +1,45 @@
 // Numbers in decimal: read from the bytes of a slice, and put into a lent buffer.
-#![tactic(auto)]
+#![tactic(auto, using(crate::specs::Reading::reading_laws))]
 
 ghost use Rattle.std.specs.Prelude.{◌≡◌, ◌+◌, ◌%◌, ◌<◌, ◌≤◌, length};
 ghost use Rattle.std.proofs.lemmas.List.Edits.{sets};
 ghost use Rattle.text_decimals.specs.Decimals.{number_of, decimal};
-ghost use Rattle.text_decimals.specs.Reading.{number_is, number_from};
-
-#[derive(Clone, Copy)]
-pub enum Number {
-    Value(u32),
-    Nothing,
-}
-
-fn wide(b: u8) -> u64
-    ensures { (result ≡ b) × (result < 256) }
-{
-    b as u64
-}
+ghost use Rattle.text_decimals.specs.Reading.{number_from};
 
 // The value of digits, if all bytes are digits and it is not too large.
-fn digits_value(s: &[u8]) -> Number
-    ensures { number_is result ≡ number_from 0 s.now }
+fn digits_value(s: &[u8]) -> Option<u32>
+    ensures { result ≡ number_from 0 s.now }
 {
     let mut v: u64 = 0;
-    let mut i: usize = 0;
-    while i < s.len() {
-        let b = wide(s[i]);
+    for x in s {
+        let b = u64::from(*x);
         if b < 48 {
-            return Number::Nothing;
+            return None;
         }
         if 57 < b {
-            return Number::Nothing;
+            return None;
         }
         v = 10 * v + (b - 48);
         if 4294967295 < v {
-            return Number::Nothing;
+            return None;
         }
-        i += 1;
     }
-    Number::Value(v as u32)
+    Some(v as u32)
 }
 
 // The number that bytes are, if they are one. A part of a text is handed on as a slice.
-pub fn parse_number(s: &[u8]) -> Number
-    ensures { number_is result ≡ number_of s.now }
+pub fn parse_number(s: &[u8]) -> Option<u32>
+    ensures { result ≡ number_of s.now }
 {
     let n = s.len();
     if n == 0 {
-        return Number::Nothing;
+        return None;
     }
     if n == 1 {
         return digits_value(s);
     }
-    if wide(s[0]) <= 48 {
-        return Number::Nothing;
+    if s[0] <= 48 {
+        return None;
     }
     digits_value(s)
 }
@@ -65,6 +51,7 @@ fn digit(n: u64) -> u8
 }
 
 // A number's digits from a place on. Gives the place after them. Nothing is put outside the buffer.
+#[tactic(auto, using(crate::specs::Back::decimal_one, crate::specs::Writing::writing_laws, crate::specs::Writing::decimal_long))]
 pub fn put_number(buf: &mut [u8], at: usize, n: u64) -> usize
     requires { at ≤ 9223372036854775807 }
     ensures place { result ≡ at + length (decimal n) }

@@ -1,5 +1,5 @@
 // Bytes of a text: where a piece ends, and bytes put into a lent buffer.
-#![tactic(auto)]
+#![tactic(auto, using(crate::specs::Pieces::text_laws))]
 
 ghost use Rattle.std.specs.Prelude.{◌≡◌, ◌+◌, ◌≤◌, length, drop, set};
 ghost use Rattle.text_lines.specs.Lines.{reach};
@@ -10,14 +10,12 @@ pub fn piece_end(s: &[u8], from: usize, at: u8) -> usize
     ensures place { result ≡ from + reach at (drop from s.now) }
     ensures within { (from ≤ result) × (result ≤ length s.now) }
 {
-    let mut i = from;
-    while i < s.len() {
+    for i in from..s.len() {
         if s[i] == at {
             return i;
         }
-        i += 1;
     }
-    i
+    s.len()
 }
 
 // One byte; a put outside the buffer changes nothing.

@@ -1,19 +1,11 @@
 -- A text read turn by turn, as the reader does it. Definitions alone; assumes nothing.
-use Rattle.std.specs.Prelude.{ℕ, zero, suc, ◌+◌, List, [], ◌∷◌, eqb, leb, ltb, length, take, drop}
-use Rattle.std.proofs.Math.Option.{Option, none, some}
+use Rattle.std.specs.Prelude.{ℕ, zero, suc, ◌+◌, List, [], ◌∷◌, eqb, leb, ltb, length, take, drop, None, Option, Some}
 use Rattle.geometry.specs.declared.Entry.{Entry}
 use Rattle.geometry.specs.Tests.{pick, ◌&◌}
 use Rattle.text_lines.specs.Lines.{fields, reach}
 use Rattle.text_carrying.specs.Carrying.{record_of}
-use Rattle.text_reader.specs.declared.Line.{Line}
-use Rattle.text_reader.specs.declared.Line.TheVariants.{Pair, Nothing}
 use Rattle.text_reader.specs.declared.Spot.{Spot}
 use Rattle.text_reader.specs.declared.Turn.{Turn}
-
--- what the code answers, as the definition has it
-unfoldable pub pair_is : Line → Option Entry
-pair_is (Pair e) = some e
-pair_is Nothing = none
 
 abbrev pub no_pair : Entry
 no_pair = record { key = 0; addr = 0 }
@@ -36,8 +28,8 @@ taken s next e = pick (leb s.low e.key)
     (record { entry = e; spot = record { at = next; count = s.count + 1; low = e.key + 1; bad = 0 } }) (refusal s)
 
 unfoldable pub record_turn : Spot → ℕ → Option Entry → Turn
-record_turn s next none = refusal s
-record_turn s next (some e) = taken s next e
+record_turn s next None = refusal s
+record_turn s next (Some e) = taken s next e
 
 -- the bytes before the next byte 10
 abbrev pub line_of : List ℕ → ℕ → List ℕ

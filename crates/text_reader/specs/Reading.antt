@@ -1,9 +1,8 @@
 -- Laws by which the reader's code is proved. Assumes nothing.
-use Rattle.std.specs.Prelude.{ℕ, suc, ◌+◌, ◌-◌, ◌<◌, ◌≤◌, ◌≡◌, length}
+use Rattle.std.specs.Prelude.{ℕ, suc, ◌+◌, ◌-◌, ◌<◌, ◌≤◌, ◌≡◌, length, None, Option, Some}
 use Rattle.std.proofs.Math.Path.{refl, sym, ap}
 use Rattle.std.proofs.Common.{◌∙◌, arith, zero-add, add-one, length-drop, length-take-le}
 use mathlib.Core.List.{List, [], ◌∷◌, ◌++◌}
-use Rattle.std.proofs.Math.Option.{none, some}
 use Rattle.std.proofs.Math.ListN.{take, drop}
 use borrow.Author.Rules.{part_to_end}
 use borrow.Author.Tests.{lt-leb, le-leb, lt-ltb, le-ltb, eq-eqb, ne_eqb}
@@ -11,16 +10,11 @@ use Rattle.geometry.specs.declared.Entry.{Entry}
 use Rattle.geometry.specs.Tests.{◌&◌}
 use Rattle.text_lines.specs.Lines.{pieces, fields, reach}
 use Rattle.text_lines.specs.Pieces.{fields_more, fields_last}
-use Rattle.text_decimals.specs.declared.Number.TheVariants.{Value, Nothing}
-use Rattle.text_decimals.specs.declared.Number.{Number}
 use Rattle.text_decimals.specs.Decimals.{number_of}
-use Rattle.text_decimals.specs.Reading.{number_is}
 use Rattle.text_carrying.specs.Carrying.{pair, record_of}
-use Rattle.text_reader.specs.declared.Line.{Line}
-use Rattle.text_reader.specs.declared.Line.TheVariants.{Pair, Nothing as NoPair}
 use Rattle.text_reader.specs.declared.Spot.{Spot}
 use Rattle.text_reader.specs.declared.Turn.{Turn}
-use Rattle.text_reader.specs.Reader.{pair_is, idle, refusal, taken, record_turn, line_turn, turn_of}
+use Rattle.text_reader.specs.Reader.{idle, refusal, taken, record_turn, line_turn, turn_of}
 
 -- ---- the record of a line
 pub count_take : (xs : List ℕ) (n : ℕ) → n ≤ length xs → n ≡ length (take n xs)
@@ -31,8 +25,8 @@ module _ (line : List ℕ) (tab : ℕ) (et : tab ≡ 0 + reach 9 (drop 0 line)) 
   tab_is = et ∙ zero-add (reach 9 line)
 
   -- no tab
-  pub record_one : length line ≤ tab → pair_is NoPair ≡ record_of (fields line)
-  unfolding pair_is record_of
+  pub record_one : length line ≤ tab → None ≡ record_of (fields line)
+  unfolding record_of
   record_one h = sym (ap record_of (fields_last line (let q = tab_is in omega (arith, q, h))))
 
   first_field : tab < length line → fields line ≡ take tab line ∷ fields (drop (tab + 1) line)
@@ -43,19 +37,19 @@ module _ (line : List ℕ) (tab : ℕ) (et : tab ≡ 0 + reach 9 (drop 0 line)) 
     rest_long = length-drop (tab + 1) line
 
     -- a second tab
-    pub record_more : end < length line → pair_is NoPair ≡ record_of (fields line)
-    unfolding pair_is record_of
+    pub record_more : end < length line → None ≡ record_of (fields line)
+    unfolding record_of
     record_more g =
         let r = drop (tab + 1) line in
         let w = rest_long in
         sym (ap record_of (first_field h ∙ ap (λ l. take tab line ∷ l) (fields_more r (omega (arith, w, ee, g))))
         ∙ three (take tab line) (take (reach 9 r) r) (drop (suc (reach 9 r)) r))
       where
-        many : (k a : List ℕ) (xs : List (List ℕ)) (x : List ℕ) → record_of (k ∷ a ∷ (xs ++ (x ∷ []))) ≡ none
+        many : (k a : List ℕ) (xs : List (List ℕ)) (x : List ℕ) → record_of (k ∷ a ∷ (xs ++ (x ∷ []))) ≡ None
         many k a [] x = refl
         many k a (y ∷ ys) x = refl
 
-        three : (k a l : List ℕ) → record_of (k ∷ a ∷ fields l) ≡ none
+        three : (k a l : List ℕ) → record_of (k ∷ a ∷ fields l) ≡ None
         three k a l = many k a (pieces 9 l).ended (pieces 9 l).rest
 
     module _ (last : length line ≤ end) where
@@ -68,25 +62,24 @@ module _ (line : List ℕ) (tab : ℕ) (et : tab ≡ 0 + reach 9 (drop 0 line)) 
           ap record_of (first_field h ∙ ap (λ l. take tab line ∷ l) (fields_last r (omega (arith, w, ee, last))))
           ∙ ap (λ (l : List ℕ). pair (number_of (take tab line)) (number_of l)) (sym (part_to_end line (tab + 1)))
 
-      module _ (k : Number) (ek : number_is k ≡ number_of (take tab line)) where
-        pub record_key : k ≡ Nothing → pair_is NoPair ≡ record_of (fields line)
-        unfolding pair_is number_is pair
-        record_key n = sym (two ∙ ap (λ o. pair o (number_of (take (length line - (tab + 1)) (drop (tab + 1) line)))) (sym ek ∙ ap number_is n))
+      module _ (k : Option ℕ) (ek : k ≡ number_of (take tab line)) where
+        pub record_key : k ≡ None → None ≡ record_of (fields line)
+        unfolding pair
+        record_key n = sym (two ∙ ap (λ o. pair o (number_of (take (length line - (tab + 1)) (drop (tab + 1) line)))) (sym ek ∙ n))
 
-        module _ (v : ℕ) (ev : k ≡ Value v) (a : Number) (ea : number_is a
+        module _ (v : ℕ) (ev : k ≡ Some v) (a : Option ℕ) (ea : a
             ≡ number_of (take (length line - (tab + 1)) (drop (tab + 1) line))) where
-          both : record_of (fields line) ≡ pair (some v) (number_is a)
-          unfolding number_is
-          both = two ∙ (λ i. pair ((sym ek ∙ ap number_is ev) i) (sym ea i))
+          both : record_of (fields line) ≡ pair (Some v) a
+          both = two ∙ (λ i. pair ((sym ek ∙ ev) i) (sym ea i))
 
-          pub record_addr : a ≡ Nothing → pair_is NoPair ≡ record_of (fields line)
-          unfolding pair_is number_is pair
-          record_addr n = sym (both ∙ ap (λ x. pair (some v) (number_is x)) n)
+          pub record_addr : a ≡ None → None ≡ record_of (fields line)
+          unfolding pair
+          record_addr n = sym (both ∙ ap (λ x. pair (Some v) x) n)
 
-          pub record_both : (w : ℕ) → a ≡ Value w → pair_is (Pair (record { key = v; addr = w }))
+          pub record_both : (w : ℕ) → a ≡ Some w → Some (record { key = v; addr = w })
               ≡ record_of (fields line)
-          unfolding pair_is number_is pair
-          record_both w n = sym (both ∙ ap (λ x. pair (some v) (number_is x)) n)
+          unfolding pair
+          record_both w n = sym (both ∙ ap (λ x. pair (Some v) x) n)
 
 -- ---- a record that is taken
 module _ (s : Spot) (next k : ℕ) (e : Entry) (ek : k ≡ e.key) where
@@ -112,21 +105,21 @@ module _ (text : List ℕ) (s : Spot) (end : ℕ) (ee : end ≡ s.at + reach 10 
   unfolding line_turn
   line_open r h f = f ∙ rw (le-ltb (s.at + reach 10 (drop s.at text)) (length text) (omega (arith, ee, h))) refl
 
-  module _ (h : end < length text) (l : Line) (el : pair_is l
+  module _ (h : end < length text) (l : Option Entry) (el : l
       ≡ record_of (fields (take (end - s.at) (drop s.at text)))) where
-    ended : line_turn text s ≡ record_turn s (end + 1) (pair_is l)
+    ended : line_turn text s ≡ record_turn s (end + 1) l
     unfolding line_turn
     ended =
         let q : end - s.at ≡ reach 10 (drop s.at text) = omega (arith, ee) in
         rw (lt-ltb (s.at + reach 10 (drop s.at text)) (length text) (omega (arith, ee, h)), el, ← ee, q) refl
 
-    pub line_nothing : (r : Turn) → l ≡ NoPair → r ≡ refusal s → r ≡ line_turn text s
-    unfolding pair_is record_turn
-    line_nothing r n f = f ∙ sym (ended ∙ ap (λ x. record_turn s (end + 1) (pair_is x)) n)
+    pub line_nothing : (r : Turn) → l ≡ None → r ≡ refusal s → r ≡ line_turn text s
+    unfolding record_turn
+    line_nothing r n f = f ∙ sym (ended ∙ ap (λ x. record_turn s (end + 1) x) n)
 
-    pub line_pair : (r : Turn) (e : Entry) → l ≡ Pair e → r ≡ taken s (end + 1) e → r ≡ line_turn text s
-    unfolding pair_is record_turn
-    line_pair r e n f = f ∙ sym (ended ∙ ap (λ x. record_turn s (end + 1) (pair_is x)) n)
+    pub line_pair : (r : Turn) (e : Entry) → l ≡ Some e → r ≡ taken s (end + 1) e → r ≡ line_turn text s
+    unfolding record_turn
+    line_pair r e n f = f ∙ sym (ended ∙ ap (λ x. record_turn s (end + 1) x) n)
 
 -- ---- one turn
 module _ (text : List ℕ) (s : Spot) (r : Turn) where

@@ -1,11 +1,10 @@
 -- A text read turn by turn, 4,096 turns, is read as the definition has it. Assumes nothing.
 use Prim.Native.Nat.{ℕ, zero, suc, ◌+◌, ◌-◌, ◌<◌, ◌≤◌}
-use Rattle.std.specs.Prelude.{Bool, ◌≡◌, eqb, take}
+use Rattle.std.specs.Prelude.{Bool, ◌≡◌, eqb, take, None, Option, Some}
 use Rattle.std.proofs.Math.Bool.{true, false}
 use Rattle.std.proofs.Math.Path.{refl, sym, ap, subst}
 use Rattle.std.proofs.Common.{◌∙◌, zero-add, add-one, drop_of_length-le}
 use mathlib.Core.List.{List, [], ◌∷◌}
-use Rattle.std.proofs.Math.Option.{Option, none, some}
 use native.Mathlib.Omega.{arith}
 use Rattle.std.proofs.Math.Dec.{leb, ltb}
 use Rattle.std.proofs.Math.ListN.{length, drop, length-drop}
@@ -94,8 +93,8 @@ module _ (text : List ℕ) where
   full_reads s c h = go (ltb (s.at + reach 10 (drop s.at text)) (length text)) refl ∙ ap (λ (m : ℕ). bad (suc m)) c
     where
       over : (o : Option Entry) (next : ℕ → Reading) → read_line s.count s.low o next ≡ bad (suc s.count)
-      over none next = refl
-      over (some e) next = rw (le-ltb s.count most_records (omega (arith, c))) refl
+      over None next = refl
+      over (Some e) next = rw (le-ltb s.count most_records (omega (arith, c))) refl
 
       go : (t : Bool) → ltb (s.at + reach 10 (drop s.at text)) (length text) ≡ t
           → read_from text s ≡ bad (suc s.count)
@@ -146,7 +145,7 @@ module _ (text : List ℕ) where
 
   -- a record that is read, and the turns after it
   came_more : (n : ℕ) (s : Spot) (e : Entry) → s.count < 4096 → leb s.low e.key ≡ true
-      → read_from text s ≡ read_line s.count s.low (some e) (λ above. read_lines (suc s.count) above
+      → read_from text s ≡ read_line s.count s.low (Some e) (λ above. read_lines (suc s.count) above
       (pieces 10 (drop (after s) text)).ended (pieces 10 (drop (after s) text)).rest)
       → ((moved s e).count ≤ (spot_after text n (moved s e)).count)
       × (read_from text (moved s e) ≡ read_as text (spot_after text n (moved s e))
@@ -174,7 +173,7 @@ module _ (text : List ℕ) where
   came_line n s z c h ih = by_end (ltb (s.at + reach 10 (drop s.at text)) (length text)) refl
     where
       by_key : (e : Entry) → (t : Bool) → leb s.low e.key ≡ t
-          → read_from text s ≡ read_line s.count s.low (some e) (λ above. read_lines (suc s.count) above
+          → read_from text s ≡ read_line s.count s.low (Some e) (λ above. read_lines (suc s.count) above
           (pieces 10 (drop (after s) text)).ended (pieces 10 (drop (after s) text)).rest)
           → Came n s (pick t (record { entry = e; spot = moved s e }) (refusal s))
       by_key e true k r = came_more n s e c k r (ih e)
@@ -184,8 +183,8 @@ module _ (text : List ℕ) where
           → read_from text s ≡ read_line s.count s.low o (λ above. read_lines (suc s.count) above
           (pieces 10 (drop (after s) text)).ended (pieces 10 (drop (after s) text)).rest)
           → Came n s (record_turn s (after s) o)
-      by_record none r = came_bad n s r
-      by_record (some e) r = by_key e (leb s.low e.key) refl r
+      by_record None r = came_bad n s r
+      by_record (Some e) r = by_key e (leb s.low e.key) refl r
 
       by_end : (t : Bool) → ltb (s.at + reach 10 (drop s.at text)) (length text) ≡ t
           → Came n s (pick t (record_turn s (after s) (record_of (fields (line_of text s.at)))) (refusal s))
@@ -226,8 +225,8 @@ module _ (text : List ℕ) where
       by_key e false = omega arith
 
       by_record : (o : Option Entry) → (record_turn s (after s) o).spot.count ≤ s.count + 1
-      by_record none = omega arith
-      by_record (some e) = by_key e (leb s.low e.key)
+      by_record None = omega arith
+      by_record (Some e) = by_key e (leb s.low e.key)
 
       go : (x y : Bool) (o : Option Entry) → (pick x (pick y (record_turn s (after s) o) (refusal s))
           (idle s)).spot.count ≤ s.count + 1

@@ -1,14 +1,12 @@
 // The reader of request 13: lines of a text into a lent slice of key and address pairs, until one does not fit.
-#![tactic(auto)]
+#![tactic(auto, using(crate::specs::Reading::reader_laws))]
 
 ghost use Rattle.std.specs.Prelude.{◌≡◌, ◌+◌, ◌≤◌, ◌<◌, length};
-ghost use Rattle.geometry.specs.Bounds.{four_bytes};
 ghost use Rattle.text_lines.specs.Lines.{fields};
 ghost use Rattle.text_carrying.specs.Carrying.{record_of};
-ghost use Rattle.text_reader.specs.Reader.{pair_is, idle, refusal, taken, line_turn, turn_of, filled};
+ghost use Rattle.text_reader.specs.Reader.{idle, refusal, taken, line_turn, turn_of, filled};
 
 use geometry::Entry;
-use text_decimals::Number;
 
 // How far the reader has come: the place of the next line, the records so far, the least key that the next one may
 // have, and the number of the line that is refused, 0 if none is.
@@ -27,44 +25,21 @@ pub struct Turn {
     pub spot: Spot,
 }
 
-// What a line is read as.
-#[derive(Clone, Copy)]
-pub enum Line {
-    Pair(Entry),
-    Nothing,
-}
-
 // The record of a line, if it fits the form.
-pub fn read_record(line: &[u8]) -> Line
-    ensures { pair_is result ≡ record_of (fields line.now) }
+pub fn read_record(line: &[u8]) -> Option<Entry>
+    ensures { result ≡ record_of (fields line.now) }
 {
-    let tab = text_lines::piece_end(line, 0, 9);
+    let tab = text_lines::piece_end(line, 0, b'\t');
     if line.len() <= tab {
-        return Line::Nothing;
+        return None;
     }
     let from = tab + 1;
-    let end = text_lines::piece_end(line, from, 9);
-    if end < line.len() {
-        return Line::Nothing;
+    if text_lines::piece_end(line, from, b'\t') < line.len() {
+        return None;
     }
-    let first = text_decimals::parse_number(&line[..tab]);
-    let Number::Value(key) = first else {
-        return Line::Nothing;
-    };
-    let second = text_decimals::parse_number(&line[from..]);
-    let Number::Value(addr) = second else {
-        return Line::Nothing;
-    };
-    Line::Pair(Entry {
-        key: key,
-        addr: addr,
-    })
-}
-
-fn wide(x: u32) -> u64
-    ensures { (result ≡ x) × (result < four_bytes) }
-{
-    x as u64
+    let key = text_decimals::parse_number(&line[..tab])?;
+    let addr = text_decimals::parse_number(&line[from..])?;
+    Some(Entry { key, addr })
 }
 
 // Nothing is read.
@@ -98,12 +73,12 @@ fn take_record(s: Spot, next: usize, entry: Entry) -> Turn
     requires { s.count < 4096 }
     ensures { result ≡ taken s next entry }
 {
-    let key = wide(entry.key);
+    let key = u64::from(entry.key);
     if key < s.low {
         return refuse(s);
     }
     Turn {
-        entry: entry,
+        entry,
         spot: Spot {
             at: next,
             count: s.count + 1,
@@ -123,8 +98,7 @@ fn read_line(text: &[u8], s: Spot) -> Turn
     if text.len() <= end {
         return refuse(s);
     }
-    let line = read_record(&text[at..end]);
-    let Line::Pair(entry) = line else {
+    let Some(entry) = read_record(&text[at..end]) else {
         return refuse(s);
     };
     take_record(s, end + 1, entry)
@@ -134,13 +108,7 @@ fn read_line(text: &[u8], s: Spot) -> Turn
 pub fn read_turn(text: &[u8], s: Spot) -> Turn
     ensures { result ≡ turn_of text.now s }
 {
-    if s.bad != 0 {
-        return stay(s);
-    }
-    if 4096 <= s.count {
-        return stay(s);
-    }
-    if text.len() <= s.at {
+    if s.bad != 0 || 4096 <= s.count || text.len() <= s.at {
         return stay(s);
     }
     read_line(text, s)
@@ -151,13 +119,11 @@ pub fn read_pairs(text: &[u8], pairs: &mut [Entry], n: usize, s: Spot) -> Spot
     requires { n ≤ length pairs.old }
     ensures { (result, pairs.new) ≡ filled text.now n s pairs.old }
 {
-    let mut i: usize = 0;
     let mut t = s;
-    while i < n {
+    for i in 0..n {
         let r = read_turn(text, t);
         pairs[i] = r.entry;
         t = r.spot;
-        i = i + 1;
     }
     t
 }

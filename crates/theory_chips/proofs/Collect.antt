@@ -1,9 +1,8 @@
 -- The collector: rounds until enough pages are erased. Assumes nothing.
-use Rattle.std.specs.Prelude.{◌≡◌, Bool, ◌⊎◌}
+use Rattle.std.specs.Prelude.{◌≡◌, Bool, ◌⊎◌, None, Option, Some}
 use Rattle.std.proofs.Math.Path.{refl}
 use Rattle.std.proofs.Common.{ap, sym, subst, ◌∙◌, inl, inr, arith}
 use Rattle.std.proofs.Math.Bool.{true, false}
-use Rattle.std.proofs.Math.Option.{Option, none, some}
 use Prim.Native.Nat.{ℕ, zero, suc, ◌+◌, ◌-◌, ◌*◌, ◌<◌, ◌≤◌}
 use borrow.Author.Tests.{not-false, ltb-true, ltb-false}
 use Rattle.geometry.specs.declared.Geometry.{Geometry}
@@ -96,7 +95,7 @@ module _ (g : Geometry) (shape : Shape g) (n k : ℕ) where
     -- the victim of a round
     pub round_victim : R7 g n c → count (g.pages * n) (live (places_of c)) + (2 * g.pages + k) ≤ suc (g.pages * n)
         → count (g.pages * n) c.er < g.pages + k
-        → (v : ℕ) × (the_victim g.pages n c ≡ some v) × (v < n) × (full g.pages c.er v ≡ true) ×
+        → (v : ℕ) × (the_victim g.pages n c ≡ Some v) × (v < n) × (full g.pages c.er v ≡ true) ×
         (lives_in g.pages v c < g.pages) ×
         (lives_in g.pages v c ≤ count (g.pages * n) c.er)
     round_victim r7 room few = go (the_victim g.pages n c) refl (victim_is (full g.pages c.er) (λ b. lives_in g.pages b c) n)
@@ -107,11 +106,11 @@ module _ (g : Geometry) (shape : Shape g) (n k : ℕ) where
 
         go : (o : Option ℕ) → the_victim g.pages n c ≡ o → Found (full g.pages c.er)
             (λ b. lives_in g.pages b c) n o
-            → (v : ℕ) × (the_victim g.pages n c ≡ some v) × (v < n) × (full g.pages c.er v ≡ true) ×
+            → (v : ℕ) × (the_victim g.pages n c ≡ Some v) × (v < n) × (full g.pages c.er v ≡ true) ×
             (lives_in g.pages v c < g.pages) ×
             (lives_in g.pages v c ≤ count (g.pages * n) c.er)
-        go none e f = absurd (true_false (full g.pages c.er d.0) d.2 (f d.0 d.1))
-        go (some v) e f = let a = f.fewest d.0 d.1 d.2 in
+        go None e f = absurd (true_false (full g.pages c.er d.0) d.2 (f d.0 d.1))
+        go (Some v) e f = let a = f.fewest d.0 d.1 d.2 in
             (v, e, f.below, f.is_full, omega (arith, a, d.3), bound r7)
           where
             bound : R7 g n c → lives_in g.pages v c ≤ count (g.pages * n) c.er
@@ -146,7 +145,7 @@ module _ (g : Geometry) (shape : Shape g) (n k : ℕ) where
               omega (arith, fr, sw.frees, less),
             )
 
-        go : (v : ℕ) × (the_victim g.pages n c ≡ some v) × (v < n) × (full g.pages c.er v ≡ true) ×
+        go : (v : ℕ) × (the_victim g.pages n c ≡ Some v) × (v < n) × (full g.pages c.er v ≡ true) ×
             (lives_in g.pages v c < g.pages) ×
             (lives_in g.pages v c ≤ count (g.pages * n) c.er) → Out (clear g n (the_victim g.pages n c) c)
         go w = subst (λ o. Out (clear g n o c)) (sym w.1) (at w.0 w.2 w.3 w.4 w.5)

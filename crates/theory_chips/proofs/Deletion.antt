@@ -1,5 +1,5 @@
 -- A deletion's one page on an abstract chip: R2, R5, R6 hold again, and the map is without K. Assumes nothing.
-use Rattle.std.specs.Prelude.{◌≡◌, false, eqb}
+use Rattle.std.specs.Prelude.{◌≡◌, false, eqb, is_none}
 use Rattle.std.proofs.Math.Path.{refl, ap, subst}
 use Rattle.std.proofs.Common.{sym, ◌∙◌}
 use mathlib.Core.List.{List, [], ◌∷◌}
@@ -19,7 +19,7 @@ use Rattle.model.specs.Image.{Nodes, Chip, the_root}
 use Rattle.model.specs.Tree.{under, places, places_of, live, following, chosen, sought}
 use Rattle.model.specs.Next.{ahead, taken}
 use Rattle.model.specs.Edit.{remove, remove_in, kept, Top, collapse}
-use Rattle.model.specs.Update.{is_none, root_node, side_page, delete_list, delete_top, delete_part}
+use Rattle.model.specs.Update.{root_node, side_page, delete_list, delete_top, delete_part}
 use Rattle.theory_counts.specs.Cases.{by_le}
 use Rattle.theory_nodes.specs.Entries.{split}
 use Rattle.theory_nodes.specs.Nodes.{Ok, the, fit_of}

@@ -1,5 +1,5 @@
 -- An insertion's m pages on an abstract chip: R2, R5, R6 hold again, and the map has K. Assumes nothing.
-use Rattle.std.specs.Prelude.{◌≡◌, Bool, true}
+use Rattle.std.specs.Prelude.{◌≡◌, Bool, true, is_none}
 use Rattle.std.proofs.Math.Path.{refl, ap, subst}
 use Rattle.std.proofs.Common.{sym, ◌∙◌}
 use mathlib.Core.List.{List, [], ◌∷◌}
@@ -20,7 +20,7 @@ use Rattle.model.specs.Image.{Nodes, Chip, the_root}
 use Rattle.model.specs.Tree.{gather, under, places, places_of, live, map_of, following, chosen, sought}
 use Rattle.model.specs.Next.{ahead, taken}
 use Rattle.model.specs.Edit.{put, put_in, path_half, side_half, two, named, path_part, splits}
-use Rattle.model.specs.Update.{is_none, root_node, fills, needs, too_high, insert_list, crown_part, insert_part, crown_height, side_page}
+use Rattle.model.specs.Update.{root_node, fills, needs, too_high, insert_list, crown_part, insert_part, crown_height, side_page}
 use Rattle.theory_counts.specs.Cases.{by_test}
 use Rattle.theory_nodes.specs.Nodes.{the, fit_of}
 use Rattle.theory_trees.specs.Edit.{at_root}

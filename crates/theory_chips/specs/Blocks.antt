@@ -1,8 +1,7 @@
 -- The collector's counting: pages by blocks, the victim, why there is one. g is a block's pages.
 -- Assumes nothing.
-use Rattle.std.specs.Prelude.{◌≡◌, refl, Bool, true, false, ◌⊎◌, ℕ, zero, suc, ◌+◌, ◌*◌, ◌<◌, ◌≤◌, eqb, leb, ltb}
+use Rattle.std.specs.Prelude.{◌≡◌, refl, Bool, true, false, ◌⊎◌, ℕ, zero, suc, ◌+◌, ◌*◌, ◌<◌, ◌≤◌, eqb, leb, ltb, None, Option, Some}
 use Rattle.std.proofs.Common.{ap, ◌∙◌, inl, inr, arith, ltb-true, ltb-false, leb-true, leb-false, eqb-true}
-use Rattle.std.proofs.Math.Option.{Option, none, some}
 use Rattle.std.proofs.lemmas.Bool.{eqb-false}
 use Rattle.geometry.specs.Tests.{pick, bit}
 use Rattle.model.specs.Count.{count}
@@ -45,8 +44,8 @@ pub record Victim (full : ℕ → Bool) (lv : ℕ → ℕ) (b v : ℕ) : Type 0 
   pub fewest : (c : ℕ) → c < b → full c ≡ true → lv v ≤ lv c
 
 abbrev pub Found : (ℕ → Bool) → (ℕ → ℕ) → ℕ → Option ℕ → Type 0
-Found full lv b none = (c : ℕ) → c < b → full c ≡ false
-Found full lv b (some v) = Victim full lv b v
+Found full lv b None = (c : ℕ) → c < b → full c ≡ false
+Found full lv b (Some v) = Victim full lv b v
 
 by_last : {C : Type 0} (c b : ℕ) → c < suc b → (c < b → C) → (c ≡ b → C) → C
 by_last c b q f g = by_lt c b f (λ z. g (omega arith))
@@ -54,9 +53,9 @@ by_last c b q f g = by_lt c b f (λ z. g (omega arith))
 better_is : (full : ℕ → Bool) (lv : ℕ → ℕ) (b : ℕ) (o : Option ℕ) → Found full lv b o → Found full lv (suc b)
     (better full lv b o)
 unfolding better
-better_is full lv b none h = go (full b) refl
+better_is full lv b None h = go (full b) refl
   where
-    go : (t : Bool) → full b ≡ t → Found full lv (suc b) (pick t (some b) none)
+    go : (t : Bool) → full b ≡ t → Found full lv (suc b) (pick t (Some b) None)
     go true e = record {
       below = omega arith;
       is_full = e;
@@ -64,10 +63,10 @@ better_is full lv b none h = go (full b) refl
           (λ z. rw z (omega arith));
     }
     go false e = λ c q. by_last c b q (λ z. h c z) (λ z. rw z e)
-better_is full lv b (some v) h = go (full b) (ltb (lv b) (lv v)) refl refl
+better_is full lv b (Some v) h = go (full b) (ltb (lv b) (lv v)) refl refl
   where
-    go : (t u : Bool) → full b ≡ t → ltb (lv b) (lv v) ≡ u → Found full lv (suc b) (pick t (pick u (some b) (some v))
-        (some v))
+    go : (t u : Bool) → full b ≡ t → ltb (lv b) (lv v) ≡ u → Found full lv (suc b) (pick t (pick u (Some b) (Some v))
+        (Some v))
     go true true e i = let w = ltb-true (lv b) (lv v) i in record {
       below = omega arith;
       is_full = e;
@@ -97,8 +96,8 @@ better_alike : (full : ℕ → Bool) (lv lw : ℕ → ℕ) (b : ℕ) (o : Option
     → ((c : ℕ) → c < suc b → lv c ≡ lw c)
     → better full lv b o ≡ better full lw b o
 unfolding better
-better_alike full lv lw b none h e = refl
-better_alike full lv lw b (some v) h e = rw (e b (omega arith), e v (omega (arith, h.below)))
+better_alike full lv lw b None h e = refl
+better_alike full lv lw b (Some v) h e = rw (e b (omega arith), e v (omega (arith, h.below)))
 
 pub victim_alike : (full : ℕ → Bool) (lv lw : ℕ → ℕ) (b : ℕ) → ((c : ℕ) → c < b → lv c ≡ lw c)
     → victim full lv b ≡ victim full lw b

@@ -1,8 +1,7 @@
 -- The collector: rounds until enough pages are erased. Assumes nothing.
-use Rattle.std.specs.Prelude.{◌≡◌, Bool, ◌⊎◌, ltb}
+use Rattle.std.specs.Prelude.{◌≡◌, Bool, ◌⊎◌, ltb, None, Option, Some}
 use Rattle.std.proofs.Common.{arith}
 use Rattle.std.proofs.Math.Bool.{true, false}
-use Rattle.std.proofs.Math.Option.{Option, none, some}
 use Prim.Native.Nat.{ℕ, zero, suc, ◌+◌, ◌-◌, ◌*◌, ◌<◌, ◌≤◌}
 use borrow.Author.Tests.{not-true}
 use Rattle.geometry.specs.declared.Geometry.{Geometry}
@@ -20,8 +19,8 @@ use Rattle.theory_chips.specs.Erase.{erase_block}
 
 -- one round: the victim's live pages moved, then the victim erased
 unfoldable pub clear : Geometry → ℕ → Option ℕ → Chip → Chip
-clear g n none c = c
-clear g n (some v) c = erase_block g v (sweep g n v g.pages c)
+clear g n None c = c
+clear g n (Some v) c = erase_block g v (sweep g n v g.pages c)
 
 -- the erased pages wanted: "While F < 32 + k, collect"
 abbrev pub wanted : Geometry → ℕ → ℕ

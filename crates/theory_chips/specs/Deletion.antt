@@ -1,5 +1,5 @@
 -- A deletion's one page on an abstract chip: R2, R5, R6 hold again, and the map is without K. Assumes nothing.
-use Rattle.std.specs.Prelude.{◌≡◌, false}
+use Rattle.std.specs.Prelude.{◌≡◌, false, is_none}
 use mathlib.Core.List.{List, [], ◌∷◌}
 use Prim.Native.Nat.{ℕ, zero, suc, ◌*◌, ◌<◌, ◌≤◌}
 use native.Mathlib.Omega.{arith}
@@ -13,7 +13,7 @@ use Rattle.model.specs.Image.{Nodes, Chip}
 use Rattle.model.specs.Tree.{under, places, places_of, live, map_of, sought}
 use Rattle.model.specs.Next.{ahead, taken}
 use Rattle.model.specs.Edit.{remove, Top, collapse}
-use Rattle.model.specs.Update.{is_none, side_page, delete_list, delete_top, delete_part}
+use Rattle.model.specs.Update.{side_page, delete_list, delete_top, delete_part}
 use Rattle.theory_nodes.specs.Nodes.{the, fit_of}
 use Rattle.theory_chips.specs.Whole.{Whole}
 

@@ -1,5 +1,5 @@
 -- An insertion's m pages on an abstract chip: R2, R5, R6 hold again, and the map has K. Assumes nothing.
-use Rattle.std.specs.Prelude.{◌≡◌, Bool, true, ltb}
+use Rattle.std.specs.Prelude.{◌≡◌, Bool, true, ltb, is_none}
 use Rattle.std.proofs.Math.Path.{refl, ap}
 use Rattle.std.proofs.Common.{sym, ◌∙◌}
 use mathlib.Core.List.{List, [], ◌∷◌}
@@ -20,7 +20,7 @@ use Rattle.model.specs.Image.{Nodes, Chip, the_root}
 use Rattle.model.specs.Tree.{under, chosen, find, sought}
 use Rattle.model.specs.Next.{ahead, taken}
 use Rattle.model.specs.Edit.{put, put_in, side_half, named, gains, splits}
-use Rattle.model.specs.Update.{is_none, root_node, root_gains, fills, needs, too_high, insert_list, insert_part, side_page}
+use Rattle.model.specs.Update.{root_node, root_gains, fills, needs, too_high, insert_list, insert_part, side_page}
 use Rattle.theory_counts.specs.Tally.{bit_most}
 use Rattle.theory_counts.specs.Cases.{by_eq, by_test, true_false}
 use Rattle.theory_nodes.specs.Nodes.{fit_of}

@@ -1,6 +1,6 @@
 -- The plain tree's deletion on an abstract chip (request 12): R2, R5, R6 hold again, and the map is without K. Assumes
 -- nothing.
-use Rattle.std.specs.Prelude.{◌≡◌, Bool, eqb, leb}
+use Rattle.std.specs.Prelude.{◌≡◌, Bool, eqb, leb, is_none}
 use Rattle.std.proofs.Math.Path.{refl, ap, sym, subst}
 use Rattle.std.proofs.Common.{◌∙◌, length-append}
 use mathlib.Core.List.{List, [], ◌∷◌, ◌++◌}
@@ -20,7 +20,7 @@ use Rattle.model.specs.Image.{Nodes, Chip, the_root}
 use Rattle.model.specs.Tree.{under, map_of, following, chosen, sought}
 use Rattle.model.specs.Next.{ahead, nth, taken}
 use Rattle.model.specs.Edit.{remove, remove_in, Top, collapse}
-use Rattle.model.specs.Update.{is_none, root_node, delete_list}
+use Rattle.model.specs.Update.{root_node, delete_list}
 use Rattle.model.specs.Plain.{kept_on, Plan, none_left, emptied, kept_page, plain_less, plain_top, kept_plans, delete_plans, plain_shrinks, plain_leaves}
 use Rattle.theory_counts.specs.Tally.{count_most, count_same}
 use Rattle.theory_counts.specs.Cases.{by_le, by_test, true_false}

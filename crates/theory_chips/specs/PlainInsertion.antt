@@ -1,6 +1,6 @@
 -- The plain tree's insertion on an abstract chip (request 12): R2, R5, R6 hold again, and the map has K. Assumes
 -- nothing.
-use Rattle.std.specs.Prelude.{◌≡◌, List, [], ◌∷◌, Bool, true, false, ◌⊎◌}
+use Rattle.std.specs.Prelude.{◌≡◌, List, [], ◌∷◌, Bool, true, false, ◌⊎◌, is_none}
 use Rattle.std.proofs.Math.Path.{refl, ap, subst}
 use Rattle.std.proofs.Common.{sym, ◌∙◌}
 use Rattle.std.proofs.Math.Logic.{inl, inr}
@@ -19,7 +19,7 @@ use Rattle.model.specs.Image.{Nodes, Chip, the_root}
 use Rattle.model.specs.Tree.{under, map_of, following, chosen, find, sought}
 use Rattle.model.specs.Next.{ahead, nth, taken}
 use Rattle.model.specs.Edit.{put, put_in, gains, splits}
-use Rattle.model.specs.Update.{is_none, root_node}
+use Rattle.model.specs.Update.{root_node}
 use Rattle.model.specs.Plain.{both, renewed, Plan, plain_cuts, plain_grows, left_page, right_page, plain_list, level_plans, plans_to, crown_plans, insert_plans}
 use Rattle.theory_counts.specs.Tally.{bit_most}
 use Rattle.theory_counts.specs.Cases.{by_eq, by_le, by_test, true_false}

@@ -1,6 +1,6 @@
 -- An insert of a present key into the plain tree (request 12) programs exactly as many pages as its height. Assumes
 -- nothing.
-use Rattle.std.specs.Prelude.{◌≡◌, refl, List, [], ◌∷◌, Bool, true, false, ℕ, zero, suc, ◌*◌, ◌<◌, ◌≤◌, eqb, length}
+use Rattle.std.specs.Prelude.{◌≡◌, refl, List, [], ◌∷◌, Bool, true, false, ℕ, zero, suc, ◌*◌, ◌<◌, ◌≤◌, eqb, length, is_none}
 use Rattle.std.proofs.Common.{ap, ◌∙◌, arith}
 use Rattle.geometry.specs.declared.Geometry.{Geometry}
 use Rattle.geometry.specs.declared.Entry.{Entry}
@@ -12,7 +12,6 @@ use Rattle.model.specs.Image.{Nodes, Chip, the_root}
 use Rattle.model.specs.Tree.{chosen, sought}
 use Rattle.model.specs.Stores.{programs}
 use Rattle.model.specs.Edit.{gains, splits}
-use Rattle.model.specs.Update.{is_none}
 use Rattle.model.specs.Plain.{Plan, laid, plain_cuts, plain_grows, insert_plans}
 use Rattle.theory_chips.specs.Whole.{Whole}
 use Rattle.theory_chips.specs.PlainInsertion.{insert_pages, plans_count}

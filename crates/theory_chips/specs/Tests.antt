@@ -7,7 +7,7 @@ use Rattle.std.proofs.Math.Logic.{inl, inr}
 use Rattle.std.proofs.Math.Dec.{leb, ltb}
 use borrow.Author.Tests.{not-true, not-false, lt-ltb, le-leb, eq-eqb, ltb-true, leb-true, eqb-true}
 use Rattle.geometry.specs.declared.Geometry.{Geometry}
-use Rattle.geometry.specs.declared.Finding.TheVariants.{Good}
+use Rattle.geometry.specs.Findings.{Good}
 use Rattle.geometry.specs.Tests.{pick, ◌&◌, and_true, and_false, and_left, and_right, and_both}
 use Rattle.model.specs.Count.{count, least, any}
 use Rattle.model.specs.Image.{Chip}

@@ -1,5 +1,5 @@
 -- R2, R5 and R6 of a chip; k and HEIGHT hang on the tree's counts alone. Assumes nothing.
-use Rattle.std.specs.Prelude.{◌≡◌, List, [], ◌∷◌, Bool, false, length}
+use Rattle.std.specs.Prelude.{◌≡◌, List, [], ◌∷◌, Bool, false, length, is_none}
 use Rattle.std.proofs.Math.Path.{refl, sym, subst}
 use Rattle.std.proofs.Common.{ap, ◌∙◌, arith}
 use Prim.Native.Nat.{ℕ, zero, suc, ◌*◌, ◌<◌, ◌≤◌}
@@ -11,7 +11,7 @@ use Rattle.geometry.specs.Bounds.{four_bytes}
 use Rattle.model.specs.Image.{Nodes, Chip}
 use Rattle.model.specs.Tree.{gather, under, Place, places, map_of, following, chosen, find, sought}
 use Rattle.model.specs.Edit.{gains, splits}
-use Rattle.model.specs.Update.{is_none, root_node, root_gains, needs, too_high}
+use Rattle.model.specs.Update.{root_node, root_gains, needs, too_high}
 use Rattle.theory_counts.specs.Cases.{true_false}
 use Rattle.theory_lists.specs.All.{All}
 use Rattle.theory_nodes.specs.Entries.{Rises, split}

@@ -5,10 +5,7 @@ use Rattle.std.proofs.lemmas.Bool.{false≢true}
 use Rattle.std.proofs.Math.Path.{refl}
 use Rattle.std.proofs.Common.{ap}
 use borrow.Author.Tests.{lt-ltb}
-use Rattle.geometry.specs.declared.Finding.{Finding}
-use Rattle.geometry.specs.declared.Finding.TheVariants.{Good, Bad}
-use Rattle.geometry.specs.declared.Verdict.{Verdict}
-use Rattle.geometry.specs.declared.Verdict.TheVariants.{Sound, Broken}
+use Rattle.geometry.specs.Findings.{Finding, Good, Bad, Verdict, Sound, broken_at}
 use Rattle.geometry.specs.Tests.{pick}
 use Rattle.model.specs.Count.{least, any}
 use Rattle.model.specs.Rules.{lowest, unless, or_else, is_sound}
@@ -55,7 +52,7 @@ good_unless true p v e = (refl, e)
 good_unless false p v e = absurd (bad_good p e)
 
 -- a verdict of Sound says it of every rule
-pub broken_sound : (r p : ℕ) → Broken r p ≡ Sound → ⊥
+pub broken_sound : (r p : ℕ) → broken_at r p ≡ Sound → ⊥
 broken_sound r p e = false≢true (ap is_sound e)
 
 pub or_sound : (r : ℕ) (f : Finding) (v : Verdict) → or_else r f v ≡ Sound → (f ≡ Good) × (v ≡ Sound)

@@ -1,11 +1,10 @@
 -- The bad builds that document 01 names, excluded on a formatted image: no single answer fits, and a finished insertion
 -- has written. An update that has room finishes if its allowance is large enough. Assumes nothing.
-use Rattle.std.specs.Prelude.{◌≡◌, true, ltb}
+use Rattle.std.specs.Prelude.{◌≡◌, true, ltb, Option, Some, is_none}
 use Rattle.std.proofs.Math.Path.{refl, ap}
 use Rattle.std.proofs.Common.{sym, subst, ◌∙◌, arith}
 use mathlib.Core.List.{List, [], ◌∷◌}
 use Rattle.std.proofs.Math.Bool.{false}
-use Rattle.std.proofs.Math.Option.{Option, some}
 use Prim.Native.Nat.{ℕ, suc, ◌+◌, ◌-◌, ◌*◌, ◌<◌, ◌≤◌}
 use Rattle.std.proofs.Math.ListN.{length}
 use Rattle.std.proofs.Math.Dec.{eqb}
@@ -21,7 +20,7 @@ use Rattle.model.specs.Image.{blocks_of, good_length, pages_of, max_seq, Chip, c
 use Rattle.model.specs.Tree.{live_pages, chosen, find, sought}
 use Rattle.model.specs.Stores.{Store, program, erase, programs, erases}
 use Rattle.model.specs.Edit.{put}
-use Rattle.model.specs.Update.{is_none, root_node, root_gains, fills, needs, too_high, insert_stores, delete_stores}
+use Rattle.model.specs.Update.{root_node, root_gains, fills, needs, too_high, insert_stores, delete_stores}
 use Rattle.model.specs.Calls.{Outcome, made, answered, lookup, worn, roomless, free_pages, insert, delete, format}
 use Rattle.theory_counts.specs.Tally.{bit_most}
 use Rattle.theory_trees.specs.Splits.{splits_le}
@@ -160,7 +159,7 @@ module _ (g : Geometry) (shape : Shape g) (some-worn : 1 ≤ g.worn) (img : List
     first_map = subst (λ (m : List Entry). Holds g (put k a m) (insert g new k a al).image) (format_holds g shape some-worn img length_good bytes).map_is
         (insert_done g shape new (new_ready g shape some-worn img length_good bytes) k k_low a al a-low first_insert)
 
-    pub second_lookup : lookup g (insert g new k a al).image k ≡ answered (some a) (insert g new k a al).image
+    pub second_lookup : lookup g (insert g new k a al).image k ≡ answered (Some a) (insert g new k a al).image
     second_lookup = lookup_answers g shape (insert g new k a al).image first_map.ready k k_low
         ∙ ap (λ (o : Option ℕ). answered o (insert g new k a al).image) (ap (find k) first_map.map_is
         ∙ find_put k a [])

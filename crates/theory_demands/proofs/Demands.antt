@@ -2,8 +2,7 @@
 -- number, an address, two counts and the image afterwards. g is any geometry with `Shape g`, so the small and the large
 -- chip; k, the key, and a, the address, are below 2^32 = 4294967296; al is the store allowance. `Words` has the words:
 -- Ready, map_at, Rising, Holds, Kept, Began, OneOf, Own. Every proof here is one citation; assumes nothing.
-use Rattle.std.specs.Prelude.{◌≡◌, List, [], ◌∷◌, ◌⊎◌, ℕ, ◌<◌, ◌≤◌}
-use Rattle.std.proofs.Math.Option.{none}
+use Rattle.std.specs.Prelude.{◌≡◌, List, [], ◌∷◌, ◌⊎◌, ℕ, ◌<◌, ◌≤◌, None}
 use Rattle.geometry.specs.declared.Geometry.{Geometry}
 use Rattle.geometry.specs.Shape.{Shape}
 use Rattle.geometry.specs.Bounds.{four_bytes}
@@ -27,10 +26,10 @@ module _ (g : Geometry) (shape : Shape g) (img : List ℕ) (ready : Ready g img)
   pub delete_answers : (al : ℕ) → OneOf (delete g img k al).answer (0 ∷ 3 ∷ 4 ∷ 7 ∷ [])
   delete_answers al = delete_one g shape img ready k al
 
-  pub delete_absent : (al : ℕ) → (delete g img k al).answer ≡ 4 → find k (map_at g img) ≡ none
+  pub delete_absent : (al : ℕ) → (delete g img k al).answer ≡ 4 → find k (map_at g img) ≡ None
   delete_absent al h = absent_answer g shape img ready k k_low al h
 
-  pub absent_delete : (al : ℕ) → find k (map_at g img) ≡ none → ((delete g img k al).answer ≡ 3) ⊎
+  pub absent_delete : (al : ℕ) → find k (map_at g img) ≡ None → ((delete g img k al).answer ≡ 3) ⊎
       ((delete g img k al).answer ≡ 4)
   absent_delete al h = answer_absent g shape img ready k k_low al h
 

@@ -1,10 +1,9 @@
 -- Request 10's proof: after n insertions with x pages beyond them the tree has x + height − 1 nodes below its root,
 -- each at least half full, and half-full nodes are few. Assumes nothing.
-use Rattle.std.specs.Prelude.{◌≡◌}
+use Rattle.std.specs.Prelude.{◌≡◌, None, is_none}
 use Rattle.std.proofs.Math.Path.{refl, subst}
 use Rattle.std.proofs.Common.{ap, sym, ◌∙◌, inl}
 use mathlib.Core.List.{List, [], ◌∷◌}
-use Rattle.std.proofs.Math.Option.{none}
 use Prim.Native.Nat.{ℕ, suc, ◌+◌, ◌-◌, ◌<◌}
 use native.Mathlib.Omega.{arith}
 use Rattle.std.proofs.Math.ListN.{length}
@@ -15,7 +14,7 @@ use Rattle.model.specs.Image.{blocks_of, Chip, chip_of}
 use Rattle.model.specs.Tree.{find}
 use Rattle.model.specs.Stores.{programs}
 use Rattle.model.specs.Collect.{collect_stores}
-use Rattle.model.specs.Update.{is_none, needs}
+use Rattle.model.specs.Update.{needs}
 use Rattle.chip_store.specs.Runs.{programs_append}
 use Rattle.theory_trees.specs.Splits.{put_size}
 use Rattle.theory_chips.specs.Insertion.{Fuller}
@@ -54,7 +53,7 @@ module _ (g : Geometry) (shape : Shape g) where
       omega (arith, i, o, n)
 
   one_more : (img : List ℕ) (x : Item) (n y : ℕ) → x.key < four_bytes → x.addr < four_bytes
-      → find x.key (map_at g img) ≡ none
+      → find x.key (map_at g img) ≡ None
       → (done g img x).answer ≡ 0 → (Stands g shape) img n y → (Stands g shape) (done g img x).image (suc n) (own_pages g img x - 1 + y)
   one_more img x n y k a none' e h =
       let next = insert_done g shape img h.ready x.key k x.addr x.allowance a e in

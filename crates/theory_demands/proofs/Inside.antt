@@ -3,9 +3,7 @@ use Rattle.std.specs.Prelude.{◌≡◌, List, [], ◌∷◌, ◌⊎◌, true, f
 use Rattle.std.proofs.Common.{sym, subst, inl, inr, arith}
 use Rattle.geometry.specs.declared.Geometry.{Geometry}
 use Rattle.geometry.specs.Shape.{Shape}
-use Rattle.geometry.specs.declared.Finding.{Finding}
-use Rattle.geometry.specs.declared.Finding.TheVariants.{Good, Bad}
-use Rattle.geometry.specs.declared.Verdict.TheVariants.{Broken}
+use Rattle.geometry.specs.Findings.{Finding, Good, Bad, broken_at}
 use Rattle.geometry.specs.Tests.{and_right}
 use Rattle.geometry.specs.Bounds.{four_bytes}
 use Rattle.model.specs.Bytes.{erased}
@@ -65,7 +63,7 @@ module _ (g : Geometry) (n : ℕ) (img : List ℕ) where
   zero_below : 1 ≤ t → (f : Finding) → ((p : ℕ) → f ≡ Bad p → p ≡ 0) → (p : ℕ) → f ≡ Bad p → p < t
   zero_below h f z p e = omega (arith, h, z p e)
 
-  below : 1 ≤ t → (rule page : ℕ) → verdict g n img ≡ Broken rule page → page < t
+  below : 1 ≤ t → (rule page : ℕ) → verdict g n img ≡ broken_at rule page → page < t
   below h rule page e = bad_within t (findings g n img) within (rule - 1) page (first_broken_lem g n img rule page e).broken
     where
       within : All (λ f. (p : ℕ) → f ≡ Bad p → p < t) (findings g n img)
@@ -87,7 +85,7 @@ module _ (g : Geometry) (n : ℕ) (img : List ℕ) where
       )
 
 pub page_inside : (g : Geometry) → Shape g → (img : List ℕ) → good_length g img ≡ true → (rule page : ℕ)
-    → verdict g (blocks_of g img) img ≡ Broken rule page
+    → verdict g (blocks_of g img) img ≡ broken_at rule page
     → page < pages_of g (blocks_of g img)
 page_inside g shape img good rule page e =
     let w = block_in g.pages 0 (blocks_of g img) (omega (arith, (good_blocks_lem g img good).least)) in

@@ -8,7 +8,7 @@ use Rattle.std.proofs.Math.Bool.{Bool}
 use Rattle.std.proofs.Math.ListN.{length}
 use Rattle.std.proofs.lemmas.Bool.{lt-leb}
 use Rattle.geometry.specs.declared.Geometry.{Geometry}
-use Rattle.geometry.specs.declared.Verdict.TheVariants.{Sound}
+use Rattle.geometry.specs.Findings.{Sound}
 use Rattle.geometry.specs.Tests.{pick}
 use Rattle.geometry.specs.Shape.{Known, Shape}
 use Rattle.geometry.specs.Bounds.{four_bytes}

@@ -1,9 +1,8 @@
 -- The demands' proofs, from the tests that an answer stands for. Assumes nothing.
-use Rattle.std.specs.Prelude.{◌≡◌, refl, List, [], ◌∷◌, Bool, false, ◌⊎◌, ℕ, ◌-◌, ◌<◌, ◌≤◌}
+use Rattle.std.specs.Prelude.{◌≡◌, refl, List, [], ◌∷◌, Bool, false, ◌⊎◌, ℕ, ◌-◌, ◌<◌, ◌≤◌, None, is_none}
 use Rattle.std.proofs.Math.Path.{ap, sym}
 use Rattle.std.proofs.Common.{subst, ◌∙◌, inl, inr, arith}
 use Rattle.std.proofs.Math.Bool.{true}
-use Rattle.std.proofs.Math.Option.{none}
 use Rattle.geometry.specs.declared.Geometry.{Geometry}
 use Rattle.geometry.specs.Tests.{pick}
 use Rattle.geometry.specs.Shape.{Shape}
@@ -12,7 +11,7 @@ use Rattle.model.specs.Image.{blocks_of, Chip, chip_of}
 use Rattle.model.specs.Tree.{find, sought}
 use Rattle.model.specs.Stores.{programs, erases}
 use Rattle.model.specs.Edit.{put, remove}
-use Rattle.model.specs.Update.{is_none, needs, insert_stores, delete_store, delete_stores}
+use Rattle.model.specs.Update.{needs, insert_stores, delete_store, delete_stores}
 use Rattle.model.specs.Calls.{Outcome, refused, made, worn, insert, delete}
 use Rattle.theory_counts.specs.Cases.{true_false}
 use Rattle.theory_chips.specs.Insertion.{Fuller}
@@ -45,7 +44,7 @@ module _ (g : Geometry) (shape : Shape g) (img : List ℕ) (ready : Ready g img)
       (sym (ap (λ (o : Outcome). o.answer) (delete_is g img k 0 al ready)) ∙ h)
 
   module _ (k_low : k < four_bytes) where
-    pub absent_answer : (al : ℕ) → (delete g img k al).answer ≡ 4 → find k (map_at g img) ≡ none
+    pub absent_answer : (al : ℕ) → (delete g img k al).answer ≡ 4 → find k (map_at g img) ≡ None
     absent_answer al h = sym (found g shape img ready k k_low) ∙ none_is (sought c k) (go (delete_met al 4 (omega arith) (omega arith) h))
       where
         go : Met 4 (delete_tests g img k 0 al) → is_none (sought c k) ≡ true
@@ -53,7 +52,7 @@ module _ (g : Geometry) (shape : Shape g) (img : List ℕ) (ready : Ready g img)
         go (inr (inl e)) = e.1
         go (inr (inr e)) = absurd e
 
-    pub answer_absent : (al : ℕ) → find k (map_at g img) ≡ none → ((delete g img k al).answer ≡ 3) ⊎
+    pub answer_absent : (al : ℕ) → find k (map_at g img) ≡ None → ((delete g img k al).answer ≡ 3) ⊎
         ((delete g img k al).answer ≡ 4)
     answer_absent al h = subst (λ (o : Outcome). (o.answer ≡ 3) ⊎ (o.answer ≡ 4)) (sym (delete_is g img k 0 al ready))
         (go (worn g n img) (is_none (sought c k)) (ap is_none (found g shape img ready k k_low ∙ h)))

@@ -3,9 +3,8 @@
 use Rattle.std.proofs.Math.Path.{◌≡◌, refl, ap}
 use Rattle.std.proofs.Common.{◌∙◌, arith, length-take, get_or-take}
 use mathlib.Core.List.{List, [], ◌∷◌, ◌++◌}
-use Rattle.std.specs.Prelude.{Bool, ℕ, zero, suc, ◌+◌, ◌-◌, ◌*◌, ◌<◌, ◌≤◌, take}
+use Rattle.std.specs.Prelude.{Bool, ℕ, zero, suc, ◌+◌, ◌-◌, ◌*◌, ◌<◌, ◌≤◌, take, None, Option, Some}
 use Rattle.std.proofs.Math.Bool.{true, false}
-use Rattle.std.proofs.Math.Option.{Option, none, some}
 use Rattle.std.proofs.Math.Dec.{eqb, leb}
 use Rattle.std.proofs.Math.ListN.{length, drop, get_or, length-append, length-drop, get_or-append}
 use Rattle.std.proofs.Math.Seq.{get_or-drop, get_or-append-add}
@@ -42,19 +41,19 @@ module _ (low high : ℕ) where
 
   -- a key between is found in it as in the map, no other is
   pub between_finds : (k : ℕ) (es : List Entry) → find k (between low high es) ≡ pick (leb low k & leb k high)
-      (find k es) none
+      (find k es) None
   unfolding between find
   between_finds k [] = go (leb low k & leb k high)
     where
-      go : (t : Bool) → ◌≡◌ {A = Option ℕ} none (pick t none none)
+      go : (t : Bool) → ◌≡◌ {A = Option ℕ} None (pick t None None)
       go true = refl
       go false = refl
   between_finds k (e ∷ es) = go (eqb e.key k) (leb low e.key & leb e.key high) refl refl (between_finds k es)
     where
       go : (t u : Bool) → eqb e.key k ≡ t → (leb low e.key & leb e.key high) ≡ u → find k (between low high es)
-          ≡ pick (leb low k & leb k high) (find k es) none
+          ≡ pick (leb low k & leb k high) (find k es) None
           → find k (pick u (e ∷ between low high es) (between low high es)) ≡ pick (leb low k & leb k high)
-          (pick (eqb e.key k) (some e.addr) (find k es)) none
+          (pick (eqb e.key k) (Some e.addr) (find k es)) None
       go true true x y i = let w = eqb-true e.key k x in rw (x, ← w, y) refl
       go true false x y i = let w = eqb-true e.key k x in i ∙ rw (← w, y) refl
       go false true x y i = rw x i

@@ -1,5 +1,5 @@
 -- The calls opened: which tests an answer stands for. Assumes nothing.
-use Rattle.std.specs.Prelude.{◌≡◌, ◌⊎◌, Bool, ℕ, ◌<◌, ◌≤◌, length, take, leb}
+use Rattle.std.specs.Prelude.{◌≡◌, ◌⊎◌, Bool, ℕ, ◌<◌, ◌≤◌, length, take, leb, Err, is_none}
 use Rattle.std.proofs.Math.Path.{refl, ap}
 use Rattle.std.proofs.Common.{sym, subst, ◌∙◌, arith, take_all}
 use mathlib.Core.List.{List, [], ◌∷◌}
@@ -7,14 +7,13 @@ use Rattle.std.proofs.Math.Logic.{inl, inr}
 use Rattle.std.proofs.Math.Bool.{true, false}
 use borrow.Author.Tests.{leb-true, leb-false}
 use Rattle.geometry.specs.declared.Geometry.{Geometry}
-use Rattle.geometry.specs.declared.Verdict.{Verdict}
-use Rattle.geometry.specs.declared.Verdict.TheVariants.{Sound, Broken}
+use Rattle.geometry.specs.Findings.{Verdict, Sound}
 use Rattle.geometry.specs.Tests.{pick}
 use Rattle.model.specs.Image.{blocks_of, good_length, Chip, chip_of}
 use Rattle.model.specs.Tree.{sought}
 use Rattle.model.specs.Rules.{verdict}
 use Rattle.model.specs.Stores.{Store, apply_all, programs}
-use Rattle.model.specs.Update.{is_none, needs, too_high, insert_stores, delete_stores}
+use Rattle.model.specs.Update.{needs, too_high, insert_stores, delete_stores}
 use Rattle.model.specs.Calls.{Outcome, refused, damaged, made, by_verdict, judged, judged_call, worn, roomless, free_pages, insert_rest, insert, delete_rest}
 use Rattle.theory_lists.specs.All.{All}
 use Rattle.theory_demands.specs.Words.{Ready, Began}
@@ -31,7 +30,7 @@ judged_untouched g img rest h = go (good_length g img) (verdict g (blocks_of g i
   where
     go : (x : Bool) (v : Verdict) → Untouched img (pick x (by_verdict v (damaged img) rest) (refused 1 img))
     go true Sound = λ p q. h p q
-    go true (Broken rule page) = λ p q. refl
+    go true (Err b) = λ p q. refl
     go false v = λ p q. refl
 
 pub made_untouched : (g : Geometry) (ss : List Store) (al : ℕ) (img : List ℕ) → Untouched img (made g ss al img)

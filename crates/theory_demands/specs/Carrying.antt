@@ -8,7 +8,7 @@ use Rattle.std.proofs.Common.{arith, le-leb}
 use Rattle.std.proofs.lemmas.Bool.{lt-leb}
 use Rattle.geometry.specs.declared.Geometry.{Geometry}
 use Rattle.geometry.specs.declared.Entry.{Entry}
-use Rattle.geometry.specs.declared.Verdict.TheVariants.{Broken}
+use Rattle.geometry.specs.Findings.{broken_at}
 use Rattle.geometry.specs.Tests.{pick}
 use Rattle.model.specs.Image.{blocks_of, good_length}
 use Rattle.model.specs.Rules.{verdict}
@@ -22,7 +22,7 @@ module _ (g : Geometry) (img buffer : List ℕ) where
   unfolding exporting judged
   export_bad_length e = rw e refl
 
-  pub export_not_sound : (rule page : ℕ) → good_length g img ≡ true → verdict g (blocks_of g img) img ≡ Broken rule page
+  pub export_not_sound : (rule page : ℕ) → good_length g img ≡ true → verdict g (blocks_of g img) img ≡ broken_at rule page
       → exporting g img buffer ≡ damaged buffer rule page
   unfolding exporting judged by_verdict
   export_not_sound rule page e d = rw (e, d) refl

@@ -2,8 +2,7 @@
 -- number, an address, two counts and the image afterwards. g is any geometry with `Shape g`, so the small and the large
 -- chip; k, the key, and a, the address, are below 2^32 = 4294967296; al is the store allowance. `Words` has the words:
 -- Ready, map_at, Rising, Holds, Kept, Began, OneOf, Own. Every proof here is one citation; assumes nothing.
-use Rattle.std.specs.Prelude.{◌≡◌, List, [], ◌∷◌, ℕ, ◌<◌, ◌≤◌}
-use Rattle.std.proofs.Math.Option.{none, some}
+use Rattle.std.specs.Prelude.{◌≡◌, List, [], ◌∷◌, ℕ, ◌<◌, ◌≤◌, None, Some}
 use Rattle.geometry.specs.declared.Geometry.{Geometry}
 use Rattle.geometry.specs.Shape.{Shape}
 use Rattle.geometry.specs.Bounds.{four_bytes}
@@ -40,7 +39,7 @@ module _ (g : Geometry) (shape : Shape g) (img : List ℕ) (ready : Ready g img)
   pub insert_answers : (a al : ℕ) → OneOf (insert g img k a al).answer (0 ∷ 3 ∷ 5 ∷ 6 ∷ 7 ∷ [])
   insert_answers a al = insert_one g shape img ready k a al
 
-  pub insert_height : (a al : ℕ) → (insert g img k a al).answer ≡ 5 → find k (map_at g img) ≡ none
+  pub insert_height : (a al : ℕ) → (insert g img k a al).answer ≡ 5 → find k (map_at g img) ≡ None
   insert_height a al h = height_absent g shape img ready k k_low a al h
 
   -- and 6 only where it needs two pages or more: R8 leaves room for one
@@ -48,13 +47,13 @@ module _ (g : Geometry) (shape : Shape g) (img : List ℕ) (ready : Ready g img)
   insert_room a al h = room_needs g shape img ready k a al h
 
   -- what `put` and `remove` do to a map: K is found with A, or no more; every other key is found as before
-  pub put_finds : (a : ℕ) → find k (put k a (map_at g img)) ≡ some a
+  pub put_finds : (a : ℕ) → find k (put k a (map_at g img)) ≡ Some a
   put_finds a = find_put k a (map_at g img)
 
   pub put_others : (a j : ℕ) → (j ≡ k → ⊥) → find j (put k a (map_at g img)) ≡ find j (map_at g img)
   put_others a j d = find_put_other k a j (map_at g img) d
 
-  pub remove_finds : find k (remove k (map_at g img)) ≡ none
+  pub remove_finds : find k (remove k (map_at g img)) ≡ None
   remove_finds = find_remove k four_bytes (map_at g img) (ready_rises g shape img ready)
 
   pub remove_others : (j : ℕ) → (j ≡ k → ⊥) → find j (remove k (map_at g img)) ≡ find j (map_at g img)

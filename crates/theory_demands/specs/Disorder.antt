@@ -6,7 +6,7 @@ use Rattle.std.proofs.Math.Bool.{true, not}
 use native.Mathlib.Omega.{arith}
 use Rattle.std.proofs.Math.Dec.{leb}
 use borrow.Author.Tests.{not-true, not-false, ne_eqb, eqb-false, lt-ltb, ltb-true, leb-true, leb-false}
-use Rattle.geometry.specs.declared.Finding.TheVariants.{Good, Bad}
+use Rattle.geometry.specs.Findings.{Good, Bad}
 use Rattle.geometry.specs.Tests.{pick, ◌&◌, and_left, and_right, and_both}
 use Rattle.model.specs.Count.{least}
 use Rattle.model.specs.Next.{mixed, first_in}

@@ -1,14 +1,11 @@
 -- What a bad finding says of the tests that it was made of. Assumes nothing.
-use Rattle.std.specs.Prelude.{◌≡◌, refl, List, [], ◌∷◌, ◌++◌, ◌⊎◌, Bool, true, false, ltb, length, get_or}
+use Rattle.std.specs.Prelude.{◌≡◌, refl, List, [], ◌∷◌, ◌++◌, ◌⊎◌, Bool, true, false, ltb, length, get_or, Err}
 use Rattle.std.proofs.Common.{ap, sym, subst, ◌∙◌, inl, inr, arith, ltb-true, ltb-false, ne_eqb}
 use Rattle.std.proofs.lemmas.Bool.{false≢true}
 use Prim.Native.Nat.{ℕ, zero, suc, ◌+◌, ◌<◌, ◌≤◌}
 use Rattle.geometry.specs.declared.Geometry.{Geometry}
 use Rattle.geometry.specs.declared.Entry.{Entry}
-use Rattle.geometry.specs.declared.Finding.{Finding}
-use Rattle.geometry.specs.declared.Finding.TheVariants.{Good, Bad}
-use Rattle.geometry.specs.declared.Verdict.{Verdict}
-use Rattle.geometry.specs.declared.Verdict.TheVariants.{Sound, Broken}
+use Rattle.geometry.specs.Findings.{Finding, Good, Bad, Verdict, Sound, broken_at}
 use Rattle.geometry.specs.Tests.{pick, ◌&◌, and_true, and_left, and_right}
 use Rattle.model.specs.Count.{least, any}
 use Rattle.model.specs.Tree.{Place, following}
@@ -77,13 +74,13 @@ pub record Broke (k : ℕ) (fs : List Finding) (rule page : ℕ) : Type 0 where
 
 rule_of : Verdict → ℕ
 rule_of Sound = 0
-rule_of (Broken r p) = r
+rule_of (Err b) = b.rule
 
 page_of : Verdict → ℕ
 page_of Sound = 0
-page_of (Broken r p) = p
+page_of (Err b) = b.page
 
-pub broke : (k : ℕ) (fs : List Finding) (rule page : ℕ) → first_broken k fs ≡ Broken rule page → Broke k fs rule page
+pub broke : (k : ℕ) (fs : List Finding) (rule page : ℕ) → first_broken k fs ≡ broken_at rule page → Broke k fs rule page
 unfolding or_else rule_of page_of
 broke k [] rule page e = absurd (false≢true (sym (ap is_sound e)))
 broke k (Bad p ∷ fs) rule page e = record {

@@ -1,8 +1,7 @@
 -- The words of request 10: inserts of absent keys, one after the other, accepted and finished, with nothing else
 -- between; X, the pages programmed beyond one for each, the collector's moves left out; the splits and growths.
 -- Definitions alone; assumes nothing.
-use Rattle.std.specs.Prelude.{◌≡◌, List, [], ◌∷◌, ℕ, suc, ◌+◌, ◌-◌, ◌<◌, length}
-use Rattle.std.proofs.Math.Option.{none}
+use Rattle.std.specs.Prelude.{◌≡◌, List, [], ◌∷◌, ℕ, suc, ◌+◌, ◌-◌, ◌<◌, length, None, is_none}
 use Rattle.geometry.specs.declared.Geometry.{Geometry}
 use Rattle.geometry.specs.Tests.{bit}
 use Rattle.geometry.specs.Geometry.{half}
@@ -12,7 +11,7 @@ use Rattle.model.specs.Tree.{chosen, find, sought}
 use Rattle.model.specs.Edit.{splits}
 use Rattle.model.specs.Stores.{programs}
 use Rattle.model.specs.Collect.{collect_stores}
-use Rattle.model.specs.Update.{is_none, root_node, root_gains, fills, needs, insert_stores}
+use Rattle.model.specs.Update.{root_node, root_gains, fills, needs, insert_stores}
 use Rattle.model.specs.Calls.{Outcome, insert}
 use Rattle.theory_demands.specs.Words.{map_at}
 
@@ -47,7 +46,7 @@ grows_at g c k = bit (fills g (suc c.level) (length (root_node c) + bit (root_ga
 -- each key is absent when its turn comes, and each insertion is accepted and finished
 unfoldable pub Finished : Geometry → List Item → List ℕ → Type 0
 Finished g [] img = Unit {0}
-Finished g (x ∷ xs) img = (x.key < four_bytes) × (x.addr < four_bytes) × (find x.key (map_at g img) ≡ none) × ((done g img x).answer ≡ 0) ×
+Finished g (x ∷ xs) img = (x.key < four_bytes) × (x.addr < four_bytes) × (find x.key (map_at g img) ≡ None) × ((done g img x).answer ≡ 0) ×
     Finished g xs (done g img x).image
 
 -- the image after them

@@ -1,13 +1,12 @@
 -- Request 1, "Frames between two keys", about the definition `listing` of crate model: what it gives for every image,
 -- and on a sound image. `between` is the part of a map, `lists` and `lists_none` are what a listing gives (crate model);
 -- Ready, map_at, Rising are the words of the demands. g is any geometry with `Shape g`. Assumes nothing.
-use Rattle.std.specs.Prelude.{◌≡◌, true, false, ℕ, suc, ◌+◌, ◌*◌, ◌<◌, ◌≤◌, leb, length, get_or}
+use Rattle.std.specs.Prelude.{◌≡◌, true, false, ℕ, suc, ◌+◌, ◌*◌, ◌<◌, ◌≤◌, leb, length, get_or, None}
 use Rattle.std.proofs.Common.{ap, subst, arith}
 use mathlib.Core.List.{List, []}
-use Rattle.std.proofs.Math.Option.{none}
 use Rattle.geometry.specs.declared.Geometry.{Geometry}
 use Rattle.geometry.specs.declared.Entry.{Entry}
-use Rattle.geometry.specs.declared.Verdict.TheVariants.{Broken}
+use Rattle.geometry.specs.Findings.{broken_at}
 use Rattle.geometry.specs.Geometry.{half}
 use Rattle.geometry.specs.Shape.{Shape}
 use Rattle.geometry.specs.Tests.{pick, ◌&◌}
@@ -31,7 +30,7 @@ module _ (g : Geometry) (img : List ℕ) (low high : ℕ) (buffer : List ℕ) wh
   unfolding listing judged
   list_bad_length e = rw e
 
-  pub list_not_sound : (rule page : ℕ) → good_length g img ≡ true → verdict g (blocks_of g img) img ≡ Broken rule page
+  pub list_not_sound : (rule page : ℕ) → good_length g img ≡ true → verdict g (blocks_of g img) img ≡ broken_at rule page
       → listing g img low high buffer ≡ lists_none 2 rule page buffer
   unfolding listing judged by_verdict
   list_not_sound rule page e d = rw (e, d)
@@ -60,7 +59,7 @@ module _ (g : Geometry) (shape : Shape g) (img : List ℕ) (ready : Ready g img)
   part_rises = between_rising low high four_bytes (map_at g img) (map_sorted g shape img ready 0 (omega arith))
 
   -- every key between, both taken in, is there with the map's address, and no other key
-  pub part_finds : (k : ℕ) → find k part ≡ pick (leb low k & leb k high) (find k (map_at g img)) none
+  pub part_finds : (k : ℕ) → find k part ≡ pick (leb low k & leb k high) (find k (map_at g img)) None
   part_finds k = between_finds low high k (map_at g img)
 
   -- "Low above high gives zero pairs"

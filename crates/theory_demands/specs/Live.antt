@@ -6,7 +6,7 @@ use Rattle.std.proofs.Math.Path.{refl, ap, subst}
 use Rattle.std.proofs.Common.{sym, ◌∙◌, inl, inr, arith, lit≤, le-leb, ne_eqb}
 use Rattle.std.proofs.Math.ListN.{length}
 use Rattle.geometry.specs.declared.Geometry.{Geometry}
-use Rattle.geometry.specs.declared.Verdict.TheVariants.{Sound}
+use Rattle.geometry.specs.Findings.{Sound}
 use Rattle.geometry.specs.Shape.{Known, is_small, is_large, Shape}
 use Rattle.geometry.specs.Bounds.{four_bytes}
 use Rattle.model.specs.Bytes.{byte_at}

@@ -7,9 +7,7 @@ use Prim.Native.Nat.{ℕ, suc, ◌-◌, ◌<◌, ◌≤◌}
 use Rattle.std.proofs.Math.Dec.{eqb}
 use borrow.Author.Tests.{not-true, eq-eqb, eqb-true, ltb-true, leb-false}
 use Rattle.geometry.specs.declared.Geometry.{Geometry}
-use Rattle.geometry.specs.declared.Finding.{Finding}
-use Rattle.geometry.specs.declared.Finding.TheVariants.{Good, Bad}
-use Rattle.geometry.specs.declared.Verdict.TheVariants.{Broken}
+use Rattle.geometry.specs.Findings.{Finding, Good, Bad, broken_at}
 use Rattle.geometry.specs.Tests.{pick, ◌&◌, and_left, and_right, and_both}
 use Rattle.geometry.specs.Bounds.{four_bytes}
 use Rattle.model.specs.Bytes.{erased, seq_at}
@@ -48,7 +46,7 @@ module _ (g : Geometry) (n : ℕ) (img : List ℕ) where
     pub hold : (j : ℕ) → 1 ≤ j → j < rule → finding j ≡ Good
     pub broken : finding rule ≡ Bad page
 
-  pub first_broken_lem : (rule page : ℕ) → verdict g n img ≡ Broken rule page → Names rule page
+  pub first_broken_lem : (rule page : ℕ) → verdict g n img ≡ broken_at rule page → Names rule page
   unfolding verdict
   first_broken_lem rule page e =
       let w = broke 1 findings rule page e in

@@ -1,14 +1,13 @@
 -- Request 8, "Open once, call often", about the definitions of crate open_record: what opening gives, when a record is
 -- STALE, and that lookup and listing with the record that opening gives are the old calls. g is one of the two chips
 -- where `Known g` is asked. Assumes nothing.
-use Rattle.std.specs.Prelude.{◌≡◌, List, Bool, ℕ, take}
+use Rattle.std.specs.Prelude.{◌≡◌, List, Bool, ℕ, take, Err}
 use Rattle.std.proofs.Math.Path.{refl}
 use Rattle.std.proofs.Common.{ap, ◌∙◌, take_all, lt-ltb, eq-eqb}
 use Rattle.std.proofs.Math.Bool.{true, false, not}
 use Rattle.geometry.specs.declared.Geometry.{Geometry}
 use Rattle.geometry.specs.declared.Entry.{Entry}
-use Rattle.geometry.specs.declared.Verdict.{Verdict}
-use Rattle.geometry.specs.declared.Verdict.TheVariants.{Sound, Broken}
+use Rattle.geometry.specs.Findings.{Verdict, Sound, broken_at}
 use Rattle.geometry.specs.Shape.{Known, Shape, shape_core}
 use Rattle.geometry.proofs.Shape.{shape}
 use Rattle.geometry.specs.Tests.{pick, and_both}
@@ -32,7 +31,7 @@ module _ (g : Geometry) (img : List ℕ) where
   unfolding opening opened judged
   opening_bad_length e = (rw e refl, rw e refl)
 
-  pub opening_not_sound : (rule page : ℕ) → good_length g img ≡ true → verdict g (blocks_of g img) img ≡ Broken rule page
+  pub opening_not_sound : (rule page : ℕ) → good_length g img ≡ true → verdict g (blocks_of g img) img ≡ broken_at rule page
       → (opening g img ≡ damaged img rule page) × (opened g img ≡ no_record)
   unfolding opening opened judged by_verdict
   opening_not_sound rule page e d = (rw (e, d) refl, rw (e, d) refl)
@@ -49,7 +48,7 @@ module _ (g : Geometry) (img : List ℕ) where
       go : (x : Bool) (v : Verdict) → (pick x (by_verdict v (damaged img) (gives 0 0 0 0 img)) (refused 1 img)).image
           ≡ img
       go true Sound = refl
-      go true (Broken rule page) = refl
+      go true (Err b) = refl
       go false v = refl
 
   -- the record of a sound image is read off the image

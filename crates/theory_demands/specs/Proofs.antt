@@ -1,15 +1,13 @@
 -- The demands' proofs, from the tests that an answer stands for. Assumes nothing.
-use Rattle.std.specs.Prelude.{◌≡◌, refl, List, [], ◌∷◌, Bool, false, ℕ, zero, suc, ◌+◌, ◌-◌, ◌*◌, ◌<◌, ◌≤◌}
+use Rattle.std.specs.Prelude.{◌≡◌, refl, List, [], ◌∷◌, Bool, false, ℕ, zero, suc, ◌+◌, ◌-◌, ◌*◌, ◌<◌, ◌≤◌, None, Option, Some, Err, is_none}
 use Rattle.std.proofs.Math.Path.{ap, sym}
 use Rattle.std.proofs.Common.{subst, ◌∙◌, inl, inr, arith}
 use Rattle.std.proofs.Math.Bool.{true}
-use Rattle.std.proofs.Math.Option.{Option, none, some}
 use borrow.Author.Tests.{ltb-true}
 use Rattle.geometry.specs.declared.Geometry.{Geometry}
 use Rattle.geometry.specs.declared.Entry.{Entry}
 use Rattle.geometry.specs.Tests.{pick, and_right}
-use Rattle.geometry.specs.declared.Verdict.{Verdict}
-use Rattle.geometry.specs.declared.Verdict.TheVariants.{Sound, Broken}
+use Rattle.geometry.specs.Findings.{Verdict, Sound}
 use Rattle.geometry.specs.Geometry.{half}
 use Rattle.geometry.specs.Shape.{Shape}
 use Rattle.geometry.specs.Bounds.{four_bytes}
@@ -18,7 +16,7 @@ use Rattle.model.specs.Tree.{chosen, find, sought}
 use Rattle.model.specs.Rules.{verdict}
 use Rattle.model.specs.Stores.{apply_all}
 use Rattle.model.specs.Edit.{gains}
-use Rattle.model.specs.Update.{is_none, root_node, root_gains, needs, too_high, insert_stores}
+use Rattle.model.specs.Update.{root_node, root_gains, needs, too_high, insert_stores}
 use Rattle.model.specs.Calls.{Outcome, refused, damaged, by_verdict, judged, answered, lookup, roomless, free_pages, insert}
 use Rattle.theory_counts.specs.Cases.{true_false}
 use Rattle.theory_chips.specs.Whole.{sought_map}
@@ -38,14 +36,14 @@ lookup_image g img k = go (good_length g img) (verdict g (blocks_of g img) img) 
   where
     go : (x : Bool) (v : Verdict) (o : Option ℕ) → (pick x (by_verdict v (damaged img) (answered o img))
         (refused 1 img)).image ≡ img
-    go true Sound none = refl
-    go true Sound (some a) = refl
-    go true (Broken rule page) o = refl
+    go true Sound None = refl
+    go true Sound (Some a) = refl
+    go true (Err b) o = refl
     go false v o = refl
 
-pub none_is : (o : Option ℕ) → is_none o ≡ true → o ≡ none
-none_is none h = refl
-none_is (some a) h = absurd (true_false false h refl)
+pub none_is : (o : Option ℕ) → is_none o ≡ true → o ≡ None
+none_is None h = refl
+none_is (Some a) h = absurd (true_false false h refl)
 
 -- an entry gains only where K is absent
 gains_absent : (r : Nodes) (k : ℕ) (half : ℕ → ℕ) (absent : Bool) (l : ℕ) (e : Entry) → gains r k half absent l e ≡ true
@@ -91,7 +89,7 @@ module _ (g : Geometry) (shape : Shape g) (img : List ℕ) (ready : Ready g img)
     pub found : sought c k ≡ find k (map_at g img)
     found = sought_map g n c keeps.held.whole k k_low
 
-    pub height_absent : (a al : ℕ) → (insert g img k a al).answer ≡ 5 → find k (map_at g img) ≡ none
+    pub height_absent : (a al : ℕ) → (insert g img k a al).answer ≡ 5 → find k (map_at g img) ≡ None
     unfolding too_high root_gains
     height_absent a al h = sym found ∙ none_is (sought c k) (gains_absent c.nodes k (half g) (is_none (sought c k)) c.level
         (chosen k (root_node c)) (and_right _ _ (go (insert_met a al 5 (omega arith) (omega arith) h))))

@@ -1,11 +1,10 @@
 -- Demand 1's words: bad lengths and damaged trees are refused by number, and nothing else is, for every image, key,
 -- address and allowance; a refusal leaves the image, and that of a damaged tree has the verdict's rule and page.
 -- Assumes nothing.
-use Rattle.std.specs.Prelude.{◌≡◌, refl, List, true, false, ℕ, ◌≤◌}
-use Rattle.std.proofs.Math.Option.{Option, none, some}
+use Rattle.std.specs.Prelude.{◌≡◌, refl, List, true, false, ℕ, ◌≤◌, None, Option, Some}
 use native.Mathlib.Omega.{arith}
 use Rattle.geometry.specs.declared.Geometry.{Geometry}
-use Rattle.geometry.specs.declared.Verdict.TheVariants.{Sound, Broken}
+use Rattle.geometry.specs.Findings.{Sound, broken_at}
 use Rattle.model.specs.Image.{blocks_of, good_length, chip_of}
 use Rattle.model.specs.Tree.{sought}
 use Rattle.model.specs.Rules.{verdict}
@@ -19,7 +18,7 @@ use Rattle.theory_demands.specs.Calls.{insert_tests, insert_rest_lem, made_began
 -- image
 pub record Refuses (g : Geometry) (img : List ℕ) (o : Outcome) : Type 0 where
   pub bad_length : good_length g img ≡ false → o ≡ refused 1 img
-  pub not_sound : (rule page : ℕ) → good_length g img ≡ true → verdict g (blocks_of g img) img ≡ Broken rule page
+  pub not_sound : (rule page : ℕ) → good_length g img ≡ true → verdict g (blocks_of g img) img ≡ broken_at rule page
       → o ≡ damaged img rule page
   pub neither : good_length g img ≡ true → verdict g (blocks_of g img) img ≡ Sound → 1 ≤ o.answer → 3 ≤ o.answer
 
@@ -35,8 +34,8 @@ judged_refuses g img rest h = record {
 
 lookup_later : (o : Option ℕ) (img : List ℕ) → 1 ≤ (answered o img).answer → 3 ≤ (answered o img).answer
 unfolding answered
-lookup_later none img h = omega arith
-lookup_later (some a) img h = absurd (omega (arith, h))
+lookup_later None img h = omega arith
+lookup_later (Some a) img h = absurd (omega (arith, h))
 
 module _ (g : Geometry) (img : List ℕ) (k : ℕ) where
   pub lookup_refuses : Refuses g img (lookup g img k)

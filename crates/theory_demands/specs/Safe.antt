@@ -1,7 +1,7 @@
 -- Request 8, "On other pairs the calls stay memory-safe and program erased pages only": for every geometry, image,
 -- record, words, key, address and allowance, what an update with the record does is a list of stores, each program of a
 -- page that is then erased. Assumes nothing.
-use Rattle.std.specs.Prelude.{◌≡◌, refl, List, [], ◌∷◌, ◌++◌, Bool, ℕ, suc, ltb, length}
+use Rattle.std.specs.Prelude.{◌≡◌, refl, List, [], ◌∷◌, ◌++◌, Bool, ℕ, suc, ltb, length, is_none}
 use Rattle.std.proofs.Math.Bool.{true, false}
 use Rattle.std.proofs.Math.Dec.{leb}
 use Rattle.geometry.specs.declared.Geometry.{Geometry}
@@ -9,7 +9,7 @@ use Rattle.geometry.specs.Tests.{pick, ◌&◌}
 use Rattle.model.specs.Image.{blocks_of, good_length}
 use Rattle.model.specs.Tree.{sought}
 use Rattle.model.specs.Stores.{Store, apply_all, programs, erases}
-use Rattle.model.specs.Update.{is_none, needs, too_high}
+use Rattle.model.specs.Update.{needs, too_high}
 use Rattle.model.specs.Calls.{Outcome, refused}
 use Rattle.chip_store.specs.Careful.{careful, made_of, Cautious}
 use Rattle.chip_store.specs.Cautious.{careful_cautious, cautious_take}

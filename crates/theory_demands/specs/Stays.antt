@@ -1,12 +1,12 @@
 -- An update on a sound image leaves a sound image of the same length, whatever its answer and its allowance. Assumes
 -- nothing.
-use Rattle.std.specs.Prelude.{◌≡◌, refl, List, Bool, true, false, ℕ, length, take}
+use Rattle.std.specs.Prelude.{◌≡◌, refl, List, Bool, true, false, ℕ, length, take, is_none}
 use Rattle.geometry.specs.declared.Geometry.{Geometry}
 use Rattle.geometry.specs.Tests.{pick}
 use Rattle.model.specs.Image.{chip_of}
 use Rattle.model.specs.Tree.{sought}
 use Rattle.model.specs.Stores.{Store}
-use Rattle.model.specs.Update.{is_none, needs, too_high, insert_stores, delete_stores}
+use Rattle.model.specs.Update.{needs, too_high, insert_stores, delete_stores}
 use Rattle.model.specs.Calls.{refused, made, worn, roomless, free_pages, insert_rest, delete_rest}
 use Rattle.theory_images.specs.Lengths.{length_all}
 

@@ -2,7 +2,7 @@
 use Rattle.std.specs.Prelude.{◌≡◌, refl, List, [], ◌∷◌, ◌++◌, true, ◌⊎◌, ℕ, suc, ◌+◌, ◌-◌, ◌*◌, ◌<◌, ◌≤◌, length, take}
 use Rattle.geometry.specs.declared.Geometry.{Geometry}
 use Rattle.geometry.specs.declared.Entry.{Entry}
-use Rattle.geometry.specs.declared.Verdict.TheVariants.{Sound}
+use Rattle.geometry.specs.Findings.{Sound}
 use Rattle.geometry.specs.Geometry.{small, large}
 use Rattle.model.specs.Bytes.{byte_at}
 use Rattle.model.specs.Image.{blocks_of, pages_of, good_length, chip_of}

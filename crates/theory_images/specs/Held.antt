@@ -8,10 +8,7 @@ use Rattle.std.proofs.Math.Nat.{mul-zero}
 use Rattle.std.proofs.Math.Dec.{eqb, leb}
 use borrow.Author.Tests.{not-false, le-leb, eq-eqb, ne_eqb, leb-true}
 use Rattle.geometry.specs.declared.Geometry.{Geometry}
-use Rattle.geometry.specs.declared.Finding.{Finding}
-use Rattle.geometry.specs.declared.Finding.TheVariants.{Good}
-use Rattle.geometry.specs.declared.Verdict.{Verdict}
-use Rattle.geometry.specs.declared.Verdict.TheVariants.{Sound}
+use Rattle.geometry.specs.Findings.{Finding, Good, Verdict, Sound}
 use Rattle.geometry.specs.Tests.{pick, ◌&◌, and_true, and_false, and_left, and_right, and_both}
 use Rattle.geometry.specs.Geometry.{page_bytes, halves, code_place, page_base, half, root_most}
 use Rattle.geometry.specs.Shape.{Shape, Core, shape_core, halved}

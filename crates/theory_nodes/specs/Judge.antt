@@ -10,8 +10,7 @@ use Rattle.std.proofs.Math.Dec.{ltb}
 use borrow.Author.Tests.{not-true, not-false, lt-ltb, le-leb, eq-eqb, ne_eqb, ltb-true, ltb-false, leb-true, eqb-true, eqb-false}
 use Rattle.geometry.specs.declared.Geometry.{Geometry}
 use Rattle.geometry.specs.declared.Entry.{Entry}
-use Rattle.geometry.specs.declared.Finding.{Finding}
-use Rattle.geometry.specs.declared.Finding.TheVariants.{Good, Bad}
+use Rattle.geometry.specs.Findings.{Finding, Good, Bad}
 use Rattle.geometry.specs.Tests.{pick, ◌&◌, and_true, and_false, and_left, and_right, and_both}
 use Rattle.geometry.specs.Geometry.{slots_of, half, root_most}
 use Rattle.geometry.specs.Shape.{Core}

@@ -1,8 +1,7 @@
 -- One order on a sound image, of any tree: what an accepted order's outcome comes to, by its answer; and WORN. Assumes
 -- nothing.
-use Rattle.std.specs.Prelude.{◌≡◌, refl, List, [], ◌∷◌, Bool, true, false, ◌⊎◌, ℕ, ◌+◌, ◌<◌, ◌≤◌, eqb}
+use Rattle.std.specs.Prelude.{◌≡◌, refl, List, [], ◌∷◌, Bool, true, false, ◌⊎◌, ℕ, ◌+◌, ◌<◌, ◌≤◌, eqb, None, Option, Some, is_none}
 use Rattle.std.proofs.Common.{ap, sym, subst, ◌∙◌, inl, inr, arith, le-ltb}
-use Rattle.std.proofs.Math.Option.{Option, none, some}
 use Rattle.geometry.specs.declared.Geometry.{Geometry}
 use Rattle.geometry.specs.declared.Entry.{Entry}
 use Rattle.geometry.specs.Tests.{pick}
@@ -12,7 +11,7 @@ use Rattle.model.specs.Image.{blocks_of, good_length, max_seq}
 use Rattle.model.specs.Tree.{find}
 use Rattle.model.specs.Stores.{apply_all}
 use Rattle.model.specs.Edit.{put, remove}
-use Rattle.model.specs.Update.{is_none, format_stores}
+use Rattle.model.specs.Update.{format_stores}
 use Rattle.model.specs.Calls.{Outcome, refused, made, answered, format, worn}
 use Rattle.log_lines.specs.declared.Order.{Order}
 use Rattle.log_lines.specs.declared.Order.TheVariants.{Format, Insert, Delete, Lookup, Limited}
@@ -28,8 +27,8 @@ use Rattle.theory_same_map.specs.Numbers.{largest_on}
 
 -- ---- what the map says
 abbrev pub address_in : Option ℕ → ℕ
-address_in none = 0
-address_in (some a) = a
+address_in None = 0
+address_in (Some a) = a
 
 abbrev pub absence : Option ℕ → ℕ
 absence o = pick (is_none o) 4 0
@@ -67,12 +66,12 @@ tested_address img (t ∷ ts) o h = go t.met (tested_address img ts o h)
     go true e = refl
     go false e = e
 
-remove_absent : (k : ℕ) (es : List Entry) → find k es ≡ none → remove k es ≡ es
+remove_absent : (k : ℕ) (es : List Entry) → find k es ≡ None → remove k es ≡ es
 unfolding find
 remove_absent k [] h = refl
 remove_absent k (e ∷ es) h = go (eqb e.key k) h (remove_absent k es)
   where
-    go : (b : Bool) → pick b (some e.addr) (find k es) ≡ none → (find k es ≡ none → remove k es ≡ es)
+    go : (b : Bool) → pick b (Some e.addr) (find k es) ≡ None → (find k es ≡ None → remove k es ≡ es)
         → pick b es (e ∷ remove k es) ≡ e ∷ es
     go true d f = absurd (let z : ◌≡◌ {A = ℕ} 0 1 = cc in omega arith)
     go false d f = ap (λ (x : List Entry). e ∷ x) (f d)
@@ -84,8 +83,8 @@ module _ (g : Geometry) (img : List ℕ) (map : List Entry) (o : Outcome) (addre
   put_leaves k a (inl e) done = record { answer_is = e; address_is = address; holds = done e; numbers = few e }
   put_leaves k a (inr refusal) done = absurd (accepts refusal)
 
-  pub remove_leaves : (k : ℕ) → OneOf o.answer (0 ∷ 3 ∷ 4 ∷ 6 ∷ 7 ∷ []) → (o.answer ≡ 4 → find k map ≡ none)
-      → (find k map ≡ none → (o.answer ≡ 3) ⊎ (o.answer ≡ 4)) → (o.answer ≡ 4 → o.image ≡ img) → Holds g map img
+  pub remove_leaves : (k : ℕ) → OneOf o.answer (0 ∷ 3 ∷ 4 ∷ 6 ∷ 7 ∷ []) → (o.answer ≡ 4 → find k map ≡ None)
+      → (find k map ≡ None → (o.answer ≡ 3) ⊎ (o.answer ≡ 4)) → (o.answer ≡ 4 → o.image ≡ img) → Holds g map img
       → (o.answer ≡ 0 → Holds g (remove k map) o.image) → Leaves g img (absence (find k map)) 0 (remove k map) o
   remove_leaves k (inl e) absent gone stays old done = record {
     answer_is = e ∙ there (find k map) refl;
@@ -99,8 +98,8 @@ module _ (g : Geometry) (img : List ℕ) (map : List Entry) (o : Outcome) (addre
       neither (inr d) = omega (arith, d, e)
 
       there : (f : Option ℕ) → find k map ≡ f → 0 ≡ absence f
-      there none d = absurd (neither (gone d))
-      there (some a) d = refl
+      there None d = absurd (neither (gone d))
+      there (Some a) d = refl
   remove_leaves k (inr (inl e)) absent gone stays old done = absurd (accepts (inl e))
   remove_leaves k (inr (inr (inl e))) absent gone stays old done =
       let f = absent e in
@@ -122,8 +121,8 @@ unfolding answered
 found_leaves g img map k old = go (find k map)
   where
     go : (f : Option ℕ) → Leaves g img (absence f) (address_in f) map (answered f img)
-    go none = record { answer_is = refl; address_is = refl; holds = old; numbers = omega arith }
-    go (some a) = record { answer_is = refl; address_is = refl; holds = old; numbers = omega arith }
+    go None = record { answer_is = refl; address_is = refl; holds = old; numbers = omega arith }
+    go (Some a) = record { answer_is = refl; address_is = refl; holds = old; numbers = omega arith }
 
 -- Format, on a blank image too
 pub format_leaves : (g : Geometry) → Core g → (img : List ℕ) → good_length g img ≡ true → ((i : ℕ) → byte_at img i < 256)
@@ -161,5 +160,5 @@ low_unworn g img h = le-ltb g.worn (largest_on g img) h
 
 pub found_unworn : (o : Option ℕ) (img : List ℕ) → (answered o img).answer ≡ 3 → ⊥
 unfolding answered
-found_unworn none img e = omega (arith, e)
-found_unworn (some a) img e = omega (arith, e)
+found_unworn None img e = omega (arith, e)
+found_unworn (Some a) img e = omega (arith, e)

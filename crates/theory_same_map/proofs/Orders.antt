@@ -1,7 +1,6 @@
 -- Both trees under one order, and under orders one after the other. Assumes nothing.
-use Rattle.std.specs.Prelude.{◌≡◌, refl, List, [], ◌∷◌, ℕ, ◌+◌, ◌≤◌}
+use Rattle.std.specs.Prelude.{◌≡◌, refl, List, [], ◌∷◌, ℕ, ◌+◌, ◌≤◌, None, Option, Some}
 use Rattle.std.proofs.Common.{ap, sym, subst, ◌∙◌, arith}
-use Rattle.std.proofs.Math.Option.{Option, none, some}
 use Rattle.geometry.specs.declared.Entry.{Entry}
 use Rattle.geometry.specs.Geometry.{small, plain}
 use Rattle.geometry.proofs.Shape.{small_shape}
@@ -32,7 +31,7 @@ pub record Step (order : Order) (m : Option (List Entry)) (x : Images) : Type 0 
 
 -- by what each tree leaves
 step_by : (order : Order) (m : Option (List Entry)) (x : Images) {map : List Entry} {answer address : ℕ}
-    → map_after order m ≡ some map
+    → map_after order m ≡ Some map
     → Leaves small x.mu_tree answer address map (by_mu order x) → Leaves plain x.plain_tree answer address map
     (by_plain order x) → Step order m x
 step_by order m x {map} e u v = record {
@@ -89,9 +88,9 @@ blank_refused (Limited k a al) other = limited_refused k a al
 
 -- from blank images, with answers below WORN
 abbrev Started : Order → Type 0
-Started order = Step order none blank_images × ((by_mu order blank_images).answer ≤ 2) × ((by_plain order blank_images).answer ≤ 2)
+Started order = Step order None blank_images × ((by_mu order blank_images).answer ≤ 2) × ((by_plain order blank_images).answer ≤ 2)
 
-refused_started : (order : Order) → map_after order none ≡ none → Refused order → Started order
+refused_started : (order : Order) → map_after order None ≡ None → Refused order → Started order
 refused_started order e r = (
   record {
     alike = record { answers = r.mu_answer ∙ sym r.plain_answer; addresses = r.addresses };
@@ -110,7 +109,7 @@ started Format =
     (format_holds small small_shape (omega arith) (blank_image small) small_good (blank_bytes small)) in
     let v = format_leaves plain plain_core (blank_image plain) plain_good (blank_bytes plain)
     (plain_format_holds (blank_image plain) plain_good (blank_bytes plain)) in (
-      step_by Format none blank_images refl u v,
+      step_by Format None blank_images refl u v,
       (let z = u.answer_is in omega (arith, z)),
       (let z = v.answer_is in
           omega (arith, z)),
@@ -123,18 +122,18 @@ started (Limited k a al) = refused_started (Limited k a al) refl (limited_refuse
 -- ---- one order
 pub order_step : (order : Order) → Fits order → (m : Option (List Entry)) (x : Images) → Same m x → BothAccept order x
     → Step order m x
-order_step order fits none x same accepts = subst (Step order none) (sym same) (started order).0
-order_step order fits (some map) x same accepts = step_by order (some map) x refl
+order_step order fits None x same accepts = subst (Step order None) (sym same) (started order).0
+order_step order fits (Some map) x same accepts = step_by order (Some map) x refl
     (mu_obeys order fits map x.mu_tree same.0 accepts.0) (plain_obeys order fits map x.plain_tree same.1 accepts.1)
 
 -- while the numbers are low, WORN is answered by neither
 pub order_unworn : (order : Order) → Fits order → (m : Option (List Entry)) (x : Images) → Same m x → largest_on small
     x.mu_tree ≤ small.worn
     → largest_on plain x.plain_tree ≤ plain.worn → ((by_mu order x).answer ≡ 3 → ⊥) × ((by_plain order x).answer ≡ 3 → ⊥)
-order_unworn order fits none x same low few =
+order_unworn order fits None x same low few =
     let w = subst (λ (y : Images). ((by_mu order y).answer ≤ 2) × ((by_plain order y).answer ≤ 2)) (sym same) ((started order).1, (started order).2) in
     ((λ e. omega (arith, w.0, e)), λ e. omega (arith, w.1, e))
-order_unworn order fits (some map) x same low few =
+order_unworn order fits (Some map) x same low few =
     (mu_unworn x.mu_tree same.0.ready low order fits, plain_unworn x.plain_tree same.1.ready few order fits)
 
 -- ---- one after the other

@@ -1,11 +1,10 @@
 -- The comparing program's run: at every line that it comes to, both trees hold the same map, and neither answers WORN:
 -- a line raises the largest number by at most 191, and there are at most 1,000,000 of them. Assumes nothing.
-use Rattle.std.specs.Prelude.{◌≡◌, Bool, true, false, ◌⊎◌, ℕ, ◌+◌, ◌≤◌}
+use Rattle.std.specs.Prelude.{◌≡◌, Bool, true, false, ◌⊎◌, ℕ, ◌+◌, ◌≤◌, None, Option, Some}
 use Rattle.std.proofs.Math.Path.{refl}
 use Rattle.std.proofs.Common.{ap, subst, ◌∙◌, arith, le-leb, eqb-true}
 use mathlib.Core.List.{List, [], ◌∷◌}
 use Rattle.std.proofs.Math.Logic.{inl, inr}
-use Rattle.std.proofs.Math.Option.{Option, none, some}
 use Rattle.geometry.specs.declared.Entry.{Entry}
 use Rattle.geometry.specs.Geometry.{small, plain}
 use Rattle.geometry.specs.Tests.{pick, ◌&◌, and_left, and_right, and_both, and_false}
@@ -14,8 +13,7 @@ use Rattle.geometry.specs.Shape.{shape_core, plain_core}
 use Rattle.model.specs.Calls.{Outcome}
 use Rattle.text_lines.specs.Lines.{lines}
 use Rattle.log_lines.specs.declared.Order.{Order}
-use Rattle.log_lines.specs.declared.Line.{Line}
-use Rattle.log_lines.specs.declared.Line.TheVariants.{Of, Other}
+use Rattle.log_lines.specs.Line.{Line, Of, Other}
 use Rattle.log_lines.specs.Replay.{error_after, form_after}
 use Rattle.compare_scores.specs.declared.Score.{Score}
 use Rattle.compare_scores.specs.Scores.{stops, is_update, counts, scored}
@@ -91,8 +89,8 @@ line_counted s x m l order h form c = go m h.same ((stands_step s x m l order h 
     q = eqb-true (by_plain order x).answer 0 (and_right _ _ c)
 
     go : (m : Option (List Entry)) → Same m x → Same (map_after order m) (after_order order x) → Counted order x
-    go none same next = absurd (update_mapped order (and_left _ _ (and_left _ _ c)) (subst (λ (y : Images). (by_mu order y).answer ≡ 0) same p))
-    go (some map) same next = record { mu_done = p; plain_done = q; map = map; before = same; after = next }
+    go None same next = absurd (update_mapped order (and_left _ _ (and_left _ _ c)) (subst (λ (y : Images). (by_mu order y).answer ≡ 0) same p))
+    go (Some map) same next = record { mu_done = p; plain_done = q; map = map; before = same; after = next }
 
 module _ (input : List ℕ) where
   pub stands : (s : Score) (x : Images) (m : Option (List Entry)) (ls : List (List ℕ)) → Reaches input s x m ls

@@ -1,14 +1,13 @@
 -- Request 12: "Show that while both accept, both hold the same map". `Words` has the words. Every proof here is one
 -- citation; assumes nothing.
-use Rattle.std.specs.Prelude.{◌≡◌, refl, List, ◌∷◌, true, false, ℕ, take}
+use Rattle.std.specs.Prelude.{◌≡◌, refl, List, ◌∷◌, true, false, ℕ, take, None, Option, Some}
 use Rattle.std.proofs.Common.{sym, ◌∙◌}
-use Rattle.std.proofs.Math.Option.{Option, none, some}
 use Rattle.geometry.specs.declared.Entry.{Entry}
 use Rattle.geometry.specs.Geometry.{small, plain}
 use Rattle.text_lines.specs.Lines.{lines}
 use Rattle.log_lines.specs.declared.Order.{Order}
 use Rattle.log_lines.specs.declared.Order.TheVariants.{Format}
-use Rattle.log_lines.specs.declared.Line.TheVariants.{Of}
+use Rattle.log_lines.specs.Line.{Of}
 use Rattle.log_lines.specs.Replay.{form_after}
 use Rattle.compare_scores.specs.declared.Score.{Score}
 use Rattle.compare_scores.specs.Scores.{stops, none_yet, counts}
@@ -22,7 +21,7 @@ use Rattle.theory_same_map.proofs.Orders.{order_step, blank_refused, orders_same
 use Rattle.theory_same_map.proofs.Runs.{line_counted, stands_step, stands, writes, ends}
 
 -- ---- images under the same map: their maps are equal, pair by pair
-pub maps_equal : (map : List Entry) (x : Images) → Same (some map) x → map_at small x.mu_tree ≡ map_at plain
+pub maps_equal : (map : List Entry) (x : Images) → Same (Some map) x → map_at small x.mu_tree ≡ map_at plain
     x.plain_tree
 maps_equal map x same = same.0.map_is ∙ sym same.1.map_is
 
@@ -41,19 +40,19 @@ blank_same order other = let r = blank_refused order other in (r.mu_answer, r.pl
 -- ---- any log, from blank images: while both accept, both answer each order alike, and both hold the same map: the one
 -- that the orders make
 pub log_same : (orders : List Order) → All Fits orders → AllAccepted orders blank_images
-    → AllAlike orders blank_images × Same (map_after_all orders none) (after_all orders blank_images)
-log_same orders fits accepted = orders_same orders fits none blank_images refl accepted
+    → AllAlike orders blank_images × Same (map_after_all orders None) (after_all orders blank_images)
+log_same orders fits accepted = orders_same orders fits None blank_images refl accepted
 
 -- any text, as far as its lines have a form: its first j orders
 pub text_same : (input : List ℕ) (j : ℕ) → AllAccepted (take j (orders_of input)) blank_images
-    → AllAlike (take j (orders_of input)) blank_images × Same (map_after_all (take j (orders_of input)) none)
+    → AllAlike (take j (orders_of input)) blank_images × Same (map_after_all (take j (orders_of input)) None)
     (after_all (take j (orders_of input)) blank_images)
 text_same input j accepted = log_same (take j (orders_of input)) (orders_fit j (lines input).ended) accepted
 
 -- ---- the comparing program, on any text: its output is the report at a point that it comes to, or E and a line's
 -- number
 pub run_ends : (input : List ℕ) → Ended input
-run_ends input = ends input none_yet blank_images none (lines input).ended at_start
+run_ends input = ends input none_yet blank_images None (lines input).ended at_start
 
 -- at each line that it comes to, both hold the same map, or both are blank
 module _ (input : List ℕ) (s : Score) (x : Images) (m : Option (List Entry)) where

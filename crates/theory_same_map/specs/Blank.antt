@@ -1,13 +1,12 @@
 -- The blank image, all 255, has a good length and is not sound: no page carries a root. Assumes nothing.
-use Rattle.std.specs.Prelude.{◌≡◌, refl, true, ℕ, ◌+◌, ◌*◌, ◌/◌, ◌%◌, ◌<◌, ◌≤◌, eqb, leb}
+use Rattle.std.specs.Prelude.{◌≡◌, refl, true, ℕ, ◌+◌, ◌*◌, ◌/◌, ◌%◌, ◌<◌, ◌≤◌, eqb, leb, Err}
 use Rattle.std.proofs.Math.Path.{ap}
 use Rattle.std.proofs.Common.{arith}
 use Rattle.std.proofs.Math.Decide.{dec_lt}
 use Rattle.std.proofs.lemmas.List.{length-replicate, get_or-replicate}
 use Rattle.std.proofs.Math.ListN.{get_or-eq_default}
 use Rattle.geometry.specs.declared.Geometry.{Geometry}
-use Rattle.geometry.specs.declared.Verdict.{Verdict}
-use Rattle.geometry.specs.declared.Verdict.TheVariants.{Sound, Broken}
+use Rattle.geometry.specs.Findings.{Verdict, Sound}
 use Rattle.geometry.specs.Geometry.{small, plain, page_base}
 use Rattle.geometry.specs.Tests.{◌&◌}
 use Rattle.geometry.specs.Shape.{Core, shape_core, plain_core}
@@ -90,7 +89,7 @@ module _ (g : Geometry) where
         go : (v : Verdict) → verdict g n (blank_image g) ≡ v → (o.answer ≡ 2) × (o.address ≡ 0) ×
             (o.image ≡ blank_image g)
         go Sound e = absurd (blank_unheld (held (record { length_good = good; is_sound_lem = e; bytes = blank_bytes })))
-        go (Broken rule page) e = let d = r.not_sound rule page good e in
+        go (Err b) e = let d = r.not_sound b.rule b.page good e in
             (ap (λ (x : Outcome). x.answer) d, ap (λ (x : Outcome). x.address) d, ap (λ (x : Outcome). x.image) d)
 
 pub small_refused : (o : Outcome) → Refuses small (blank_image small) o → (o.answer ≡ 2) × (o.address ≡ 0) ×

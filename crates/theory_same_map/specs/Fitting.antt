@@ -1,7 +1,6 @@
 -- Numbers of a line's order are below 2^32: they are read by `number_of`. Assumes nothing.
-use Rattle.std.specs.Prelude.{◌≡◌, refl, List, [], ◌∷◌, Bool, true, false, ℕ, zero, suc, ◌<◌, take, ltb}
+use Rattle.std.specs.Prelude.{◌≡◌, refl, List, [], ◌∷◌, Bool, true, false, ℕ, zero, suc, ◌<◌, take, ltb, None, Option, Some}
 use Rattle.std.proofs.Common.{subst, arith, ltb-true}
-use Rattle.std.proofs.Math.Option.{Option, none, some}
 use Rattle.geometry.specs.Tests.{pick}
 use Rattle.geometry.specs.Bounds.{four_bytes}
 use Rattle.text_lines.specs.Lines.{fields}
@@ -10,8 +9,7 @@ use Rattle.text_decimals.specs.Back.{number_most}
 use Rattle.theory_lists.specs.All.{All}
 use Rattle.log_lines.specs.declared.Order.{Order}
 use Rattle.log_lines.specs.declared.Order.TheVariants.{Format, Insert, Delete, Lookup, Limited}
-use Rattle.log_lines.specs.declared.Line.{Line}
-use Rattle.log_lines.specs.declared.Line.TheVariants.{Of, Other}
+use Rattle.log_lines.specs.Line.{Line, Of, Other}
 use Rattle.log_lines.specs.Forms.{is_letter, given, form_of, parsed}
 use Rattle.log_lines.specs.Replay.{most_lines, form_after}
 use Rattle.theory_same_map.specs.Words.{Fits, followed_by, orders_in}
@@ -25,8 +23,8 @@ unfolding given
 given_fits w f h = go (number_of w) refl
   where
     go : (o : Option ℕ) → number_of w ≡ o → LineFits (given o f)
-    go none e = tt
-    go (some n) e = h n (let z = number_most w n e in omega (arith, z))
+    go None e = tt
+    go (Some n) e = h n (let z = number_most w n e in omega (arith, z))
 
 pick_fits : (b : Bool) (x y : Line) → LineFits x → LineFits y → LineFits (pick b x y)
 pick_fits true x y p q = p

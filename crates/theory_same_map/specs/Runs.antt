@@ -1,8 +1,7 @@
 -- What stands at every line that the comparing program's run comes to: both trees hold the same map, and a line raises the
 -- largest number by at most 191. A definition alone.
-use Rattle.std.specs.Prelude.{◌*◌, ◌≤◌}
+use Rattle.std.specs.Prelude.{◌*◌, ◌≤◌, Option}
 use mathlib.Core.List.{List}
-use Rattle.std.proofs.Math.Option.{Option}
 use Rattle.geometry.specs.declared.Entry.{Entry}
 use Rattle.geometry.specs.Geometry.{small, plain}
 use Rattle.compare_scores.specs.declared.Score.{Score}

@@ -1,8 +1,7 @@
 -- The words of request 12's "while both accept, both hold the same map". `obeyed` is an order on the μ-Tree's image
 -- (crate log_lines), `plain_obeyed` on the plain tree's (crate compare_scores); `Holds g map img` says that the image is sound and
 -- that its map is this one (crate theory_demands). Definitions alone; assumes nothing.
-use Rattle.std.specs.Prelude.{◌≡◌, List, [], ◌∷◌, false, ◌⊎◌, ℕ, ◌<◌}
-use Rattle.std.proofs.Math.Option.{Option, none, some}
+use Rattle.std.specs.Prelude.{◌≡◌, List, [], ◌∷◌, false, ◌⊎◌, ℕ, ◌<◌, None, Option, Some}
 use Rattle.geometry.specs.declared.Entry.{Entry}
 use Rattle.geometry.specs.Geometry.{small, plain}
 use Rattle.geometry.specs.Bounds.{four_bytes}
@@ -11,8 +10,7 @@ use Rattle.model.specs.Calls.{Outcome}
 use Rattle.text_lines.specs.Lines.{lines}
 use Rattle.log_lines.specs.declared.Order.{Order}
 use Rattle.log_lines.specs.declared.Order.TheVariants.{Format, Insert, Delete, Lookup, Limited}
-use Rattle.log_lines.specs.declared.Line.{Line}
-use Rattle.log_lines.specs.declared.Line.TheVariants.{Of, Other}
+use Rattle.log_lines.specs.Line.{Line, Of, Other}
 use Rattle.log_lines.specs.Forms.{parsed}
 use Rattle.log_lines.specs.Replay.{obeyed, blank_image, error_after, form_after}
 use Rattle.compare_scores.specs.declared.Score.{Score}
@@ -69,17 +67,17 @@ carried_out (Limited k a allowance) map = put k a map
 
 -- before the first Format there is none
 abbrev pub map_after : Order → Option (List Entry) → Option (List Entry)
-map_after order (some map) = some (carried_out order map)
-map_after Format none = some []
-map_after (Insert k a) none = none
-map_after (Delete k) none = none
-map_after (Lookup k) none = none
-map_after (Limited k a allowance) none = none
+map_after order (Some map) = Some (carried_out order map)
+map_after Format None = Some []
+map_after (Insert k a) None = None
+map_after (Delete k) None = None
+map_after (Lookup k) None = None
+map_after (Limited k a allowance) None = None
 
 -- no map: both images are blank. A map: both images are sound, and it is the map of both
 abbrev pub Same : Option (List Entry) → Images → Type 0
-Same none x = x ≡ blank_images
-Same (some map) x = Holds small map x.mu_tree × Holds plain map x.plain_tree
+Same None x = x ≡ blank_images
+Same (Some map) x = Holds small map x.mu_tree × Holds plain map x.plain_tree
 
 -- ---- orders one after the other: the images and the map after them; that both accept each when its turn comes, and
 -- that both answer each alike
@@ -114,7 +112,7 @@ orders_of input = orders_in (lines input).ended
 -- ---- where a run of the comparing program comes to: its score, both images, the map by the orders so far, and the
 -- lines that are left. It goes on after a line that neither tree answers by 5, 6 or 7
 pub data Reaches (input : List ℕ) : Score → Images → Option (List Entry) → List (List ℕ) → Type 0 where
-  at_start : Reaches input none_yet blank_images none (lines input).ended
+  at_start : Reaches input none_yet blank_images None (lines input).ended
   goes_on : (s : Score) (x : Images) (m : Option (List Entry)) (l : List ℕ) (ls : List (List ℕ)) (order : Order)
       → Reaches input s x m (l ∷ ls) → form_after s.lines l ≡ Of order → stops (by_mu order x) ≡ false → stops (by_plain order x) ≡ false
       → Reaches input (scored s order (by_mu order x) (by_plain order x)) (after_order order x) (map_after order m) ls
@@ -124,8 +122,8 @@ pub record Counted (order : Order) (x : Images) : Type 0 where
   pub mu_done : (by_mu order x).answer ≡ 0
   pub plain_done : (by_plain order x).answer ≡ 0
   pub map : List Entry
-  pub before : Same (some map) x
-  pub after : Same (some (carried_out order map)) (after_order order x)
+  pub before : Same (Some map) x
+  pub after : Same (Some (carried_out order map)) (after_order order x)
 
 -- the output is the report at a point that the run comes to, or E and the number of the line that comes next there
 pub record Ended (input : List ℕ) : Type 0 where

@@ -1,15 +1,13 @@
 -- The demands of the C calls, for every image of bytes, lent words, every result buffer, and keys, addresses and
 -- allowances of 32 bits. `Left` has what a call leaves; Ready, map_at, Holds, OneOf are the words of the demands.
 -- Assumes nothing.
-use Rattle.std.specs.Prelude.{◌≡◌, List, [], ◌∷◌, Bool, ◌⊎◌, ℕ, zero, suc, ◌<◌, ◌≤◌, ltb, length, take}
+use Rattle.std.specs.Prelude.{◌≡◌, List, [], ◌∷◌, Bool, ◌⊎◌, ℕ, zero, suc, ◌<◌, ◌≤◌, ltb, length, take, None, Option, Some}
 use Rattle.std.proofs.Math.Path.{refl, ap}
 use Rattle.std.proofs.Common.{sym, subst, ◌∙◌, arith}
 use Rattle.std.proofs.Math.Bool.{true, false}
 use Rattle.geometry.specs.declared.Entry.{Entry}
 use Rattle.geometry.specs.declared.Geometry.{Geometry}
-use Rattle.geometry.specs.declared.Chosen.{Chosen}
-use Rattle.geometry.specs.declared.Chosen.TheVariants.{Of, Unknown}
-use Rattle.geometry.specs.declared.Verdict.TheVariants.{Sound, Broken}
+use Rattle.geometry.specs.Findings.{Sound, broken_at}
 use Rattle.geometry.specs.Tests.{pick}
 use Rattle.geometry.specs.Geometry.{chosen_of}
 use Rattle.geometry.specs.Shape.{Known, is_small, is_large, Shape, shape_core, chosen_known}
@@ -44,12 +42,12 @@ use Rattle.theory_service.specs.Left.{looks_up, inserts, deletes, Enough, other_
 pub record Refused (kind : ℕ) (image result : List ℕ) (enough : Geometry → Type 0) (l : Left) : Type 0 where
   pub short_buffer : length result < 24 → l ≡ short image result
   pub no_geometry : 24 ≤ length result → 2 ≤ kind → l ≡ whole (refused 1 image) result
-  pub bad_length : (g : Geometry) → chosen_of kind ≡ Of g → 24 ≤ length result → good_length g image ≡ false
+  pub bad_length : (g : Geometry) → chosen_of kind ≡ Some g → 24 ≤ length result → good_length g image ≡ false
       → l ≡ whole (refused 1 image) result
-  pub not_sound : (g : Geometry) → chosen_of kind ≡ Of g → enough g → 24 ≤ length result → good_length g image ≡ true
-      → (rule page : ℕ) → verdict g (blocks_of g image) image ≡ Broken rule page
+  pub not_sound : (g : Geometry) → chosen_of kind ≡ Some g → enough g → 24 ≤ length result → good_length g image ≡ true
+      → (rule page : ℕ) → verdict g (blocks_of g image) image ≡ broken_at rule page
       → l ≡ whole (damaged image rule page) result
-  pub neither : (g : Geometry) → chosen_of kind ≡ Of g → enough g → 24 ≤ length result → good_length g image ≡ true
+  pub neither : (g : Geometry) → chosen_of kind ≡ Some g → enough g → 24 ≤ length result → good_length g image ≡ true
       → verdict g (blocks_of g image) image ≡ Sound → 1 ≤ l.answer → 3 ≤ l.answer
   pub untouched : 1 ≤ l.answer → l.answer ≤ 6 → l.image ≡ image
 
@@ -74,18 +72,18 @@ module _ (kind : ℕ) (image result : List ℕ) (enough : Geometry → Type 0) (
   abbrev chosen : Outcome
   chosen = chosen_call (chosen_of kind) call (refused 1 image)
 
-  stays : (c : Chosen) → 1 ≤ (chosen_call c call (refused 1 image)).answer → (chosen_call c call
+  stays : (c : Option Geometry) → 1 ≤ (chosen_call c call (refused 1 image)).answer → (chosen_call c call
       (refused 1 image)).answer ≤ 6
       → (chosen_call c call (refused 1 image)).image ≡ image
   unfolding chosen_call
-  stays (Of g) p q = same g p q
-  stays Unknown p q = refl
+  stays (Some g) p q = same g p q
+  stays None p q = refl
 
   nowhere : 2 ≤ kind → chosen ≡ refused 1 image
   unfolding chosen_call
-  nowhere h = ap (λ (c : Chosen). chosen_call c call (refused 1 image)) (other_unknown kind h)
+  nowhere h = ap (λ (c : Option Geometry). chosen_call c call (refused 1 image)) (other_unknown kind h)
 
-  at : (g : Geometry) → chosen_of kind ≡ Of g → chosen ≡ call g
+  at : (g : Geometry) → chosen_of kind ≡ Some g → chosen ≡ call g
   at g is = on kind g is call (refused 1 image)
 
   leaves : 24 ≤ length result → (o : Outcome) → chosen ≡ o → returned chosen image result ≡ whole o result
@@ -131,7 +129,7 @@ module _ (kind : ℕ) (image live result : List ℕ) (o : Geometry → Outcome) 
       (λ g. lent_same g image live (o g) (call g) (lent g) (same g)))
 
   -- with enough words the outcome is that of the call without them
-  lent_outcome : (g : Geometry) → chosen_of kind ≡ Of g → Enough image live g → (chosen_call (chosen_of kind) call
+  lent_outcome : (g : Geometry) → chosen_of kind ≡ Some g → Enough image live g → (chosen_call (chosen_of kind) call
       (reply (refused 1 image) live)).outcome ≡ o g
   lent_outcome g is w = ap (λ (x : Reply). x.outcome) (on kind g is call (reply (refused 1 image) live))
       ∙ (lent g).outcome_is w
@@ -159,9 +157,9 @@ module _ (kind : ℕ) (image result : List ℕ) (key : ℕ) where
 
 -- ---- Request 5: what is read in the result buffer of a call on an image that is not sound: 2, the first broken rule
 -- and its page
-module _ (kind : ℕ) (g : Geometry) (is : chosen_of kind ≡ Of g) (image result : List ℕ) (room : 24 ≤ length result)
+module _ (kind : ℕ) (g : Geometry) (is : chosen_of kind ≡ Some g) (image result : List ℕ) (room : 24 ≤ length result)
     (good : good_length g image ≡ true)
-    (rule page : ℕ) (broken : verdict g (blocks_of g image) image ≡ Broken rule page) where
+    (rule page : ℕ) (broken : verdict g (blocks_of g image) image ≡ broken_at rule page) where
   formed_by : Shape g
   formed_by = shape g (chosen_known kind g is)
 
@@ -234,7 +232,7 @@ module _ (g : Geometry) (known : Known g) (image result : List ℕ) (room : 24 �
       ap (λ (l : Left). erased_in l.result) (told_whole o image result room)
       ∙ told_number o result room 3 (omega arith) (omega (arith, q, erases_fewer allowance stores, few.1, (shape g known).top_high)) ∙ q
 
-module _ (kind : ℕ) (g : Geometry) (is : chosen_of kind ≡ Of g) (image result : List ℕ) (ready : Ready g image)
+module _ (kind : ℕ) (g : Geometry) (is : chosen_of kind ≡ Some g) (image result : List ℕ) (ready : Ready g image)
     (room : 24 ≤ length result)
     (key : ℕ) (key_low : key < four_bytes) where
   abbrev n : ℕ

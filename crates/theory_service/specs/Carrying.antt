@@ -1,14 +1,12 @@
 -- Request 13 of the C calls mutree_export and mutree_import, for every image of bytes, every text and buffers: what
 -- they refuse, what an import leaves, and that export of what a finished import made is the same text, byte for byte.
 -- `text_of`, `read_text` and `exports` are of crate text_carrying. Assumes nothing.
-use Rattle.std.specs.Prelude.{◌≡◌, List, ◌++◌, true, false, ℕ, ◌+◌, ◌<◌, ◌≤◌, length, take, drop}
+use Rattle.std.specs.Prelude.{◌≡◌, List, ◌++◌, true, false, ℕ, ◌+◌, ◌<◌, ◌≤◌, length, take, drop, Option, Some}
 use Rattle.std.proofs.Math.Path.{ap}
 use Rattle.std.proofs.Common.{sym, subst, ◌∙◌, arith}
 use Rattle.geometry.specs.declared.Geometry.{Geometry}
 use Rattle.geometry.specs.declared.Entry.{Entry}
-use Rattle.geometry.specs.declared.Chosen.{Chosen}
-use Rattle.geometry.specs.declared.Chosen.TheVariants.{Of}
-use Rattle.geometry.specs.declared.Verdict.TheVariants.{Broken}
+use Rattle.geometry.specs.Findings.{broken_at}
 use Rattle.geometry.specs.Geometry.{chosen_of}
 use Rattle.geometry.specs.Shape.{Known, chosen_known}
 use Rattle.geometry.specs.Bounds.{four_bytes}
@@ -57,15 +55,15 @@ pub export_no_geometry : (kind : ℕ) → 2 ≤ kind → (image text result : Li
     → exports_text kind image text result ≡ whole (refused 1 text) result
 unfolding export_of chosen_call
 export_no_geometry kind h image text result room = told_whole (export_of kind image text) text result room
-    ∙ ap (λ (c : Chosen). whole (chosen_call c (λ g. exporting g image text) (refused 1 text)) result) (other_unknown kind h)
+    ∙ ap (λ (c : Option Geometry). whole (chosen_call c (λ g. exporting g image text) (refused 1 text)) result) (other_unknown kind h)
 
 pub import_no_geometry : (kind : ℕ) → 2 ≤ kind → (image text result : List ℕ) → 24 ≤ length result
     → imports_text kind image text result ≡ whole (refused 1 image) result
 unfolding import_of chosen_call
 import_no_geometry kind h image text result room = told_whole (import_of kind image text) image result room
-    ∙ ap (λ (c : Chosen). whole (chosen_call c (λ g. importing g image text) (refused 1 image)) result) (other_unknown kind h)
+    ∙ ap (λ (c : Option Geometry). whole (chosen_call c (λ g. importing g image text) (refused 1 image)) result) (other_unknown kind h)
 
-module _ (kind : ℕ) (g : Geometry) (is : chosen_of kind ≡ Of g) where
+module _ (kind : ℕ) (g : Geometry) (is : chosen_of kind ≡ Some g) where
   known : Known g
   known = chosen_known kind g is
 
@@ -79,7 +77,7 @@ module _ (kind : ℕ) (g : Geometry) (is : chosen_of kind ≡ Of g) where
     pub export_length : good_length g image ≡ false → exports_text kind image text result ≡ whole (refused 1 text) result
     export_length e = export_call ∙ ap (λ (o : Outcome). whole o result) (export_bad_length g image text e)
 
-    pub export_damaged : (rule page : ℕ) → good_length g image ≡ true → verdict g (blocks_of g image) image ≡ Broken rule
+    pub export_damaged : (rule page : ℕ) → good_length g image ≡ true → verdict g (blocks_of g image) image ≡ broken_at rule
         page
         → exports_text kind image text result ≡ whole (damaged text rule page) result
     export_damaged rule page e d = export_call

@@ -1,10 +1,8 @@
 -- What the calls of the C library leave, by their contracts in crates/camera/src/lib.rt: the number returned, the
 -- image, the lent words and the result buffer. And how the numbers of a result are read. Assumes nothing.
-use Rattle.std.specs.Prelude.{◌≡◌, refl, List, [], ◌∷◌, Bool, true, false, ℕ, zero, suc, ◌+◌, ◌*◌, ◌<◌, ◌≤◌, ltb, length, get_or}
+use Rattle.std.specs.Prelude.{◌≡◌, refl, List, [], ◌∷◌, Bool, true, false, ℕ, zero, suc, ◌+◌, ◌*◌, ◌<◌, ◌≤◌, ltb, length, get_or, None, Option, Some}
 use Rattle.std.proofs.Common.{ap, ◌∙◌, inl, arith, ltb-false, le-ltb, lt-ltb}
 use Rattle.geometry.specs.declared.Geometry.{Geometry}
-use Rattle.geometry.specs.declared.Chosen.{Chosen}
-use Rattle.geometry.specs.declared.Chosen.TheVariants.{Of, Unknown}
 use Rattle.geometry.specs.Geometry.{small, large, chosen_of}
 use Rattle.geometry.specs.Tests.{pick}
 use Rattle.geometry.specs.Bounds.{four_bytes}
@@ -50,29 +48,29 @@ abbrev pub lists_pairs : ℕ → List ℕ → ℕ → ℕ → List ℕ → List 
 lists_pairs kind image low high pairs result = returned (as_outcome (list_of kind image low high pairs)) pairs result
 
 -- 0 is the small chip, 1 the large one, and no other number is a geometry's
-pub zero_small : chosen_of 0 ≡ Of small
+pub zero_small : chosen_of 0 ≡ Some small
 zero_small = refl
 
-pub one_large : chosen_of 1 ≡ Of large
+pub one_large : chosen_of 1 ≡ Some large
 one_large = refl
 
-pub other_unknown : (kind : ℕ) → 2 ≤ kind → chosen_of kind ≡ Unknown
+pub other_unknown : (kind : ℕ) → 2 ≤ kind → chosen_of kind ≡ None
 other_unknown zero h = absurd (omega (arith, h))
 other_unknown (suc zero) h = absurd (omega (arith, h))
 other_unknown (suc (suc kind)) h = refl
 
 -- a call of any kind with the number of a geometry is the call on that geometry
-pub on : {A : Type 0} (kind : ℕ) (g : Geometry) → chosen_of kind ≡ Of g → (call : Geometry → A) (other : A)
+pub on : {A : Type 0} (kind : ℕ) (g : Geometry) → chosen_of kind ≡ Some g → (call : Geometry → A) (other : A)
     → chosen_call (chosen_of kind) call other ≡ call g
 unfolding chosen_call
-on kind g is call other = ap (λ (c : Chosen). chosen_call c call other) is
+on kind g is call other = ap (λ (c : Option Geometry). chosen_call c call other) is
 
 -- the outcome of a call with lent words is a call of outcomes
-pub outcome_chosen : (c : Chosen) (call : Geometry → Reply) (o : Outcome) (words : List ℕ)
+pub outcome_chosen : (c : Option Geometry) (call : Geometry → Reply) (o : Outcome) (words : List ℕ)
     → (chosen_call c call (reply o words)).outcome ≡ chosen_call c (λ g. (call g).outcome) o
 unfolding chosen_call
-outcome_chosen (Of g) call o words = refl
-outcome_chosen Unknown call o words = refl
+outcome_chosen (Some g) call o words = refl
+outcome_chosen None call o words = refl
 
 -- the numbers of a result, by their places
 abbrev pub number_in : ℕ → List ℕ → ℕ

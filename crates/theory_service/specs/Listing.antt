@@ -1,13 +1,11 @@
 -- Request 1 of the C call mutree_list, for every image of bytes, every two buffers and keys of 32 bits: what it
 -- refuses, and on a sound image the map's part between the keys. `between`, `filled`, `written_of` are of crate model.
 -- Assumes nothing.
-use Rattle.std.specs.Prelude.{◌≡◌, List, true, false, ℕ, ◌<◌, ◌≤◌, length}
+use Rattle.std.specs.Prelude.{◌≡◌, List, true, false, ℕ, ◌<◌, ◌≤◌, length, Option, Some}
 use Rattle.std.proofs.Common.{ap, ◌∙◌, arith}
 use Rattle.geometry.specs.declared.Geometry.{Geometry}
 use Rattle.geometry.specs.declared.Entry.{Entry}
-use Rattle.geometry.specs.declared.Chosen.{Chosen}
-use Rattle.geometry.specs.declared.Chosen.TheVariants.{Of}
-use Rattle.geometry.specs.declared.Verdict.TheVariants.{Broken}
+use Rattle.geometry.specs.Findings.{broken_at}
 use Rattle.geometry.specs.Geometry.{chosen_of}
 use Rattle.geometry.specs.Shape.{Known, chosen_known}
 use Rattle.geometry.proofs.Shape.{shape}
@@ -39,9 +37,9 @@ module _ (kind : ℕ) (image : List ℕ) (low high : ℕ) (pairs result : List �
       ≡ whole (as_outcome (lists_none 1 0 0 pairs)) result
   unfolding list_of chosen_call
   list_no_geometry h = leaves (lists_none 1 0 0 pairs)
-      (ap (λ (c : Chosen). chosen_call c (λ g. listing g image low high pairs) (lists_none 1 0 0 pairs)) (other_unknown kind h))
+      (ap (λ (c : Option Geometry). chosen_call c (λ g. listing g image low high pairs) (lists_none 1 0 0 pairs)) (other_unknown kind h))
 
-  module _ (g : Geometry) (is : chosen_of kind ≡ Of g) where
+  module _ (g : Geometry) (is : chosen_of kind ≡ Some g) where
     at : list_of kind image low high pairs ≡ listing g image low high pairs
     unfolding list_of
     at = on kind g is (λ x. listing x image low high pairs) (lists_none 1 0 0 pairs)
@@ -51,7 +49,7 @@ module _ (kind : ℕ) (image : List ℕ) (low high : ℕ) (pairs result : List �
     list_length e = leaves (lists_none 1 0 0 pairs) (at ∙ list_bad_length g image low high pairs e)
 
     -- an image that is not sound: 2, both counts 0, the verdict's rule and page, the pairs untouched
-    pub list_damaged : (rule page : ℕ) → good_length g image ≡ true → verdict g (blocks_of g image) image ≡ Broken rule
+    pub list_damaged : (rule page : ℕ) → good_length g image ≡ true → verdict g (blocks_of g image) image ≡ broken_at rule
         page
         → lists_pairs kind image low high pairs result ≡ whole (as_outcome (lists_none 2 rule page pairs)) result
     list_damaged rule page e d = leaves (lists_none 2 rule page pairs) (at

@@ -1,10 +1,9 @@
 -- Request 10 of the C calls on the small chip: mutree_format, then n calls of mutree_insert, each of a key that
 -- mutree_lookup does not find and each answered DONE, with nothing else between. Every image of bytes, every key,
 -- address, allowance, lent words (DONE says that they were enough) and result buffer. Assumes nothing.
-use Rattle.std.specs.Prelude.{◌≡◌, refl, List, [], ◌∷◌, map, Bool, true, false, ℕ, suc, ◌+◌, ◌-◌, ◌*◌, ◌<◌, ◌≤◌, length}
+use Rattle.std.specs.Prelude.{◌≡◌, refl, List, [], ◌∷◌, map, Bool, true, false, ℕ, suc, ◌+◌, ◌-◌, ◌*◌, ◌<◌, ◌≤◌, length, None, Option, Some}
 use Rattle.std.proofs.Common.{ap, subst, ◌∙◌, inl, arith}
 use Rattle.std.proofs.Math.Path.{sym}
-use Rattle.std.proofs.Math.Option.{Option, none, some}
 use Rattle.geometry.specs.Geometry.{small}
 use Rattle.geometry.proofs.Shape.{small_shape}
 use Rattle.geometry.specs.Tests.{pick}
@@ -56,14 +55,14 @@ abbrev pub item : Call → Item
 item x = record { key = x.key; addr = x.address; allowance = x.allowance }
 
 -- what a result's third number and a lookup's answer say
-absent_by : (image : List ℕ) (o : Option ℕ) → (answered o image).answer ≡ 4 → o ≡ none
+absent_by : (image : List ℕ) (o : Option ℕ) → (answered o image).answer ≡ 4 → o ≡ None
 unfolding answered
-absent_by image none e = refl
-absent_by image (some a) e = absurd (omega (arith, e))
+absent_by image None e = refl
+absent_by image (Some a) e = absurd (omega (arith, e))
 
 module _ (image : List ℕ) (ready : Ready small image)
     (x : Call) (k_low : x.key < four_bytes) (a-low : x.address < four_bytes) where
-  absent : (looks_up 0 image x.key x.result).answer ≡ 4 → find x.key (map_at small image) ≡ none
+  absent : (looks_up 0 image x.key x.result).answer ≡ 4 → find x.key (map_at small image) ≡ None
   unfolding chosen_call lookup_of
   absent e =
       let t = told (lookup small image x.key) image x.result (λ z. absurd (omega (arith, z, e))) in

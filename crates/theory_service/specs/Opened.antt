@@ -1,14 +1,12 @@
 -- Request 8, "Open once, call often", of the C calls with a record, for every image of bytes, number of a chip, record,
 -- lent words and result buffer: what they leave where they refuse, and that on a sound image with the record of opening
 -- they are the calls without one. `record_in` reads a record's bytes. Assumes nothing.
-use Rattle.std.specs.Prelude.{◌≡◌, refl, List, true, false, ℕ, ◌<◌, ◌≤◌}
+use Rattle.std.specs.Prelude.{◌≡◌, refl, List, true, false, ℕ, ◌<◌, ◌≤◌, Option, Some}
 use Rattle.std.proofs.Math.Path.{ap, sym}
 use Rattle.std.proofs.Common.{subst, ◌∙◌, lt-ltb, le-ltb}
 use Rattle.std.proofs.Math.ListN.{length}
 use Rattle.geometry.specs.declared.Geometry.{Geometry}
-use Rattle.geometry.specs.declared.Chosen.{Chosen}
-use Rattle.geometry.specs.declared.Chosen.TheVariants.{Of}
-use Rattle.geometry.specs.declared.Verdict.TheVariants.{Broken}
+use Rattle.geometry.specs.Findings.{broken_at}
 use Rattle.geometry.specs.Geometry.{chosen_of}
 use Rattle.geometry.specs.Shape.{Known, chosen_known}
 use Rattle.geometry.proofs.Shape.{shape}
@@ -96,7 +94,7 @@ kept_old result old new h = rw (lt-ltb _ _ h)
 nowhere : {A : Type 0} (kind : ℕ) (call : Geometry → A) (other : A) → 2 ≤ kind → chosen_call (chosen_of kind) call other
     ≡ other
 unfolding chosen_call
-nowhere kind call other h = ap (λ (c : Chosen). chosen_call c call other) (other_unknown kind h)
+nowhere kind call other h = ap (λ (c : Option Geometry). chosen_call c call other) (other_unknown kind h)
 
 -- ---- opening
 module _ (kind : ℕ) (image bytes result : List ℕ) where
@@ -128,7 +126,7 @@ module _ (kind : ℕ) (image bytes result : List ℕ) where
           (with_all bytes (refused 1 image) _ all ∙ nowhere kind (λ g. opening g image) (refused 1 image) h)
           (with_all bytes bytes _ all ∙ ap (λ (o : Opened). put_record o bytes) (nowhere kind (λ g. opened g image) no_record h))
 
-      module _ (g : Geometry) (is : chosen_of kind ≡ Of g) where
+      module _ (g : Geometry) (is : chosen_of kind ≡ Some g) where
         opens_on : (o : Outcome) (r : Opened) → opening g image ≡ o → opened g image ≡ r → Opens o (put_record r bytes)
         unfolding open_bytes open_record opening_of opened_of
         opens_on o r eo er = opens_by o (put_record r bytes)
@@ -139,7 +137,7 @@ module _ (kind : ℕ) (image bytes result : List ℕ) where
         open_bad_length e = opens_on (refused 1 image) no_record (opening_bad_length g image e).0 (opening_bad_length g image e).1
 
         pub open_not_sound : (rule page : ℕ) → good_length g image ≡ true → verdict g (blocks_of g image) image
-            ≡ Broken rule page
+            ≡ broken_at rule page
             → Opens (damaged image rule page) (put_record no_record bytes)
         open_not_sound rule page e d =
             let w = opening_not_sound g image rule page e d in
@@ -173,7 +171,7 @@ module _ (kind : ℕ) (image bytes result : List ℕ) where
         ∙ ap (λ (x : Outcome). whole x result)
         (with_all bytes (refused 1 image) _ all ∙ nowhere kind (λ g. lookup_with g image (record_in bytes) key) (refused 1 image) h))
 
-    module _ (g : Geometry) (is : chosen_of kind ≡ Of g) (all : 24 ≤ length bytes) where
+    module _ (g : Geometry) (is : chosen_of kind ≡ Some g) (all : 24 ≤ length bytes) where
       looks_on : lookup_bytes kind image bytes key ≡ lookup_with g image (record_in bytes) key
       unfolding lookup_bytes lookup_with_of
       looks_on = with_all bytes (refused 1 image) _ all
@@ -220,7 +218,7 @@ module _ (kind : ℕ) (image bytes result : List ℕ) where
         (with_all bytes (refused 1 pairs) _ all ∙ ap as_outcome
         (nowhere kind (λ g. list_with g image (record_in bytes) low high pairs) (lists_none 1 0 0 pairs) h)))
 
-    module _ (g : Geometry) (is : chosen_of kind ≡ Of g) (all : 24 ≤ length bytes) where
+    module _ (g : Geometry) (is : chosen_of kind ≡ Some g) (all : 24 ≤ length bytes) where
       lists_on : list_bytes kind image bytes low high pairs ≡ as_outcome (list_with g image (record_in bytes) low high
           pairs)
       unfolding list_bytes list_with_of
@@ -255,13 +253,13 @@ pub record Refuses (kind : ℕ) (image bytes live result : List ℕ) (l : Leaves
   -- a record that is too short, a number that is no geometry's, a bad length, "Fewer than B words": LENGTH
   pub short_record : 24 ≤ length result → length bytes < 24 → l ≡ leaves (whole (refused 1 image) result) bytes live
   pub no_geometry : 24 ≤ length result → Small bytes → 2 ≤ kind → l ≡ leaves (whole (refused 1 image) result) bytes live
-  pub bad_length : (g : Geometry) → chosen_of kind ≡ Of g → 24 ≤ length result → Small bytes → good_length g image ≡ false
+  pub bad_length : (g : Geometry) → chosen_of kind ≡ Some g → 24 ≤ length result → Small bytes → good_length g image ≡ false
       → l ≡ leaves (whole (refused 1 image) result) bytes live
-  pub few_words : (g : Geometry) → chosen_of kind ≡ Of g → 24 ≤ length result → Small bytes → length live < words_of g
+  pub few_words : (g : Geometry) → chosen_of kind ≡ Some g → 24 ≤ length result → Small bytes → length live < words_of g
       (blocks_of g image)
       → l ≡ leaves (whole (refused 1 image) result) bytes live
   -- "If the named page isn't programmed with that sequence number and height, the answer is 8 STALE"
-  pub stale : (g : Geometry) → chosen_of kind ≡ Of g → 24 ≤ length result → 24 ≤ length bytes → Small bytes
+  pub stale : (g : Geometry) → chosen_of kind ≡ Some g → 24 ≤ length result → 24 ≤ length bytes → Small bytes
       → good_length g image ≡ true → Enough image live g
       → standing g (blocks_of g image) image (record_in bytes) ≡ false → l ≡ leaves (whole (refused 8 image) result) bytes
       live
@@ -324,7 +322,7 @@ module _ (kind : ℕ) (image bytes live result : List ℕ) (call : Geometry → 
         ∙ stale g e h s);
   }
     where
-      there : (g : Geometry) → chosen_of kind ≡ Of g → chosen_by (record_in bytes) ≡ call g (record_in bytes)
+      there : (g : Geometry) → chosen_of kind ≡ Some g → chosen_by (record_in bytes) ≡ call g (record_in bytes)
       there g is = on kind g is (λ x. call x (record_in bytes)) (update.returned (refused 1 image) (record_in bytes) live)
 
 module _ (kind : ℕ) (image bytes live result : List ℕ) (key : ℕ) where
@@ -357,7 +355,7 @@ pub record Same (g : Geometry) (l : Leaves) (left : Left) (words : List ℕ) : T
   pub session : Session g l.left.image l.bytes l.words
 
 -- opening a sound image begins one
-pub open_session : (kind : ℕ) (g : Geometry) → chosen_of kind ≡ Of g → (image bytes live result : List ℕ)
+pub open_session : (kind : ℕ) (g : Geometry) → chosen_of kind ≡ Some g → (image bytes live result : List ℕ)
     → 24 ≤ length result → 24 ≤ length bytes → Ready g image
     → Enough image live g → Session g image (opens_record kind image bytes result) live
 unfolding open_record opened_of
@@ -407,7 +405,7 @@ module _ (g : Geometry) (known : Known g) (image bytes live result : List ℕ) (
       On : Leaves → Type 0
       On l = Session g l.left.image l.bytes l.words
 
-module _ (kind : ℕ) (g : Geometry) (is : chosen_of kind ≡ Of g) (image bytes live result : List ℕ)
+module _ (kind : ℕ) (g : Geometry) (is : chosen_of kind ≡ Some g) (image bytes live result : List ℕ)
     (s : Session g image bytes live) (key : ℕ) (key_low : key < four_bytes) where
   -- "answers and bytes equal the old calls', and the record returned is what opening would then give", for every answer
   -- and allowance

@@ -1,11 +1,9 @@
 -- Request 4 of the C call mutree_patrol, on both geometries, for every half that has a fitting code (on a sound image
 -- every half has: `sound_fits` in crate theory_demands), with a result buffer of 24 bytes or more. Assumes nothing.
-use Rattle.std.specs.Prelude.{◌≡◌, List, true, false, ℕ, ◌+◌, ◌*◌, ◌<◌, ◌≤◌, length}
+use Rattle.std.specs.Prelude.{◌≡◌, List, true, false, ℕ, ◌+◌, ◌*◌, ◌<◌, ◌≤◌, length, Option, Some}
 use Rattle.std.proofs.Math.Path.{ap}
 use Rattle.std.proofs.Common.{◌∙◌}
 use Rattle.geometry.specs.declared.Geometry.{Geometry}
-use Rattle.geometry.specs.declared.Chosen.{Chosen}
-use Rattle.geometry.specs.declared.Chosen.TheVariants.{Of}
 use Rattle.geometry.specs.Geometry.{chosen_of, code_place, page_base}
 use Rattle.geometry.specs.Shape.{Shape, chosen_known}
 use Rattle.geometry.proofs.Shape.{shape}
@@ -25,9 +23,9 @@ pub no_geometry_patrol : (kind : ℕ) → 2 ≤ kind → (image : List ℕ) (pag
     → patrols kind image page half result ≡ whole (refused 1 image) result
 unfolding patrol_of chosen_call
 no_geometry_patrol kind h image page half result room = told_whole (patrol_of kind image page half) image result room
-    ∙ ap (λ (c : Chosen). whole (chosen_call c (λ g. patrol g image page half) (refused 1 image)) result) (other_unknown kind h)
+    ∙ ap (λ (c : Option Geometry). whole (chosen_call c (λ g. patrol g image page half) (refused 1 image)) result) (other_unknown kind h)
 
-module _ (kind : ℕ) (g : Geometry) (is : chosen_of kind ≡ Of g) (page half : ℕ) (result : List ℕ)
+module _ (kind : ℕ) (g : Geometry) (is : chosen_of kind ≡ Some g) (page half : ℕ) (result : List ℕ)
     (room : 24 ≤ length result) where
   -- the call is the patrol on that geometry
   pub patrol_call : (image : List ℕ) → patrols kind image page half result ≡ whole (patrol g image page half) result

@@ -1,11 +1,9 @@
 -- Request 7 of the C calls mutree_insert and mutree_delete, for every image, number of a chip, lent words and result
 -- buffer: what they leave of the words. `Told`, `Past`, `block_ones` are of crate live_words. Assumes nothing.
-use Rattle.std.specs.Prelude.{◌≡◌, List, ◌⊎◌, ℕ, ◌<◌, ◌≤◌, length}
+use Rattle.std.specs.Prelude.{◌≡◌, List, ◌⊎◌, ℕ, ◌<◌, ◌≤◌, length, None, Option, Some}
 use Rattle.std.proofs.Math.Path.{refl, ap}
 use Rattle.std.proofs.Common.{sym, subst, ◌∙◌}
 use Rattle.geometry.specs.declared.Geometry.{Geometry}
-use Rattle.geometry.specs.declared.Chosen.{Chosen}
-use Rattle.geometry.specs.declared.Chosen.TheVariants.{Of, Unknown}
 use Rattle.geometry.specs.Geometry.{chosen_of}
 use Rattle.geometry.specs.Shape.{chosen_known}
 use Rattle.model.specs.Image.{blocks_of, chip_of}
@@ -29,18 +27,18 @@ pub record Lends (kind : ℕ) (image old result : List ℕ) (l : Left) (words : 
   -- so does a number that is no geometry's, and it is told
   pub no_geometry : 24 ≤ length result → 2 ≤ kind → (l ≡ whole (refused 1 image) result) × (words ≡ old)
   -- "Fewer than B words give LENGTH", and nothing is touched
-  pub words_short : (g : Geometry) → chosen_of kind ≡ Of g → 24 ≤ length result → length old < words_of g
+  pub words_short : (g : Geometry) → chosen_of kind ≡ Some g → 24 ≤ length result → length old < words_of g
       (blocks_of g image)
       → (l ≡ whole (refused 1 image) result) × (words ≡ old)
   -- LENGTH and DAMAGED, "which leave it"
   pub words_left : (l.answer ≡ 1) ⊎ (l.answer ≡ 2) → words ≡ old
   -- "words past B stay"
-  pub words_past : (g : Geometry) → chosen_of kind ≡ Of g → Past (words_of g (blocks_of g image)) old words
+  pub words_past : (g : Geometry) → chosen_of kind ≡ Some g → Past (words_of g (blocks_of g image)) old words
   -- every other answer leaves the words worked out afresh from the image that is left
-  pub words_told : (g : Geometry) → chosen_of kind ≡ Of g → (l.answer ≡ 1 → ⊥) → (l.answer ≡ 2 → ⊥)
+  pub words_told : (g : Geometry) → chosen_of kind ≡ Some g → (l.answer ≡ 1 → ⊥) → (l.answer ≡ 2 → ⊥)
       → Told (live (places_of (chip_of g (blocks_of g image) l.image))) (words_of g (blocks_of g image)) words
   -- "A block's live pages are then the count of ones in its word"
-  pub live_counts : (g : Geometry) → chosen_of kind ≡ Of g → (l.answer ≡ 1 → ⊥) → (l.answer ≡ 2 → ⊥) → (b : ℕ)
+  pub live_counts : (g : Geometry) → chosen_of kind ≡ Some g → (l.answer ≡ 1 → ⊥) → (l.answer ≡ 2 → ⊥) → (b : ℕ)
       → b < blocks_of g image
       → block_ones g words b ≡ lives_in g.pages b (chip_of g (blocks_of g image) l.image)
 
@@ -65,25 +63,25 @@ module _ (kind : ℕ) (image old result : List ℕ) (o : Geometry → Outcome) (
 
   nowhere : 2 ≤ kind → chosen ≡ reply (refused 1 image) old
   unfolding chosen_call
-  nowhere h = ap (λ (c : Chosen). chosen_call c call (reply (refused 1 image) old)) (other_unknown kind h)
+  nowhere h = ap (λ (c : Option Geometry). chosen_call c call (reply (refused 1 image) old)) (other_unknown kind h)
 
-  at : (g : Geometry) → chosen_of kind ≡ Of g → chosen ≡ call g
+  at : (g : Geometry) → chosen_of kind ≡ Some g → chosen ≡ call g
   at g is = on kind g is call (reply (refused 1 image) old)
 
-  kept : (c : Chosen)
+  kept : (c : Option Geometry)
       → ((chosen_call c call (reply (refused 1 image) old)).outcome.answer ≡ 1) ⊎
       ((chosen_call c call (reply (refused 1 image) old)).outcome.answer ≡ 2)
       → (chosen_call c call (reply (refused 1 image) old)).words ≡ old
   unfolding chosen_call
-  kept (Of g) h = (lent g).words_left h
-  kept Unknown h = refl
+  kept (Some g) h = (lent g).words_left h
+  kept None h = refl
 
   left_words : (left.answer ≡ 1) ⊎ (left.answer ≡ 2) → words ≡ old
   left_words h = by_lt (length result) 24 (λ s. words_kept chosen old result s)
       (λ room. words_whole chosen old result room
       ∙ kept (chosen_of kind) (subst (λ (l : Left). (l.answer ≡ 1) ⊎ (l.answer ≡ 2)) (told_whole chosen.outcome image result room) h))
 
-  module _ (g : Geometry) (is : chosen_of kind ≡ Of g) where
+  module _ (g : Geometry) (is : chosen_of kind ≡ Some g) where
     past : Past (words_of g (blocks_of g image)) old words
     past = by_lt (length result) 24
         (λ s. subst (Past (words_of g (blocks_of g image)) old) (sym (words_kept chosen old result s)) (past_none (words_of g (blocks_of g image)) old))

@@ -1,10 +1,9 @@
 -- k, counted beforehand, is what happens, over any pages: an entry gives way to two exactly where `gains` says so, and
 -- the levels that split are 1 to `splits`. The μ-Tree (Splits) is an instance. Assumes nothing.
-use Rattle.std.specs.Prelude.{◌≡◌, Bool, true, false, eqb, leb, ltb}
+use Rattle.std.specs.Prelude.{◌≡◌, Bool, true, false, eqb, leb, ltb, None, Some, is_none}
 use Rattle.std.proofs.Math.Path.{refl, ap}
 use Rattle.std.proofs.Common.{sym, ◌∙◌}
 use mathlib.Core.List.{List, [], ◌∷◌}
-use Rattle.std.proofs.Math.Option.{none, some}
 use Prim.Native.Nat.{ℕ, zero, suc, ◌+◌, ◌*◌, ◌<◌, ◌≤◌, min}
 use native.Mathlib.Omega.{arith}
 use Rattle.std.proofs.Math.ListN.{length}
@@ -14,7 +13,6 @@ use Rattle.geometry.specs.Tests.{pick, ◌&◌, bit, and_left, and_right}
 use Rattle.model.specs.Image.{Nodes}
 use Rattle.model.specs.Tree.{gather, under, following, chosen, find}
 use Rattle.model.specs.Edit.{splice, on_path, put, put_in, gains, splits}
-use Rattle.model.specs.Update.{is_none}
 use Rattle.model.specs.Plain.{both}
 use Rattle.theory_counts.specs.Tally.{bit_most}
 use Rattle.theory_counts.specs.Cases.{by_eq, and_pick}
@@ -26,7 +24,7 @@ use Rattle.theory_trees.specs.Seek.{find_list}
 use Rattle.theory_trees.specs.Path.{put_as, below_is, on_path_top, on_path_below}
 
 -- K is above nothing of a list that begins above it
-pub above_none : (k hi : ℕ) (es : List Entry) → k < following es hi → Rises (λ y x. Unit {0}) hi es → find k es ≡ none
+pub above_none : (k hi : ℕ) (es : List Entry) → k < following es hi → Rises (λ y x. Unit {0}) hi es → find k es ≡ None
 unfolding find
 above_none k hi [] q h = refl
 above_none k hi (e ∷ es) q h = rw (ne_eqb e.key k (λ z. omega arith)) (above_none k hi es (omega (arith, h.0)) h.2)
@@ -44,7 +42,7 @@ put_size k a hi (e ∷ es) h = go (ltb e.key k) (eqb e.key k) refl refl (put_siz
     go : (t u : Bool) → ltb e.key k ≡ t → eqb e.key k ≡ u
         → length (put k a es) ≡ length es + bit (is_none (find k es))
         → length (pick t (e ∷ put k a es) (record { key = k; addr = a } ∷ pick u es (e ∷ es))) ≡ suc (length es) + bit
-        (is_none (pick u (some e.addr) (find k es)))
+        (is_none (pick u (Some e.addr) (find k es)))
     go true true c d i = absurd (omega (arith, ltb-true e.key k c, eqb-true e.key k d))
     go true false c d i = omega (arith, i)
     go false true c d i = omega arith

@@ -1,6 +1,6 @@
 -- With insertions only every node below the root is at least half full, and each split adds one node: how many nodes
 -- there are. Assumes nothing.
-use Rattle.std.specs.Prelude.{◌≡◌, Bool, true, false, take, drop, leb}
+use Rattle.std.specs.Prelude.{◌≡◌, Bool, true, false, take, drop, leb, is_none}
 use Rattle.std.proofs.Math.Path.{refl, ap}
 use Rattle.std.proofs.Common.{sym, subst, ◌∙◌, mul-suc, mul-zero, add-mul, take-append-drop, length-take, length-drop, leb-true, leb-false}
 use mathlib.Core.List.{List, [], ◌∷◌, ◌++◌}
@@ -13,7 +13,6 @@ use Rattle.geometry.specs.Tests.{pick, bit}
 use Rattle.model.specs.Image.{Nodes}
 use Rattle.model.specs.Tree.{gather, under, Place, places, following, chosen, find}
 use Rattle.model.specs.Edit.{splice, put, put_in, turn, path_half, side_half, two, gains, splits}
-use Rattle.model.specs.Update.{is_none}
 use Rattle.theory_counts.specs.Cases.{by_test}
 use Rattle.theory_lists.specs.All.{All, all_append, all_map, all_left, all_right}
 use Rattle.theory_nodes.specs.Entries.{Rises, all_gather, gather_append, gather_eq, rises_all, Split, split}

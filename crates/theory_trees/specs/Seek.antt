@@ -1,9 +1,8 @@
 -- Lookup: descent finds what the map has. Assumes nothing.
-use Rattle.std.specs.Prelude.{◌≡◌, Bool, true, false, length, eqb}
+use Rattle.std.specs.Prelude.{◌≡◌, Bool, true, false, length, eqb, None, Some}
 use Rattle.std.proofs.Math.Path.{refl, ap, sym}
 use Rattle.std.proofs.Common.{◌∙◌, arith, ne_eqb}
 use mathlib.Core.List.{List, [], ◌∷◌, ◌++◌}
-use Rattle.std.proofs.Math.Option.{none, some}
 use Prim.Native.Nat.{ℕ, zero, suc, ◌<◌, ◌≤◌}
 use Rattle.geometry.specs.declared.Entry.{Entry}
 use Rattle.geometry.specs.Tests.{pick}
@@ -20,7 +19,7 @@ unfolding find
 find_after k lo [] ys h = refl
 find_after k lo (e ∷ xs) ys h = rw (ne_eqb e.key k (λ p. omega (arith, h.0.1))) (find_after k lo xs ys h.1)
 
-find_none : (k lo hi : ℕ) (zs : List Entry) → k < lo → All (In lo hi) zs → find k zs ≡ none
+find_none : (k lo hi : ℕ) (zs : List Entry) → k < lo → All (In lo hi) zs → find k zs ≡ None
 unfolding find
 find_none k lo hi [] q h = refl
 find_none k lo hi (e ∷ zs) q h = rw (ne_eqb e.key k (λ p. omega (arith, h.0.0))) (find_none k lo hi zs q h.1)
@@ -30,8 +29,8 @@ unfolding find
 find_before k lo hi [] zs q h = find_none k lo hi zs q h
 find_before k lo hi (e ∷ ys) zs q h = go (eqb e.key k) (find_before k lo hi ys zs q h)
   where
-    go : (t : Bool) → find k (ys ++ zs) ≡ find k ys → pick t (some e.addr) (find k (ys ++ zs)) ≡ pick t
-        (some e.addr) (find k ys)
+    go : (t : Bool) → find k (ys ++ zs) ≡ find k ys → pick t (Some e.addr) (find k (ys ++ zs)) ≡ pick t
+        (Some e.addr) (find k ys)
     go true i = refl
     go false i = i
 

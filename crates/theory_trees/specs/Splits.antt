@@ -1,12 +1,11 @@
 -- k, counted beforehand, is what happens in the μ-Tree, an instance of `Cuts`: an entry gives way to two exactly where
 -- `gains` says so, and the levels that split are 1 to `splits`. Assumes nothing.
-use Rattle.std.specs.Prelude.{◌≡◌, List, Bool, true, ℕ, suc, ◌+◌, ◌*◌, ◌<◌, ◌≤◌, length}
+use Rattle.std.specs.Prelude.{◌≡◌, List, Bool, true, ℕ, suc, ◌+◌, ◌*◌, ◌<◌, ◌≤◌, length, is_none}
 use Rattle.geometry.specs.declared.Entry.{Entry}
 use Rattle.geometry.specs.Tests.{bit}
 use Rattle.model.specs.Image.{Nodes}
 use Rattle.model.specs.Tree.{gather, under, chosen, find}
 use Rattle.model.specs.Edit.{splice, on_path, put_in, named, gains, splits}
-use Rattle.model.specs.Update.{is_none}
 use Rattle.theory_nodes.specs.Entries.{Rises}
 use Rattle.theory_nodes.specs.Nodes.{Ok}
 use Rattle.theory_trees.specs.Edit.{at_root}

@@ -1,11 +1,10 @@
 -- Collection by what is kept beside the image makes the model's stores ("every victim, store and answer is the same as
 -- before"), and record and table stay those worked out afresh. Assumes nothing.
-use Rattle.std.specs.Prelude.{◌≡◌, Bool, ltb, length}
+use Rattle.std.specs.Prelude.{◌≡◌, Bool, ltb, length, Option, Some}
 use Rattle.std.proofs.Math.Path.{refl, ap, subst}
 use Rattle.std.proofs.Common.{sym, ◌∙◌, arith, suc-mul, ltb-true}
 use mathlib.Core.List.{List, [], ◌∷◌, ◌++◌}
 use Rattle.std.proofs.Math.Bool.{true, false}
-use Rattle.std.proofs.Math.Option.{Option, some}
 use Prim.Native.Nat.{ℕ, zero, suc, ◌+◌, ◌-◌, ◌*◌, ◌<◌, ◌≤◌}
 use Rattle.geometry.specs.declared.Geometry.{Geometry}
 use Rattle.geometry.specs.declared.Entry.{Entry}
@@ -195,7 +194,7 @@ module _ (g : Geometry) (shape : Shape g) (n : ℕ) (few : pages_of g n + g.page
             same_then g (Tracks g n h.at) (Tells g n) img ss (erase v ∷ []) run (erase_by g n v h.at) s
             (erase_same h.at v q (apply_all g ss img) run.kept z.held done (same_tells g (Tracks g n h.at) img ss run s))
 
-        go : (v : ℕ) × (the_victim g.pages n (chip_of g n img) ≡ some v) × (v < n) ×
+        go : (v : ℕ) × (the_victim g.pages n (chip_of g n img) ≡ Some v) × (v < n) ×
             (full g.pages (chip_of g n img).er v ≡ true) ×
             (lives_in g.pages v (chip_of g n img) < g.pages) × (lives_in g.pages v (chip_of g n img) ≤ count (pages_of g n) (chip_of g n img).er)
             → Same g (Tells g n) img (clear_stores g n (the_victim g.pages n (chip_of g n img)) img)

@@ -1,5 +1,5 @@
 -- An insertion's own stores on bytes: the other halves, lower level first, then N. Assumes nothing.
-use Rattle.std.specs.Prelude.{◌≡◌, Bool, false, length}
+use Rattle.std.specs.Prelude.{◌≡◌, Bool, false, length, is_none}
 use Rattle.std.proofs.Math.Path.{refl, ap, sym, subst}
 use Rattle.std.proofs.Common.{◌∙◌}
 use mathlib.Core.List.{List, [], ◌∷◌, ◌++◌, append_assoc}
@@ -18,7 +18,7 @@ use Rattle.model.specs.Next.{Ahead, ahead, next_page, taken}
 use Rattle.model.specs.Page.{built}
 use Rattle.model.specs.Stores.{Store, program, apply_all}
 use Rattle.model.specs.Edit.{put, splits}
-use Rattle.model.specs.Update.{is_none, root_node, fills, needs, too_high, insert_list, side_stores, crown_store, crown_height, side_page, own_stores}
+use Rattle.model.specs.Update.{root_node, fills, needs, too_high, insert_list, side_stores, crown_store, crown_height, side_page, own_stores}
 use Rattle.theory_counts.specs.Cases.{by_test}
 use Rattle.theory_chips.specs.Whole.{Whole}
 use Rattle.theory_chips.specs.Insertion.{main_list, grow_all}

@@ -1,5 +1,5 @@
 -- The whole lists: collection, then the update's own pages. Assumes nothing.
-use Rattle.std.specs.Prelude.{◌≡◌, List, [], ◌∷◌, ◌++◌, false}
+use Rattle.std.specs.Prelude.{◌≡◌, List, [], ◌∷◌, ◌++◌, false, is_none}
 use Rattle.std.proofs.Common.{ap, sym, ◌∙◌}
 use Rattle.std.proofs.Math.Path.{subst}
 use Prim.Native.Nat.{ℕ, suc, ◌+◌, ◌-◌, ◌*◌, ◌<◌, ◌≤◌}
@@ -14,7 +14,7 @@ use Rattle.model.specs.Tree.{places_of, live, find, sought}
 use Rattle.model.specs.Stores.{apply_all, programs, erases}
 use Rattle.model.specs.Edit.{put, remove}
 use Rattle.model.specs.Collect.{collect_stores}
-use Rattle.model.specs.Update.{is_none, needs, too_high, side_page, own_stores, delete_store, insert_stores, delete_stores}
+use Rattle.model.specs.Update.{needs, too_high, side_page, own_stores, delete_store, insert_stores, delete_stores}
 use Rattle.model.specs.Calls.{worn, roomless, free_pages}
 use Rattle.live_beside.specs.Update.{insert_crest, delete_crest}
 use Rattle.theory_chips.specs.Whole.{sought_map}

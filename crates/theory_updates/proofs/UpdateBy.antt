@@ -1,6 +1,6 @@
 -- Insert and delete by the record and the table: the outcome is the model's, the record is that of the image that is
 -- left, and the words are those worked out afresh from it. Assumes nothing.
-use Rattle.std.specs.Prelude.{◌≡◌, List, [], ◌∷◌, ◌++◌, Bool}
+use Rattle.std.specs.Prelude.{◌≡◌, List, [], ◌∷◌, ◌++◌, Bool, is_none}
 use Rattle.std.proofs.Math.Path.{refl, ap, sym}
 use Rattle.std.proofs.Common.{◌∙◌, arith}
 use Rattle.std.proofs.Math.Bool.{true, false}
@@ -17,7 +17,7 @@ use Rattle.model.specs.Tree.{places_of, live, sought}
 use Rattle.model.specs.Stores.{Store, apply_all}
 use Rattle.model.specs.Edit.{put, remove}
 use Rattle.model.specs.Collect.{collect_stores}
-use Rattle.model.specs.Update.{is_none, needs, too_high, side_page, delete_store, insert_stores, delete_stores}
+use Rattle.model.specs.Update.{needs, too_high, side_page, delete_store, insert_stores, delete_stores}
 use Rattle.model.specs.Calls.{Outcome, refused, made, worn, roomless, free_pages, insert_rest, delete_rest}
 use Rattle.theory_chips.specs.Whole.{some_page}
 use Rattle.theory_chips.specs.Insertion.{Fuller}

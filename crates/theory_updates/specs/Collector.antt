@@ -1,11 +1,10 @@
 -- The collector on bytes: every image on its way is sound and holds the map; at most pages - 1 programs and one erase a
 -- round; it leaves room, and k as it was. Assumes nothing.
-use Rattle.std.specs.Prelude.{◌≡◌, Bool, true, not, ltb}
+use Rattle.std.specs.Prelude.{◌≡◌, Bool, true, not, ltb, Some}
 use Rattle.std.proofs.Math.Path.{refl, ap, subst}
 use Rattle.std.proofs.Common.{sym, ◌∙◌, inl, inr, arith, suc-mul, ltb-true}
 use mathlib.Core.List.{List, [], ◌∷◌, ◌++◌}
 use Rattle.std.proofs.Math.Bool.{false}
-use Rattle.std.proofs.Math.Option.{some}
 use Prim.Native.Nat.{ℕ, zero, suc, ◌+◌, ◌-◌, ◌*◌, ◌<◌, ◌≤◌}
 use Rattle.geometry.specs.declared.Geometry.{Geometry}
 use Rattle.geometry.specs.declared.Entry.{Entry}
@@ -179,7 +178,7 @@ module _ (g : Geometry) (shape : Shape g) (n : ℕ) (few : pages_of g n + g.page
           (lives_in g.pages v c + 0) (g.pages - 1) (0 + 1) 1 (ap (erase_block g v) a.chip_is) (omega (arith, less)) (omega arith)
           (runs_then g n base img ss (erase v ∷ []) (sweep g n v g.pages c) (erase_block g v (chip_of g n i)) (lives_in g.pages v c) 0 0 1 a b)
 
-      go : (v : ℕ) × (the_victim g.pages n (chip_of g n img) ≡ some v) × (v < n) ×
+      go : (v : ℕ) × (the_victim g.pages n (chip_of g n img) ≡ Some v) × (v < n) ×
           (full g.pages (chip_of g n img).er v ≡ true) ×
           (lives_in g.pages v (chip_of g n img) < g.pages) × (lives_in g.pages v (chip_of g n img) ≤ count t (chip_of g n img).er)
           → Out (clear_stores g n (the_victim g.pages n (chip_of g n img)) img)

@@ -1,5 +1,5 @@
 -- What an insertion's pages hold can be built. Assumes nothing.
-use Rattle.std.specs.Prelude.{◌≡◌, refl, Bool, true, false, length, take, drop, eqb, leb, ltb}
+use Rattle.std.specs.Prelude.{◌≡◌, refl, Bool, true, false, length, take, drop, eqb, leb, ltb, is_none}
 use Rattle.std.proofs.Common.{ap, length-take, length-drop, le-leb, eq-eqb, ne_eqb, leb-true}
 use mathlib.Core.List.{List, [], ◌∷◌}
 use Prim.Native.Nat.{ℕ, suc, ◌+◌, ◌*◌, ◌<◌, ◌≤◌, min}
@@ -15,7 +15,7 @@ use Rattle.model.specs.Image.{pages_of, Chip, the_root}
 use Rattle.model.specs.Tree.{following, chosen, sought}
 use Rattle.model.specs.Page.{only}
 use Rattle.model.specs.Edit.{put, put_in, turn, path_half, side_half, two, named, path_part, splits}
-use Rattle.model.specs.Update.{is_none, root_node, fills, needs, too_high, insert_list, crown_part, insert_part, crown_height, side_page}
+use Rattle.model.specs.Update.{root_node, fills, needs, too_high, insert_list, crown_part, insert_part, crown_height, side_page}
 use Rattle.theory_counts.specs.Tally.{bit_most}
 use Rattle.theory_counts.specs.Cases.{by_le, by_test}
 use Rattle.theory_lists.specs.All.{All}

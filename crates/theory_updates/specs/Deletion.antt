@@ -1,5 +1,5 @@
 -- A deletion's own store on bytes. Assumes nothing.
-use Rattle.std.specs.Prelude.{◌≡◌, Bool, ℕ, zero, suc, ◌+◌, ◌-◌, ◌*◌, ◌<◌, ◌≤◌, length, eqb}
+use Rattle.std.specs.Prelude.{◌≡◌, Bool, ℕ, zero, suc, ◌+◌, ◌-◌, ◌*◌, ◌<◌, ◌≤◌, length, eqb, is_none}
 use Rattle.std.proofs.Math.Path.{refl, ap}
 use Rattle.std.proofs.Common.{sym, subst, ◌∙◌, eq-eqb, ne_eqb}
 use mathlib.Core.List.{List, [], ◌∷◌}
@@ -19,7 +19,7 @@ use Rattle.model.specs.Tree.{map_of, sought}
 use Rattle.model.specs.Next.{ahead, next_page, after, taken}
 use Rattle.model.specs.Stores.{apply_all}
 use Rattle.model.specs.Edit.{remove, remove_in, kept, Top, collapse}
-use Rattle.model.specs.Update.{is_none, side_page, delete_list, delete_top, delete_part, delete_store}
+use Rattle.model.specs.Update.{side_page, delete_list, delete_top, delete_part, delete_store}
 use Rattle.theory_counts.specs.Cases.{by_eq}
 use Rattle.theory_lists.specs.All.{All}
 use Rattle.theory_nodes.specs.Nodes.{fit_of}

@@ -1,5 +1,5 @@
 -- An insertion's own stores on bytes: the other halves, lower level first, then N. Assumes nothing.
-use Rattle.std.specs.Prelude.{◌≡◌, Bool, true, false, length, leb}
+use Rattle.std.specs.Prelude.{◌≡◌, Bool, true, false, length, leb, is_none}
 use Rattle.std.proofs.Math.Path.{refl, ap, sym, subst}
 use Rattle.std.proofs.Common.{◌∙◌}
 use mathlib.Core.List.{List, [], ◌∷◌, ◌++◌, append-nil}
@@ -19,7 +19,7 @@ use Rattle.model.specs.Next.{Ahead, ahead, next_page, after, onward, taken}
 use Rattle.model.specs.Page.{built, only}
 use Rattle.model.specs.Stores.{Store, program, apply_store, apply_all, programs}
 use Rattle.model.specs.Edit.{put, side_half, splits}
-use Rattle.model.specs.Update.{is_none, root_node, fills, needs, too_high, insert_list, side_store, split_store, side_stores, crown_store, crown_height, side_page, own_stores}
+use Rattle.model.specs.Update.{root_node, fills, needs, too_high, insert_list, side_store, split_store, side_stores, crown_store, crown_height, side_page, own_stores}
 use Rattle.theory_counts.specs.Tally.{bit_most}
 use Rattle.chip_store.specs.Runs.{all_append, programs_append}
 use Rattle.theory_counts.specs.Cases.{by_eq, by_le, by_test}

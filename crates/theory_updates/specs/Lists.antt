@@ -1,5 +1,5 @@
 -- The whole lists: collection, then the update's own pages. Assumes nothing.
-use Rattle.std.specs.Prelude.{◌≡◌, List, false}
+use Rattle.std.specs.Prelude.{◌≡◌, List, false, is_none}
 use Rattle.std.proofs.Common.{mul-le-mul_left, mul-le-mul_right}
 use Prim.Native.Nat.{ℕ, suc, ◌+◌, ◌-◌, ◌*◌, ◌<◌, ◌≤◌}
 use native.Mathlib.Omega.{arith}
@@ -11,7 +11,7 @@ use Rattle.geometry.specs.Bounds.{four_bytes}
 use Rattle.model.specs.Count.{count}
 use Rattle.model.specs.Image.{pages_of, max_seq, Chip, chip_of}
 use Rattle.model.specs.Tree.{places_of, live, sought}
-use Rattle.model.specs.Update.{is_none, needs, too_high}
+use Rattle.model.specs.Update.{needs, too_high}
 use Rattle.model.specs.Calls.{worn, roomless, free_pages}
 use Rattle.theory_chips.specs.Whole.{some_page}
 use Rattle.theory_chips.specs.Insertion.{needs_is, needs_top}

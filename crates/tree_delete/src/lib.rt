@@ -1,5 +1,5 @@
 // Delete's own store: page N with the root and the path's nodes left below it.
-#![tactic(auto)]
+#![tactic(auto, using(crate::specs::OwnStore::deletion_laws, crate::specs::Tie::tie_laws))]
 
 ghost use Rattle.std.specs.Prelude.{◌≡◌, [], ◌∷◌, ◌+◌, ◌≤◌, ◌<◌};
 ghost use Rattle.geometry.specs.Geometry.{page_bytes};
@@ -90,19 +90,13 @@ fn delete_with(g: Geometry, img: &mut [u8], b: Budget, job: Job, level: u32, roo
     store_root(g, &mut *img, &mut page, job, level, u)
 }
 
-fn long(x: u32) -> u64
-    ensures { (result ≡ x) × (result < four_bytes) }
-{
-    x as u64
-}
-
 // The job of removing a key, with the record's next page.
 fn delete_job(g: Geometry, n: u16, o: Opened, key: u32) -> Job
     ensures { Removes (next_by g n o) o.most key result }
 {
     let page = chip_next::next_by(g, n, o.next);
     let none = chip_next::no_pages();
-    let last = long(o.most);
+    let last = u64::from(o.most);
     Job {
         key: key,
         page: page,

@@ -1,5 +1,5 @@
 -- Descent, in the form in which the code has the premises. Assumes nothing.
-use Rattle.std.specs.Prelude.{ℕ, zero, suc, ◌+◌, ◌-◌, ◌<◌, ◌≤◌, ◌≡◌, refl, List}
+use Rattle.std.specs.Prelude.{ℕ, zero, suc, ◌+◌, ◌-◌, ◌<◌, ◌≤◌, ◌≡◌, refl, List, Option}
 use Rattle.std.proofs.Common.{sym, ap, ◌∙◌, arith, sub-one, add-one}
 use Rattle.geometry.specs.declared.Geometry.{Geometry}
 use Rattle.geometry.specs.declared.Entry.{Entry}
@@ -7,8 +7,6 @@ use Rattle.model.specs.Bytes.{node_at}
 use Rattle.model.specs.Image.{Nodes}
 use Rattle.model.specs.Tree.{chosen, leaf, find_in, sought}
 use Rattle.chip_read.specs.Chip.{naming, chip_with}
-use Rattle.tree_search.specs.declared.Found.{Found}
-use Rattle.tree_search.specs.Search.{found}
 
 -- descent asks an entry for its page only
 leaf_named : (r : Nodes) (k l : ℕ) (e : Entry) → leaf r k l e ≡ leaf r k l (naming e.addr)
@@ -34,9 +32,9 @@ leaf_end g img w k l p inv h =
     let z : l ≡ 0 = omega arith in
     sym (inv ∙ rw z refl)
 
-pub sought_is : (g : Geometry) (img : List ℕ) (l p k q : ℕ) (r : Found) → node_at g img q 1 ≡ leaf (node_at g img) k l
+pub sought_is : (g : Geometry) (img : List ℕ) (l p k q : ℕ) (r : Option ℕ) → node_at g img q 1 ≡ leaf (node_at g img) k l
     (naming p)
-    → found r ≡ find_in k (node_at g img q 1) → found r ≡ sought (chip_with g img l p) k
+    → r ≡ find_in k (node_at g img q 1) → r ≡ sought (chip_with g img l p) k
 sought_is g img l p k q r e er = er ∙ ap (λ (es : List Entry). find_in k es) e
 
 pub ruleset descent_laws = (leaf_go, leaf_end, sought_is)

@@ -35,7 +35,6 @@ use Rattle.chip_next.specs.Coming.{Coming}
 use Rattle.open_record.specs.declared.Opened.{Opened}
 use Rattle.live_beside.specs.Beside.{page_by}
 use Rattle.live_beside.specs.Update.{side_by}
-use Rattle.chip_survey.specs.Pass.{larger_right, larger_left}
 use Rattle.tree_insert.specs.Own.{crown_parts, stores_by, top_by, Climbs, sides_on, Puts}
 
 append_two : (xs ys zs : List Store) → (xs ++ ys) ++ zs ≡ xs ++ (ys ++ zs)
@@ -134,4 +133,4 @@ puts g n i o m k a ps c x y z w l cm ew ec ex ey ez low h = record {
   sides = λ v lo hi. cm.at (v - 1) (omega arith) ∙ rw ew (side_is (page_by g n i o) v lo);
 }
 
-pub ruleset insertion_laws = (climbs, inserts, larger_right, larger_left, puts)
+pub ruleset insertion_laws = (climbs, inserts, puts)

@@ -1,5 +1,5 @@
 // Insert's own stores: other halves, lower level first, then page N.
-#![tactic(auto)]
+#![tactic(auto, using(crate::specs::OwnStores::insertion_laws, crate::specs::Tie::tie_laws))]
 
 ghost use Rattle.std.specs.Prelude.{◌≡◌, ◌+◌, ◌≤◌, ◌<◌, max};
 ghost use Rattle.geometry.specs.Geometry.{page_bytes};
@@ -78,25 +78,10 @@ fn insert_with(
     }
 }
 
-fn larger(a: usize, b: usize) -> usize
-    ensures { result ≡ max a b }
-{
-    if a < b {
-        return b;
-    }
-    a
-}
-
-fn long(x: u32) -> u64
-    ensures { (result ≡ x) × (result < four_bytes) }
-{
-    x as u64
-}
-
 fn number(seq: u32, more: u32) -> u64
     ensures { result ≡ seq + more }
 {
-    long(seq) + long(more)
+    u64::from(seq) + u64::from(more)
 }
 
 // The job of putting a key at an address, with m pages to come after the record's next one.
@@ -114,11 +99,11 @@ fn insert_job(
     ensures { Puts (sides_on g n img.now o) o.most level m key addr result }
 {
     let k = geometry::index(m);
-    let count = larger(k, geometry::index(level) + 1);
+    let count = k.max(geometry::index(level) + 1);
     let next = chip_next::next_by(g, n, o.next);
     let sides = chip_next::coming_from(g, img, n, next, count);
     let page = sides[k - 1];
-    let seq = long(o.most);
+    let seq = u64::from(o.most);
     Job {
         key: key,
         page: page,

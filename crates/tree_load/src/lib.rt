@@ -1,6 +1,6 @@
 // Nodes of an image, by value: as they stand, with a key put in or taken out, and with the place that descent takes;
 // and the root that is left.
-#![tactic(auto)]
+#![tactic(auto, using(crate::specs::ByValue::load_laws, crate::specs::Falls::fall_laws))]
 
 ghost use Rattle.std.specs.Prelude.{◌≡◌, ◌+◌, ◌*◌, ◌-◌, ◌≤◌, ◌<◌};
 ghost use Rattle.model.specs.Bytes.{entries_at, node_at};
@@ -33,11 +33,8 @@ fn load(img: &[u8], at: usize, n: usize) -> Node
     ensures { (entries result ≡ entries_at img.now at n) × (result.count ≡ n) }
 {
     let mut m = tree_node::zeros(n);
-    let mut k: usize = 0;
-    while k < n {
-        let x = chip_read::entry_at(img, at + 8 * k);
-        m.e[k] = x;
-        k += 1;
+    for k in 0..n {
+        m.e[k] = chip_read::entry_at(img, at + 8 * k);
     }
     m
 }
@@ -81,10 +78,7 @@ fn put_entries(img: &[u8], at: usize, n: usize, key: u32, addr: u32) -> Node
 {
     let stand = tree_search::stand_of(img, at, n, key);
     let m = load(img, at, n);
-    let x = Entry {
-        key: key,
-        addr: addr,
-    };
+    let x = Entry { key, addr };
     if stand.here {
         return tree_node::replace_at(m, stand.at, x);
     }
@@ -140,10 +134,7 @@ pub fn collapse(g: Geometry, img: &[u8], level: u32, c: Node) -> Top
         return Top { level: 0, node: c };
     }
     if tree_node::size(c) != 1 {
-        return Top {
-            level: level,
-            node: c,
-        };
+        return Top { level, node: c };
     }
     let x = first_entry(c);
     let d = load_node(g, img, x.addr, level);

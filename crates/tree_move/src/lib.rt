@@ -1,5 +1,5 @@
 // The store that moves a live page: the nodes from the root to its lowest live node, on the next page.
-#![tactic(auto)]
+#![tactic(auto, using(crate::specs::Moves::moving_laws, crate::specs::Tie::tie_laws))]
 
 ghost use Rattle.std.specs.Prelude.{◌≡◌, [], ◌∷◌, ◌+◌, ◌≤◌, ◌<◌, leb};
 ghost use Rattle.geometry.specs.Geometry.{page_bytes};

@@ -1,11 +1,14 @@
 -- Laws of nodes by value, in the form in which the code has the premises. Assumes nothing.
-use Rattle.std.specs.Prelude.{ℕ, zero, suc, ◌+◌, ◌-◌, ◌<◌, ◌≤◌, ◌≡◌, refl, List, [], ◌∷◌, ◌++◌, take, drop, length, get_or, set}
-use Rattle.std.proofs.Common.{sym, ap, ◌∙◌, length-take-le, take-take, arith, add-one}
+use Rattle.std.specs.Prelude.{ℕ, zero, suc, ◌+◌, ◌-◌, ◌<◌, ◌≤◌, min, ◌≡◌, refl, List, [], ◌∷◌, ◌++◌, take, drop, length, get_or, set}
+use Rattle.std.proofs.Common.{sym, ap, ◌∙◌, length-take-le, length-take, take-take, take_all, arith, add-one, ext_get_or}
+use Rattle.std.specs.List.{CopiedTo, SameBelow, SameFrom}
+use Rattle.std.proofs.Math.Decide.{dec_lt}
+use Rattle.std.proofs.Math.ListN.{drop_of_length-le}
 use Rattle.std.proofs.lemmas.List.{set_split}
 use Rattle.geometry.specs.declared.Entry.{Entry}
 use Rattle.model.specs.Stores.{written}
 use Rattle.model.specs.Tree.{following}
-use Rattle.theory_lists.specs.Written.{written_none, written_more, filled_more}
+use Rattle.theory_lists.specs.Written.{length_written, written_before, written_inside, written_after}
 use Rattle.theory_lists.specs.Places.{insert_at, remove_at, inserted, removed, right, take_set, length_mapped}
 use Rattle.tree_node.specs.declared.Node.{Node}
 use Rattle.tree_node.specs.declared.Carry.{Carry}
@@ -45,77 +48,67 @@ pub replaced : (n : Node) (i : ℕ) (x : Entry) → entries (record { e = set n.
 unfolding entries
 replaced n i x = take_set n.count i x n.e
 
--- ---- loops over the array
-pub shift_start : (z : List Entry) (at : ℕ) (f : ℕ → Entry) → z ≡ written z at f 0
-shift_start z at f = written_none z at f
+-- ---- a part of the array moved
+-- what copy_within says of the array m that it leaves
+abbrev pub Moved : List Entry → List Entry → ℕ → ℕ → ℕ → Type 0
+Moved l m from to n = CopiedTo l m from to n × SameBelow l m to × SameFrom l m (to + n)
 
-pub shift_go : (z m : List Entry) (at i j : ℕ) → m ≡ written z at (λ k. get_or z (i + k) no_entry) j
-    → set m (at + j) (get_or z (i + j) no_entry) ≡ written z at (λ k. get_or z (i + k) no_entry) (j + 1)
-shift_go z m at i j e = written_more z at (λ k. get_or z (i + k) no_entry) j m e
+moved : (l m : List Entry) (from to n : ℕ) → length m ≡ length l → to + n ≤ length l
+    → Moved l m from to n → m ≡ written l to (λ k. get_or l (from + k) no_entry) n
+moved l m from to n e h c = ext_get_or no_entry m _ (e ∙ sym (length_written l to f n)) (λ i k. elim (dec_lt i to) [
+  | yes b ↦ c.1 i no_entry b ∙ sym (written_before l to f n i no_entry b)
+  | no b ↦ elim (dec_lt i (to + n)) [
+    | yes g ↦
+        let q : to + (i - to) ≡ i = omega arith in
+        c.0 i no_entry (omega arith) g
+        ∙ sym (rw q at (written_inside l to f n (i - to) no_entry h (omega arith)))
+    | no g ↦ c.2 i no_entry (omega arith) ∙ sym (written_after l to f n i no_entry (omega arith))
+  ]
+])
+  where
+    f : ℕ → Entry
+    f k = get_or l (from + k) no_entry
 
-pub shift_back : (z m : List Entry) (i j : ℕ) → m ≡ written z i (λ k. get_or z (i + 1 + k) no_entry) j
-    → set m (i + j) (get_or z (i + 1 + j) no_entry) ≡ written z i (λ k. get_or z (i + 1 + k) no_entry) (j + 1)
-shift_back z m i j e = written_more z i (λ k. get_or z (i + 1 + k) no_entry) j m e
-
-pub shift_down : (z m : List Entry) (i j : ℕ) → m ≡ written z 0 (λ k. get_or z (i + k) no_entry) j
-    → set m j (get_or z (i + j) no_entry) ≡ written z 0 (λ k. get_or z (i + k) no_entry) (j + 1)
-shift_down z m i j e = filled_more z (λ k. get_or z (i + k) no_entry) j m e
-
-pub inserts : (n : Node) (m : List Entry) (i j : ℕ) (x : Entry) → m ≡ written n.e
-    (i + 1) (λ k. get_or n.e (i + k) no_entry) j → length n.e ≡ 256
-    → j ≤ n.count - i → n.count - i ≤ j → i ≤ n.count → n.count < 256
+pub inserts : (n : Node) (m : List Entry) (i : ℕ) (x : Entry) → Moved n.e m i (i + 1) (n.count - i)
+    → length m ≡ length n.e → length n.e ≡ 256 → i ≤ n.count → n.count < 256
     → entries (record { e = set m i x; count = n.count + 1 }) ≡ insert_at i x (entries n)
 unfolding entries
-inserts n m i j x e len h g p q =
-    let done : j ≡ n.count - i = omega arith in
-    rw (e, done) (inserted no_entry n.e n.count (omega arith) i x p (omega arith))
+inserts n m i x c e len p q =
+    rw (moved n.e m i (i + 1) (n.count - i) e (omega arith) c) (inserted no_entry n.e n.count (omega arith) i x p (omega arith))
 
-pub removes : (n : Node) (m : List Entry) (i j : ℕ) → m ≡ written n.e i (λ k. get_or n.e (i + 1 + k) no_entry) j
-    → length n.e ≡ 256
-    → j ≤ n.count - 1 - i → n.count - 1 - i ≤ j → i < n.count → n.count ≤ 256
+pub removes : (n : Node) (m : List Entry) (i : ℕ) → Moved n.e m (i + 1) i (n.count - (i + 1))
+    → length m ≡ length n.e → length n.e ≡ 256 → i < n.count → n.count ≤ 256
     → entries (record { e = m; count = n.count - 1 }) ≡ remove_at i (entries n)
 unfolding entries
-removes n m i j e len h g p q =
-    let done : j ≡ n.count - 1 - i = omega arith in
-    rw (e, done) (removed no_entry n.e n.count (omega arith) i p)
+removes n m i c e len p q =
+    let r : n.count - (i + 1) ≡ n.count - 1 - i = omega arith in
+    rw (moved n.e m (i + 1) i (n.count - (i + 1)) e (omega arith) c, r) (removed no_entry n.e n.count (omega arith) i p)
 
-pub lefts : (n : Node) (h : ℕ) → h < n.count → entries (record { e = n.e; count = h }) ≡ take h (entries n)
+entries_few : (n : Node) (h : ℕ) → n.count ≤ h → length (entries n) ≤ h
 unfolding entries
-lefts n h p = sym (take-take h n.count n.e (omega arith))
+entries_few n h p = omega (arith, length-take n.count n.e)
 
-short : (c h : ℕ) (l : List Entry) → c ≤ h → take c l ≡ take h (take c l)
-short zero zero l p = refl
-short zero (suc h) l p = refl
-short (suc c) zero l p = absurd (omega arith)
-short (suc c) (suc h) [] p = refl
-short (suc c) (suc h) (x ∷ l) p = ap (λ (m : List Entry). x ∷ m) (short c h l (omega arith))
-
-pub lefts_all : (n : Node) (h : ℕ) → n.count ≤ h → entries n ≡ take h (entries n)
+pub lefts : (n : Node) (h : ℕ) → entries (record { e = n.e; count = min n.count h }) ≡ take h (entries n)
 unfolding entries
-lefts_all n h p = short n.count h n.e p
-
-short_drop : (c h : ℕ) (l : List Entry) → c ≤ h → [] ≡ drop h (take c l)
-short_drop zero zero l p = refl
-short_drop zero (suc h) l p = refl
-short_drop (suc c) zero l p = absurd (omega arith)
-short_drop (suc c) (suc h) [] p = refl
-short_drop (suc c) (suc h) (x ∷ l) p = short_drop c h l (omega arith)
+lefts n h = elim (dec_lt h n.count) [
+  | yes p ↦ let q : min n.count h ≡ h = omega arith in rw q (sym (take-take h n.count n.e (omega arith)))
+  | no p ↦
+      let q : min n.count h ≡ n.count = omega arith in
+      rw q (sym (take_all h (take n.count n.e) (entries_few n h (omega arith))))
+]
 
 none_right : (n : Node) (h : ℕ) → n.count ≤ h → [] ≡ drop h (entries n)
-unfolding entries
-none_right n h p = short_drop n.count h n.e p
+none_right n h p = sym (drop_of_length-le (entries n) (entries_few n h p))
 
 pub rights_none : (n m : Node) (h : ℕ) → entries m ≡ [] → n.count ≤ h → entries m ≡ drop h (entries n)
 rights_none n m h e p = e ∙ none_right n h p
 
-pub rights : (n : Node) (m : List Entry) (h j : ℕ) → m ≡ written n.e 0 (λ k. get_or n.e (h + k) no_entry) j
-    → length n.e ≡ 256
-    → j ≤ n.count - h → n.count - h ≤ j → h < n.count → n.count ≤ 256
+pub rights : (n : Node) (m : List Entry) (h : ℕ) → Moved n.e m h 0 (n.count - h)
+    → length m ≡ length n.e → length n.e ≡ 256 → h < n.count → n.count ≤ 256
     → entries (record { e = m; count = n.count - h }) ≡ drop h (entries n)
 unfolding entries
-rights n m h j e len a b p q =
-    let done : j ≡ n.count - h = omega arith in
-    rw (e, done) (right no_entry n.e n.count (omega arith) h (omega arith))
+rights n m h c e len p q =
+    rw (moved n.e m h 0 (n.count - h) e (omega arith) c) (right no_entry n.e n.count (omega arith) h (omega arith))
 
 -- ---- splice
 replace_none : (i : ℕ) (es : List Entry) → i < length es → remove_at i es ≡ replace_by i [] es
@@ -172,4 +165,4 @@ pub spliced_two : (n r : Node) (i : ℕ) (c : Carry) (x y : Entry) → entries r
 unfolding carried
 spliced_two n r i c x y e ec = e ∙ rw ec
 
-pub ruleset node_laws = (length_mapped, size_is, first_none, first_some, replaced, shift_start, shift_go, shift_back, shift_down, inserts, removes, lefts, rights, two_is, spliced_empty, spliced_none, spliced_one, spliced_two)
+pub ruleset node_laws = (length_mapped, size_is, first_none, first_some, replaced, empty_is, inserts, removes, lefts, rights, rights_none, two_is, spliced_empty, spliced_none, spliced_one, spliced_two)

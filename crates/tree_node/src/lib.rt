@@ -1,5 +1,5 @@
 // A node by value, and its changes by place.
-#![tactic(auto)]
+#![tactic(auto, using(crate::specs::Changes::node_laws))]
 
 ghost use Rattle.std.specs.Prelude.{◌≡◌, [], ◌∷◌, ◌+◌, ◌-◌, ◌≤◌, ◌<◌, length, take, drop, set};
 ghost use Rattle.model.specs.Tree.{following};
@@ -29,7 +29,7 @@ pub fn zeros(count: usize) -> Node
 {
     Node {
         e: [Entry { key: 0, addr: 0 }; 256],
-        count: count,
+        count,
     }
 }
 
@@ -73,13 +73,8 @@ pub fn insert_at(n: Node, i: usize, x: Entry) -> Node
     ensures { (entries result ≡ insert_at i x (entries n)) × (result.count ≡ n.count + 1) }
 {
     let c = n.count;
-    let left = c - i;
     let mut m = n;
-    let mut j = 0;
-    while j < left {
-        m.e[i + 1 + j] = n.e[i + j];
-        j += 1;
-    }
+    m.e.copy_within(i..c, i + 1);
     m.e[i] = x;
     m.count = c + 1;
     m
@@ -91,13 +86,8 @@ pub fn remove_at(n: Node, i: usize) -> Node
     ensures { (entries result ≡ remove_at i (entries n)) × (result.count ≡ n.count - 1) }
 {
     let c = n.count;
-    let left = c - 1 - i;
     let mut m = n;
-    let mut j = 0;
-    while j < left {
-        m.e[i + j] = n.e[i + 1 + j];
-        j += 1;
-    }
+    m.e.copy_within(i + 1..c, i);
     m.count = c - 1;
     m
 }
@@ -106,11 +96,8 @@ pub fn remove_at(n: Node, i: usize) -> Node
 pub fn left_half(n: Node, h: usize) -> Node
     ensures { (entries result ≡ take h (entries n)) × (result.count ≤ n.count) }
 {
-    if n.count <= h {
-        return n;
-    }
     let mut m = n;
-    m.count = h;
+    m.count = n.count.min(h);
     m
 }
 
@@ -123,14 +110,9 @@ pub fn right_half(n: Node, h: usize) -> Node
         return empty();
     }
     let c = n.count;
-    let left = c - h;
     let mut m = n;
-    let mut j = 0;
-    while j < left {
-        m.e[j] = n.e[h + j];
-        j += 1;
-    }
-    m.count = left;
+    m.e.copy_within(h..c, 0);
+    m.count = c - h;
     m
 }
 

@@ -1,6 +1,6 @@
 // An update's way down the path and up again. All is read on the way down; on the way up the levels are laid on page N
 // and the other halves stored.
-#![tactic(auto)]
+#![tactic(auto, using(crate::specs::WayUp::edit_laws))]
 
 ghost use Rattle.std.specs.Prelude.{◌≡◌, ◌+◌, ◌*◌, ◌-◌, ◌≤◌, ◌<◌};
 ghost use Rattle.geometry.specs.Geometry.{page_bytes};

@@ -1,5 +1,5 @@
 -- What the code works out before an update. Definitions alone; assumes nothing.
-use Rattle.std.specs.Prelude.{ℕ, ◌+◌, ◌≤◌, Bool, ◌≡◌, List, eqb}
+use Rattle.std.specs.Prelude.{ℕ, ◌+◌, ◌≤◌, Bool, ◌≡◌, List, eqb, is_none}
 use Rattle.geometry.specs.declared.Geometry.{Geometry}
 use Rattle.geometry.specs.declared.Entry.{Entry}
 use Rattle.geometry.specs.Geometry.{half, root_slots}
@@ -8,7 +8,7 @@ use Rattle.model.specs.Bytes.{node_at}
 use Rattle.model.specs.Image.{Chip}
 use Rattle.model.specs.Tree.{sought}
 use Rattle.model.specs.Edit.{gains, splits}
-use Rattle.model.specs.Update.{is_none, needs, too_high}
+use Rattle.model.specs.Update.{needs, too_high}
 use Rattle.tree_plan.specs.declared.Run.{Run}
 use Rattle.tree_plan.specs.declared.Plan.{Plan}
 

@@ -1,8 +1,8 @@
 -- Laws of plans, in the form in which the code has the premises. Assumes nothing.
-use Rattle.std.specs.Prelude.{ℕ, zero, suc, ◌+◌, ◌-◌, ◌*◌, ◌<◌, ◌≤◌, Bool, true, false, not, ◌≡◌, refl, List, eqb, length}
+use Rattle.std.specs.Prelude.{ℕ, zero, suc, ◌+◌, ◌-◌, ◌*◌, ◌<◌, ◌≤◌, Bool, true, false, not, ◌≡◌, refl, List, eqb, length, Option, Some, None, is_none}
 use Rattle.std.proofs.Common.{sym, ◌∙◌, arith, add-one, sub-one, lt-ltb, le-ltb, eq-eqb, ne_eqb}
-use Rattle.std.proofs.Math.Option.{Option, some}
 use Rattle.std.proofs.lemmas.Bool.{not-true, not-false}
+use Rattle.std.specs.Int.{from_bool}
 use Rattle.geometry.specs.declared.Geometry.{Geometry}
 use Rattle.geometry.specs.declared.Entry.{Entry}
 use Rattle.geometry.specs.Geometry.{half, root_slots}
@@ -10,36 +10,31 @@ use Rattle.geometry.specs.Tests.{bit, ◌&◌, and_true, and_false}
 use Rattle.model.specs.Bytes.{node_at, node_count}
 use Rattle.model.specs.Tree.{chosen, leaf, find_in}
 use Rattle.model.specs.Edit.{gains, splits}
-use Rattle.model.specs.Update.{is_none, fills, needs, too_high, root_gains}
+use Rattle.model.specs.Update.{fills, needs, too_high, root_gains}
 use Rattle.chip_read.specs.Chip.{chip_with}
 use Rattle.chip_read.specs.Node.{node_length}
-use Rattle.tree_search.specs.declared.Found.{Found}
-use Rattle.tree_search.specs.declared.Found.TheVariants.{At, Nothing}
-use Rattle.tree_search.specs.Search.{found}
 use Rattle.tree_plan.specs.declared.Run.{Run}
 use Rattle.tree_plan.specs.Plan.{high, Counts, Plans}
 
 -- ---- seek
-pub seek_leaf : (g : Geometry) (img : List ℕ) (k l : ℕ) (e : Entry) (r : Found) → found r ≡ find_in k
+pub seek_leaf : (g : Geometry) (img : List ℕ) (k l : ℕ) (e : Entry) (r : Option ℕ) → r ≡ find_in k
     (node_at g img e.addr 1) → l ≡ 0
-    → found r ≡ find_in k (leaf (node_at g img) k l e)
+    → r ≡ find_in k (leaf (node_at g img) k l e)
 unfolding leaf
 seek_leaf g img k zero e r er z = er
 seek_leaf g img k (suc l) e r er z = absurd (omega arith)
 
-pub seek_on : (g : Geometry) (img : List ℕ) (k l : ℕ) (e x : Entry) (r : Found) → found r ≡ find_in k
+pub seek_on : (g : Geometry) (img : List ℕ) (k l : ℕ) (e x : Entry) (r : Option ℕ) → r ≡ find_in k
     (leaf (node_at g img) k (l - 1) x) → x ≡ chosen k (node_at g img e.addr (l + 1)) → (l ≡ 0 → ⊥)
-    → found r ≡ find_in k (leaf (node_at g img) k l e)
+    → r ≡ find_in k (leaf (node_at g img) k l e)
 unfolding leaf
 seek_on g img k zero e x r er ex z = absurd (z refl)
 seek_on g img k (suc l) e x r er ex z = rw sub-one at er ∙ rw (ex, add-one)
 
-pub absent_no : (o : Option ℕ) (f : Found) (a : ℕ) → found f ≡ o → f ≡ At a → false ≡ is_none o
-unfolding found
+pub absent_no : (o : Option ℕ) (f : Option ℕ) (a : ℕ) → f ≡ o → f ≡ Some a → false ≡ is_none o
 absent_no o f a e q = rw (← e, q)
 
-pub absent_yes : (o : Option ℕ) (f : Found) → found f ≡ o → f ≡ Nothing → true ≡ is_none o
-unfolding found
+pub absent_yes : (o : Option ℕ) (f : Option ℕ) → f ≡ o → f ≡ None → true ≡ is_none o
 absent_yes o f e q = rw (← e, q)
 
 -- ---- run
@@ -112,17 +107,17 @@ pub fills_is : (g : Geometry) (l m t k s : ℕ) → s ≡ root_slots g l → t �
 unfolding fills
 fills_is g l m t k s es et ek h = sym (rw (lt-ltb l g.top (rw (← et, ← ek) h), es) (and_true _))
 
-pub more_yes : (n : ℕ) (b : Bool) → b ≡ true → n + 1 ≡ n + bit b
-more_yes n b e = rw e
+-- a test as a number
+pub bit_from : (b : Bool) → from_bool b ≡ bit b
+bit_from true = refl
+bit_from false = refl
 
-pub more_no : (n : ℕ) (b : Bool) → b ≡ false → n ≡ n + bit b
-more_no n b e = rw e (omega arith)
+pub bit_low : (b : Bool) → from_bool b ≤ 1
+bit_low true = omega arith
+bit_low false = omega arith
 
-pub pages_grow : (n : ℕ) (b : Bool) → b ≡ true → n + 2 ≡ suc (n + bit b)
-pages_grow n b e = rw e (omega arith)
-
-pub pages_stay : (n : ℕ) (b : Bool) → b ≡ false → n + 1 ≡ suc (n + bit b)
-pages_stay n b e = rw e (omega arith)
+pub more_is : (n x : ℕ) (b : Bool) → x ≡ from_bool b → n + x ≡ n + bit b
+more_is n x b e = rw (e, bit_from b)
 
 pub high_low : (g : Geometry) (l m k t : ℕ) (b : Bool) → k ≡ l → t ≡ g.top → (k ≡ t → ⊥) → false ≡ high g l m b
 unfolding high
@@ -162,4 +157,4 @@ planned g img l p k a x r m m' n grows h c ea ex em em' eg en few eh =
       some = omega arith;
     }
 
-pub ruleset plan_laws = (seek_leaf, seek_on, absent_no, absent_yes, full_is, run_end, run_loose, run_none, run_one, fills_top, fills_is, more_yes, more_no, pages_grow, pages_stay, high_low, high_loose, high_is, planned)
+pub ruleset plan_laws = (seek_leaf, seek_on, absent_no, absent_yes, full_is, run_end, run_loose, run_none, run_one, fills_top, fills_is, bit_from, bit_low, more_is, high_low, high_loose, high_is, planned)

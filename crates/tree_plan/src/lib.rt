@@ -1,19 +1,17 @@
 // What an update will need, read before it begins: whether the key is there, how many pages, whether the tree is too
 // high.
-#![tactic(auto)]
+#![tactic(auto, using(crate::specs::Planning::plan_laws))]
 
-ghost use Rattle.std.specs.Prelude.{◌≡◌, suc, ◌+◌, ◌*◌, ◌-◌, ◌≤◌, ◌<◌, eqb, length};
+ghost use Rattle.std.specs.Prelude.{◌≡◌, suc, ◌+◌, ◌*◌, ◌-◌, ◌≤◌, ◌<◌, eqb, length, is_none};
 ghost use Rattle.geometry.specs.Geometry.{half};
 ghost use Rattle.model.specs.Bytes.{node_at};
 ghost use Rattle.model.specs.Tree.{leaf, find_in};
 ghost use Rattle.geometry.specs.Tests.{bit};
-ghost use Rattle.model.specs.Update.{is_none, fills};
-ghost use Rattle.tree_search.specs.Search.{found};
+ghost use Rattle.model.specs.Update.{fills};
 ghost use Rattle.chip_read.specs.Chip.{chip_with};
 ghost use Rattle.tree_plan.specs.Plan.{high, Counts, Plans};
 
 use geometry::{Entry, Geometry};
-use tree_search::Found;
 
 // How many nodes of a path split, and whether the entry above it gives way to two.
 #[derive(Clone, Copy)]
@@ -31,9 +29,9 @@ pub struct Plan {
 }
 
 // What lookup finds of a key, from the entry e with `below` levels under its node.
-pub fn seek(g: Geometry, img: &[u8], key: u32, below: u32, e: Entry) -> Found
+pub fn seek(g: Geometry, img: &[u8], key: u32, below: u32, e: Entry) -> Option<u32>
     requires { below < 256 }
-    ensures { found result ≡ find_in key (leaf (node_at g img.now) key below e) }
+    ensures { result ≡ find_in key (leaf (node_at g img.now) key below e) }
 {
     if below == 0 {
         return tree_search::find_key(g, img, e.addr, 1, key);
@@ -90,25 +88,12 @@ pub fn root_fills(g: Geometry, level: u32, m: usize) -> bool
     m == geometry::root_slots(g, level)
 }
 
-fn one_more(n: usize, more: bool) -> usize
-    requires { n < 65536 }
-    ensures { result ≡ n + bit more }
-{
-    if more {
-        return n + 1;
-    }
-    n
-}
-
 // One page, one for each split, and one more where the root grows.
 pub fn count_pages(splits: u32, grows: bool) -> u32
     requires { splits < 65536 }
     ensures { (result ≡ suc (splits + bit grows)) × (result ≤ splits + 2) }
 {
-    if grows {
-        return splits + 2;
-    }
-    splits + 1
+    splits + 1 + u32::from(grows)
 }
 
 // HEIGHT: the greatest height, a root with all its slots, and one entry more.
@@ -131,10 +116,7 @@ pub fn is_absent(g: Geometry, img: &[u8], key: u32, below: u32, e: Entry) -> boo
     ensures { result ≡ is_none (find_in key (leaf (node_at g img.now) key below e)) }
 {
     let r = seek(g, img, key, below, e);
-    match r {
-        Found::At(_) => false,
-        Found::Nothing => true,
-    }
+    r.is_none()
 }
 
 // The plan for a key under the root at a page with `level` levels below it.
@@ -146,7 +128,7 @@ pub fn make_plan(g: Geometry, img: &[u8], level: u32, root: u32, key: u32) -> Pl
     let x = tree_search::chosen_entry(g, img, root, level + 1, key);
     let r = count_splits(g, img, key, absent, level, x);
     let m = chip_read::node_count(g, img, root, level + 1);
-    let grows = root_fills(g, level + 1, one_more(m, r.gains));
+    let grows = root_fills(g, level + 1, m + usize::from(r.gains));
     let needs = count_pages(r.splits, grows);
     let high = too_high(g, level + 1, m, r.gains);
     Plan {

@@ -1,5 +1,5 @@
 // The top of an update: the changed root, as it is or halved under a new one, and page N programmed last.
-#![tactic(auto)]
+#![tactic(auto, using(crate::specs::Tops::crown_laws))]
 
 ghost use Rattle.std.specs.Prelude.{◌≡◌, false, [], ◌∷◌, suc, ◌+◌, ◌*◌, ◌-◌, ◌≤◌, ◌<◌, take};
 ghost use Rattle.geometry.specs.Geometry.{page_bytes};

@@ -1,8 +1,7 @@
 -- Searching the entries of a node, in the form in which the code has the premises. Assumes nothing.
-use Rattle.std.specs.Prelude.{ℕ, suc, ◌+◌, ◌-◌, ◌*◌, ◌/◌, ◌<◌, ◌≤◌, Bool, true, false, ◌≡◌, refl, List, eqb, length}
+use Rattle.std.specs.Prelude.{ℕ, suc, ◌+◌, ◌-◌, ◌*◌, ◌/◌, ◌<◌, ◌≤◌, Bool, true, false, ◌≡◌, refl, List, eqb, length, Some, None, Option}
 use Rattle.std.proofs.Math.Path.{sym, ap}
 use Rattle.std.proofs.Common.{◌∙◌, add-one, lt-ltb, le-ltb, ne_eqb}
-use Rattle.std.proofs.Math.Option.{some}
 use native.Mathlib.Omega.{arith}
 use Rattle.geometry.specs.declared.Geometry.{Geometry}
 use Rattle.geometry.specs.declared.Entry.{Entry}
@@ -11,9 +10,7 @@ use Rattle.model.specs.Tree.{halve, place, chosen, find_in}
 use Rattle.model.specs.Halving.{place_is, halve_left, halve_right, halve_done, halve_steps}
 use Rattle.chip_read.specs.Chip.{entry_at}
 use Rattle.chip_read.specs.Node.{node_read, entries_length, entries_none, key_is, addr_is}
-use Rattle.tree_search.specs.declared.Found.{Found}
-use Rattle.tree_search.specs.declared.Found.TheVariants.{At, Nothing}
-use Rattle.tree_search.specs.Search.{ahead, holds, found}
+use Rattle.tree_search.specs.Search.{ahead, holds}
 use Rattle.tree_search.specs.Places.{ahead_some, holds_some, held, find_by, key_get, chosen_read, chosen_none, chosen_some}
 
 -- the place of the entry that descent takes: lo and hi bound what is left to halve
@@ -78,24 +75,22 @@ module _ (img : List ℕ) (at n k : ℕ) where
 
   -- what stands under a key
   module _ (i : ℕ) (b : Bool) (ei : i ≡ ahead k (entries_at img at n)) (eb : b ≡ holds k (entries_at img at n)) where
-    pub find_hit : (a : ℕ) → a ≡ u32_at img (at + 8 * i + 4) → b ≡ true → found (At a) ≡ find_in k (entries_at img at n)
-    unfolding found
+    pub find_hit : (a : ℕ) → a ≡ u32_at img (at + 8 * i + 4) → b ≡ true → Some a ≡ find_in k (entries_at img at n)
     find_hit a ea q =
         let w = held k (entries_at img at n) (sym eb ∙ q) in
         let less : place k (entries_at img at n) < n =
         rw entries_length at (place_is k (entries_at img at n) w.0).inside in
         let z = ei ∙ w.2 in
-        ap some (ea ∙ sym (addr_is img (at + 8 * i)) ∙ ap (λ (x : Entry). x.addr)
+        ap Some (ea ∙ sym (addr_is img (at + 8 * i)) ∙ ap (λ (x : Entry). x.addr)
         (chosen_read img at n k i (entry_at img (at + 8 * i)) z (omega (arith, less, z)) (λ o. absurd (omega (arith, less, o))) refl))
         ∙ sym (find_by k (entries_at img at n) ∙ rw (← eb, q))
 
-    pub find_miss : b ≡ false → found Nothing ≡ find_in k (entries_at img at n)
-    unfolding found
+    pub find_miss : b ≡ false → None ≡ find_in k (entries_at img at n)
     find_miss q = sym (find_by k (entries_at img at n) ∙ rw (← eb, q))
 
-pub find_node : (g : Geometry) (img : List ℕ) (p l at n k : ℕ) (r : Found) → n ≡ node_count g img p l
+pub find_node : (g : Geometry) (img : List ℕ) (p l at n k : ℕ) (r : Option ℕ) → n ≡ node_count g img p l
     → at ≡ node_place g p l
-    → found r ≡ find_in k (entries_at img at n) → found r ≡ find_in k (node_at g img p l)
+    → r ≡ find_in k (entries_at img at n) → r ≡ find_in k (node_at g img p l)
 find_node g img p l at n k r en ea er = er ∙ rw (node_read g img p l at n ea en)
 
 pub ruleset search_laws = (place_start, place_left, place_right, place_end, ahead_none, ahead_after, ahead_here, holds_none, holds_is, holds_less, find_hit, find_miss, find_node, chosen_none, chosen_some)

@@ -1,8 +1,7 @@
 -- What the places are good for. Assumes nothing.
-use Rattle.std.specs.Prelude.{ℕ, suc, ◌+◌, ◌-◌, ◌*◌, ◌<◌, ◌≤◌, true, ◌≡◌, refl, List, [], ◌∷◌, eqb, ltb, length}
+use Rattle.std.specs.Prelude.{ℕ, suc, ◌+◌, ◌-◌, ◌*◌, ◌<◌, ◌≤◌, true, ◌≡◌, refl, List, [], ◌∷◌, eqb, ltb, length, None, Some}
 use Rattle.std.proofs.lemmas.Bool.{false≢true}
 use Rattle.std.proofs.Common.{sym, ap, ◌∙◌, arith, eqb-true, le-ltb}
-use Rattle.std.proofs.Math.Option.{none, some}
 use Rattle.geometry.specs.declared.Geometry.{Geometry}
 use Rattle.geometry.specs.declared.Entry.{Entry}
 use Rattle.geometry.specs.Tests.{pick}
@@ -33,7 +32,7 @@ held k (e ∷ es) q =
     let w = eqb-true (chosen k (e ∷ es)).key k q in
     (omega arith, w, rw (le-ltb (chosen k (e ∷ es)).key k (omega (arith, w))))
 
-pub find_by : (k : ℕ) (es : List Entry) → find_in k es ≡ pick (holds k es) (some (chosen k es).addr) none
+pub find_by : (k : ℕ) (es : List Entry) → find_in k es ≡ pick (holds k es) (Some (chosen k es).addr) None
 unfolding find_in find holds
 find_by k [] = refl
 find_by k (e ∷ es) = refl

@@ -1,11 +1,8 @@
 -- The place where a key stands or enters, beside the model's `place`. Definitions alone; assumes nothing.
 use Rattle.std.specs.Prelude.{ℕ, suc, List, [], ◌∷◌, Bool, false, eqb, ltb}
-use Rattle.std.proofs.Math.Option.{Option, none, some}
 use Rattle.geometry.specs.declared.Entry.{Entry}
 use Rattle.geometry.specs.Tests.{pick}
 use Rattle.model.specs.Tree.{place, chosen}
-use Rattle.tree_search.specs.declared.Found.{Found}
-use Rattle.tree_search.specs.declared.Found.TheVariants.{At, Nothing}
 
 -- after the entry that descent takes where its key is below k, else there
 unfoldable pub ahead : ℕ → List Entry → ℕ
@@ -16,8 +13,3 @@ ahead k (e ∷ es) = pick (ltb (chosen k (e ∷ es)).key k) (suc (place k (e ∷
 unfoldable pub holds : ℕ → List Entry → Bool
 holds k [] = false
 holds k (e ∷ es) = eqb (chosen k (e ∷ es)).key k
-
--- what the code's answer says
-unfoldable pub found : Found → Option ℕ
-found (At a) = some a
-found Nothing = none

@@ -1,19 +1,12 @@
 // Searching inside a node. The only place that compares a key with the keys of a node.
-#![tactic(auto)]
+#![tactic(auto, using(crate::specs::Loops::search_laws))]
 
 ghost use Rattle.std.specs.Prelude.{◌≡◌, ◌+◌, ◌*◌, ◌-◌, ◌≤◌, ◌<◌};
 ghost use Rattle.model.specs.Bytes.{entries_at, node_at};
 ghost use Rattle.model.specs.Tree.{place, chosen, find_in};
-ghost use Rattle.tree_search.specs.Search.{ahead, holds, found};
+ghost use Rattle.tree_search.specs.Search.{ahead, holds};
 
 use geometry::{Entry, Geometry};
-
-// What stands under a key: an address, or nothing.
-#[derive(Clone, Copy)]
-pub enum Found {
-    At(u32),
-    Nothing,
-}
 
 // Where a key stands in a node, or the place at which it would enter.
 #[derive(Clone, Copy)]
@@ -28,8 +21,9 @@ pub fn chosen_index(img: &[u8], at: usize, n: usize, key: u32) -> usize
     requires { at + 8 * n < 1152921504606846976 }
     ensures { (result ≡ place key (entries_at img.now at n)) × (result ≤ n - 1) }
 {
-    let mut low: usize = 0;
-    let mut high: usize = n;
+    let mut low = 0;
+    let mut high = n;
+    // Stays a while: each step halves, no range counts it.
     while low + 1 < high {
         let middle = low + (high - low) / 2;
         if key < chip_read::read_u32(img, at + 8 * middle) {
@@ -78,20 +72,20 @@ pub fn stand_of(img: &[u8], at: usize, n: usize, key: u32) -> Stand
 }
 
 // What the n entries from byte `at` hold under a key.
-fn find_entry(img: &[u8], at: usize, n: usize, key: u32) -> Found
+fn find_entry(img: &[u8], at: usize, n: usize, key: u32) -> Option<u32>
     requires { at + 8 * n < 1152921504606846976 }
-    ensures { found result ≡ find_in key (entries_at img.now at n) }
+    ensures { result ≡ find_in key (entries_at img.now at n) }
 {
     let stand = stand_of(img, at, n, key);
     if stand.here {
-        return Found::At(chip_read::read_u32(img, at + 8 * stand.at + 4));
+        return Some(chip_read::read_u32(img, at + 8 * stand.at + 4));
     }
-    Found::Nothing
+    None
 }
 
 // What the node at a level of a page holds under a key.
-pub fn find_key(g: Geometry, img: &[u8], page: u32, level: u32, key: u32) -> Found
-    ensures { found result ≡ find_in key (node_at g img.now page level) }
+pub fn find_key(g: Geometry, img: &[u8], page: u32, level: u32, key: u32) -> Option<u32>
+    ensures { result ≡ find_in key (node_at g img.now page level) }
 {
     let n = chip_read::node_count(g, img, page, level);
     let at = chip_read::node_place(g, page, level);

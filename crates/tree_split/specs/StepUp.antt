@@ -37,12 +37,6 @@ pub side_out : (j : Job) (l k : ℕ) → k ≡ l → length j.sides ≡ 256 → 
 unfolding side_of
 side_out j l k e len h = sym (get_or-eq_default j.sides 0 (omega arith))
 
-pub least_a : (a b : ℕ) → a < b → a ≡ min a b
-least_a a b h = omega arith
-
-pub least_b : (a b : ℕ) → b ≤ a → b ≡ min a b
-least_b a b h = omega arith
-
 -- ---- halves
 module _ (k n o m z : ℕ) (c a b : Node) (y : ℕ) (ea : entries a ≡ take m (entries c))
     (eb : entries b ≡ drop m (entries c)) (ca : a.count ≤ c.count) (cb : b.count ≤ c.count)
@@ -205,4 +199,4 @@ finished g j l e es s b d i o p q st ep run = record {
   ran = rw st.side at run;
 }
 
-pub ruleset step_laws = (side_zero, side_in, side_out, least_a, least_b, half_right, half_left, put_whole, put_cut, remove_none, remove_some, rename_below, rename_above, step_put, step_remove, step_rename, side_none, side_some, finished)
+pub ruleset step_laws = (side_zero, side_in, side_out, half_right, half_left, put_whole, put_cut, remove_none, remove_some, rename_below, rename_above, step_put, step_remove, step_rename, side_none, side_some, finished)

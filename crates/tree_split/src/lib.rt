@@ -1,6 +1,6 @@
 // One step of an update's way up: a changed node goes on page N, its other half on a page alone, and what names them
 // stands above.
-#![tactic(auto)]
+#![tactic(auto, using(crate::specs::StepUp::step_laws))]
 
 ghost use Rattle.std.specs.Prelude.{◌≡◌, ◌+◌, ◌*◌, ◌-◌, ◌≤◌, ◌<◌, min, false};
 ghost use Rattle.geometry.specs.Geometry.{page_bytes};
@@ -65,10 +65,7 @@ pub fn side_of(job: Job, level: u32) -> u32
 pub fn least(a: u32, b: u32) -> u32
     ensures { result ≡ min a b }
 {
-    if a < b {
-        return a;
-    }
-    b
+    a.min(b)
 }
 
 // The halves at place h: the path's on N, the other on page `other`; `low` is the left one's key above.
@@ -196,7 +193,7 @@ fn number(seq: u64, level: u32) -> u64
     requires { seq < 8589934592 }
     ensures { result ≡ seq + level }
 {
-    seq + (level as u64)
+    seq + u64::from(level)
 }
 
 // Programs the other half, if there is one.

@@ -1,4 +1,4 @@
-use Rattle.std.proofs.Common.{refl, ◌∙◌, arith}
+use Rattle.std.proofs.Common.{◌≡◌, refl, ◌∙◌, length, arith}
 use Rattle.log_feed.specs.Left.{run_left}
 use Rattle.log_feed.specs.Parts.{whole_goes, went}
 use Rattle.log_feed.proofs.play_part.Goals as goal
@@ -63,11 +63,11 @@ returns-clause-steady c = c.loop-at.invariant.steady
 pub returns-clause-room : goal.returns-clause-room
 returns-clause-room c = c.loop-at.invariant.room
 
-pub returns-clause-within : goal.returns-clause-within
-returns-clause-within c = c.loop-at.invariant.within
-
 pub returns-clause-left : goal.returns-clause-left
-returns-clause-left c = c.loop-at.invariant.fewer
+returns-clause-left c =
+    let inv = c.loop-at.invariant in omega (arith, inv.fewer, inv.within, c.loop-at-test.false)
 
 pub returns-clause-ran : goal.returns-clause-ran
-returns-clause-ran c = c.loop-at.invariant.same
+returns-clause-ran c =
+    let all : c.loop-at.at ≡ length c.args.part.now = omega (arith, c.loop-at.invariant.within, c.loop-at-test.false) in
+    λ rest. rw (← all) (c.loop-at.invariant.same rest)

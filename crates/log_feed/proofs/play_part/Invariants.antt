@@ -16,6 +16,3 @@ invariant-loop-at l = record {
   same : (rest : List ℕ) → whole l.fn.run l.fn.line l.fn.img l.fn.out (drop l.from l.part ++ rest)
       ≡ whole l.state l.line l.img l.out (drop l.at l.part ++ rest);
 }
-
-abbrev pub decreases-loop-at : goal.decreases-loop-at
-decreases-loop-at l = length l.part - l.at

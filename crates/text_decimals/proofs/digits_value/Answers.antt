@@ -12,9 +12,3 @@ returns-then-b-gt57 c = search all
 
 pub returns-then-v-gt4294967295 : goal.returns-then-v-gt4294967295
 returns-then-v-gt4294967295 c = search all
-
-pub loop-i-preserved : goal.loop-i-preserved
-loop-i-preserved c = search all
-
-pub returns : goal.returns
-returns c = search all

@@ -23,18 +23,12 @@ unfolding spot_after pairs_of
 none_left text k i t zs e = rw e refl
 
 pub loop-i-init : goal.loop-i-init
-loop-i-init c = record {
-  within = omega arith;
-  left = all_left c.args.text.now (c.args.n - 0) c.args.n c.args.s c.args.pairs.now (omega arith);
-}
+loop-i-init c = all_left c.args.text.now (c.args.n - 0) c.args.n c.args.s c.args.pairs.now (omega arith)
 
 pub loop-i-preserved : goal.loop-i-preserved
-loop-i-preserved c = record {
-  within = omega arith;
-  left = one_turn c.args.text.now (c.args.n - c.loop-i.i) (c.args.n - (c.loop-i.i + 1)) c.loop-i.i c.loop-i.t c.loop-i.pairs c.read_turn-r.result
-      (omega arith) c.read_turn-r.ensures ∙ c.loop-i.invariant.left;
-}
+loop-i-preserved c =
+    one_turn c.args.text.now (c.args.n - c.loop-i.i) (c.args.n - (c.loop-i.i + 1)) c.loop-i.i c.loop-i.t c.loop-i.pairs c.read_turn-r.result
+    (omega arith) c.read_turn-r.ensures ∙ c.loop-i.invariant
 
 pub returns : goal.returns
-returns c = none_left c.args.text.now (c.args.n - c.loop-i.i) c.loop-i.i c.loop-i.t c.loop-i.pairs (omega arith)
-    ∙ c.loop-i.invariant.left
+returns c = none_left c.args.text.now (c.args.n - c.loop-i.i) c.loop-i.i c.loop-i.t c.loop-i.pairs (omega arith) ∙ c.loop-i.invariant

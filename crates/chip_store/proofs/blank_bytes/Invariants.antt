@@ -1,0 +1,6 @@
+use Rattle.std.proofs.Common.{◌≡◌}
+use Rattle.model.specs.Stores.{written}
+use Rattle.chip_store.proofs.blank_bytes.Given as goal
+
+abbrev pub invariant-loop-j : goal.invariant-loop-j
+invariant-loop-j l = l.img ≡ written l.initial.img l.at (λ k. 255) l.j

@@ -1,0 +1,9 @@
+use Rattle.std.proofs.Common.{rules}
+use Rattle.collect_blocks.specs.Collecting.{collect_laws}
+use Rattle.collect_blocks.proofs.sweep.Goals as goal
+
+pub returns : goal.returns
+returns c = search (rules, collect_laws)
+
+pub returns-then-w : goal.returns-then-w
+returns-then-w c = search (rules, collect_laws)

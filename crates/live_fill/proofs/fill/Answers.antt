@@ -1,0 +1,6 @@
+use Rattle.std.proofs.Common.{rules}
+use Rattle.live_fill.specs.LentWords.{words_laws}
+use Rattle.live_fill.proofs.fill.Goals as goal
+
+pub loop-i-preserved : goal.loop-i-preserved
+loop-i-preserved c = search (rules, words_laws)

@@ -1,9 +1,0 @@
-use borrow.Author.Rules.{rules}
-use Rattle.log_lines.specs.FieldByField.{letter_laws}
-use Rattle.log_lines.proofs.form_alone.Statement.{statement}
-use Rattle.log_lines.proofs.form_alone.Tie as tie
-
-ruleset all = (rules, letter_laws)
-
-pub form_alone_spec : {M : Type 1} → statement M
-form_alone_spec = tie.close (tie.spec (λ c. search all) (λ c. search all))
