@@ -3,7 +3,7 @@
 # usage: outside.sh ARCHIVE [NM]
 set -eu
 listed=$("${2:-nm}" -u "$1")
-asked=$(echo "$listed" | sed -n 's/^ *U //p' | sort -u)
+asked=$(echo "$listed" | sed -n 's/^ *[Uvw] //p' | sort -u)
 if [ -z "$asked" ]; then
     echo "outside: no name that $1 asks for was read"
     exit 1
