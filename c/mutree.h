@@ -74,14 +74,14 @@
  *               ARM64: normal memory, not device memory).
  *   stack       measured, in bytes; it does not grow with the image:
  *                                    format   lookup     list   export   insert   delete  patrol
- *                     x86-64, small   7,640  112,144  112,208  112,256  144,920  142,704     768
- *                     x86-64, large   7,640  112,504  112,568  112,616  169,488  167,488     768
+ *                     x86-64, small   9,816  110,960  111,072  111,040  152,168  152,152     448
+ *                     x86-64, large   9,816  111,106  111,218  111,186  171,048  171,032     448
  *                     ARM64, small    5,568  111,952  111,984  112,048  144,576  141,072     760
  *                     ARM64, large    5,568  112,256  112,288  112,352  185,648  176,448     760
  *               The calls with a record; the last column is an insert or a delete with another record than opening gives:
  *                                      open   lookup     list   insert   delete   another record
- *                     x86-64, small  112,272     384    1,584  145,000  142,784   145,000
- *                     x86-64, large  112,632     384    2,032  169,568  167,552   159,512
+ *                     x86-64, small  111,056     248    1,088  152,168  152,168   152,168
+ *                     x86-64, large  111,202     224    1,376  171,048  171,048   171,048
  *                     ARM64, small   112,016     368    1,536  144,640  141,104         -
  *               ARM64 was measured with version 0.8.0; the small chip's insert and delete and its calls with a record with 0.9.0,
  *               before heights were cut.

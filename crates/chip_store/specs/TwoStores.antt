@@ -8,7 +8,7 @@ use Rattle.geometry.specs.declared.Geometry.{Geometry}
 use Rattle.geometry.specs.Geometry.{page_bytes, page_base}
 use Rattle.model.specs.Bytes.{byte_at}
 use Rattle.model.specs.Stores.{program, erase, written, apply_store}
-use Rattle.theory_lists.specs.Written.{written_none, written_more, written_same, written_inside, length_written}
+use Rattle.theory_lists.specs.Written.{written_none, written_more, written_same, written_inside, length_written, filled_more}
 
 pub byte_past : (l : List ℕ) (at : ℕ) → length l ≤ at → 0 ≡ byte_at l at
 byte_past l at h = sym (get_or-eq_default l 0 h)
@@ -28,6 +28,13 @@ pub blank_more : (img d o : List ℕ) (at j : ℕ) → d ≡ written img at (λ 
     → o ≡ written img at (λ k. 255) (j + 1)
 blank_more img d o at j e h = h ∙ written_more img at (λ k. 255) j d e
 
+-- a loop that fills a part
+pub fill_more : (l d : List ℕ) (f : ℕ → ℕ) (j : ℕ) → d ≡ written l 0 f j → set d j (f j) ≡ written l 0 f (j + 1)
+fill_more l d f j e = filled_more l f j d e
+
+pub loop_same : (img d : List ℕ) (at : ℕ) (f : ℕ → ℕ) (j : ℕ) → d ≡ written img at f j → length d ≡ length img
+loop_same img d at f j e = rw e (length_written img at f j)
+
 -- what is written to a part is written to the whole
 set_within : (p ys z : List ℕ) (j v : ℕ) → j < length ys → set (p ++ (ys ++ z)) (length p + j) v
     ≡ p ++ (set ys j v ++ z)
@@ -44,7 +51,7 @@ written_within p ys z f (suc j) h =
     rw (written_within p ys z f j (omega arith), zero-add)
     (set_within p (written ys 0 f j) z j (f j) (rw length_written (omega arith)))
 
-part_is : (img y : List ℕ) (at n : ℕ) (f : ℕ → ℕ) → y ≡ written (take (at + n - at) (drop at img)) 0 f
+pub part_is : (img y : List ℕ) (at n : ℕ) (f : ℕ → ℕ) → y ≡ written (take (at + n - at) (drop at img)) 0 f
     (length (take (at + n - at) (drop at img)))
     → at + n ≤ length img → take at img ++ (y ++ drop (at + n - at) (drop at img)) ≡ written img at f n
 part_is img y at n f e h =
@@ -63,16 +70,6 @@ part_written l y f e g =
     ext_get_or 0 y (written l 0 f (length l)) (e ∙ sym (length_written l 0 f (length l)))
     (λ j h. let k : j < length l = omega (arith, e) in
     g j k ∙ sym (rw zero-add at (written_inside l 0 f (length l) j 0 (omega arith) k)))
-
-pub copy_is : (img y bs : List ℕ) (at n : ℕ) → y ≡ take n bs → at + n ≤ length img → n ≤ length bs
-    → take at img ++ (y ++ drop (at + n - at) (drop at img)) ≡ written img at (byte_at bs) n
-copy_is img y bs at n e h k =
-    let q : at + n - at ≡ n = omega arith in
-    let l : length (take (at + n - at) (drop at img)) ≡ n =
-    rw q (length-take-le n (drop at img) (rw length-drop (omega arith))) in
-    part_is img y at n (byte_at bs)
-    (part_written _ y (byte_at bs) (ap length e ∙ length-take-le n bs k ∙ sym l)
-    (λ j m. rw e (get_or-take n bs j 0 (omega (arith, l, m))))) h
 
 pub blank_is : (img y : List ℕ) (at n : ℕ) → y ≡ replicate (length (take (at + n - at) (drop at img))) 255
     → at + n ≤ length img
@@ -101,4 +98,4 @@ unfolding apply_store
 program_cut g p bs img =
     written_same img (page_base g p) (byte_at bs) (byte_at (take (page_bytes g) bs)) (page_bytes g) (λ j h. sym (get_or-take (page_bytes g) bs j 0 h))
 
-pub ruleset store_laws = (byte_past, put_past, loop_none, copy_more, blank_more, copy_is, blank_is, program_is, erase_is)
+pub ruleset store_laws = (byte_past, put_past, loop_none, copy_more, blank_more, fill_more, loop_same, part_is, blank_is, program_is, erase_is)

@@ -37,6 +37,17 @@ fn copy_bytes(img: &mut [u8], at: usize, bytes: &[u8], n: usize)
     }
 }
 
+// Fills a part with the first bytes of a buffer. Stays a loop: of `copy_from_slice` the compiler makes a memmove, and the
+// archive for C asks the C library for memcpy and memset alone.
+fn copy_part(part: &mut [u8], bytes: &[u8])
+    requires { length part.old ≤ length bytes.now }
+    ensures { part.new ≡ written part.old 0 (byte_at bytes.now) (length part.old) }
+{
+    for j in 0..part.len() {
+        part[j] = bytes[j];
+    }
+}
+
 // n bytes of a buffer into the image from `at` on; nothing outside it.
 fn copy(img: &mut [u8], at: usize, bytes: &[u8], n: usize)
     requires { at + n < 1152921504606846976 }
@@ -47,7 +58,7 @@ fn copy(img: &mut [u8], at: usize, bytes: &[u8], n: usize)
         copy_bytes(img, at, bytes, n);
         return;
     }
-    img[at..end].copy_from_slice(&bytes[..n]);
+    copy_part(&mut img[at..end], bytes);
 }
 
 // n bytes of 255, one by one, where the image is too short for them.

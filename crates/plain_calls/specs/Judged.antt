@@ -194,8 +194,12 @@ module _ (g : Geometry) (n : ℕ) (s : Survey) (i : List ℕ) (es : s ≡ survey
         subst (λ (y : Chip). true ≡ is_none (sought y k)) (chip_is g n i s es) q in
         sym (rw (not_worn fresh, ← missing))
 
-    module _ (r : Loss) (c : Sheds (chip_with g i s.level s.root) k r) (fresh : s.most ≤ g.worn) where
-      shed : Sheds (chip_of g n i) k r
+    pub delete_missing : (r : Loss) → Sheds (chip_with g i s.level s.root) k true r → s.most ≤ g.worn
+        → told Absent i ≡ plain_delete_by g n i k x
+    delete_missing r c fresh = delete_absent c.absent fresh
+
+    module _ (r : Loss) (c : Sheds (chip_with g i s.level s.root) k false r) (fresh : s.most ≤ g.worn) where
+      shed : Sheds (chip_of g n i) k false r
       shed = rw (chip_is g n i s es) at c
 
       module _ (v : Bool)
@@ -206,17 +210,17 @@ module _ (g : Geometry) (n : ℕ) (s : Survey) (i : List ℕ) (es : s ≡ survey
 
         pub delete_room : v ≡ true → told Room i ≡ plain_delete_by g n i k x
         unfolding plain_delete_by
-        delete_room q = sym (rw (not_worn fresh, ← shed.stands, left_same, q))
+        delete_room q = sym (rw (not_worn fresh, ← shed.absent, left_same, q))
 
         pub delete_stores_lem : (w : Outcome) → w ≡ made_with g (delete_stores_at g (chip_of g n i) k (pages_by g n i)
             (max_seq g n i) r.emptied) x i → v ≡ false
             → w ≡ plain_delete_by g n i k x
         unfolding plain_delete_by
-        delete_stores_lem w e q = e ∙ sym (rw (not_worn fresh, ← shed.stands, left_same, q, ← shed.emptied))
+        delete_stores_lem w e q = e ∙ sym (rw (not_worn fresh, ← shed.absent, left_same, q, ← shed.emptied))
 
 -- no more levels are emptied than there are
-pub sheds_few : (c : Chip) (k : ℕ) (r : Loss) → Sheds c k r → r.emptied ≤ c.level
-sheds_few c k r w = w.few
+pub sheds_few : (c : Chip) (k : ℕ) (a : Bool) (r : Loss) → Sheds c k a r → r.emptied ≤ c.level
+sheds_few c k a r w = w.few
 
 -- ---- LENGTH and DAMAGED, and then the rest
 module _ (img : List ℕ) (n : ℕ) (g : Geometry) (eg : g ≡ plain) (en : n ≡ good_blocks g img) where
@@ -289,6 +293,6 @@ pub ruleset count_laws = (cuts_are, high_low, high_top, left_leaf, left_one, lef
 
 pub ruleset made_laws = (insert_made_lem, delete_made_lem)
 
-pub ruleset rest_laws = (insert_worn, insert_high, insert_room, insert_stores_lem, delete_worn, delete_absent, delete_room, delete_stores_lem, sheds_few)
+pub ruleset rest_laws = (insert_worn, insert_high, insert_room, insert_stores_lem, delete_worn, delete_absent, delete_missing, delete_room, delete_stores_lem, sheds_few)
 
 pub ruleset call_laws = (plain_block, plain_page, plain_format, plain_lookup, insert_length, delete_length, insert_broken, delete_broken, sound_low, insert_sound, delete_sound)

@@ -2,10 +2,11 @@
 use Rattle.std.specs.Prelude.{ℕ, zero, suc, ◌+◌, ◌-◌, ◌<◌, Bool, true, false, ◌≡◌, refl, List, [], ◌∷◌, eqb, Option, None, Some, is_none}
 use Rattle.std.proofs.Math.Path.{sym, ap}
 use Rattle.std.proofs.Common.{◌∙◌, length-append, arith, add-one, sub-one}
+use Rattle.std.proofs.lemmas.Bool.{eqb-true, eq-eqb, false≢true}
 use Rattle.std.proofs.Math.ListN.{length}
 use Rattle.geometry.specs.declared.Geometry.{Geometry}
 use Rattle.geometry.specs.declared.Entry.{Entry}
-use Rattle.geometry.specs.Tests.{bit}
+use Rattle.geometry.specs.Tests.{bit, pick}
 use Rattle.model.specs.Bytes.{node_at, node_count}
 use Rattle.model.specs.Count.{count}
 use Rattle.model.specs.Image.{Nodes}
@@ -19,7 +20,7 @@ use Rattle.chip_read.specs.Chip.{chip_with}
 use Rattle.chip_read.specs.Node.{node_length}
 use Rattle.tree_path.specs.Paths.{path_top, path_below}
 use Rattle.plain_calls.specs.declared.Loss.{Loss}
-use Rattle.plain_calls.specs.Counts.{less_of, emptied_below, Loses, LosesSome, ShedsSome}
+use Rattle.plain_calls.specs.Counts.{less_of, emptied_below, Loses, idle_loss, LosesSome, Sheds, ShedsSome}
 
 -- ---- a node whose entry gives way to a list
 swap_length : (f : Entry → List Entry) (i : ℕ) (es : List Entry) → i < length es
@@ -76,23 +77,32 @@ less_none n h = omega arith
 module _ (g : Geometry) (img : List ℕ) (k : ℕ) (e : Entry) (f : Option ℕ) (ef : f ≡ find_in k
     (node_at g img e.addr 1)) (n : ℕ)
     (en : n ≡ node_count g img e.addr 1) where
-  pub leaf_there : (m a : ℕ) → m ≡ n - 1 → f ≡ Some a → Loses g img k 0 e
+  pub leaf_there : (m a : ℕ) → m ≡ n - 1 → f ≡ Some a → Loses g img k 0 e false
       (record { emptied = 0; left = m })
   unfolding leaf edited count
   leaf_there m a em q =
       let there : find_in k (node_at g img e.addr 1) ≡ Some a = sym ef ∙ rw q in
       record {
-        stands = rw there;
+        absent = rw there;
         emptied = refl;
         left = em ∙ sym (remove_there k a (node_at g img e.addr 1) there ∙ rw (node_length, en));
         few = omega arith;
       }
 
-  pub leaf_missing : f ≡ None → true ≡ is_none (find_in k (leaf (node_at g img) k 0 e))
-  unfolding leaf
+  pub leaf_missing : f ≡ None → Loses g img k 0 e true (record { emptied = 0; left = n })
+  unfolding leaf edited count
   leaf_missing q =
       let missing : find_in k (node_at g img e.addr 1) ≡ None = sym ef ∙ rw q in
-      rw missing
+      record {
+        absent = rw missing;
+        emptied = refl;
+        left = sym (remove_missing k (node_at g img e.addr 1) missing ∙ rw (node_length, en));
+        few = omega arith;
+      }
+
+  pub leaf_none : f ≡ None → LosesSome g img k 0 e None
+  unfolding idle_loss
+  leaf_none q = rw (en, ← node_length g img e.addr 1) at leaf_missing q
 
 -- ---- a node above level 1: it loses an entry where the one below is emptied
 none_kept : (c : List Entry) → length c ≡ 0 → (none_left c ≡ true) × ((l : ℕ) (e : Entry) → length (kept 0 l e c) ≡ 0)
@@ -129,20 +139,20 @@ module _ (r : Nodes) (k l : ℕ) (e : Entry) where
   unfolding edited
   left_all h = splice_one (λ x. kept 0 (suc l) x (edited r k (remove_in k) (kept 0) l x)) k (r e.addr (suc (suc l))) ((some_kept below h).1 (suc l) taken)
 
-module _ (g : Geometry) (img : List ℕ) (k : ℕ) (e x : Entry) (r : Loss) where
-  one_level : (l n : ℕ) → Loses g img k l x r → x ≡ chosen k (node_at g img e.addr (suc (suc l)))
+module _ (g : Geometry) (img : List ℕ) (k : ℕ) (e x : Entry) (a : Bool) (r : Loss) where
+  one_level : (l n : ℕ) → Loses g img k l x a r → x ≡ chosen k (node_at g img e.addr (suc (suc l)))
       → n ≡ node_count g img e.addr (suc (suc l))
-      → (r.left ≡ 0 → Loses g img k (suc l) e (record { emptied = r.emptied + 1; left = n - 1 }))
-      × ((r.left ≡ 0 → ⊥) → Loses g img k (suc l) e (record { emptied = r.emptied; left = n }))
+      → (r.left ≡ 0 → Loses g img k (suc l) e a (record { emptied = r.emptied + 1; left = n - 1 }))
+      × ((r.left ≡ 0 → ⊥) → Loses g img k (suc l) e a (record { emptied = r.emptied; left = n }))
   unfolding leaf
   one_level l n c ex en =
-      let w : Loses g img k l (chosen k (node_at g img e.addr (suc (suc l)))) r = rw (← ex) c in
+      let w : Loses g img k l (chosen k (node_at g img e.addr (suc (suc l)))) a r = rw (← ex) c in
       let size : length (node_at g img e.addr (suc (suc l))) ≡ n = node_length g img e.addr (suc (suc l))
       ∙ sym en in (
         λ z.
             let empty : length (below (node_at g img) k l e) ≡ 0 = sym w.left ∙ z in
             record {
-              stands = w.stands;
+              absent = w.absent;
               emptied = sym (emptied_below_lem (node_at g img) k l e ∙ rw ((none_kept _ empty).0, ← w.emptied) (omega arith));
               left = sym (left_one (node_at g img) k l e empty ∙ rw size);
               few = omega (arith, w.few);
@@ -150,7 +160,7 @@ module _ (g : Geometry) (img : List ℕ) (k : ℕ) (e x : Entry) (r : Loss) wher
         λ z.
             let some_left : length (below (node_at g img) k l e) ≡ 0 → ⊥ = λ h. z (w.left ∙ h) in
             record {
-              stands = w.stands;
+              absent = w.absent;
               emptied = sym (emptied_below_lem (node_at g img) k l e
                   ∙ rw ((some_kept _ some_left).0, ← w.emptied) (omega arith));
               left = sym (left_all (node_at g img) k l e some_left ∙ size);
@@ -158,17 +168,17 @@ module _ (g : Geometry) (img : List ℕ) (k : ℕ) (e x : Entry) (r : Loss) wher
             },
       )
 
-  pub loss_emptied : (l n m : ℕ) → Loses g img k (l - 1) x r → x ≡ chosen k (node_at g img e.addr (l + 1))
+  pub loss_emptied : (l n m : ℕ) → Loses g img k (l - 1) x a r → x ≡ chosen k (node_at g img e.addr (l + 1))
       → n ≡ node_count g img e.addr (l + 1)
-      → m ≡ n - 1 → r.left ≡ 0 → (l ≡ 0 → ⊥) → Loses g img k l e
+      → m ≡ n - 1 → r.left ≡ 0 → (l ≡ 0 → ⊥) → Loses g img k l e a
       (record { emptied = r.emptied + 1; left = m })
   loss_emptied zero n m c ex en em z h = absurd (h refl)
   loss_emptied (suc l) n m c ex en em z h =
       rw em ((one_level l n (rw sub-one at c) (rw add-one at ex) (rw add-one at en)).0 z)
 
-  pub loss_kept : (l n : ℕ) → Loses g img k (l - 1) x r → x ≡ chosen k (node_at g img e.addr (l + 1))
+  pub loss_kept : (l n : ℕ) → Loses g img k (l - 1) x a r → x ≡ chosen k (node_at g img e.addr (l + 1))
       → n ≡ node_count g img e.addr (l + 1)
-      → (r.left ≡ 0 → ⊥) → (l ≡ 0 → ⊥) → Loses g img k l e
+      → (r.left ≡ 0 → ⊥) → (l ≡ 0 → ⊥) → Loses g img k l e a
       (record { emptied = r.emptied; left = n })
   loss_kept zero n c ex en z h = absurd (h refl)
   loss_kept (suc l) n c ex en z h = (one_level l n (rw sub-one at c) (rw add-one at ex) (rw add-one at en)).1 z
@@ -181,20 +191,49 @@ unfolding leaf
 loss_missing g img k zero e x h ex z = absurd (z refl)
 loss_missing g img k (suc l) e x h ex z = rw sub-one at h ∙ rw (ex, add-one)
 
+-- where it is absent below, what is counted here follows from what is counted there
+idle_step : (g : Geometry) (img : List ℕ) (k l n : ℕ) (e : Entry) (r : Loss) (t : Bool) → eqb r.left 0 ≡ t
+    → (r.left ≡ 0 → Loses g img k l e true (record { emptied = r.emptied + 1; left = n - 1 }))
+    → ((r.left ≡ 0 → ⊥) → Loses g img k l e true (record { emptied = r.emptied; left = n }))
+    → Loses g img k l e true (pick t (record { emptied = r.emptied + 1; left = n - 1 })
+    (record { emptied = r.emptied; left = n }))
+idle_step g img k l n e r true q h w = h (eqb-true r.left 0 q)
+idle_step g img k l n e r false q h w = w (λ z. false≢true (sym q ∙ eq-eqb r.left 0 z))
+
+pub loss_none : (g : Geometry) (img : List ℕ) (k l : ℕ) (e x : Entry) → LosesSome g img k (l - 1) x None
+    → x ≡ chosen k (node_at g img e.addr (l + 1)) → (l ≡ 0 → ⊥) → LosesSome g img k l e None
+unfolding idle_loss
+loss_none g img k zero e x c ex z = absurd (z refl)
+loss_none g img k (suc l) e x c ex z =
+    let y = chosen k (node_at g img e.addr (suc (suc l))) in
+    let there : Loses g img k l y true (idle_loss (node_at g img) k l y) = rw (ex, add-one) at (rw sub-one at c) in
+    let r = idle_loss (node_at g img) k l y in
+    let here = one_level g img k e y true r l (length (node_at g img e.addr (suc (suc l)))) there refl
+    (node_length g img e.addr (suc (suc l))) in
+    idle_step g img k (suc l) (length (node_at g img e.addr (suc (suc l)))) e r (eqb r.left 0) refl here.0 here.1
+
+pub loss_at : (g : Geometry) (img : List ℕ) (k l : ℕ) (e : Entry) (a : Bool) (r : Loss) → Loses g img k 0 e a r → l ≡ 0
+    → Loses g img k l e a r
+loss_at g img k l e a r c h = rw h c
+
 pub loss_leaf : (g : Geometry) (img : List ℕ) (k l : ℕ) (e : Entry) (r : Option Loss) → LosesSome g img k 0 e r → l ≡ 0
     → LosesSome g img k l e r
 loss_leaf g img k l e r c h = rw h c
 
 -- ---- the root
-pub sheds : (g : Geometry) (img : List ℕ) (l p k : ℕ) (r : Option Loss)
-    → LosesSome g img k l (record { key = 0; addr = p }) r → ShedsSome (chip_with g img l p) k r
+pub root_sheds : (g : Geometry) (img : List ℕ) (l p k : ℕ) (a : Bool) (r : Loss)
+    → Loses g img k l (record { key = 0; addr = p }) a r → Sheds (chip_with g img l p) k a r
 unfolding emptied delete_list
-sheds g img l p k None c = c
-sheds g img l p k (Some r) c = record {
-  stands = c.stands;
+root_sheds g img l p k a r c = record {
+  absent = c.absent;
   emptied = c.emptied;
   left = c.left ∙ ap length (sym (path_top (node_at g img) k (remove_in k) (kept 0) l (record { key = 0; addr = p })));
   few = c.few;
 }
 
-pub ruleset loss_laws = (less_none, leaf_there, leaf_missing, loss_leaf, loss_emptied, loss_kept, loss_missing, sheds)
+pub sheds : (g : Geometry) (img : List ℕ) (l p k : ℕ) (r : Option Loss)
+    → LosesSome g img k l (record { key = 0; addr = p }) r → ShedsSome (chip_with g img l p) k r
+sheds g img l p k None c = root_sheds g img l p k true _ c
+sheds g img l p k (Some r) c = root_sheds g img l p k false r c
+
+pub ruleset loss_laws = (less_none, leaf_there, leaf_none, loss_leaf, loss_emptied, loss_kept, loss_none, sheds)

@@ -401,8 +401,11 @@ fn judge_entries(
     if below == 1 {
         return judge_ahead(g, img, &mut *table, pages, at, n, hi);
     }
+    // Not by `?`: a must-fail edit turns the page that is handed on here.
     for i in 0..n {
-        node_under(g, img, &mut *table, pages, below, at, n, hi, i, programmed)?;
+        if let Err(bad) = node_under(g, img, &mut *table, pages, below, at, n, hi, i, programmed) {
+            return Err(bad);
+        }
     }
     Ok(())
 }

@@ -1,13 +1,10 @@
-use Rattle.std.proofs.Common.{◌≡◌, ◌∙◌, rules}
+use Rattle.std.proofs.Common.{rules}
 use Rattle.sound_nodes.specs.RuleFive.{judge_bad, judge_good, judge_end}
 use Rattle.sound_nodes.specs.Levels.{left_go, left_end}
 use Rattle.sound_nodes.proofs.+judge_entries_judge_node_node_under.Goals as goal
 
-pub judge_entries-returns-in_err-node_under-clause-value : goal.judge_entries-returns-in_err-node_under-clause-value
-judge_entries-returns-in_err-node_under-clause-value t c =
-    let same : c.from_residual.result ≡ c.node_under.result = search rules in
-    same ∙ c.in_err-node_under.was
-    ∙ judge_bad _ _ _ _ _ _ _ c.loop-i.invariant.value c.loop-i-test.true _ c.node_under.ensures.value _ c.in_err-node_under.was
+pub judge_entries-returns-in-Err-clause-value : goal.judge_entries-returns-in-Err-clause-value
+judge_entries-returns-in-Err-clause-value t c = search judge_bad
 
 pub judge_entries-loop-i-preserved : goal.judge_entries-loop-i-preserved
 judge_entries-loop-i-preserved t c = record {

@@ -12,3 +12,6 @@ returns-then-b-gt57 c = search all
 
 pub returns-then-v-gt4294967295 : goal.returns-then-v-gt4294967295
 returns-then-v-gt4294967295 c = search all
+
+pub loop-x-preserved : goal.loop-x-preserved
+loop-x-preserved c = search all
